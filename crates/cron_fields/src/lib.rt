@@ -1,1 +1,6 @@
+//! The five fields of a crontab line: what each text stands for, and which civil times match.
 #![tactic(auto)]
+
+mod field;
+
+pub use field::{FieldKind, FieldSet, Fields};

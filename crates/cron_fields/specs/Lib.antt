@@ -1,0 +1,3 @@
+pub mod FieldSet
+pub mod Match
+pub mod PlainField
