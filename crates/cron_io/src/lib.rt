@@ -1,1 +1,20 @@
+//! Sources and sinks of bytes: what a program reads and writes, with the faults that come from
+//! outside.
+//!
+//! A [`Source`] or a [`Sink`] may give or take a part of what it is asked, and may fail. Each counts
+//! its faults, so that code above can promise to fail only where the outside did. [`read_all`] and
+//! [`write_all`] put the parts together.
 #![tactic(auto)]
+
+mod memory;
+mod sink;
+mod source;
+mod standard;
+
+pub use memory::{MemSink, MemSource, OutOfMemory};
+pub use sink::{Sink, SinkFault, write_all};
+pub use source::{ReadAllFault, Source, SourceFault, read_all};
+pub use standard::{StdSink, StdSource};
+
+#[cfg(test)]
+mod tests;

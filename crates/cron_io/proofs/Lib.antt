@@ -1,0 +1,3 @@
+mod MemoryLemmas
+mod ReadingLemmas
+mod WritingLemmas

@@ -1,0 +1,40 @@
+-- What is seen of the source and the sink in memory.
+use Rattle.std.specs.Prelude.{ℕ, List, drop}
+use Rattle.cron_io.specs.declared.memory.MemSource.{MemSource}
+use Rattle.cron_io.specs.declared.memory.MemSink.{MemSink}
+
+-- the bytes that are left
+abbrev pub source_left : MemSource → List ℕ
+source_left source = drop source.at source.bytes.items
+
+-- the numbers of the reads that fail
+abbrev pub source_fails : MemSource → List ℕ
+source_fails source = source.fails.items
+
+-- the number of the next read
+abbrev pub source_calls : MemSource → ℕ
+source_calls source = source.calls
+
+-- how many reads have failed
+abbrev pub source_faults : MemSource → ℕ
+source_faults source = source.faults
+
+-- what was written
+abbrev pub sink_bytes : MemSink → List ℕ
+sink_bytes sink = sink.bytes.items
+
+-- how many bytes there is room for
+abbrev pub sink_room : MemSink → ℕ
+sink_room sink = sink.room
+
+-- the numbers of the writes that fail
+abbrev pub sink_fails : MemSink → List ℕ
+sink_fails sink = sink.fails.items
+
+-- the number of the next write
+abbrev pub sink_calls : MemSink → ℕ
+sink_calls sink = sink.calls
+
+-- how many writes have failed
+abbrev pub sink_faults : MemSink → ℕ
+sink_faults sink = sink.faults

@@ -1,0 +1,101 @@
+// Where bytes come from, and all of them at once.
+ghost use Rattle.std.specs.Prelude.{◌≡◌, ◌+◌, ◌<◌, ◌≤◌, ℕ, List, Option, length, IfOk, IsErrOf};
+ghost use Rattle.std.specs.Io.{ReadsAtMost};
+ghost use Rattle.std.specs.Io.KnownBytes.{ReadConsumes};
+ghost use Rattle.cron_io.specs.Faults.{HasCause, Rose};
+ghost use Rattle.cron_io.specs.Reading.{IsReadToEnd, HasTaken, HasTakenCount};
+ghost use Rattle.cron_io.specs.declared.source.ReadAllFault.TheVariants.{ReadFault, OutOfMemory};
+
+use std::alloc::{AllocError, Global};
+
+/// How many bytes one read is asked for.
+const CHUNK: usize = 4096;
+
+/// A read failed.
+#[derive(Clone, Copy, Debug, PartialEq, Eq)]
+pub struct SourceFault;
+
+/// Where bytes come from, in order, up to an end.
+pub trait Source {
+    /// The bytes that are left, where the source tells them.
+    ghost left: { Self → Option (List ℕ) };
+
+    /// How often a read has failed: a count that doesn't fall, and stands still at the last value
+    /// of a `u64`.
+    ghost faults: { Self → ℕ };
+
+    /// Moves some of the bytes that are left into the front of `into`, and says how many: 0 only at
+    /// the end.
+    ///
+    /// # Errors
+    ///
+    /// A fault, at which the count of faults rose and no byte was taken. What `into` then has is
+    /// left open.
+    fn read(&mut self, into: &mut [u8]) -> Result<usize, SourceFault>
+        requires { 0 < length into.old }
+        ensures bound { ReadsAtMost result into.new }
+        ensures bytes { ReadConsumes (left self.old) (left self.new) result into.new }
+        ensures cause { HasCause (faults self.old) (faults self.new) result };
+}
+
+/// Why not all the bytes were read.
+#[derive(Clone, Copy, Debug, PartialEq, Eq)]
+pub enum ReadAllFault {
+    /// A read failed.
+    ReadFault,
+    /// More bytes came than the limit allows.
+    TooLong,
+    /// Memory ran out.
+    OutOfMemory,
+}
+
+impl From<SourceFault> for ReadAllFault {
+    ghost from_gives = { λ _ e. e ≡ ReadFault };
+
+    fn from(_: SourceFault) -> Self {
+        ReadAllFault::ReadFault
+    }
+}
+
+impl From<AllocError> for ReadAllFault {
+    ghost from_gives = { λ _ e. e ≡ OutOfMemory };
+
+    fn from(_: AllocError) -> Self {
+        ReadAllFault::OutOfMemory
+    }
+}
+
+/// All the bytes up to the end, of which there may be at most `limit`.
+///
+/// # Errors
+///
+/// `ReadFault` only where a read failed, `TooLong` only where `limit + 1` bytes came, and
+/// `OutOfMemory`. Each loses the bytes that were taken before it.
+pub fn read_all<S: Source>(
+    alloc: Global,
+    source: &mut S,
+    limit: u32,
+) -> Result<Vec<u8>, ReadAllFault>
+    ensures bytes { IfOk result (λ v. IsReadToEnd (S.left source.old) (S.left source.new) v.items) }
+    ensures short { IfOk result (λ v. length v.items ≤ limit) }
+    ensures long { IsErrOf result ReadAllFault.TooLong →
+        HasTakenCount (S.left source.old) (S.left source.new) (limit + 1) }
+    ensures taken { HasTaken (S.left source.old) (S.left source.new) }
+    ensures fault { IsErrOf result ReadAllFault.ReadFault →
+        Rose (S.faults source.old) (S.faults source.new) }
+    ensures later { S.faults source.old ≤ S.faults source.new }
+{
+    // One byte past the limit tells a source that is too long from one that just fits.
+    let most = limit as usize + 1;
+    let mut chunk = [0u8; CHUNK];
+    let mut bytes = Vec::new(alloc);
+    'chunks: while bytes.len() < most {
+        let room = CHUNK.min(most - bytes.len());
+        let count = source.read(&mut chunk[..room])?;
+        if count == 0 {
+            return Ok(bytes);
+        }
+        bytes.extend_from_slice(&chunk[..count])?;
+    }
+    Err(ReadAllFault::TooLong)
+}
