@@ -51,3 +51,7 @@ pub record IsList (kind : FieldKind) (text : List ℕ) (set : FieldSet) : Type 0
 -- the text is a field of the plain form, and these are its values
 abbrev pub IsPlainField : FieldKind → List ℕ → FieldSet → Type 0
 IsPlainField kind text set = IsStar kind text set ⊎ IsList kind text set
+
+-- a byte of the plain form: `*`, a comma or a digit
+abbrev pub IsPlainByte : ℕ → Type 0
+IsPlainByte c = (c ≡ 42) ⊎ (c ≡ 44) ⊎ ((48 ≤ c) × (c ≤ 57))

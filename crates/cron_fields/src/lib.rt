@@ -2,5 +2,7 @@
 #![tactic(auto)]
 
 mod field;
+mod plain;
 
 pub use field::{FieldKind, FieldSet, Fields};
+pub use plain::read_plain_field;
