@@ -1,5 +1,5 @@
 -- A number as the set of its bits.
-use Rattle.std.proofs.Common.{◌≡◌, ◌≢◌, ◌⊎◌, ◌↔◌, ℕ, ◌+◌, ◌-◌, ◌*◌, ◌%◌, ◌^◌, ◌<◌, ◌≤◌, zero, suc, List, [], ◌∷◌, ◌++◌, Contains, IsBitSet, bit_and, bit_or, sym, refl, ap, ◌∙◌, inl, inr, ⊎_elim, arith, pow_pos, lit<, w64}
+use Rattle.std.proofs.Common.{◌≡◌, ◌≢◌, ◌↔◌, ℕ, ◌-◌, ◌*◌, ◌%◌, ◌^◌, ◌<◌, ◌≤◌, zero, suc, List, [], ◌∷◌, ◌++◌, Contains, IsBitSet, bit_and, bit_or, sym, refl, ap, ◌∙◌, ⊎_elim, arith, pow_pos, w64}
 use Rattle.std.specs.Int.{bit_at}
 use Rattle.std.proofs.lemmas.Bool.{cases_eq, cases_lt}
 use Rattle.std.proofs.lemmas.Nat.Bits.{and_pow, bit_at-lt, bit_at-zero, bit_at_set_same, bit_at_set_other, bit_at_mask_inside, bit_at_mask_below, bit_at_mask_above, same_from_bits}
@@ -63,13 +63,15 @@ bits_push bits values value small are v = ⊎_elim at other (cases_eq v value)
   where
     now : ℕ
     now = bit_or bits (1 * 2 ^ value % 2 ^ 64)
+
     at : v ≡ value → IsBitSet now v ↔ Contains (values ++ value ∷ []) v
     at is = rw is (λ _. Contains-push values value, λ _. set_from_at now value (bit_at_set_same w64 bits value small))
+
     other : (v ≡ value → ⊥) → IsBitSet now v ↔ Contains (values ++ value ∷ []) v
     other is_not = let kept = bit_at_set_other w64 bits value small v is_not in (
       λ set. Contains-append_left values (value ∷ []) v ((are v).0 (set_from_at bits v (sym kept ∙ at_from_set now v set))),
       λ has. ⊎_elim
-      (λ old. set_from_at now v (kept ∙ at_from_set bits v ((are v).1 old)))
-      (λ same. absurd (is_not (sym same)))
-      (Contains-push_cases values value v has),
+          (λ old. set_from_at now v (kept ∙ at_from_set bits v ((are v).1 old)))
+          (λ same. absurd (is_not (sym same)))
+          (Contains-push_cases values value v has),
     )

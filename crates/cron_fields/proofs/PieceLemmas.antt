@@ -1,15 +1,12 @@
 -- The numbers of a list, and the one way to cut their text at its commas.
-use Rattle.std.proofs.Common.{◌≡◌, ◌↔◌, ℕ, zero, suc, ◌+◌, ◌<◌, ◌≤◌, ◌^◌, ◌%◌, ◌*◌, true, false, eqb, List, [], ◌∷◌, ◌++◌, length, get_or, map, All, Contains, IsBitSet, bit_or, sym, refl, ap, ◌∙◌, subst, arith, ne_eqb, eq-eqb}
+use Rattle.std.proofs.Common.{◌≡◌, ◌↔◌, ℕ, zero, suc, ◌<◌, ◌^◌, ◌%◌, ◌*◌, false, eqb, List, [], ◌∷◌, ◌++◌, length, get_or, map, All, Contains, IsBitSet, bit_or, sym, refl, ap, ◌∙◌, arith, ne_eqb}
 use Rattle.std.specs.List.{AllZip, concat, join_with_byte, slice_split}
-use Rattle.std.specs.Char.{digit_value}
-use Rattle.std.specs.Str.Parse.{AllDigits, digits_value}
+use Rattle.std.specs.Str.Parse.{AllDigits}
 use Rattle.std.proofs.lemmas.List.Splits.{slice_split_none, slice_split_at, length-slice_split}
 use Rattle.std.proofs.lemmas.List.Elements.{All-nil, All-cons}
 use Rattle.std.proofs.lemmas.Str.Parse.{digit_from_value}
-use Rattle.cron_fields.specs.FieldSet.{least_of, greatest_of, value_of}
 use Rattle.cron_fields.specs.PlainField.{IsNumber, IsItem}
 use Rattle.cron_fields.specs.declared.field.FieldKind.{FieldKind}
-use Rattle.cron_fields.specs.declared.field.FieldKind.TheVariants.{Minute, Hour, MonthDay, Month, WeekDay}
 use Rattle.cron_fields.proofs.BitLemmas.{IsBitSet-zero, bits_push}
 
 -- each piece is a number, and these are their values
@@ -34,7 +31,7 @@ pieces_of-join kind (item ∷ []) (value ∷ values) some numbers =
     slice_split_none (λ byte. eqb byte 44) item (digits_have_no_comma item numbers.0.digits)
 pieces_of-join kind (item ∷ next ∷ items) (value ∷ values) some numbers =
     slice_split_at (λ byte. eqb byte 44) item 44 (join_with_byte 44 (next ∷ items)) (digits_have_no_comma item numbers.0.digits) refl
-        ∙ ap (λ pieces. item ∷ pieces) (pieces_of-join kind (next ∷ items) values (omega arith) numbers.1)
+    ∙ ap (λ pieces. item ∷ pieces) (pieces_of-join kind (next ∷ items) values (omega arith) numbers.1)
 
 -- a text has at least one piece
 pub length-pieces_of : (text : List ℕ) → 0 < length (pieces_of text)

@@ -1,11 +1,11 @@
 -- What the plain form of a field says of its text and its set.
-use Rattle.std.proofs.Common.{◌≡◌, ◌≢◌, ◌⊎◌, ◌↔◌, ℕ, ◌+◌, ◌-◌, ◌%◌, ◌^◌, ◌<◌, ◌≤◌, Bool, true, false, List, [], ◌∷◌, ◌++◌, length, get_or, map, codes, All, Contains, IsBitSet, sym, refl, ap, ◌∙◌, subst, inl, inr, arith, length-append, lit<}
+use Rattle.std.proofs.Common.{◌≡◌, ◌≢◌, ◌↔◌, ℕ, ◌+◌, ◌-◌, ◌%◌, ◌^◌, ◌<◌, ◌≤◌, Bool, true, false, List, [], ◌∷◌, length, get_or, map, codes, All, Contains, IsBitSet, sym, refl, ap, ◌∙◌, subst, inl, inr, arith, length-append, lit<}
 use Rattle.std.specs.List.{concat, join_with_byte}
 use Rattle.std.specs.Str.Parse.{AllDigits}
 use Rattle.std.proofs.lemmas.List.Splits.{join_with_byte-slice_split}
 use Rattle.std.proofs.lemmas.List.Elements.{All-nil, All-cons, All-append}
 use Rattle.std.proofs.lemmas.Str.Parse.{digit_from_value}
-use Rattle.cron_fields.specs.FieldSet.{least_of, greatest_of, value_of, Has}
+use Rattle.cron_fields.specs.FieldSet.{Has}
 use Rattle.cron_fields.specs.PlainField.{IsNumber, IsItems, IsStar, IsList, IsPlainField, IsPlainByte, HasAll}
 use Rattle.cron_fields.specs.declared.field.FieldKind.{FieldKind}
 use Rattle.cron_fields.specs.declared.field.FieldKind.TheVariants.{Minute, Hour, MonthDay, Month, WeekDay}
@@ -86,7 +86,7 @@ star_is_no_list kind text a b star list =
 same_set : (a b : FieldSet) → ((value : ℕ) → Has a value ↔ Has b value) → a.star ≡ b.star → a.hashed ≡ b.hashed → a ≡ b
 same_set a b same star hashed =
     ap (λ bits. make bits a.star a.hashed) (same_from_sets a.bits b.bits same)
-        ∙ (ap (λ s. make b.bits s a.hashed) star ∙ ap (λ h. make b.bits b.star h) hashed)
+    ∙ (ap (λ s. make b.bits s a.hashed) star ∙ ap (λ h. make b.bits b.star h) hashed)
   where
     make : ℕ → Bool → Bool → FieldSet
     make bits s h = record { bits = bits; star = s; hashed = h }

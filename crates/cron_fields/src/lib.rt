@@ -5,4 +5,7 @@ mod field;
 mod plain;
 
 pub use field::{FieldKind, FieldSet, Fields};
-pub use plain::read_plain_field;
+pub use plain::{a_plain_field_has_no_blank, a_text_has_one_set, read_plain_field};
+
+#[cfg(test)]
+mod tests;

@@ -1,8 +1,9 @@
-ghost use Rattle.std.specs.Prelude.{◌≡◌, ℕ, ◌<◌, ◌≤◌, true, false, IfSome, IfNone, SomeIff};
+ghost use Rattle.std.specs.Prelude.{◌≡◌, ℕ, ◌<◌, ◌≤◌, true, false, List, length, All, IfSome, IfNone, SomeIff};
 ghost use Rattle.std.specs.Char.{digit_value};
+ghost use Rattle.cron_fields.specs.declared.field.FieldKind.{FieldKind};
 ghost use Rattle.cron_fields.specs.declared.field.FieldSet.{FieldSet};
 ghost use Rattle.cron_fields.specs.FieldSet.{least_of, greatest_of, value_of};
-ghost use Rattle.cron_fields.specs.PlainField.{HasAll, IsNumber, IsPlainField};
+ghost use Rattle.cron_fields.specs.PlainField.{HasAll, IsNumber, IsPlainByte, IsPlainField};
 
 use crate::field::{FieldKind, FieldSet};
 
@@ -26,6 +27,18 @@ pub fn read_plain_field(kind: FieldKind, text: &str) -> Option<FieldSet>
         hashed: false,
     })
 }
+
+/// A law: a text is the plain form of one set at most.
+pub fn a_text_has_one_set()
+    ensures { (kind : FieldKind) (text : List ℕ) (a b : FieldSet)
+        → IsPlainField kind text a → IsPlainField kind text b → a ≡ b }
+{}
+
+/// A law: a plain field is not empty and has only `*`, commas and digits, so no blank, newline or NUL.
+pub fn a_plain_field_has_no_blank()
+    ensures { (kind : FieldKind) (text : List ℕ) (set : FieldSet)
+        → IsPlainField kind text set → (0 < length text) × All IsPlainByte text }
+{}
 
 // The field that `*` stands for.
 fn every(kind: FieldKind) -> FieldSet
