@@ -1,12 +1,17 @@
 ghost use Rattle.std.specs.Prelude.{◌≡◌, ◌^◌, ◌<◌, ◌||◌, ◌↔◌, IsTrue};
 
-/// Which of the five fields of a crontab line.
+/// Which of the five fields of a crontab line, with the numbers that crontab(5) gives it.
 #[derive(Clone, Copy, Debug, PartialEq, Eq)]
 pub enum FieldKind {
+    /// 0 to 59.
     Minute,
+    /// 0 to 23.
     Hour,
+    /// 1 to 31.
     MonthDay,
+    /// 1 to 12.
     Month,
+    /// 0 to 7, where both 0 and 7 are Sunday.
     WeekDay,
 }
 
