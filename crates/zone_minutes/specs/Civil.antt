@@ -32,3 +32,7 @@ civil_at minute =
 -- a civil minute of the years 0000 to 9999
 abbrev pub IsCalendarMinute : ℤ → Type 0
 IsCalendarMinute minute = IsBetween (negsuc 1_036_120_319) (pos 4_223_371_679) minute
+
+-- a day number of the years 0000 to 9999
+abbrev pub IsCalendarDay : ℤ → Type 0
+IsCalendarDay day = IsBetween (negsuc 719_527) (pos 2_932_896) day

@@ -1,5 +1,5 @@
 -- The texts of a civil minute, by ISO 8601: extended, as 2024-03-31T01:00Z, and basic, as 20240331T0100Z.
-use Rattle.std.specs.Prelude.{ℕ, ◌+◌, ◌/◌, ◌%◌, List, [], ◌∷◌, ◌++◌, ℤ, unsigned_abs}
+use Rattle.std.specs.Prelude.{ℕ, ◌+◌, ◌/◌, ◌%◌, ◌<◌, List, [], ◌∷◌, ◌++◌, ℤ, pos, ◌≤ℤ◌, unsigned_abs, ◌≡◌, length, slice_index}
 use Rattle.zone_minutes.specs.Civil.{civil_at}
 use Rattle.zone_minutes.specs.declared.civil.Civil.{Civil}
 
@@ -30,3 +30,27 @@ stamp_text instant = extended_text (civil_at instant)
 -- the stamp of an instant as names have it, with no marks between the numbers
 unfoldable pub basic_stamp_text : ℤ → List ℕ
 basic_stamp_text instant = basic_text (civil_at instant)
+
+-- a civil time whose numbers have as many digits as a stamp has
+pub record IsStampable (civil : Civil) : Type 0 where
+  pub since : pos 0 ≤ℤ civil.year
+  pub until : civil.year ≤ℤ pos 9999
+  pub month : civil.month < 100
+  pub day : civil.day < 100
+  pub hour : civil.hour < 100
+  pub minute : civil.minute < 100
+
+-- the two bytes from that place on are the digits of the number
+pub record HasTwoDigits (bytes : List ℕ) (place number : ℕ) : Type 0 where
+  pub small : number < 100
+  pub tens : slice_index bytes place ≡ 48 + number / 10
+  pub units : slice_index bytes (place + 1) ≡ 48 + number % 10
+
+-- the bytes are as many as a stamp's, with its marks between the numbers
+pub record HasMarks (bytes : List ℕ) : Type 0 where
+  pub long : length bytes ≡ 17
+  pub before_month : slice_index bytes 4 ≡ 45
+  pub before_day : slice_index bytes 7 ≡ 45
+  pub before_hour : slice_index bytes 10 ≡ 84
+  pub before_minute : slice_index bytes 13 ≡ 58
+  pub at_end : slice_index bytes 16 ≡ 90

@@ -1,3 +1,9 @@
+ghost use Rattle.std.specs.Prelude.{◌≡◌, ◌≢◌, ◌<◌, ℤ, IfSome, IfNone};
+ghost use Rattle.jiff_core.specs.Calendar.{days_from_civil, IsCivilDate, IsEpochDay};
+ghost use Rattle.zone_minutes.specs.Civil.{civil_at, day_number, weekday_of, IsCalendarMinute, IsCalendarDay};
+
+use jiff_core::civil::Date;
+
 /// A date of the proleptic Gregorian calendar and a time of day.
 #[derive(Clone, Copy, Debug, PartialEq, Eq)]
 pub struct Civil {
@@ -10,4 +16,64 @@ pub struct Civil {
     pub hour: u8,
     /// From 0 to 59.
     pub minute: u8,
+}
+
+/// The date and the time of day of a civil minute: minutes since 1970-01-01 00:00.
+pub fn civil_of(number: i64) -> Civil
+    requires { IsCalendarMinute number }
+    ensures civil { result ≡ civil_at number }
+    ensures day { days_from_civil result.year result.month result.day ≡ day_number number }
+    ensures date { IsCivilDate result.year result.month result.day }
+    ensures hour { result.hour < 24 }
+    ensures minute { result.minute < 60 }
+{
+    let date = Date::from_unix_epoch_day(day_of(number)).unwrap();
+    // Unsigned before it is divided: it is never negative.
+    let minute = number.rem_euclid(1440) as u32;
+    Civil {
+        year: date.year,
+        month: date.month,
+        day: date.day,
+        hour: (minute / 60) as u8,
+        minute: (minute % 60) as u8,
+    }
+}
+
+/// The civil minute of a date and a time of day, if they exist in the years 0000 to 9999.
+pub fn number_of(civil: Civil) -> Option<i64>
+    ensures number { IfSome result (λ at. IsCalendarMinute at × (civil_at at ≡ civil)) }
+    ensures none { IfNone result ((at : ℤ) → IsCalendarMinute at → civil_at at ≢ civil) }
+{
+    let Civil {
+        year,
+        month,
+        day,
+        hour,
+        minute,
+    } = civil;
+    if year < 0 || month > 12 || day > 31 || hour > 23 || minute > 59 {
+        return None;
+    }
+    let date = Date::new(year, month as i8, day as i8).ok()?;
+    let minute = u32::from(hour) * 60 + u32::from(minute);
+    Some(i64::from(date.to_unix_epoch_day()) * 1440 + i64::from(minute))
+}
+
+/// The number of a civil minute's day: 0 for 1970-01-01, and negative before it.
+pub fn day_of(number: i64) -> i64
+    requires { IsCalendarMinute number }
+    ensures day { result ≡ day_number number }
+    ensures range { IsCalendarDay result }
+{
+    number.div_euclid(1440)
+}
+
+/// The weekday of a day number, from 0 for Sunday to 6 for Saturday.
+pub fn weekday_of(day: i64) -> u8
+    requires { IsEpochDay day }
+    ensures weekday { result ≡ weekday_of day }
+    ensures range { result < 7 }
+{
+    // Day 0, 1970-01-01, was a Thursday.
+    (day + 4).rem_euclid(7) as u8
 }

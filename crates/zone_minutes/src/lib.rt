@@ -3,8 +3,12 @@
 
 mod civil;
 mod minute;
+mod stamp;
 mod zone;
 
-pub use civil::Civil;
+pub use civil::{Civil, civil_of, day_of, number_of, weekday_of};
 pub use minute::{Minute, Window};
+pub use stamp::{
+    OutOfMemory, read_stamp, stamps_differ, stamps_have_one_length, write_basic_stamp, write_stamp,
+};
 pub use zone::ZoneSource;
