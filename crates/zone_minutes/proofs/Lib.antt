@@ -1,2 +1,3 @@
 pub mod CalendarLemmas
 pub mod StampLemmas
+pub mod ZoneLemmas

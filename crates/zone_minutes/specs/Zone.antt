@@ -1,8 +1,9 @@
 -- Local time: what `jiff` gives for a zone at an instant.
-use Rattle.std.specs.Prelude.{◌≡◌, ℤ, pos, ◌+ℤ◌, ◌*ℤ◌}
+use Rattle.std.specs.Prelude.{◌≡◌, ℤ, pos, negsuc, ◌+ℤ◌, ◌*ℤ◌}
 use Rattle.std.specs.Int.{int_div_euclid}
 use Rattle.jiff.specs.Types.{TimeZone}
 use Rattle.jiff.specs.Words.{offset_at, fixed_zone}
+use Rattle.jiff_core.specs.Calendar.{IsBetween}
 use Rattle.jiff_core.specs.declared.offset.Offset.{Offset}
 use Rattle.zone_minutes.specs.declared.zone.ZoneSource.{ZoneSource}
 use Rattle.zone_minutes.specs.declared.zone.ZoneSource.TheVariants.{Fixed}
@@ -20,6 +21,14 @@ pub record Zone : Type 0 where
 -- the source that a value of the program names
 abbrev pub source_of : ZoneSource → Source
 source_of (Fixed minutes) = FixedOffset minutes
+
+-- an offset in minutes from -12:00 to +14:00
+abbrev pub IsOffsetMinutes : ℤ → Type 0
+IsOffsetMinutes minutes = IsBetween (negsuc 719) (pos 840) minutes
+
+-- a fixed offset of the source is from -12:00 to +14:00
+abbrev pub IsOffsetInRange : ZoneSource → Type 0
+IsOffsetInRange (Fixed minutes) = IsOffsetMinutes minutes
 
 -- a zone of `jiff` with this offset in minutes at every instant
 pub record IsFixedZone (minutes : ℤ) (zone : TimeZone) : Type 0 where

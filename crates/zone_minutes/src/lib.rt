@@ -4,6 +4,8 @@
 mod civil;
 mod minute;
 mod stamp;
+#[cfg(test)]
+mod tests;
 mod zone;
 
 pub use civil::{Civil, civil_of, day_of, number_of, weekday_of};
@@ -11,4 +13,7 @@ pub use minute::{Minute, Window};
 pub use stamp::{
     OutOfMemory, read_stamp, stamps_differ, stamps_have_one_length, write_basic_stamp, write_stamp,
 };
-pub use zone::ZoneSource;
+pub use zone::{
+    ZoneFault, ZoneRuns, ZoneSource, fixed_offset_is_added, utc_is_its_own_local_time,
+    zones_read_alike,
+};

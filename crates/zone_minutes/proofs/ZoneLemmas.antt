@@ -1,0 +1,34 @@
+-- Local time at a fixed offset and in UTC.
+use Rattle.std.proofs.Common.{◌≡◌, refl, sym, ◌∙◌, arith, ℤ, pos, ◌+ℤ◌, ◌*ℤ◌}
+use Rattle.std.specs.Int.{int_div_euclid}
+use Rattle.jiff.specs.Words.{fixed_zone}
+use Rattle.jiff.specs.Types.{TimeZone, UTC}
+use Rattle.jiff.proofs.ZoneFacts.{offset_at-fixed_zone, offset_at-UTC}
+use Rattle.jiff_core.proofs.SignedLemmas.{signed_arith}
+use Rattle.jiff_core.specs.declared.offset.Offset.{Offset}
+use Rattle.zone_minutes.specs.Zone.{Source, FixedOffset, local_of, minute_nanos, IsFixedZone, IsLocal, IsOffsetMinutes, IsReadAs}
+
+whole_minutes : (t minutes : ℤ) → int_div_euclid (t *ℤ pos 60 +ℤ minutes *ℤ pos 60) (pos 60) ≡ t +ℤ minutes
+whole_minutes t minutes = omega (arith, signed_arith)
+
+-- at a fixed offset the local time is the instant and the offset
+pub local_of-fixed : (minutes t : ℤ) (zone : TimeZone) → IsFixedZone minutes zone → local_of zone t ≡ t +ℤ minutes
+unfolding local_of
+local_of-fixed minutes t zone fixed =
+    rw (fixed.is, offset_at-fixed_zone fixed.offset (minute_nanos t), fixed.seconds) (whole_minutes t minutes)
+
+-- in UTC it is the instant
+pub local_of-UTC : (t : ℤ) → local_of UTC t ≡ t
+unfolding local_of
+local_of-UTC t = rw (offset_at-UTC (minute_nanos t)) (omega (arith, signed_arith))
+
+-- zones that a source may be read as have the same local time
+pub local_of-same : (source : Source) (a b : TimeZone) (t : ℤ) → IsReadAs source a → IsReadAs source b → local_of a t ≡ local_of b t
+local_of-same (FixedOffset minutes) a b t in_a in_b = local_of-fixed minutes t a in_a ∙ sym (local_of-fixed minutes t b in_b)
+
+-- the sum of an instant and an offset is the local time at that offset
+pub IsLocal-fixed : (minutes t : ℤ) → IsOffsetMinutes minutes → IsLocal (FixedOffset minutes) t (t +ℤ minutes)
+IsLocal-fixed minutes t h =
+    let offset : Offset = record { seconds = minutes *ℤ pos 60; in_range = (omega (arith, signed_arith), omega (arith, signed_arith)) } in
+    let read : IsFixedZone minutes (fixed_zone offset) = record { offset = offset; is = refl; seconds = refl } in
+    record { zone = fixed_zone offset; read = read; is = sym (local_of-fixed minutes t (fixed_zone offset) read) }
