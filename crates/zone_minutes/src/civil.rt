@@ -61,9 +61,8 @@ pub fn number_of(civil: Civil) -> Option<i64>
 
 /// The number of a civil minute's day: 0 for 1970-01-01, and negative before it.
 pub fn day_of(number: i64) -> i64
-    requires { IsCalendarMinute number }
     ensures day { result ≡ day_number number }
-    ensures range { IsCalendarDay result }
+    ensures range { IsCalendarMinute number → IsCalendarDay result }
 {
     number.div_euclid(1440)
 }

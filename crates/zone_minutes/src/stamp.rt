@@ -1,17 +1,28 @@
-ghost use Rattle.std.specs.Prelude.{◌≡◌, ◌≢◌, ◌↔◌, ◌+◌, ◌<◌, ℕ, ℤ, ◌++◌, [], ◌∷◌, length, IsTrue, IfSome, IfNone, OnOk, OnErr, string_bytes};
+ghost use Rattle.std.specs.Prelude.{◌≡◌, ◌≢◌, ◌↔◌, ◌+◌, ◌<◌, ℕ, ℤ, ◌++◌, [], ◌∷◌, length, IsTrue, IfSome, IfNone, OnOk, OnErr, string_bytes, string_len, string_capacity, codes, Some};
 ghost use Rattle.std.specs.Str.{IsAscii};
-ghost use Rattle.zone_minutes.specs.Civil.{civil_at, IsCalendarMinute};
+ghost use Rattle.zone_minutes.specs.Civil.{IsCalendarMinute};
 ghost use Rattle.zone_minutes.specs.Stamp.{two_digits, extended_text, basic_text, stamp_text, basic_stamp_text, IsStampable, HasTwoDigits, HasMarks};
 ghost use Rattle.zone_minutes.specs.declared.civil.Civil.{Civil};
 
 use crate::civil::{Civil, civil_of, number_of};
 use crate::minute::Minute;
 use std::alloc::AllocError;
-use std::str;
+use std::error::Error;
+use std::{fmt, str};
 
-/// Memory ran out.
+/// Memory ran out while a stamp was written.
 #[derive(Clone, Copy, Debug, PartialEq, Eq)]
 pub struct OutOfMemory;
+
+impl fmt::Display for OutOfMemory {
+    ghost output = { λ _. Some (codes "out of memory") };
+
+    fn fmt<W: fmt::Write>(&self, f: &mut fmt::Formatter<W>) -> fmt::Result {
+        write!(f, "out of memory")
+    }
+}
+
+impl Error for OutOfMemory {}
 
 impl From<AllocError> for OutOfMemory {
     fn from(_error: AllocError) -> OutOfMemory {
@@ -80,25 +91,29 @@ fn read_two(bytes: &[u8], place: usize) -> Option<u8>
     }
 }
 
-/// Appends the stamp of an instant, as 2024-03-31T01:00Z; `into` is unchanged without memory.
+/// Appends the stamp of an instant, as 2024-03-31T01:00Z; `into` is unchanged without memory, which can
+/// be wanting only where it has no room.
 pub fn write_stamp(at: Minute, into: &mut String) -> Result<(), OutOfMemory>
     requires { IsCalendarMinute at.0 }
     ensures ok { OnOk result (string_bytes into.new ≡ string_bytes into.old ++ stamp_text at.0) }
     ensures err { OnErr result (string_bytes into.new ≡ string_bytes into.old) }
+    ensures full { OnErr result (string_capacity into.old < string_len into.old + 17) }
 {
     push_ascii(&extended(civil_of(at.0)), into)
 }
 
 /// Appends the stamp of an instant as names have it, as 20240331T0100Z; `into` is unchanged
-/// without memory.
+/// without memory, which can be wanting only where it has no room.
 pub fn write_basic_stamp(at: Minute, into: &mut String) -> Result<(), OutOfMemory>
     requires { IsCalendarMinute at.0 }
     ensures ok { OnOk result (string_bytes into.new ≡ string_bytes into.old ++ basic_stamp_text at.0) }
     ensures err { OnErr result (string_bytes into.new ≡ string_bytes into.old) }
+    ensures full { OnErr result (string_capacity into.old < string_len into.old + 14) }
 {
     push_ascii(&basic(civil_of(at.0)), into)
 }
 
+/// The bytes of YYYY-MM-DDTHH:MMZ.
 fn extended(civil: Civil) -> [u8; 17]
     requires { IsStampable civil }
     ensures { result ≡ extended_text civil }
@@ -115,18 +130,17 @@ fn extended(civil: Civil) -> [u8; 17]
     ]
 }
 
+/// The bytes of YYYYMMDDTHHMMZ.
 fn basic(civil: Civil) -> [u8; 14]
     requires { IsStampable civil }
     ensures { result ≡ basic_text civil }
 {
-    let year = civil.year as u16;
-    let [y0, y1] = digits_of((year / 100) as u8);
-    let [y2, y3] = digits_of((year % 100) as u8);
-    let [m0, m1] = digits_of(civil.month);
-    let [d0, d1] = digits_of(civil.day);
-    let [h0, h1] = digits_of(civil.hour);
-    let [n0, n1] = digits_of(civil.minute);
-    [y0, y1, y2, y3, m0, m1, d0, d1, b'T', h0, h1, n0, n1, b'Z']
+    let stamp = extended(civil);
+    // All but the marks at 4, 7 and 13.
+    [
+        stamp[0], stamp[1], stamp[2], stamp[3], stamp[5], stamp[6], stamp[8], stamp[9], stamp[10],
+        stamp[11], stamp[12], stamp[14], stamp[15], stamp[16],
+    ]
 }
 
 /// The two digits of a number below 100.
@@ -137,10 +151,12 @@ fn digits_of(number: u8) -> [u8; 2]
     [b'0' + number / 10, b'0' + number % 10]
 }
 
+/// Appends ASCII bytes, or leaves the text as it was without memory.
 fn push_ascii(bytes: &[u8], into: &mut String) -> Result<(), OutOfMemory>
     requires { IsAscii bytes.now }
     ensures ok { OnOk result (string_bytes into.new ≡ string_bytes into.old ++ bytes.now) }
     ensures err { OnErr result (string_bytes into.new ≡ string_bytes into.old) }
+    ensures full { OnErr result (string_capacity into.old < string_len into.old + length bytes.now) }
 {
     let text = str::from_utf8(bytes).unwrap();
     into.push_str(text)?;

@@ -1,4 +1,4 @@
-ghost use Rattle.std.specs.Prelude.{◌≡◌, ℤ, pos, ◌+ℤ◌, ◌-ℤ◌, ◌≤ℤ◌, ◌<ℤ◌, IfOk};
+ghost use Rattle.std.specs.Prelude.{◌≡◌, ℤ, codes, Some, pos, ◌+ℤ◌, ◌-ℤ◌, ◌≤ℤ◌, ◌<ℤ◌, IfOk};
 ghost use Rattle.jiff.specs.Types.{TimeZone, UTC};
 ghost use Rattle.zone_minutes.specs.Civil.{IsCalendarMinute};
 ghost use Rattle.zone_minutes.specs.Window.{IsWithinLimits};
@@ -6,6 +6,8 @@ ghost use Rattle.zone_minutes.specs.Zone.{Source, FixedOffset, source_of, local_
 
 use crate::minute::{Minute, Window};
 use std::alloc::Global;
+use std::error::Error;
+use std::fmt;
 use std::marker::Model;
 
 /// What a zone's offsets come from.
@@ -21,6 +23,18 @@ pub enum ZoneFault {
     /// Memory ran out.
     OutOfMemory,
 }
+
+impl fmt::Display for ZoneFault {
+    ghost output = { λ _. Some (codes "out of memory") };
+
+    fn fmt<W: fmt::Write>(&self, f: &mut fmt::Formatter<W>) -> fmt::Result {
+        match self {
+            ZoneFault::OutOfMemory => write!(f, "out of memory"),
+        }
+    }
+}
+
+impl Error for ZoneFault {}
 
 /// A zone's offsets over a window of instants, and over the 180 minutes before it.
 #[derive(Debug, Drop)]
@@ -46,7 +60,7 @@ impl Model for ZoneRuns {
 }
 
 impl ZoneRuns {
-    /// The zone's offsets over the window.
+    /// The zone's offsets over the window. Only memory can be wanting.
     pub fn build(_alloc: Global, zone: &ZoneSource, window: Window) -> Result<ZoneRuns, ZoneFault>
         requires window { IsWithinLimits window }
         requires offset { IsOffsetInRange zone.now }
