@@ -1,1 +1,15 @@
+//! The vocabulary of Paxos over a log of launch starts and ends: ballots, sets of members, entries, votes, the rows of
+//! the launch table, and what a replica keeps on its disk.
 #![tactic(auto)]
+
+mod ballot;
+mod durable;
+mod entry;
+mod members;
+mod rows;
+
+pub use ballot::Ballot;
+pub use durable::{Delta, Durable};
+pub use entry::{Entry, EntryList, Kind, Vote, VoteList};
+pub use members::{Members, majority};
+pub use rows::{JobRow, RowList, rows_stand};

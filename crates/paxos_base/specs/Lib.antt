@@ -1,0 +1,4 @@
+pub mod Ballot
+pub mod Members
+pub mod Rows
+pub mod Vote

@@ -1,0 +1,75 @@
+use crate::ballot::Ballot;
+use std::marker::Model;
+
+/// How a launch ended: the command was launched, or the launch was given up and is void.
+#[derive(Clone, Copy, Debug, PartialEq, Eq, Hash)]
+pub enum Kind {
+    Launch,
+    Void,
+}
+
+/// An entry of the replicated log.
+#[derive(Clone, Copy, Debug, PartialEq, Eq, Hash)]
+pub enum Entry {
+    /// Fills a slot, and changes nothing.
+    Noop,
+    /// The launch of a job that is due at a minute starts.
+    Start {
+        /// The job's number.
+        job: u32,
+        /// The minute that the launch is due at, since 1970-01-01 00:00 UTC.
+        at: i64,
+        /// The minute at which the leader decided so.
+        now: i64,
+    },
+    /// The launch of a job that was due at a minute ended.
+    End {
+        /// The job's number.
+        job: u32,
+        /// The minute that the launch was due at, since 1970-01-01 00:00 UTC.
+        at: i64,
+        /// How it ended.
+        kind: Kind,
+    },
+}
+
+/// A vote for an entry at a slot of the log, in a ballot.
+#[derive(Clone, Copy, Debug, PartialEq, Eq, Hash)]
+pub struct Vote {
+    pub slot: u64,
+    pub ballot: Ballot,
+    pub entry: Entry,
+}
+
+/// Entries in the order of their slots. Contracts see the list.
+#[derive(Debug, Drop)]
+pub struct EntryList {
+    pub items: Vec<Entry>,
+}
+
+impl Model for EntryList {
+    ghost use Rattle.std.specs.Prelude.{List};
+    ghost use Rattle.paxos_base.specs.declared.entry.Entry.{Entry};
+
+    ghost Value = { List Entry };
+
+    ghost view = { λ list. list.items.items };
+}
+
+/// Votes, each at a later slot than those before it. Contracts see the list.
+#[derive(Debug, Drop)]
+pub struct VoteList {
+    pub items: Vec<Vote>,
+}
+
+impl Model for VoteList {
+    ghost use Rattle.std.specs.Prelude.{List};
+    ghost use Rattle.paxos_base.specs.declared.entry.Vote.{Vote};
+    ghost use Rattle.paxos_base.specs.Vote.{SlotsRise};
+
+    ghost Value = { List Vote };
+
+    ghost view = { λ list. list.items.items };
+
+    ghost invariant = { λ list. SlotsRise list.items.items };
+}
