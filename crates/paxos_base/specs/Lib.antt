@@ -1,4 +1,6 @@
 pub mod Ballot
+pub mod EntryFields
 pub mod Members
+pub mod Packet
 pub mod Rows
 pub mod Vote

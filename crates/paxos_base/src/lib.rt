@@ -7,9 +7,14 @@ mod durable;
 mod entry;
 mod members;
 mod rows;
+mod wire;
+
+#[cfg(test)]
+mod tests;
 
 pub use ballot::Ballot;
 pub use durable::{Delta, Durable};
 pub use entry::{Entry, EntryList, Kind, Vote, VoteList};
 pub use members::{Members, majority};
 pub use rows::{JobRow, RowList, rows_stand};
+pub use wire::{EntryFault, PACKET_BYTES, get_entry, put_entry};

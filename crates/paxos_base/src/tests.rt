@@ -1,0 +1,96 @@
+use crate::{Ballot, Entry, EntryFault, JobRow, Kind, Members, PACKET_BYTES, RowList, get_entry, majority, put_entry, rows_stand};
+use std::alloc::Global;
+
+#[test]
+fn ballots(rt: HostRuntime) {
+    for (round, member, number) in [(1, 0, 8), (1, 6, 14), (2, 0, 16), (3, 2, 26)] {
+        let ballot = Ballot::of(round, member);
+        assert_eq!(rt; ballot.number(), number);
+        assert_eq!(rt; ballot.round(), round);
+        assert_eq!(rt; ballot.member(), member);
+        assert_eq!(rt; Ballot::from_number(number), Some(ballot));
+    }
+    for number in [0, 7, 15, 23, u64::MAX] {
+        assert_eq!(rt; Ballot::from_number(number), None, "at {number}");
+    }
+    assert!(rt; Ballot::of(1, 6) < Ballot::of(2, 0));
+    assert!(rt; Ballot::of(2, 0) < Ballot::of(2, 1));
+    assert!(rt; Ballot::of(3, 2).is_of(3));
+    assert!(rt; !Ballot::of(3, 2).is_of(2));
+}
+
+#[test]
+fn members(rt: HostRuntime) {
+    for (members, want) in [(1, 1), (2, 2), (3, 2), (4, 3), (5, 3), (6, 4), (7, 4)] {
+        assert_eq!(rt; majority(members), want, "of {members}");
+    }
+    let set = Members::none().with(0).with(6).with(6);
+    assert_eq!(rt; set.count(), 2);
+    for (member, want) in [(0, true), (1, false), (5, false), (6, true), (7, false)] {
+        assert_eq!(rt; set.has(member), want, "{member}");
+    }
+    assert_eq!(rt; Members::none().count(), 0);
+}
+
+// The bytes of a minute of 2024 and of the minute before the epoch.
+const MINUTE: [u8; 8] = [0, 0, 0, 0, 0x01, 0xb3, 0x58, 0x5c];
+const BEFORE: [u8; 8] = [0xff; 8];
+
+#[test]
+fn entries(rt: HostRuntime) {
+    let minute = 28_530_780;
+    let table = [
+        (Entry::Noop, 0, [0; 4], [0; 8], [0; 8]),
+        (Entry::Start { job: 0, at: minute, now: minute }, 1, [0; 4], MINUTE, MINUTE),
+        (Entry::Start { job: 0x0102_0304, at: -1, now: minute }, 1, [1, 2, 3, 4], BEFORE, MINUTE),
+        (Entry::End { job: 7, at: minute, kind: Kind::Launch }, 2, [0, 0, 0, 7], MINUTE, [0; 8]),
+        (Entry::End { job: 7, at: -1, kind: Kind::Void }, 3, [0, 0, 0, 7], BEFORE, [0; 8]),
+    ];
+    for (entry, tag, job, at, now) in table {
+        let mut packet = [9; PACKET_BYTES];
+        put_entry(entry, &mut packet);
+        assert_eq!(rt; packet[..2], [9, 9]);
+        assert_eq!(rt; packet[2], tag);
+        assert_eq!(rt; packet[3], 9);
+        assert_eq!(rt; packet[4..8], job);
+        assert_eq!(rt; packet[8..32], [9; 24]);
+        assert_eq!(rt; packet[32..40], at);
+        assert_eq!(rt; packet[40..48], now);
+        assert_eq!(rt; packet[48..], [9; 8]);
+        assert_eq!(rt; get_entry(&packet), Ok(entry));
+    }
+}
+
+#[test]
+fn faults(rt: HostRuntime) {
+    for (tag, place, byte, want) in [
+        (4, 7, 0, Err(EntryFault::Tag)),
+        (255, 7, 1, Err(EntryFault::Tag)),
+        (0, 7, 1, Err(EntryFault::NotZero)),
+        (0, 32, 1, Err(EntryFault::NotZero)),
+        (0, 47, 1, Err(EntryFault::NotZero)),
+        (2, 47, 1, Err(EntryFault::NotZero)),
+        (3, 40, 128, Err(EntryFault::NotZero)),
+        (0, 0, 1, Ok(Entry::Noop)),
+        (0, 48, 1, Ok(Entry::Noop)),
+    ] {
+        let mut packet = [0; PACKET_BYTES];
+        packet[2] = tag;
+        packet[place] = byte;
+        assert_eq!(rt; get_entry(&packet), want, "tag {tag}, {byte} at {place}");
+    }
+}
+
+fn row_of(job: u32) -> JobRow
+    ensures { result.open_now ≡ None }
+{
+    JobRow { job, cursor: None, open_now: None, last: None, launched: 0, voided: 0 }
+}
+
+#[test]
+fn rows(rt: HostRuntime) -> std::result::Result<(), std::alloc::AllocError> {
+    let empty = RowList { items: Vec::new(Global) };
+    assert!(rt; rows_stand(&empty, 0, 0));
+    assert!(rt; !rows_stand(&empty, 1, 0));
+    Ok(())
+}
