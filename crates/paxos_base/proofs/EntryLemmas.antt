@@ -1,5 +1,5 @@
 -- An entry's four fields, as they are written and as they are read.
-use Rattle.std.proofs.Common.{◌≡◌, ◌≢◌, ◌⊎◌, ◌↔◌, ℕ, ◌+◌, ◌^◌, ◌<◌, ◌≤◌, ℤ, pos, negsuc, true, List, [], ◌∷◌, length, get_or, take, drop, Result, Ok, Err, refl, sym, ap, ◌∙◌, inl, inr, arith, lit≤}
+use Rattle.std.proofs.Common.{◌≡◌, ◌≢◌, ℕ, ◌+◌, ◌^◌, ◌<◌, ◌≤◌, ℤ, pos, negsuc, true, List, [], ◌∷◌, length, get_or, take, drop, refl, sym, ap, ◌∙◌, inl, inr, arith, lit≤}
 use Rattle.std.specs.Int.{w32, w64, to_be_bytes, from_be_bytes, cast_signed, cast_unsigned}
 use Rattle.std.specs.Prelude.{FitsSigned, replicate}
 use Rattle.std.proofs.Math.Facts.{sfits_to_z}
@@ -82,19 +82,19 @@ pub entry_fields-writes : (old one two three new tag job at now : List ℕ) → 
 entry_fields-writes old one two three new tag job at now w =
     let long = lengths old one two three new tag job at now w in
     let now-is : bytes_at new 40 8 ≡ now =
-      ap (λ (p : List ℕ). bytes_at p 40 8) w.fourth ∙ bytes_at-with_bytes_same three 40 now 8 w.now_long (omega arith) in
+    ap (λ (p : List ℕ). bytes_at p 40 8) w.fourth ∙ bytes_at-with_bytes_same three 40 now 8 w.now_long (omega arith) in
     let at-is : bytes_at new 32 8 ≡ at =
-      ap (λ (p : List ℕ). bytes_at p 32 8) w.fourth ∙ bytes_at-with_bytes_apart three 40 now 8 32 8 w.now_long (omega arith) refl
-      ∙ ap (λ (p : List ℕ). bytes_at p 32 8) w.third ∙ bytes_at-with_bytes_same two 32 at 8 w.at_long (omega arith) in
+    ap (λ (p : List ℕ). bytes_at p 32 8) w.fourth ∙ bytes_at-with_bytes_apart three 40 now 8 32 8 w.now_long (omega arith) refl
+    ∙ ap (λ (p : List ℕ). bytes_at p 32 8) w.third ∙ bytes_at-with_bytes_same two 32 at 8 w.at_long (omega arith) in
     let job-is : bytes_at new 4 4 ≡ job =
-      ap (λ (p : List ℕ). bytes_at p 4 4) w.fourth ∙ bytes_at-with_bytes_apart three 40 now 8 4 4 w.now_long (omega arith) refl
-      ∙ ap (λ (p : List ℕ). bytes_at p 4 4) w.third ∙ bytes_at-with_bytes_apart two 32 at 8 4 4 w.at_long (omega arith) refl
-      ∙ ap (λ (p : List ℕ). bytes_at p 4 4) w.second ∙ bytes_at-with_bytes_same one 4 job 4 w.job_long (omega arith) in
+    ap (λ (p : List ℕ). bytes_at p 4 4) w.fourth ∙ bytes_at-with_bytes_apart three 40 now 8 4 4 w.now_long (omega arith) refl
+    ∙ ap (λ (p : List ℕ). bytes_at p 4 4) w.third ∙ bytes_at-with_bytes_apart two 32 at 8 4 4 w.at_long (omega arith) refl
+    ∙ ap (λ (p : List ℕ). bytes_at p 4 4) w.second ∙ bytes_at-with_bytes_same one 4 job 4 w.job_long (omega arith) in
     let tag-is : bytes_at new 2 1 ≡ tag =
-      ap (λ (p : List ℕ). bytes_at p 2 1) w.fourth ∙ bytes_at-with_bytes_apart three 40 now 8 2 1 w.now_long (omega arith) refl
-      ∙ ap (λ (p : List ℕ). bytes_at p 2 1) w.third ∙ bytes_at-with_bytes_apart two 32 at 8 2 1 w.at_long (omega arith) refl
-      ∙ ap (λ (p : List ℕ). bytes_at p 2 1) w.second ∙ bytes_at-with_bytes_apart one 4 job 4 2 1 w.job_long (omega arith) refl
-      ∙ ap (λ (p : List ℕ). bytes_at p 2 1) w.first ∙ bytes_at-with_bytes_same old 2 tag 1 w.tag_long (omega arith) in
+    ap (λ (p : List ℕ). bytes_at p 2 1) w.fourth ∙ bytes_at-with_bytes_apart three 40 now 8 2 1 w.now_long (omega arith) refl
+    ∙ ap (λ (p : List ℕ). bytes_at p 2 1) w.third ∙ bytes_at-with_bytes_apart two 32 at 8 2 1 w.at_long (omega arith) refl
+    ∙ ap (λ (p : List ℕ). bytes_at p 2 1) w.second ∙ bytes_at-with_bytes_apart one 4 job 4 2 1 w.job_long (omega arith) refl
+    ∙ ap (λ (p : List ℕ). bytes_at p 2 1) w.first ∙ bytes_at-with_bytes_same old 2 tag 1 w.tag_long (omega arith) in
     same_fields tag-is job-is at-is now-is
 
 -- ---- reading
@@ -146,7 +146,7 @@ entry_fields-numbers_in packet p =
     let long : length packet ≡ 56 = p.long in
     let tag-is : bytes_at packet 2 1 ≡ get_or packet 2 0 ∷ [] = ap (take 1) (drop_more packet 2 0 (omega arith)) in
     let job-is : to_be_bytes w32 (from_be_bytes w32 (bytes_at packet 4 4)) ≡ bytes_at packet 4 4 =
-      be_bytes_4 (bytes_at packet 4 4) (from_be_bytes w32 (bytes_at packet 4 4)) (length-bytes_at packet p 4 4 (lit≤ tt)) (bytes_at-bytes packet p 4 4) refl in
+    be_bytes_4 (bytes_at packet 4 4) (from_be_bytes w32 (bytes_at packet 4 4)) (length-bytes_at packet p 4 4 (lit≤ tt)) (bytes_at-bytes packet p 4 4) refl in
     same_fields tag-is (sym job-is)
     (sym (minute_back (bytes_at packet 32 8) (length-bytes_at packet p 32 8 (lit≤ tt)) (bytes_at-bytes packet p 32 8)))
     (sym (minute_back (bytes_at packet 40 8) (length-bytes_at packet p 40 8 (lit≤ tt)) (bytes_at-bytes packet p 40 8)))

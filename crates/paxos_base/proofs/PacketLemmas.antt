@@ -1,5 +1,5 @@
 -- The fields of a packet after a write.
-use Rattle.std.proofs.Common.{◌≡◌, ℕ, ◌+◌, ◌<◌, ◌≤◌, List, ◌++◌, ◌-◌, Bool, true, ◌||◌, leb, length, take, drop, refl, sym, ap, ◌∙◌, inl, inr, arith, length-append, length-drop}
+use Rattle.std.proofs.Common.{◌≡◌, ℕ, ◌+◌, ◌≤◌, List, ◌++◌, ◌-◌, Bool, true, ◌||◌, leb, length, take, drop, refl, sym, ap, ◌∙◌, inl, inr, arith, length-append, length-drop}
 use Rattle.std.proofs.lemmas.List.{take_at, drop_at, length-take, drop-drop, drop-append-le, take-append-le, drop-take, take-take}
 use Rattle.std.proofs.lemmas.Bool.{or_cases, leb-true}
 use Rattle.paxos_base.specs.Packet.{bytes_at, with_bytes}
@@ -33,9 +33,9 @@ bytes_at-with_bytes_above bytes offset part at size fits behind =
     let far : ℕ = at - end in
     let at-is : at ≡ end + far = omega arith in
     let to_end : drop end (with_bytes bytes offset part) ≡ drop end bytes =
-      sym (drop-drop (length part) offset (with_bytes bytes offset part))
-      ∙ ap (drop (length part)) (drop_at (take offset bytes) (part ++ drop end bytes) offset (omega (arith, length-take offset bytes)))
-      ∙ drop_at part (drop end bytes) (length part) refl in
+    sym (drop-drop (length part) offset (with_bytes bytes offset part))
+    ∙ ap (drop (length part)) (drop_at (take offset bytes) (part ++ drop end bytes) offset (omega (arith, length-take offset bytes)))
+    ∙ drop_at part (drop end bytes) (length part) refl in
     ap (λ (n : ℕ). take size (drop n (with_bytes bytes offset part))) at-is
     ∙ ap (take size) (sym (drop-drop far end (with_bytes bytes offset part)) ∙ ap (drop far) to_end ∙ drop-drop far end bytes)
     ∙ ap (λ (n : ℕ). take size (drop n bytes)) (sym at-is)

@@ -7,10 +7,9 @@ mod durable;
 mod entry;
 mod members;
 mod rows;
-mod wire;
-
 #[cfg(test)]
 mod tests;
+mod wire;
 
 pub use ballot::Ballot;
 pub use durable::{Delta, Durable};

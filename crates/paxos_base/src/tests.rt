@@ -1,5 +1,7 @@
-use crate::{Ballot, Entry, EntryFault, JobRow, Kind, Members, PACKET_BYTES, RowList, get_entry, majority, put_entry, rows_stand};
-use std::alloc::Global;
+ghost use Rattle.std.specs.Prelude.{◌≡◌, None};
+
+use super::*;
+use std::test::*;
 
 #[test]
 fn ballots(rt: HostRuntime) {
@@ -34,6 +36,7 @@ fn members(rt: HostRuntime) {
 
 // The bytes of a minute of 2024 and of the minute before the epoch.
 const MINUTE: [u8; 8] = [0, 0, 0, 0, 0x01, 0xb3, 0x58, 0x5c];
+
 const BEFORE: [u8; 8] = [0xff; 8];
 
 #[test]
@@ -41,22 +44,62 @@ fn entries(rt: HostRuntime) {
     let minute = 28_530_780;
     let table = [
         (Entry::Noop, 0, [0; 4], [0; 8], [0; 8]),
-        (Entry::Start { job: 0, at: minute, now: minute }, 1, [0; 4], MINUTE, MINUTE),
-        (Entry::Start { job: 0x0102_0304, at: -1, now: minute }, 1, [1, 2, 3, 4], BEFORE, MINUTE),
-        (Entry::End { job: 7, at: minute, kind: Kind::Launch }, 2, [0, 0, 0, 7], MINUTE, [0; 8]),
-        (Entry::End { job: 7, at: -1, kind: Kind::Void }, 3, [0, 0, 0, 7], BEFORE, [0; 8]),
+        (
+            Entry::Start {
+                job: 0,
+                at: minute,
+                now: minute,
+            },
+            1,
+            [0; 4],
+            MINUTE,
+            MINUTE,
+        ),
+        (
+            Entry::Start {
+                job: 0x0102_0304,
+                at: -1,
+                now: minute,
+            },
+            1,
+            [1, 2, 3, 4],
+            BEFORE,
+            MINUTE,
+        ),
+        (
+            Entry::End {
+                job: 7,
+                at: minute,
+                kind: Kind::Launch,
+            },
+            2,
+            [0, 0, 0, 7],
+            MINUTE,
+            [0; 8],
+        ),
+        (
+            Entry::End {
+                job: 7,
+                at: -1,
+                kind: Kind::Void,
+            },
+            3,
+            [0, 0, 0, 7],
+            BEFORE,
+            [0; 8],
+        ),
     ];
     for (entry, tag, job, at, now) in table {
         let mut packet = [9; PACKET_BYTES];
         put_entry(entry, &mut packet);
-        assert_eq!(rt; packet[..2], [9, 9]);
+        assert_eq!(rt; &packet[..2], [9; 2].as_slice());
         assert_eq!(rt; packet[2], tag);
         assert_eq!(rt; packet[3], 9);
-        assert_eq!(rt; packet[4..8], job);
-        assert_eq!(rt; packet[8..32], [9; 24]);
-        assert_eq!(rt; packet[32..40], at);
-        assert_eq!(rt; packet[40..48], now);
-        assert_eq!(rt; packet[48..], [9; 8]);
+        assert_eq!(rt; &packet[4..8], job.as_slice());
+        assert_eq!(rt; &packet[8..32], [9; 24].as_slice());
+        assert_eq!(rt; &packet[32..40], at.as_slice());
+        assert_eq!(rt; &packet[40..48], now.as_slice());
+        assert_eq!(rt; &packet[48..], [9; 8].as_slice());
         assert_eq!(rt; get_entry(&packet), Ok(entry));
     }
 }
@@ -84,13 +127,55 @@ fn faults(rt: HostRuntime) {
 fn row_of(job: u32) -> JobRow
     ensures { result.open_now ≡ None }
 {
-    JobRow { job, cursor: None, open_now: None, last: None, launched: 0, voided: 0 }
+    JobRow {
+        job,
+        cursor: None,
+        open_now: None,
+        last: None,
+        launched: 0,
+        voided: 0,
+    }
 }
 
 #[test]
-fn rows(rt: HostRuntime) -> std::result::Result<(), std::alloc::AllocError> {
-    let empty = RowList { items: Vec::new(Global) };
-    assert!(rt; rows_stand(&empty, 0, 0));
-    assert!(rt; !rows_stand(&empty, 1, 0));
+fn rows(rt: HostRuntime) -> Result<(), Fail> {
+    for (first, second, jobs, want) in [
+        (0, 1, 2, true),
+        (0, 1, 1, false),
+        (0, 1, 3, false),
+        (1, 2, 2, false),
+        (1, 0, 2, false),
+    ] {
+        let mut rows = RowList {
+            items: Vec::new(rt.alloc()),
+        };
+        rows.items.push(row_of(first))?;
+        rows.items.push(row_of(second))?;
+        assert_eq!(rt;
+            rows_stand(&rows, jobs, 0),
+            want,
+            "{first}, {second} of {jobs}"
+        );
+    }
+    Ok(())
+}
+
+#[test]
+fn votes(rt: HostRuntime) -> Result<(), Fail> {
+    let mut votes = VoteList {
+        items: Vec::new(rt.alloc()),
+    };
+    let ballot = Ballot::of(1, 0);
+    votes.items.push(Vote {
+        slot: 4,
+        ballot,
+        entry: Entry::Noop,
+    })?;
+    votes.items.push(Vote {
+        slot: 9,
+        ballot,
+        entry: Entry::Noop,
+    })?;
+    assert_eq!(rt; votes.items.len(), 2);
     Ok(())
 }

@@ -13,8 +13,11 @@ pub const PACKET_BYTES: usize = 56;
 
 // Where the fields of an entry begin.
 const TAG: usize = 2;
+
 const JOB: usize = 4;
+
 const AT: usize = 32;
+
 const NOW: usize = 40;
 
 /// Why a packet's bytes are no entry.
@@ -90,8 +93,16 @@ fn entry_of(tag: u8, job: u32, at: i64, now: i64) -> Result<Entry, EntryFault>
         0 => Ok(Entry::Noop),
         1 => Ok(Entry::Start { job, at, now }),
         2 | 3 if now != 0 => Err(EntryFault::NotZero),
-        2 => Ok(Entry::End { job, at, kind: Kind::Launch }),
-        3 => Ok(Entry::End { job, at, kind: Kind::Void }),
+        2 => Ok(Entry::End {
+            job,
+            at,
+            kind: Kind::Launch,
+        }),
+        3 => Ok(Entry::End {
+            job,
+            at,
+            kind: Kind::Void,
+        }),
         _ => Err(EntryFault::Tag),
     }
 }
@@ -119,5 +130,10 @@ pub fn get_entry(from: &[u8; PACKET_BYTES]) -> Result<Entry, EntryFault>
     ensures tag { (result ≡ Err EntryFault.Tag) ↔ (3 < tag_of from.now) }
     ensures not_zero { (result ≡ Err EntryFault.NotZero) ↔ HasStrayBytes from.now }
 {
-    entry_of(from[TAG], u32_at(from, JOB), i64_at(from, AT), i64_at(from, NOW))
+    entry_of(
+        from[TAG],
+        u32_at(from, JOB),
+        i64_at(from, AT),
+        i64_at(from, NOW),
+    )
 }

@@ -36,6 +36,7 @@ returns-clause-only c entry fits spelled =
     (sym spelled ∙ entry_fields-numbers_in c.args.from.now (packet c)) ∙ sym (given-is c))
 
 pub returns-clause-not_zero : goal.returns-clause-not_zero
-returns-clause-not_zero c =
-    (λ fault. stray_bytes c.args.from.now (packet c) (subst HasStrayNumbers (given-is c) (c.entry_of.ensures.not_zero.0 fault)),
-    λ stray. c.entry_of.ensures.not_zero.1 (subst HasStrayNumbers (sym (given-is c)) (stray_numbers c.args.from.now (packet c) stray)))
+returns-clause-not_zero c = (
+  λ fault. stray_bytes c.args.from.now (packet c) (subst HasStrayNumbers (given-is c) (c.entry_of.ensures.not_zero.0 fault)),
+  λ stray. c.entry_of.ensures.not_zero.1 (subst HasStrayNumbers (sym (given-is c)) (stray_numbers c.args.from.now (packet c) stray)),
+)

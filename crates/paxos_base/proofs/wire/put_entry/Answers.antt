@@ -1,8 +1,7 @@
-use Rattle.std.proofs.Common.{◌≡◌, List, ℕ, ◌∷◌, [], refl, sym, ap, ◌∙◌, length, rules, FitsSigned, of_z}
-use Rattle.std.specs.Int.{w32, w64, to_be_bytes}
+use Rattle.std.proofs.Common.{◌∷◌, [], refl, sym, ap, ◌∙◌, length, rules, FitsSigned, of_z}
+use Rattle.std.specs.Int.{w64, to_be_bytes}
 use Rattle.std.proofs.lemmas.Int.{to_z-of_z}
-use Rattle.paxos_base.specs.Packet.{with_bytes, minute_bytes}
-use Rattle.paxos_base.specs.EntryFields.{EntryNumbers, spelling_of, numbers_of}
+use Rattle.paxos_base.specs.EntryFields.{spelling_of}
 use Rattle.paxos_base.proofs.EntryLemmas.{Writes, other_fields, entry_fields-writes, same_fields}
 use Rattle.paxos_base.proofs.wire.put_entry.Goals as goal
 
