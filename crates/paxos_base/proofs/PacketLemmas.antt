@@ -1,8 +1,9 @@
 -- The fields of a packet after a write.
-use Rattle.std.proofs.Common.{◌≡◌, ℕ, ◌+◌, ◌≤◌, List, ◌++◌, ◌-◌, Bool, true, ◌||◌, leb, length, take, drop, refl, sym, ap, ◌∙◌, inl, inr, arith, length-append, length-drop}
-use Rattle.std.proofs.lemmas.List.{take_at, drop_at, length-take, drop-drop, drop-append-le, take-append-le, drop-take, take-take}
+use Rattle.std.proofs.Common.{◌≡◌, ℕ, ◌+◌, ◌≤◌, List, [], ◌++◌, ◌-◌, Bool, true, ◌||◌, leb, length, take, drop, refl, sym, ap, ◌∙◌, inl, inr, arith, length-append, length-drop}
+use Rattle.std.proofs.lemmas.List.{take-append-drop, drop_all, take_at, drop_at, length-take, drop-drop, drop-append-le, take-append-le, drop-take, take-take}
 use Rattle.std.proofs.lemmas.Bool.{or_cases, leb-true}
-use Rattle.paxos_base.specs.Packet.{bytes_at, with_bytes}
+use Rattle.std.specs.List.{flat_map}
+use Rattle.paxos_base.specs.Packet.{all_fields, field_of, bytes_at, with_bytes}
 
 pub length-with_bytes : (bytes : List ℕ) (offset : ℕ) (part : List ℕ) → offset + length part ≤ length bytes → length (with_bytes bytes offset part) ≡ length bytes
 length-with_bytes bytes offset part fits =
@@ -53,3 +54,15 @@ bytes_at-with_bytes_apart bytes offset part long at size is_long fits clear =
           let after : offset + long ≤ at = leb-true _ _ behind in
           bytes_at-with_bytes_above bytes offset part at size fits (omega arith)
     ]
+
+cut : (packet : List ℕ) (offset size : ℕ) → drop offset packet ≡ bytes_at packet offset size ++ drop (offset + size) packet
+cut packet offset size =
+    sym (take-append-drop size (drop offset packet)) ∙ ap (λ (rest : List ℕ). bytes_at packet offset size ++ rest) (drop-drop size offset packet)
+
+then : (packet : List ℕ) (offset size : ℕ) (rest : List ℕ) → drop (offset + size) packet ≡ rest → drop offset packet ≡ bytes_at packet offset size ++ rest
+then packet offset size rest e = cut packet offset size ∙ ap (λ (more : List ℕ). bytes_at packet offset size ++ more) e
+
+-- a packet is its fields, one after another
+pub flat_map-all_fields : (packet : List ℕ) → length packet ≡ 56 → packet ≡ flat_map (field_of packet) all_fields
+flat_map-all_fields packet long =
+    then packet 0 1 _ (then packet 1 1 _ (then packet 2 1 _ (then packet 3 1 _ (then packet 4 4 _ (then packet 8 8 _ (then packet 16 8 _ (then packet 24 8 _ (then packet 32 8 _ (then packet 40 8 _ (then packet 48 8 [] (drop_all 56 packet (omega arith))))))))))))

@@ -1,5 +1,5 @@
 -- The layout of a packet: 56 bytes in eleven fields, one after another, with numbers big endian.
-use Rattle.std.specs.Prelude.{ℕ, ◌+◌, ℤ, List, ◌++◌, length, take, drop}
+use Rattle.std.specs.Prelude.{ℕ, ◌+◌, ℤ, List, [], ◌∷◌, ◌++◌, length, take, drop}
 use Rattle.std.specs.Int.{w64, to_be_bytes, cast_unsigned}
 
 pub data Field : Type 0 where
@@ -14,6 +14,10 @@ pub data Field : Type 0 where
   AtField : Field
   NowField : Field
   LastField : Field
+
+-- the fields in the order that they stand in
+abbrev pub all_fields : List Field
+all_fields = KindField ∷ FromField ∷ TagField ∷ ZeroField ∷ JobField ∷ BallotField ∷ SlotField ∷ OldField ∷ AtField ∷ NowField ∷ LastField ∷ []
 
 -- where a field begins
 abbrev pub offset_of : Field → ℕ

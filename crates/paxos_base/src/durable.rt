@@ -5,11 +5,11 @@ use crate::rows::RowList;
 /// A change of what a replica keeps on its disk.
 #[derive(Debug, Drop)]
 pub enum Delta {
-    /// The replica took up a ballot of its own.
+    /// The replica took up a ballot of its own, which it also promises.
     Tried(Ballot),
     /// The replica promised to take no part in lower ballots.
     Promised(Ballot),
-    /// The replica cast a vote.
+    /// The replica cast a vote, and promises the vote's ballot.
     Voted(Vote),
     /// The entries of the slots below this one are in the rows, and their votes are gone.
     Base { slot: u64, rows: RowList },

@@ -9,24 +9,27 @@ pub enum Kind {
 }
 
 /// An entry of the replicated log.
+///
+/// A launch is named by its job and by when it is due: for a crontab job the minute, counted from 1970-01-01 00:00 UTC,
+/// and for an anacron job the day, counted from 1970-01-01.
 #[derive(Clone, Copy, Debug, PartialEq, Eq, Hash)]
 pub enum Entry {
     /// Fills a slot, and changes nothing.
     Noop,
-    /// The launch of a job that is due at a minute starts.
+    /// A launch starts.
     Start {
         /// The job's number.
         job: u32,
-        /// The minute that the launch is due at, since 1970-01-01 00:00 UTC.
+        /// When the launch is due.
         at: i64,
-        /// The minute at which the leader decided so.
+        /// The minute at which the leader decided so, since 1970-01-01 00:00 UTC.
         now: i64,
     },
-    /// The launch of a job that was due at a minute ended.
+    /// A launch ends.
     End {
         /// The job's number.
         job: u32,
-        /// The minute that the launch was due at, since 1970-01-01 00:00 UTC.
+        /// When the launch was due.
         at: i64,
         /// How it ended.
         kind: Kind,

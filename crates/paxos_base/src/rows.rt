@@ -3,16 +3,16 @@ ghost use Rattle.paxos_base.specs.Rows.{RowsStand};
 
 use std::marker::Model;
 
-/// A job's row of the launch table. Minutes are counted since 1970-01-01 00:00 UTC.
+/// A job's row of the launch table.
 #[derive(Clone, Copy, Debug, PartialEq, Eq, Hash)]
 pub struct JobRow {
     /// The job's number.
     pub job: u32,
-    /// The minute that the job's latest launch was due at, where it had one.
+    /// When the job's latest launch that has started was due, where there is one.
     pub cursor: Option<i64>,
-    /// Where the launch at the cursor has started and not ended, the minute at which it was decided.
+    /// Where the launch at the cursor has not ended, the minute at which it was decided, since 1970-01-01 00:00 UTC.
     pub open_now: Option<i64>,
-    /// The minute that the last launch was due at which ended as launched, where there is one.
+    /// When the latest launch was due that ended as launched, where there is one.
     pub last: Option<i64>,
     /// How many launches ended as launched.
     pub launched: u32,

@@ -1,7 +1,36 @@
-ghost use Rattle.std.specs.Prelude.{◌≡◌, None};
+ghost use Rattle.std.specs.Prelude.{◌≡◌, ◌<◌, ◌↔◌, IsTrue, None, Ok};
+ghost use Rattle.std.specs.Ordering.{nat_cmp};
 
 use super::*;
+use std::cmp::Ordering;
 use std::test::*;
+
+// Ballots are compared by their numbers.
+fn same(a: Ballot, b: Ballot) -> bool
+    ensures { IsTrue result ↔ (a ≡ b) }
+{
+    a == b
+}
+
+fn below(a: Ballot, b: Ballot) -> bool
+    ensures { IsTrue result ↔ (a < b) }
+{
+    a < b
+}
+
+fn order(a: Ballot, b: Ballot) -> Ordering
+    ensures { result ≡ nat_cmp a b }
+{
+    a.cmp(&b)
+}
+
+// An entry that was written is read again.
+fn written_and_read(entry: Entry, packet: &mut [u8; PACKET_BYTES]) -> Result<Entry, EntryFault>
+    ensures { result ≡ Ok entry }
+{
+    put_entry(entry, packet);
+    get_entry(packet)
+}
 
 #[test]
 fn ballots(rt: HostRuntime) {
@@ -15,8 +44,12 @@ fn ballots(rt: HostRuntime) {
     for number in [0, 7, 15, 23, u64::MAX] {
         assert_eq!(rt; Ballot::from_number(number), None, "at {number}");
     }
-    assert!(rt; Ballot::of(1, 6) < Ballot::of(2, 0));
-    assert!(rt; Ballot::of(2, 0) < Ballot::of(2, 1));
+    assert!(rt; below(Ballot::of(1, 6), Ballot::of(2, 0)));
+    assert_eq!(rt;
+        order(Ballot::of(2, 1), Ballot::of(2, 0)),
+        Ordering::Greater
+    );
+    assert!(rt; same(Ballot::of(2, 1), Ballot::of(2, 1)));
     assert!(rt; Ballot::of(3, 2).is_of(3));
     assert!(rt; !Ballot::of(3, 2).is_of(2));
 }
@@ -91,7 +124,7 @@ fn entries(rt: HostRuntime) {
     ];
     for (entry, tag, job, at, now) in table {
         let mut packet = [9; PACKET_BYTES];
-        put_entry(entry, &mut packet);
+        assert_eq!(rt; written_and_read(entry, &mut packet), Ok(entry));
         assert_eq!(rt; &packet[..2], [9; 2].as_slice());
         assert_eq!(rt; packet[2], tag);
         assert_eq!(rt; packet[3], 9);
@@ -100,7 +133,6 @@ fn entries(rt: HostRuntime) {
         assert_eq!(rt; &packet[32..40], at.as_slice());
         assert_eq!(rt; &packet[40..48], now.as_slice());
         assert_eq!(rt; &packet[48..], [9; 8].as_slice());
-        assert_eq!(rt; get_entry(&packet), Ok(entry));
     }
 }
 

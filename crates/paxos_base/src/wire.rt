@@ -110,6 +110,7 @@ fn entry_of(tag: u8, job: u32, at: i64, now: i64) -> Result<Entry, EntryFault>
 /// Writes an entry into the fields of a packet that are an entry's: tag, job, at and now. The other bytes stay.
 pub fn put_entry(entry: Entry, into: &mut [u8; PACKET_BYTES])
     ensures fields { entry_fields into.new ≡ spelling entry }
+    ensures fits { Fits (numbers_of entry) }
     ensures others { (field : Field) → ¬ IsEntryField field → field_of into.new field ≡ field_of into.old field }
 {
     let (tag, job, at, now) = numbers_of(entry);
