@@ -8,11 +8,8 @@ use Rattle.std.proofs.lemmas.List.{length-take, length-drop, get_or-take, get_or
 use Rattle.std.proofs.lemmas.Nat.{be_bytes_4, be_bytes_8, from_be_bytes-to_be_bytes_4, from_be_bytes-to_be_bytes_8}
 use Rattle.std.proofs.lemmas.Bool.{cases_lt}
 use Rattle.paxos_base.specs.Packet.{Field, KindField, FromField, TagField, ZeroField, JobField, BallotField, SlotField, OldField, AtField, NowField, LastField, size_of, bytes_at, field_of, with_bytes, minute_bytes}
-use Rattle.paxos_base.specs.EntryFields.{EntryNumbers, EntryFields, Fits, spelling_of, entry_fields, IsEntryField, HasStrayBytes, HasStrayNumbers, LeavesUnused, tag_of}
+use Rattle.paxos_base.specs.EntryFields.{entry_numbers, EntryNumbers, EntryFields, Fits, spelling_of, entry_fields, IsEntryField, HasStrayBytes, HasStrayNumbers, LeavesUnused, tag_of}
 use Rattle.paxos_base.proofs.PacketLemmas.{apart, length-with_bytes, bytes_at-with_bytes_same, bytes_at-with_bytes_apart}
-
-abbrev pub entry_numbers : ℕ → ℕ → ℤ → ℤ → EntryNumbers
-entry_numbers tag job at now = record { tag = tag; job = job; at = at; now = now }
 
 abbrev pub fields_of : List ℕ → List ℕ → List ℕ → List ℕ → EntryFields
 fields_of tag job at now = record { tag = tag; job = job; at = at; now = now }

@@ -13,6 +13,10 @@ pub record EntryNumbers : Type 0 where
   pub at : ℤ
   pub now : ℤ
 
+abbrev pub entry_numbers : ℕ → ℕ → ℤ → ℤ → EntryNumbers
+entry_numbers tag job at now = record { tag = tag; job = job; at = at; now = now }
+
+-- what an entry puts into its four fields
 abbrev pub numbers_of : Entry → EntryNumbers
 numbers_of Noop = record { tag = 0; job = 0; at = pos 0; now = pos 0 }
 numbers_of (Start job at now) = record { tag = 1; job = job; at = at; now = now }

@@ -2,11 +2,9 @@ ghost use Rattle.paxos_base.specs.declared.entry.Entry.{Entry};
 ghost use Rattle.std.specs.Prelude.{◌≡◌, ◌+◌, ◌<◌, ◌≤◌, ◌↔◌, length, IfOk};
 ghost use Rattle.std.specs.Int.{w32, w64, from_be_bytes, cast_signed};
 ghost use Rattle.paxos_base.specs.Packet.{Field, field_of, bytes_at, with_bytes};
-ghost use Rattle.paxos_base.specs.EntryFields.{EntryNumbers, numbers_of, Fits, spelling, entry_fields, IsEntryField, tag_of, HasStrayBytes, HasStrayNumbers};
+ghost use Rattle.paxos_base.specs.EntryFields.{entry_numbers, numbers_of, Fits, spelling, entry_fields, IsEntryField, tag_of, HasStrayBytes, HasStrayNumbers};
 
 use crate::entry::{Entry, Kind};
-use std::error::Error;
-use std::fmt;
 
 /// How many bytes a packet has.
 pub const PACKET_BYTES: usize = 56;
@@ -28,17 +26,6 @@ pub enum EntryFault {
     /// A field that the entry has no use for is not 0.
     NotZero,
 }
-
-impl fmt::Display for EntryFault {
-    fn fmt<W: fmt::Write>(&self, f: &mut fmt::Formatter<W>) -> fmt::Result {
-        f.write_str(match self {
-            EntryFault::Tag => "the tag of an entry is above 3",
-            EntryFault::NotZero => "a field that the entry does not use is not 0",
-        })
-    }
-}
-
-impl Error for EntryFault {}
 
 // Writes the bytes from the offset on.
 fn put_bytes(into: &mut [u8; PACKET_BYTES], offset: usize, bytes: &[u8])
@@ -69,7 +56,7 @@ fn i64_at(packet: &[u8; PACKET_BYTES], offset: usize) -> i64
 
 // The tag, the job and the two minutes of an entry's fields.
 fn numbers_of(entry: Entry) -> (u8, u32, i64, i64)
-    ensures { numbers_of entry ≡ record { tag = result.0; job = result.1; at = result.2; now = result.3 } }
+    ensures { numbers_of entry ≡ entry_numbers result.0 result.1 result.2 result.3 }
 {
     match entry {
         Entry::Noop => (0, 0, 0, 0),
@@ -83,10 +70,10 @@ fn numbers_of(entry: Entry) -> (u8, u32, i64, i64)
 
 // The entry of these fields.
 fn entry_of(tag: u8, job: u32, at: i64, now: i64) -> Result<Entry, EntryFault>
-    ensures found { IfOk result (λ entry. numbers_of entry ≡ record { tag = tag; job = job; at = at; now = now }) }
-    ensures only { (entry : Entry) → numbers_of entry ≡ record { tag = tag; job = job; at = at; now = now } → result ≡ Ok entry }
+    ensures found { IfOk result (λ entry. numbers_of entry ≡ entry_numbers tag job at now) }
+    ensures only { (entry : Entry) → numbers_of entry ≡ entry_numbers tag job at now → result ≡ Ok entry }
     ensures tag { (result ≡ Err EntryFault.Tag) ↔ (3 < tag) }
-    ensures not_zero { (result ≡ Err EntryFault.NotZero) ↔ HasStrayNumbers (record { tag = tag; job = job; at = at; now = now }) }
+    ensures not_zero { (result ≡ Err EntryFault.NotZero) ↔ HasStrayNumbers (entry_numbers tag job at now) }
 {
     match tag {
         0 if job != 0 || at != 0 || now != 0 => Err(EntryFault::NotZero),

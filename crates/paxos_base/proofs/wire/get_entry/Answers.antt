@@ -3,8 +3,8 @@ use Rattle.std.specs.Int.{w64}
 use Rattle.std.proofs.lemmas.Int.{to_z-of_z}
 use Rattle.std.proofs.lemmas.Result.{IfOk-weaker}
 use Rattle.paxos_base.specs.declared.entry.Entry.{Entry}
-use Rattle.paxos_base.specs.EntryFields.{EntryNumbers, numbers_of, Fits, spelling, spelling_of, entry_fields, HasStrayNumbers}
-use Rattle.paxos_base.proofs.EntryLemmas.{IsPacket, numbers_in, entry_numbers, same_numbers, entry_fields-numbers_in, numbers_in-Fits, numbers_from_spelling, stray_bytes, stray_numbers}
+use Rattle.paxos_base.specs.EntryFields.{entry_numbers, EntryNumbers, numbers_of, Fits, spelling, spelling_of, entry_fields, HasStrayNumbers}
+use Rattle.paxos_base.proofs.EntryLemmas.{IsPacket, numbers_in, same_numbers, entry_fields-numbers_in, numbers_in-Fits, numbers_from_spelling, stray_bytes, stray_numbers}
 use Rattle.paxos_base.proofs.wire.get_entry.Goals as goal
 
 packet : (c : goal.After-entry_of) → IsPacket c.args.from.now
