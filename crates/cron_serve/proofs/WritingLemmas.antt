@@ -1,0 +1,130 @@
+-- Parts of a text that are written one after the other.
+use Rattle.std.proofs.Common.{◌≡◌, inl, inr, ℕ, ◌+◌, ◌<◌, ◌≤◌, List, [], ◌∷◌, ◌++◌, Option, Result, Ok, Err, refl, sym, ap, ◌∙◌, subst, arith, append_assoc, append-nil, suc, length, map, take, drop, get_or}
+use Rattle.std.specs.Prelude.{IsErrAnd, flat_map}
+use Rattle.std.proofs.lemmas.List.{take_more, length-map}
+use Rattle.std.proofs.Math.ListN.{get_or-map}
+use Rattle.std.proofs.lemmas.Grind.{flat_map-append}
+use Rattle.std.proofs.KnownBytes.{Appends-nil, Appends-trans}
+use Rattle.cron_io.specs.Faults.{Rose}
+use Rattle.cron_serve.specs.Writes.{Writes, HasWritten}
+use Rattle.cron_serve.specs.Lines.{text_of_lines}
+use Rattle.cron_serve.proofs.JobLemmas.{split_at_place}
+use Rattle.cron_serve.specs.declared.fault.ReportFault.{ReportFault}
+use Rattle.cron_serve.specs.declared.fault.ReportFault.TheVariants.{WriteFault, OutOfMemory}
+
+-- a count that rose later rose
+pub Rose-later : (a b c : ℕ) → a ≤ b → Rose b c → Rose a c
+Rose-later a b c le (inl lt) = inl (omega arith)
+Rose-later a b c le (inr last) = inr last
+
+-- nothing was written, as there was nothing to write
+pub writes_nothing : {T : Type 0} (a : Option (List ℕ)) (n : ℕ) (value : T) → let done : Result T ReportFault = Ok value in Writes a a n n done []
+writes_nothing a n value = record {
+  written = Appends-nil a;
+  front = record { front = []; back = []; parts = refl; gained = Appends-nil a };
+  later = omega arith;
+  fault = λ e. absurd (cc);
+}
+
+-- nothing was written, for want of memory
+pub writes_none : {T : Type 0} (a : Option (List ℕ)) (n : ℕ) (fault : ReportFault) (text : List ℕ) → fault ≡ OutOfMemory → let failed : Result T ReportFault = Err fault in Writes a a n n failed text
+writes_none {T} a n fault text e = record {
+  written = tt;
+  front = record { front = []; back = text; parts = refl; gained = Appends-nil a };
+  later = omega arith;
+  fault = λ is. absurd (cc);
+}
+
+-- a part that failed is a front of the whole
+pub writes_part : {S T : Type 0} (a b : Option (List ℕ)) (n m : ℕ) (fault : ReportFault) (part rest : List ℕ)
+    → (let failed : Result S ReportFault = Err fault in Writes a b n m failed part) → (let failed : Result T ReportFault = Err fault in Writes a b n m failed (part ++ rest))
+writes_part a b n m fault part rest w = record {
+  written = tt;
+  front = record {
+    front = w.front.front;
+    back = w.front.back ++ rest;
+    parts = ap (λ l. l ++ rest) w.front.parts ∙ append_assoc w.front.front w.front.back rest;
+    gained = w.front.gained;
+  };
+  later = w.later;
+  fault = λ is. w.fault (let e : fault ≡ WriteFault = cc in ap Err e);
+}
+
+-- a part that was written, and then the rest
+pub writes_on : {S T : Type 0} (a b c : Option (List ℕ)) (n m k : ℕ) (value : S) (result : Result T ReportFault) (part rest : List ℕ)
+    → Writes a b n m (Ok value) part → Writes b c m k result rest → Writes a c n k result (part ++ rest)
+writes_on {S} {T} a b c n m k value (Ok v) part rest first next = record {
+  written = Appends-trans a b c part rest first.written next.written;
+  front = record {
+    front = part ++ next.front.front;
+    back = next.front.back;
+    parts = ap (λ l. part ++ l) next.front.parts ∙ sym (append_assoc part next.front.front next.front.back);
+    gained = Appends-trans a b c part next.front.front first.written next.front.gained;
+  };
+  later = omega (arith, first.later, next.later);
+  fault = λ is. Rose-later n m k first.later (next.fault is);
+}
+writes_on {S} {T} a b c n m k value (Err e) part rest first next = record {
+  written = tt;
+  front = record {
+    front = part ++ next.front.front;
+    back = next.front.back;
+    parts = ap (λ l. part ++ l) next.front.parts ∙ sym (append_assoc part next.front.front next.front.back);
+    gained = Appends-trans a b c part next.front.front first.written next.front.gained;
+  };
+  later = omega (arith, first.later, next.later);
+  fault = λ is. Rose-later n m k first.later (next.fault is);
+}
+
+-- the exit of a `?` with a part that failed
+pub writes_exit : {S T : Type 0} (a b : Option (List ℕ)) (n m : ℕ) (fault : ReportFault) (result : Result T ReportFault) (part rest : List ℕ)
+    → IsErrAnd result (λ e. e ≡ fault) → (let failed : Result S ReportFault = Err fault in Writes a b n m failed part) → Writes a b n m result (part ++ rest)
+writes_exit {S} {T} a b n m fault (Ok value) part rest is w = absurd is
+writes_exit {S} {T} a b n m fault (Err e) part rest is w =
+    let P : ReportFault → Type 0 = λ f. (let failed : Result T ReportFault = Err f in Writes a b n m failed (part ++ rest)) in
+    subst P (sym is) (writes_part {S = S} {T = T} a b n m fault part rest w)
+
+-- a last part, with nothing behind it
+pub writes_last : {T : Type 0} (a b : Option (List ℕ)) (n m : ℕ) (result : Result T ReportFault) (part : List ℕ) → Writes a b n m result part → Writes a b n m result (part ++ [])
+writes_last a b n m result part w = subst (Writes a b n m result) (sym (append-nil part)) w
+
+-- what the items of a list spell: those before a place, the one there, and the rest
+spelled_at : {X : Type 0} (f : X → List ℕ) (xs : List X) (i : ℕ) (x : X) → i < length xs → x ≡ get_or xs i x
+    → flat_map f (take i xs) ++ (f x ++ flat_map f (drop (suc i) xs)) ≡ flat_map f xs
+spelled_at {X} f xs i x lt x_is =
+    ap (λ (y : X). flat_map f (take i xs) ++ (f y ++ flat_map f (drop (suc i) xs))) x_is
+    ∙ sym (flat_map-append f (take i xs) (get_or xs i x ∷ drop (suc i) xs))
+    ∙ ap (flat_map f) (split_at_place xs i x lt)
+
+-- a loop that fails at an item
+pub writes_some : {X S T : Type 0} (f : X → List ℕ) (xs : List X) (i : ℕ) (x : X) (a b c : Option (List ℕ)) (n m k : ℕ) (fault : ReportFault) (result : Result T ReportFault)
+    → i < length xs → x ≡ get_or xs i x → HasWritten a b n m (flat_map f (take i xs))
+    → IsErrAnd result (λ e. e ≡ fault) → (let failed : Result S ReportFault = Err fault in Writes b c m k failed (f x))
+    → Writes a c n k result (flat_map f xs)
+writes_some {X} {S} {T} f xs i x a b c n m k fault result lt x_is before is w =
+    subst (Writes a c n k result) (spelled_at f xs i x lt x_is)
+    (writes_on a b c n m k tt result (flat_map f (take i xs)) (f x ++ flat_map f (drop (suc i) xs)) before
+    (writes_exit {S = S} {T = T} b c m k fault result (f x) (flat_map f (drop (suc i) xs)) is w))
+
+-- a loop that has written one more item
+pub writes_more : {X : Type 0} (f : X → List ℕ) (xs : List X) (i : ℕ) (x : X) (a b c : Option (List ℕ)) (n m k : ℕ)
+    → i < length xs → x ≡ get_or xs i x → HasWritten a b n m (flat_map f (take i xs)) → HasWritten b c m k (f x)
+    → HasWritten a c n k (flat_map f (take (i + 1) xs))
+writes_more {X} f xs i x a b c n m k lt x_is before w =
+    let front : flat_map f (take (i + 1) xs) ≡ flat_map f (take i xs) ++ f x =
+    ap (flat_map f) (take_more xs i x lt ∙ ap (λ (y : X). take i xs ++ y ∷ []) (sym x_is))
+    ∙ flat_map-append f (take i xs) (x ∷ []) ∙ ap (λ (l : List ℕ). flat_map f (take i xs) ++ l) (append-nil (f x)) in
+    subst (HasWritten a c n k) (sym front) (writes_on a b c n m k tt (Ok tt) (flat_map f (take i xs)) (f x) before w)
+
+-- the text of lines that come in groups
+pub text_of_groups : {X : Type 0} (f : X → List (List ℕ)) (xs : List X) → text_of_lines (flat_map f xs) ≡ flat_map (λ x. text_of_lines (f x)) xs
+text_of_groups f [] = refl
+text_of_groups f (x ∷ xs) =
+    flat_map-append (λ (line : List ℕ). line ++ 10 ∷ []) (f x) (flat_map f xs) ∙ ap (λ (l : List ℕ). text_of_lines (f x) ++ l) (text_of_groups f xs)
+
+-- an element of a list, seen through a function
+pub seen_at : {X Y : Type 0} (f : X → Y) (xs : List X) (i : ℕ) (x : X) → x ≡ get_or xs i x → f x ≡ get_or (map f xs) i (f x)
+seen_at f xs i x x_is = ap f x_is ∙ sym (get_or-map f xs i x)
+
+pub inside_map : {X Y : Type 0} (f : X → Y) (xs : List X) (i : ℕ) → i < length xs → i < length (map f xs)
+inside_map f xs i lt = let same : length (map f xs) ≡ length xs = length-map _ _ in omega arith

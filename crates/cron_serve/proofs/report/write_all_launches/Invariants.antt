@@ -1,0 +1,13 @@
+use Rattle.std.proofs.Common.{map, take}
+use Rattle.std.specs.Prelude.{flat_map}
+use Rattle.cron_serve.specs.Lines.{text_of_lines}
+use Rattle.cron_serve.specs.Report.{launch_lines}
+use Rattle.cron_serve.specs.RunFile.{launches_of}
+use Rattle.cron_serve.specs.Writes.{HasWritten}
+use Rattle.cron_serve.proofs.report.write_all_launches.Given as goal
+
+abbrev pub invariant-loop-job : goal.invariant-loop-job
+invariant-loop-job g l =
+    let written = g.K.Sink.written in let faults = g.K.Sink.faults in
+    HasWritten (written l.fn.sink) (written l.sink) (faults l.fn.sink) (faults l.sink)
+    (text_of_lines (flat_map launch_lines (take l.job-index (map launches_of l.jobs))))

@@ -1,0 +1,14 @@
+pub mod Due
+pub mod Grammar
+pub mod Launches
+pub mod Lines
+pub mod Listing
+pub mod Report
+pub mod Reading
+pub mod Run
+pub mod RunFile
+pub mod Writes
+pub mod Serve
+pub mod Stop
+pub mod Plan
+pub mod Ending

@@ -1,0 +1,275 @@
+//! Whole runs, from the bytes of a run file to the report and the note.
+use crate::{RunEnd, cron_cluster};
+use cron_io::{MemSink, MemSource};
+use std::alloc::Global;
+use std::test::Fail;
+
+const THREE_LAUNCHES: &str = "cronrun 1
+replicas 1
+window 2024-03-31T00:00Z 2024-03-31T01:00Z
+grace 0
+crontab alice UTC 1
+0,20,40 * * * * echo hi
+script
+end
+";
+
+const THREE_LAUNCHES_REPORT: &str = "cron report 1
+window 2024-03-31T00:00Z 2024-03-31T01:00Z
+replicas 1
+jobs 1
+job alice:1 launched 3 void 0
+launch alice:1@20240331T0000Z
+launch alice:1@20240331T0020Z
+launch alice:1@20240331T0040Z
+end
+";
+
+const NO_SECTION: &str = "cronrun 1
+replicas 1
+window 2024-03-31T00:00Z 2024-03-31T01:00Z
+grace 0
+script
+end";
+
+const NO_SECTION_REPORT: &str = "cron report 1
+window 2024-03-31T00:00Z 2024-03-31T01:00Z
+replicas 1
+jobs 0
+end
+";
+
+// The 13th or a Friday, the 13th alone, and a 31 February, over October 2024.
+const DAY_RULE: &str = "cronrun 1
+replicas 1
+window 2024-10-01T00:00Z 2024-11-01T00:00Z
+grace 0
+crontab alice UTC 3
+0 0 13 * 5 echo either
+0 0\t13  * * echo the 13th\t
+0 0 31 2 * echo never
+script
+end
+";
+
+const DAY_RULE_REPORT: &str = "cron report 1
+window 2024-10-01T00:00Z 2024-11-01T00:00Z
+replicas 1
+jobs 3
+job alice:1 launched 5 void 0
+job alice:2 launched 1 void 0
+job alice:3 launched 0 void 0
+launch alice:1@20241004T0000Z
+launch alice:1@20241011T0000Z
+launch alice:1@20241013T0000Z
+launch alice:1@20241018T0000Z
+launch alice:1@20241025T0000Z
+launch alice:2@20241013T0000Z
+end
+";
+
+// The same 31 February over 400 days.
+const NEVER: &str = "cronrun 1
+replicas 1
+window 2024-01-01T00:00Z 2025-02-04T00:00Z
+grace 0
+crontab alice UTC 1
+0 0 31 2 * echo never
+script
+end
+";
+
+const NEVER_REPORT: &str = "cron report 1
+window 2024-01-01T00:00Z 2025-02-04T00:00Z
+replicas 1
+jobs 1
+job alice:1 launched 0 void 0
+end
+";
+
+const ZONE_LINE: &str = "cronrun 1
+replicas 1
+window 2024-03-31T00:00Z 2024-03-31T01:00Z
+grace 0
+zone I fixed +05:30
+crontab alice UTC 1
+0,20,40 * * * * echo hi
+script
+end
+";
+
+const ZERO_BYTE: &str = "cronrun 1
+replicas 1
+window 2024-03-31T00:00Z 2024-03-31T01:00Z
+grace 0
+crontab alice UTC 1
+0,20,40 * * * * echo \0
+script
+end
+";
+
+const NOT_YET: &str = "cron_cluster: line 0: cause 35 at 0\n";
+
+const TOO_LARGE: &str = "cron_cluster: line 0: cause 33 at 0\n";
+
+const USAGE: &str = "cron_cluster: usage: cron_cluster [--journal] [--lanes N] [--make SEED]\n";
+
+// The numbers of the reads and writes that fail.
+#[derive(Clone, Copy)]
+struct Faults<'a> {
+    reads: &'a [u64],
+    writes: &'a [u64],
+    notes: &'a [u64],
+}
+
+const NO_FAULTS: Faults<'static> = Faults {
+    reads: &[],
+    writes: &[],
+    notes: &[],
+};
+
+// What a run leaves: its end, the report and the note.
+#[derive(Drop)]
+struct Left {
+    end: RunEnd,
+    report: MemSink,
+    notes: MemSink,
+}
+
+fn run(alloc: Global, input: &[u8], words: &[&str], faults: &Faults<'_>) -> Result<Left, Fail> {
+    let mut texts = Vec::new(alloc);
+    for word in words {
+        texts.push(String::from_str(alloc, word)?)?;
+    }
+    let mut source = MemSource::new(input.to_vec(alloc)?, faults.reads.to_vec(alloc)?);
+    let mut report = MemSink::new(alloc, 1 << 20, faults.writes.to_vec(alloc)?)?;
+    let mut notes = MemSink::new(alloc, 100, faults.notes.to_vec(alloc)?)?;
+    let end = cron_cluster(alloc, &texts, &mut source, &mut report, &mut notes);
+    Ok(Left { end, report, notes })
+}
+
+#[test]
+fn runs_have_their_reports(rt: HostRuntime) -> Result<(), Fail> {
+    for (input, status, report, note) in [
+        (THREE_LAUNCHES, 0, THREE_LAUNCHES_REPORT, ""),
+        (NO_SECTION, 0, NO_SECTION_REPORT, ""),
+        (DAY_RULE, 0, DAY_RULE_REPORT, ""),
+        (NEVER, 0, NEVER_REPORT, ""),
+        (ZONE_LINE, 2, "", NOT_YET),
+        (ZERO_BYTE, 2, "", NOT_YET),
+        ("", 2, "", NOT_YET),
+    ] {
+        let left = run(rt.alloc(), input.as_bytes(), &[], &NO_FAULTS)?;
+        assert_eq!(rt; left.end.status, status, "of {input}");
+        assert_eq!(rt; left.report.bytes(), report.as_bytes(), "of {input}");
+        assert_eq!(rt; left.notes.bytes(), note.as_bytes(), "of {input}");
+    }
+    Ok(())
+}
+
+#[test]
+fn an_input_that_is_not_text_is_refused(rt: HostRuntime) -> Result<(), Fail> {
+    let mut input = THREE_LAUNCHES.as_bytes().to_vec(rt.alloc())?;
+    input.insert(input.len() - 12, 0xff)?;
+    let left = run(rt.alloc(), &input, &[], &NO_FAULTS)?;
+    assert_eq!(rt; left.end.status, 2);
+    assert_eq!(rt; left.notes.bytes(), NOT_YET.as_bytes());
+    Ok(())
+}
+
+// A run of exactly 1,048,576 bytes is read, and one byte more is too large, whatever it says.
+#[test]
+fn an_input_may_have_a_mebibyte(rt: HostRuntime) -> Result<(), Fail> {
+    for (length, note) in [(1_048_576, NOT_YET), (1_048_577, TOO_LARGE)] {
+        let input = vec![in rt.alloc(); b'\n'; length]?;
+        let left = run(rt.alloc(), &input, &[], &NO_FAULTS)?;
+        assert_eq!(rt; left.end.status, 2);
+        assert_eq!(rt; left.notes.bytes(), note.as_bytes());
+        assert!(rt; left.report.bytes().is_empty());
+    }
+    Ok(())
+}
+
+#[test]
+fn a_word_is_a_faulty_command_line(rt: HostRuntime) -> Result<(), Fail> {
+    for words in [["--journal"], [""], ["--help"]] {
+        let left = run(rt.alloc(), THREE_LAUNCHES.as_bytes(), &words, &NO_FAULTS)?;
+        assert_eq!(rt; left.end.status, 1);
+        assert_eq!(rt; left.notes.bytes(), USAGE.as_bytes());
+        assert!(rt; left.report.bytes().is_empty());
+    }
+    Ok(())
+}
+
+#[test]
+fn faults_are_told(rt: HostRuntime) -> Result<(), Fail> {
+    for (reads, writes, status, report, note) in [
+        (
+            [0].as_slice(),
+            [].as_slice(),
+            3,
+            "",
+            "cron_cluster: read fault\n",
+        ),
+        (
+            [1].as_slice(),
+            [].as_slice(),
+            3,
+            "",
+            "cron_cluster: read fault\n",
+        ),
+        (
+            [].as_slice(),
+            [0].as_slice(),
+            4,
+            "",
+            "cron_cluster: write fault\n",
+        ),
+        (
+            [].as_slice(),
+            [1].as_slice(),
+            4,
+            "cron report 1\n",
+            "cron_cluster: write fault\n",
+        ),
+    ] {
+        let faults = Faults {
+            reads,
+            writes,
+            notes: &[],
+        };
+        let left = run(rt.alloc(), THREE_LAUNCHES.as_bytes(), &[], &faults)?;
+        assert_eq!(rt; left.end.status, status);
+        assert_eq!(rt; left.report.bytes(), report.as_bytes());
+        assert_eq!(rt; left.notes.bytes(), note.as_bytes());
+    }
+    Ok(())
+}
+
+// Each line of the report is one write, so the ninth is the last.
+#[test]
+fn the_last_line_may_fail(rt: HostRuntime) -> Result<(), Fail> {
+    for (failing, status) in [(8, 4), (9, 0)] {
+        let faults = Faults {
+            reads: &[],
+            writes: &[failing],
+            notes: &[],
+        };
+        let left = run(rt.alloc(), THREE_LAUNCHES.as_bytes(), &[], &faults)?;
+        assert_eq!(rt; left.end.status, status);
+    }
+    Ok(())
+}
+
+#[test]
+fn a_note_that_fails_changes_no_status(rt: HostRuntime) -> Result<(), Fail> {
+    let faults = Faults {
+        reads: &[],
+        writes: &[],
+        notes: &[0],
+    };
+    let left = run(rt.alloc(), ZONE_LINE.as_bytes(), &[], &faults)?;
+    assert_eq!(rt; left.end.status, 2);
+    assert!(rt; left.notes.bytes().is_empty());
+    Ok(())
+}
