@@ -8,3 +8,15 @@ pub struct Window {
     pub from: Minute,
     pub until: Minute,
 }
+
+impl Window {
+    ghost use Rattle.std.specs.Prelude.{◌↔◌, IsTrue};
+    ghost use Rattle.zone_minutes.specs.Window.{IsInWindow};
+
+    /// Whether the instant is in the window.
+    pub fn contains(&self, instant: Minute) -> bool
+        ensures { IsTrue result ↔ IsInWindow self.now instant.0 }
+    {
+        self.from <= instant && instant < self.until
+    }
+}
