@@ -1,5 +1,5 @@
 -- What is seen of the source and the sink in memory.
-use Rattle.std.specs.Prelude.{ℕ, List, drop}
+use Rattle.std.specs.Prelude.{◌≡◌, ℕ, List, [], ◌∷◌, Option, Some, None, drop}
 use Rattle.cron_io.specs.declared.memory.MemSource.{MemSource}
 use Rattle.cron_io.specs.declared.memory.MemSink.{MemSink}
 
@@ -18,6 +18,10 @@ source_calls source = source.calls
 -- how many reads have failed
 abbrev pub source_faults : MemSource → ℕ
 source_faults source = source.faults
+
+-- no read fails from here on
+abbrev pub NeverFails : MemSource → Type 0
+NeverFails source = source_fails source ≡ []
 
 -- what was written
 abbrev pub sink_bytes : MemSink → List ℕ
@@ -38,3 +42,12 @@ sink_calls sink = sink.calls
 -- how many writes have failed
 abbrev pub sink_faults : MemSink → ℕ
 sink_faults sink = sink.faults
+
+-- the room, where no write is to fail
+abbrev pub room_unless : List ℕ → ℕ → Option ℕ
+room_unless [] room = Some room
+room_unless (_ ∷ _) room = None
+
+-- how many bytes it still takes, where that is all that its answers turn on
+abbrev pub sink_told : MemSink → Option ℕ
+sink_told sink = room_unless (sink_fails sink) (sink_room sink)

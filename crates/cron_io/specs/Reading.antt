@@ -2,6 +2,11 @@
 use Rattle.std.specs.Prelude.{◌≡◌, ℕ, List, length, Option}
 use Rattle.std.specs.Io.KnownBytes.{Consumes, IsAtEnd}
 
+-- no read failed, and none will
+pub record StaysReliable (before now : ℕ) (reliable_now : Type 0) : Type 0 where
+  pub quiet : now ≡ before
+  pub still : reliable_now
+
 -- some bytes were taken from the front, and no others lost
 abbrev pub HasTaken : Option (List ℕ) → Option (List ℕ) → Type 0
 HasTaken old new = (bytes : List ℕ) × Consumes old new bytes

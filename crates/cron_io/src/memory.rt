@@ -1,8 +1,10 @@
 // A source and a sink in memory, whose calls that fail are chosen beforehand.
-ghost use Rattle.std.specs.Prelude.{◌≡◌, ◌⊎◌, ◌↔◌, ◌+◌, ◌<◌, ◌≤◌, [], Some, min, length, take, vec_len, vec_capacity, Contains, IsTrue, IsErr, IfOk, OnOk, OnErr};
+ghost use Rattle.std.specs.Prelude.{◌≡◌, ◌⊎◌, ◌↔◌, ◌+◌, ◌<◌, ◌≤◌, [], Some, min, length, take, vec_len, vec_capacity, Contains, IsTrue, IsSome, IsOk, IsErr, IfOk, OnOk, OnErr};
 ghost use Rattle.std.specs.Io.{ReadsAtMost, WritesAtMost};
 ghost use Rattle.std.specs.Io.KnownBytes.{ReadConsumes, WriteAppends};
 ghost use Rattle.cron_io.specs.Faults.{HasCause, next_count};
+ghost use Rattle.cron_io.specs.Reading.{StaysReliable};
+ghost use Rattle.cron_io.specs.Writing.{TakesByRoom};
 
 use crate::{Sink, SinkFault, Source, SourceFault};
 use std::alloc::{AllocError, Global};
@@ -73,11 +75,13 @@ impl MemSource {
 }
 
 impl Source for MemSource {
-    ghost use Rattle.cron_io.specs.Memory.{source_left, source_calls, source_fails, source_faults};
+    ghost use Rattle.cron_io.specs.Memory.{source_left, source_calls, source_fails, source_faults, NeverFails};
 
     ghost left = { λ s. Some (source_left s) };
 
     ghost faults = { source_faults };
+
+    ghost reliable = { NeverFails };
 
     /// Fails exactly where the number of the call is listed. Else it fills what it can of `into`.
     fn read(&mut self, into: &mut [u8]) -> Result<usize, SourceFault>
@@ -86,6 +90,9 @@ impl Source for MemSource {
         ensures bytes { ReadConsumes (Some (source_left self.old)) (Some (source_left self.new))
             result into.new }
         ensures cause { HasCause (source_faults self.old) (source_faults self.new) result }
+        ensures no_fault { NeverFails self.old → IsOk result }
+        ensures lasting { NeverFails self.old →
+            StaysReliable (source_faults self.old) (source_faults self.new) (NeverFails self.new) }
 
         // What a source in memory promises beyond a source.
         ensures fails { IsErr result ↔ Contains (source_fails self.old) (source_calls self.old) }
@@ -162,11 +169,13 @@ impl MemSink {
 }
 
 impl Sink for MemSink {
-    ghost use Rattle.cron_io.specs.Memory.{sink_bytes, sink_room, sink_fails, sink_calls, sink_faults};
+    ghost use Rattle.cron_io.specs.Memory.{sink_bytes, sink_room, sink_fails, sink_calls, sink_faults, sink_told};
 
     ghost written = { λ s. Some (sink_bytes s) };
 
     ghost faults = { sink_faults };
+
+    ghost room = { sink_told };
 
     /// Fails exactly where the number of the call is listed or the piece is longer than the room.
     /// Else it takes the whole piece.
@@ -177,6 +186,9 @@ impl Sink for MemSink {
         ensures bytes { WriteAppends (Some (sink_bytes self.old)) (Some (sink_bytes self.new))
             result piece.now }
         ensures cause { HasCause (sink_faults self.old) (sink_faults self.new) result }
+        ensures by_room { TakesByRoom (sink_told self.old) (sink_told self.new)
+            (sink_faults self.old) (sink_faults self.new) result piece.now }
+        ensures at_once { IsSome (sink_told self.old) → IfOk result (λ count. count ≡ length piece.now) }
 
         // What a sink in memory promises beyond a sink.
         ensures fails { IsErr result ↔ (Contains (sink_fails self.old) (sink_calls self.old)

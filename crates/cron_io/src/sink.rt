@@ -1,9 +1,9 @@
 // Where bytes go, and all of a piece at once.
-ghost use Rattle.std.specs.Prelude.{◌<◌, ℕ, List, Option, length, IfOk, OnOk};
+ghost use Rattle.std.specs.Prelude.{◌≡◌, ◌<◌, ℕ, List, Option, length, IfOk, OnOk, IsSome};
 ghost use Rattle.std.specs.Io.{WritesAtMost};
 ghost use Rattle.std.specs.Io.KnownBytes.{WriteAppends, Appends};
 ghost use Rattle.cron_io.specs.Faults.{HasCause};
-ghost use Rattle.cron_io.specs.Writing.{HasGainedPrefix};
+ghost use Rattle.cron_io.specs.Writing.{HasGainedPrefix, TakesByRoom};
 
 /// A write failed.
 #[derive(Clone, Copy, Debug, PartialEq, Eq)]
@@ -18,6 +18,10 @@ pub trait Sink {
     /// of a `u64`.
     ghost faults: { Self → ℕ };
 
+    /// How many bytes it still takes, where the sink tells that: then it takes each piece that
+    /// fits, whole, and refuses each other piece.
+    ghost room: { Self → Option ℕ };
+
     /// Writes the front of `piece`, at least one byte, and says how many.
     ///
     /// # Errors
@@ -28,10 +32,14 @@ pub trait Sink {
         ensures bound { WritesAtMost result piece.now }
         ensures some { IfOk result (λ count. 0 < count) }
         ensures bytes { WriteAppends (written self.old) (written self.new) result piece.now }
-        ensures cause { HasCause (faults self.old) (faults self.new) result };
+        ensures cause { HasCause (faults self.old) (faults self.new) result }
+        ensures by_room { TakesByRoom (room self.old) (room self.new)
+            (faults self.old) (faults self.new) result piece.now }
+        ensures at_once { IsSome (room self.old) → IfOk result (λ count. count ≡ length piece.now) };
 }
 
-/// Writes all of `bytes`, by as few writes as the sink allows.
+/// Writes all of `bytes`, by as few writes as the sink allows. A sink that tells its room takes all
+/// of them where they fit, and keeps its room where they don't.
 ///
 /// # Errors
 ///
@@ -40,6 +48,8 @@ pub fn write_all<K: Sink>(sink: &mut K, bytes: &[u8]) -> Result<(), SinkFault>
     ensures bytes { OnOk result (Appends (K.written sink.old) (K.written sink.new) bytes.now) }
     ensures prefix { HasGainedPrefix (K.written sink.old) (K.written sink.new) bytes.now }
     ensures cause { HasCause (K.faults sink.old) (K.faults sink.new) result }
+    ensures by_room { TakesByRoom (K.room sink.old) (K.room sink.new)
+        (K.faults sink.old) (K.faults sink.new) result bytes.now }
 {
     let mut rest = bytes;
     'pieces: while !rest.is_empty() {

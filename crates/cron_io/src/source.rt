@@ -1,9 +1,9 @@
 // Where bytes come from, and all of them at once.
-ghost use Rattle.std.specs.Prelude.{◌≡◌, ◌+◌, ◌<◌, ◌≤◌, ℕ, List, Option, length, IfOk, IsErrOf};
+ghost use Rattle.std.specs.Prelude.{◌≡◌, ◌+◌, ◌<◌, ◌≤◌, ℕ, List, Option, length, IfOk, IsOk, IsErrOf};
 ghost use Rattle.std.specs.Io.{ReadsAtMost};
 ghost use Rattle.std.specs.Io.KnownBytes.{ReadConsumes};
 ghost use Rattle.cron_io.specs.Faults.{HasCause, Rose};
-ghost use Rattle.cron_io.specs.Reading.{IsReadToEnd, HasTaken, HasTakenCount};
+ghost use Rattle.cron_io.specs.Reading.{IsReadToEnd, HasTaken, HasTakenCount, StaysReliable};
 ghost use Rattle.cron_io.specs.declared.source.ReadAllFault.TheVariants.{ReadFault, OutOfMemory};
 
 use std::alloc::{AllocError, Global};
@@ -24,6 +24,9 @@ pub trait Source {
     /// of a `u64`.
     ghost faults: { Self → ℕ };
 
+    /// No read fails from here on, where the source tells that.
+    ghost reliable: { Self → Type 0 };
+
     /// Moves some of the bytes that are left into the front of `into`, and says how many: 0 only at
     /// the end.
     ///
@@ -35,7 +38,10 @@ pub trait Source {
         requires { 0 < length into.old }
         ensures bound { ReadsAtMost result into.new }
         ensures bytes { ReadConsumes (left self.old) (left self.new) result into.new }
-        ensures cause { HasCause (faults self.old) (faults self.new) result };
+        ensures cause { HasCause (faults self.old) (faults self.new) result }
+        ensures no_fault { reliable self.old → IsOk result }
+        ensures lasting { reliable self.old →
+            StaysReliable (faults self.old) (faults self.new) (reliable self.new) };
 }
 
 /// Why not all the bytes were read.
@@ -70,7 +76,8 @@ impl From<AllocError> for ReadAllFault {
 /// # Errors
 ///
 /// `ReadFault` only where a read failed, `TooLong` only where `limit + 1` bytes came, and
-/// `OutOfMemory`. Each loses the bytes that were taken before it.
+/// `OutOfMemory`. Each loses the bytes that were taken before it. A source that is reliable gives no
+/// `ReadFault`.
 pub fn read_all<S: Source>(
     alloc: Global,
     source: &mut S,
@@ -84,6 +91,9 @@ pub fn read_all<S: Source>(
     ensures fault { IsErrOf result ReadAllFault.ReadFault →
         Rose (S.faults source.old) (S.faults source.new) }
     ensures later { S.faults source.old ≤ S.faults source.new }
+    ensures no_fault { S.reliable source.old → IsErrOf result ReadAllFault.ReadFault → ⊥ }
+    ensures lasting { S.reliable source.old →
+        StaysReliable (S.faults source.old) (S.faults source.new) (S.reliable source.new) }
 {
     // One byte past the limit tells a source that is too long from one that just fits.
     let most = limit as usize + 1;

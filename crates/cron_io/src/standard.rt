@@ -1,5 +1,5 @@
 // The readers and writers of std as sources and sinks.
-ghost use Rattle.std.specs.Prelude.{◌≡◌};
+ghost use Rattle.std.specs.Prelude.{◌≡◌, None};
 
 use crate::{Sink, SinkFault, Source, SourceFault};
 use std::io::{Read, Write};
@@ -26,6 +26,9 @@ impl<R: Read> Source for StdSource<R> {
     ghost left = { λ s. R.remaining s.reader };
 
     ghost faults = { λ s. s.faults };
+
+    // Nothing is known of the reads to come.
+    ghost reliable = { λ _. ⊥ };
 
     fn read(&mut self, into: &mut [u8]) -> Result<usize, SourceFault> {
         match self.reader.read(into) {
@@ -61,6 +64,9 @@ impl<W: Write> Sink for StdSink<W> {
     ghost written = { λ s. W.contents s.writer };
 
     ghost faults = { λ s. s.faults };
+
+    // Nothing is known of the writes to come.
+    ghost room = { λ _. None };
 
     fn write(&mut self, piece: &[u8]) -> Result<usize, SinkFault> {
         match self.writer.write(piece) {

@@ -19,3 +19,5 @@ pub mod VariantLemmas
 pub mod WindowLemmas
 pub mod ServeLemmas
 pub mod PlainLemmas
+pub mod CompleteLemmas
+pub mod OverMemoryLemmas

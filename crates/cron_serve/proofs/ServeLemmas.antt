@@ -90,14 +90,14 @@ launches_have_dates w (j ∷ js) (l ∷ ls) limits (first, rest) =
 
 -- the exit of a `?` with a report that failed
 pub serves_some : {T : Type 0} (left left' : Option (List ℕ)) (reads reads' : ℕ) (written written' : Option (List ℕ)) (writes writes' : ℕ)
-    (fault : ReportFault) (result : Result (Unit {0}) Stop) (text : List ℕ)
+    (told tells : Option ℕ) (fault : ReportFault) (result : Result (Unit {0}) Stop) (text : List ℕ)
     → IsErrAnd result (λ stop. stop ≡ stop_of_report fault) → IsReportOfInput left left' text
-    → (let failed : Result T ReportFault = Err fault in Writes written written' writes writes' failed text)
+    → (let failed : Result T ReportFault = Err fault in Writes written written' writes writes' told tells failed text)
     → Serves left left' reads reads' written written' writes writes' result
-serves_some {T} left left' reads reads' written written' writes writes' fault (Ok value) text is report_is w = absurd is
-serves_some {T} left left' reads reads' written written' writes writes' report.WriteFault (Err stop) text is report_is w =
+serves_some {T} left left' reads reads' written written' writes writes' told tells fault (Ok value) text is report_is w = absurd is
+serves_some {T} left left' reads reads' written written' writes writes' told tells report.WriteFault (Err stop) text is report_is w =
     subst (λ (s : Stop). Serves left left' reads reads' written written' writes writes' (Err s)) (sym is) (w.fault refl, (text, report_is, w.front))
-serves_some {T} left left' reads reads' written written' writes writes' report.OutOfMemory (Err stop) text is report_is w =
+serves_some {T} left left' reads reads' written written' writes writes' told tells report.OutOfMemory (Err stop) text is report_is w =
     subst (λ (s : Stop). Serves left left' reads reads' written written' writes writes' (Err s)) (sym is) (inr (text, report_is, w.front))
 
 -- the exit of a `?` with a plan that has too many launches, or for want of memory

@@ -12,3 +12,4 @@ pub mod Serve
 pub mod Stop
 pub mod Plan
 pub mod Ending
+pub mod Complete

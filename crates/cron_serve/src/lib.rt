@@ -26,4 +26,6 @@ pub use run_end::{Refusal, RunEnd};
 pub use serve::cron_cluster;
 
 #[cfg(test)]
+mod over_memory;
+#[cfg(test)]
 mod tests;

@@ -1,4 +1,4 @@
-//! The due instants by their definition alone: a slow program that looks at one minute after the other.
+//! The due instants by their definition alone: a slow program that looks at each minute in turn.
 ghost use Rattle.std.specs.Prelude.{◌≡◌, ◌↔◌, ℤ, pos, ◌+ℤ◌, ◌-ℤ◌, ◌≤ℤ◌, ◌<ℤ◌, IsTrue, IfOk};
 ghost use Rattle.jiff.specs.Types.{TimeZone};
 ghost use Rattle.zone_minutes.specs.Civil.{IsCalendarMinute};
@@ -42,7 +42,8 @@ pub fn is_first_shown(zone: &ZoneRuns, at: Minute) -> bool
     requires calendar { IsCalendarMinute at.0 }
     requires since { zone.now.from ≤ℤ at.0 }
     requires before { at.0 <ℤ zone.now.until }
-    ensures { (z : TimeZone) → IsReadAs zone.now.source z → (IsTrue result ↔ IsFirstShown z at.0) }
+    ensures { (z : TimeZone) → IsReadAs zone.now.source z
+        → (IsTrue result ↔ IsFirstShown z at.0) }
 {
     let shown = zone.local(at);
     for back in 1..180u8 {
@@ -63,8 +64,8 @@ fn is_short(before: i64, shown: i64) -> bool
     shown - before - 1 < 180
 }
 
-// Whether the civil minute some minutes after one that the clock showed is before the next that it showed, and the
-// fields match it.
+// Whether the civil minute some minutes after one that the clock showed is before the next that it
+// showed, and the fields match it.
 fn is_passed_match(fields: &Fields, before: i64, step: u8, shown: i64) -> bool
     requires before { IsCalendarMinute before }
     requires shown { IsCalendarMinute shown }
@@ -100,12 +101,14 @@ pub fn skips_match(fields: &Fields, zone: &ZoneRuns, at: Minute) -> bool
 fn matches_shown(fields: &Fields, zone: &ZoneRuns, at: Minute) -> bool
     requires since { zone.now.from ≤ℤ at.0 }
     requires before { at.0 <ℤ zone.now.until }
-    ensures { (z : TimeZone) → IsReadAs zone.now.source z → (IsTrue result ↔ Matches fields.now (local_of z at.0)) }
+    ensures { (z : TimeZone) → IsReadAs zone.now.source z
+        → (IsTrue result ↔ Matches fields.now (local_of z at.0)) }
 {
     matches(fields, zone.local(at))
 }
 
-// Whether the fields match the local time of the instant, and the zone's clock shows it for the first time.
+// Whether the fields match the local time of the instant, which the zone's clock shows for the
+// first time.
 fn matches_first_shown(fields: &Fields, zone: &ZoneRuns, at: Minute) -> bool
     requires calendar { IsCalendarMinute at.0 }
     requires since { zone.now.from ≤ℤ at.0 }
@@ -121,7 +124,8 @@ fn is_due_once(fields: &Fields, zone: &ZoneRuns, at: Minute) -> bool
     requires calendar { IsCalendarMinute at.0 }
     requires since { zone.now.from ≤ℤ at.0 }
     requires before { at.0 <ℤ zone.now.until }
-    ensures { (z : TimeZone) → IsReadAs zone.now.source z → (IsTrue result ↔ IsDueOnce fields.now z at.0) }
+    ensures { (z : TimeZone) → IsReadAs zone.now.source z
+        → (IsTrue result ↔ IsDueOnce fields.now z at.0) }
 {
     matches_first_shown(fields, zone, at) || skips_match(fields, zone, at)
 }
@@ -131,7 +135,8 @@ pub fn is_due(fields: &Fields, zone: &ZoneRuns, at: Minute) -> bool
     requires calendar { IsCalendarMinute at.0 }
     requires since { zone.now.from ≤ℤ at.0 }
     requires before { at.0 <ℤ zone.now.until }
-    ensures { (z : TimeZone) → IsReadAs zone.now.source z → (IsTrue result ↔ IsDue fields.now z at.0) }
+    ensures { (z : TimeZone) → IsReadAs zone.now.source z
+        → (IsTrue result ↔ IsDue fields.now z at.0) }
 {
     if fields.is_frequent() {
         matches_shown(fields, zone, at)

@@ -16,8 +16,8 @@ use zone_minutes::{Minute, OutOfMemory, Window, write_basic_stamp, write_stamp};
 
 // Writes a line and its newline at once.
 fn write_line<K: Sink>(sink: &mut K, line: &mut String) -> Result<(), ReportFault>
-    ensures { Writes (K.written sink.old) (K.written sink.new) (K.faults sink.old) (K.faults sink.new) result
-        (string_bytes line.old ++ 10 ∷ []) }
+    ensures { Writes (K.written sink.old) (K.written sink.new) (K.faults sink.old) (K.faults sink.new)
+        (K.room sink.old) (K.room sink.new) result (string_bytes line.old ++ 10 ∷ []) }
 {
     line.push('\n')?;
     write_all(sink, line.as_bytes())?;
@@ -58,8 +58,8 @@ fn put_launch(line: &mut String, name: &str, instant: Minute) -> Result<(), OutO
 }
 
 fn write_text<K: Sink>(sink: &mut K, line: &mut String, text: &str) -> Result<(), ReportFault>
-    ensures { Writes (K.written sink.old) (K.written sink.new) (K.faults sink.old) (K.faults sink.new) result
-        (text.now ++ 10 ∷ []) }
+    ensures { Writes (K.written sink.old) (K.written sink.new) (K.faults sink.old) (K.faults sink.new)
+        (K.room sink.old) (K.room sink.new) result (text.now ++ 10 ∷ []) }
 {
     line.clear();
     line.push_str(text)?;
@@ -69,8 +69,8 @@ fn write_text<K: Sink>(sink: &mut K, line: &mut String, text: &str) -> Result<()
 fn write_window<K: Sink>(sink: &mut K, line: &mut String, window: Window) -> Result<(), ReportFault>
     requires from { IsCalendarMinute window.from.0 }
     requires until { IsCalendarMinute window.until.0 }
-    ensures { Writes (K.written sink.old) (K.written sink.new) (K.faults sink.old) (K.faults sink.new) result
-        (window_line window ++ 10 ∷ []) }
+    ensures { Writes (K.written sink.old) (K.written sink.new) (K.faults sink.old) (K.faults sink.new)
+        (K.room sink.old) (K.room sink.new) result (window_line window ++ 10 ∷ []) }
 {
     put_window(line, window)?;
     write_line(sink, line)
@@ -81,8 +81,8 @@ fn write_job_number<K: Sink>(
     line: &mut String,
     jobs: usize,
 ) -> Result<(), ReportFault>
-    ensures { Writes (K.written sink.old) (K.written sink.new) (K.faults sink.old) (K.faults sink.new) result
-        (codes "jobs " ++ decimal jobs ++ 10 ∷ []) }
+    ensures { Writes (K.written sink.old) (K.written sink.new) (K.faults sink.old) (K.faults sink.new)
+        (K.room sink.old) (K.room sink.new) result (codes "jobs " ++ decimal jobs ++ 10 ∷ []) }
 {
     line.clear();
     write!(line, "jobs {jobs}")?;
@@ -94,8 +94,8 @@ fn write_count<K: Sink>(
     line: &mut String,
     job: &Schedule<'_>,
 ) -> Result<(), ReportFault>
-    ensures { Writes (K.written sink.old) (K.written sink.new) (K.faults sink.old) (K.faults sink.new) result
-        (count_line (launches_of job.now) ++ 10 ∷ []) }
+    ensures { Writes (K.written sink.old) (K.written sink.new) (K.faults sink.old) (K.faults sink.new)
+        (K.room sink.old) (K.room sink.new) result (count_line (launches_of job.now) ++ 10 ∷ []) }
 {
     // Nothing is voided yet.
     put_counts(line, job.name, job.instants.len(), 0)?;
@@ -109,8 +109,8 @@ fn write_launch<K: Sink>(
     instant: Minute,
 ) -> Result<(), ReportFault>
     requires { IsCalendarMinute instant.0 }
-    ensures { Writes (K.written sink.old) (K.written sink.new) (K.faults sink.old) (K.faults sink.new) result
-        (launch_line name.now instant.0 ++ 10 ∷ []) }
+    ensures { Writes (K.written sink.old) (K.written sink.new) (K.faults sink.old) (K.faults sink.new)
+        (K.room sink.old) (K.room sink.new) result (launch_line name.now instant.0 ++ 10 ∷ []) }
 {
     put_launch(line, name, instant)?;
     write_line(sink, line)
@@ -124,8 +124,8 @@ fn write_head<K: Sink>(
 ) -> Result<(), ReportFault>
     requires from { IsCalendarMinute window.from.0 }
     requires until { IsCalendarMinute window.until.0 }
-    ensures { Writes (K.written sink.old) (K.written sink.new) (K.faults sink.old) (K.faults sink.new) result
-        (text_of_lines (head_lines window jobs)) }
+    ensures { Writes (K.written sink.old) (K.written sink.new) (K.faults sink.old) (K.faults sink.new)
+        (K.room sink.old) (K.room sink.new) result (text_of_lines (head_lines window jobs)) }
 {
     write_text(sink, line, "cron report 1")?;
     write_window(sink, line, window)?;
@@ -138,8 +138,8 @@ fn write_counts<K: Sink>(
     line: &mut String,
     jobs: &[Schedule<'_>],
 ) -> Result<(), ReportFault>
-    ensures { Writes (K.written sink.old) (K.written sink.new) (K.faults sink.old) (K.faults sink.new) result
-        (text_of_lines (map count_line (map launches_of jobs.now))) }
+    ensures { Writes (K.written sink.old) (K.written sink.new) (K.faults sink.old) (K.faults sink.new)
+        (K.room sink.old) (K.room sink.new) result (text_of_lines (map count_line (map launches_of jobs.now))) }
 {
     for job in jobs {
         write_count(sink, line, job)?;
@@ -154,8 +154,8 @@ fn write_launches<K: Sink>(
     instants: &[Minute],
 ) -> Result<(), ReportFault>
     requires { All IsCalendarMinute (instants_of instants.now) }
-    ensures { Writes (K.written sink.old) (K.written sink.new) (K.faults sink.old) (K.faults sink.new) result
-        (text_of_lines (map (launch_line name.now) (instants_of instants.now))) }
+    ensures { Writes (K.written sink.old) (K.written sink.new) (K.faults sink.old) (K.faults sink.new)
+        (K.room sink.old) (K.room sink.new) result (text_of_lines (map (launch_line name.now) (instants_of instants.now))) }
 {
     for instant in instants {
         write_launch(sink, line, name, *instant)?;
@@ -169,8 +169,8 @@ fn write_all_launches<K: Sink>(
     jobs: &[Schedule<'_>],
 ) -> Result<(), ReportFault>
     requires { All HasCalendarMinutes (map launches_of jobs.now) }
-    ensures { Writes (K.written sink.old) (K.written sink.new) (K.faults sink.old) (K.faults sink.new) result
-        (text_of_lines (flat_map launch_lines (map launches_of jobs.now))) }
+    ensures { Writes (K.written sink.old) (K.written sink.new) (K.faults sink.old) (K.faults sink.new)
+        (K.room sink.old) (K.room sink.new) result (text_of_lines (flat_map launch_lines (map launches_of jobs.now))) }
 {
     for job in jobs {
         write_launches(sink, line, job.name, &job.instants)?;
@@ -192,8 +192,8 @@ pub fn write_report<K: Sink>(
     requires from { IsCalendarMinute window.from.0 }
     requires until { IsCalendarMinute window.until.0 }
     requires instants { All HasCalendarMinutes (map launches_of jobs.now) }
-    ensures { Writes (K.written sink.old) (K.written sink.new) (K.faults sink.old) (K.faults sink.new) result
-        (report_text window (map launches_of jobs.now)) }
+    ensures { Writes (K.written sink.old) (K.written sink.new) (K.faults sink.old) (K.faults sink.new)
+        (K.room sink.old) (K.room sink.new) result (report_text window (map launches_of jobs.now)) }
 {
     let mut line = String::new(alloc);
     write_head(sink, &mut line, window, jobs.len())?;

@@ -1,7 +1,9 @@
-ghost use Rattle.std.specs.Prelude.{◌≡◌, ◌⊎◌, ◌↔◌, ◌<◌, ◌≤◌, List, ℕ, length, Some, None, IsSome, IsSomeAnd};
+ghost use Rattle.std.specs.Prelude.{◌≡◌, ◌⊎◌, ◌↔◌, ◌≢◌, ◌<◌, ◌≤◌, List, ℕ, length, Some, None, IsSome, IsSomeAnd, IsErrOf};
 ghost use Rattle.std.specs.Io.KnownBytes.{Appends};
 ghost use Rattle.cron_io.specs.Faults.{Rose};
+ghost use Rattle.cron_io.specs.Reading.{StaysReliable};
 ghost use Rattle.cron_io.specs.Writing.{HasGainedPrefix};
+ghost use Rattle.cron_serve.specs.Complete.{CompletesRun, RefusesOthers, HasRoomForReport, LacksRoomForReport, ServesByRoom};
 ghost use Rattle.cron_serve.specs.Ending.{Serves, WritesSome, end_of};
 ghost use Rattle.cron_serve.specs.Serve.{IsRefused, IsReportOfInput, GainsNothing, note_text, IsNoted};
 
@@ -19,8 +21,13 @@ const MAX_INPUT: u32 = 1_048_576;
 
 // Reads a run and writes its report.
 fn serve<S: Source, K: Sink>(alloc: Global, source: &mut S, sink: &mut K) -> Result<(), Stop>
-    ensures { Serves (S.left source.old) (S.left source.new) (S.faults source.old) (S.faults source.new)
+    ensures served { Serves (S.left source.old) (S.left source.new) (S.faults source.old) (S.faults source.new)
         (K.written sink.old) (K.written sink.new) (K.faults sink.old) (K.faults sink.new) result }
+    ensures reliable { S.reliable source.old →
+        StaysReliable (S.faults source.old) (S.faults source.new) (S.reliable source.new) }
+    ensures no_read_fault { S.reliable source.old → IsErrOf result Stop.ReadFault → ⊥ }
+    ensures by_room { ServesByRoom (S.left source.old) (S.left source.new) (K.written sink.old) (K.written sink.new)
+        (K.faults sink.old) (K.faults sink.new) (K.room sink.old) (K.room sink.new) result }
 {
     let bytes = read_all(alloc, source, MAX_INPUT)?;
     let plan = take_plan(alloc, &bytes)?;
@@ -73,6 +80,24 @@ pub fn cron_cluster<S: Source, K: Sink, E: Sink>(
     ensures memory { result.status ≡ 5 → GainsNothing (K.written sink.old) (K.written sink.new)
         ⊎ WritesSome (S.left source.old) (S.left source.new) (K.written sink.old) (K.written sink.new) }
     ensures nothing { (1 ≤ result.status) → (result.status ≤ 3) → GainsNothing (K.written sink.old) (K.written sink.new) }
+
+    // A run that is taken ends with its report, and any other input is refused, where no call failed and memory lasts.
+    ensures complete { length words.now ≡ 0 → CompletesRun (S.left source.old) (S.faults source.old) (S.faults source.new)
+        (K.faults sink.old) (K.faults sink.new) result.status }
+    ensures refused_if { length words.now ≡ 0 →
+        RefusesOthers (S.left source.old) (S.faults source.old) (S.faults source.new) result.status }
+
+    // Over a source that is reliable there is no status 3.
+    ensures no_read_fault { S.reliable source.old → result.status ≢ 3 }
+    ensures reliable_source { S.reliable source.old →
+        StaysReliable (S.faults source.old) (S.faults source.new) (S.reliable source.new) }
+
+    // Where the sink tells its room, status 0 comes only where the report fits it, and status 4 only where it doesn't.
+    ensures fits { result.status ≡ 0 → (room : ℕ) → K.room sink.old ≡ Some room →
+        HasRoomForReport (S.left source.old) (S.left source.new) (K.written sink.old) (K.written sink.new)
+        (K.faults sink.old) (K.faults sink.new) room (K.room sink.new) }
+    ensures exceeds { result.status ≡ 4 → (room : ℕ) → K.room sink.old ≡ Some room →
+        LacksRoomForReport (S.left source.old) (S.left source.new) (K.written sink.old) (K.written sink.new) room }
 
     // Status 5, for want of memory, is the last.
     ensures statuses { result.status ≤ 5 }

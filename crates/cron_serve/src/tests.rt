@@ -192,8 +192,13 @@ fn an_input_may_have_a_mebibyte(rt: HostRuntime) -> Result<(), Fail> {
 
 #[test]
 fn a_word_is_a_faulty_command_line(rt: HostRuntime) -> Result<(), Fail> {
-    for words in [["--journal"], [""], ["--help"]] {
-        let left = run(rt.alloc(), THREE_LAUNCHES.as_bytes(), &words, &NO_FAULTS)?;
+    for words in [
+        ["--journal"].as_slice(),
+        ["--lanes", "0"].as_slice(),
+        ["--help"].as_slice(),
+        [""].as_slice(),
+    ] {
+        let left = run(rt.alloc(), THREE_LAUNCHES.as_bytes(), words, &NO_FAULTS)?;
         assert_eq!(rt; left.end.status, 1);
         assert_eq!(rt; left.notes.bytes(), USAGE.as_bytes());
         assert!(rt; left.report.bytes().is_empty());

@@ -8,6 +8,6 @@ use Rattle.cron_serve.proofs.report.write_all_launches.Given as goal
 
 abbrev pub invariant-loop-job : goal.invariant-loop-job
 invariant-loop-job g l =
-    let written = g.K.Sink.written in let faults = g.K.Sink.faults in
-    HasWritten (written l.fn.sink) (written l.sink) (faults l.fn.sink) (faults l.sink)
+    let written = g.K.Sink.written in let faults = g.K.Sink.faults in let room = g.K.Sink.room in
+    HasWritten (written l.fn.sink) (written l.sink) (faults l.fn.sink) (faults l.sink) (room l.fn.sink) (room l.sink)
     (text_of_lines (flat_map launch_lines (take l.job-index (map launches_of l.jobs))))

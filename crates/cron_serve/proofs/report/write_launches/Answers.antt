@@ -25,7 +25,7 @@ returns-in_err-write_launch g c =
     let instant : Minute = get_or instants i (record { 0 = pos 0 }) in
     let inside = inside_map (launch_line name) (instants_of instants) i (inside_map instant_of instants i c.loop-instant-test.true) in
     let is = seen_at (launch_line name) (instants_of instants) i instant.0 (seen_at instant_of instants i instant (get_or_default instants i _ _ c.loop-instant-test.true)) in
-    writes_some (λ (line : List ℕ). line ++ 10 ∷ []) (map (launch_line name) (instants_of instants)) i (launch_line name instant.0) _ _ _ _ _ _ _ _ inside is c.loop-instant.invariant c.from_residual.ensures.1 c.in_err-write_launch.ensures
+    writes_some (λ (line : List ℕ). line ++ 10 ∷ []) (map (launch_line name) (instants_of instants)) i (launch_line name instant.0) _ _ _ _ _ _ _ _ _ _ _ inside is c.loop-instant.invariant c.from_residual.ensures.1 c.in_err-write_launch.ensures
 
 pub loop-instant-preserved : goal.loop-instant-preserved
 loop-instant-preserved g c =
@@ -35,4 +35,4 @@ loop-instant-preserved g c =
     let instant : Minute = get_or instants i (record { 0 = pos 0 }) in
     let inside = inside_map (launch_line name) (instants_of instants) i (inside_map instant_of instants i c.loop-instant-test.true) in
     let is = seen_at (launch_line name) (instants_of instants) i instant.0 (seen_at instant_of instants i instant (get_or_default instants i _ _ c.loop-instant-test.true)) in
-    writes_more (λ (line : List ℕ). line ++ 10 ∷ []) (map (launch_line name) (instants_of instants)) i (launch_line name instant.0) _ _ _ _ _ _ inside is c.loop-instant.invariant c.in_ok-write_launch.ensures
+    writes_more (λ (line : List ℕ). line ++ 10 ∷ []) (map (launch_line name) (instants_of instants)) i (launch_line name instant.0) _ _ _ _ _ _ _ _ _ inside is c.loop-instant.invariant c.in_ok-write_launch.ensures

@@ -1,0 +1,27 @@
+use Rattle.std.proofs.Common.{ap, ◌∙◌, arith, Some}
+use Rattle.cron_io.specs.Memory.{room_unless}
+use Rattle.cron_serve.proofs.OverMemoryLemmas.{EndsOverMemory, ends_whole, ends_cut, not_risen}
+use Rattle.cron_serve.proofs.over_memory.status_in_memory.Goals as goal
+
+pub returns : goal.returns
+returns c =
+    let ends = c.cron_cluster-end.ensures in
+    let source = c.new-source.ensures in
+    let sink = c.in_ok-sink.ensures in
+    let sure = source.fails ∙ c.new.ensures.items in
+    let told = ap (λ fails. room_unless fails c.in_ok-sink.sink.room) (sink.fails ∙ c.new-2.ensures.items) ∙ ap Some sink.room in
+    let over_memory : EndsOverMemory _ _ _ _ _ _ _ _ c.args.bytes.items c.args.room c.cron_cluster-end.result.status c.cron_cluster-end.result.refusal = record {
+      has = ap Some source.left;
+      has_room = told;
+      last = ends.statuses;
+      usage = λ e. let some = ends.usage.0 e in absurd (omega arith);
+      refused = ends.refused;
+      reliable = ends.no_read_fault sure;
+      fits = ends.fits;
+      exceeds = ends.exceeds;
+    } in
+    record {
+      fits = λ run launches. ends_whole _ _ _ _ _ _ _ _ _ _ _ _ run launches over_memory;
+      exceeds = λ run launches. ends_cut _ _ _ _ _ _ _ _ _ _ _ _ run launches over_memory;
+      refused = λ no_run. ends.refused_if (omega arith) _ (ap Some source.left) no_run (not_risen _ _ (ends.reliable_source sure).quiet source.faults);
+    }
