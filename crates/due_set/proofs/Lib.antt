@@ -1,0 +1,5 @@
+pub mod DueLemmas
+pub mod Rising
+pub mod TableLemmas
+pub mod DayLemmas
+pub mod CountLemmas

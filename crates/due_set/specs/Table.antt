@@ -1,0 +1,96 @@
+-- What a table says of its jobs.
+use Rattle.std.specs.Prelude.{◌≡◌, ℕ, ◌≢◌, ◌<◌, ◌≤◌, List, length, All, AllPairs, Option, None, Some, ℤ, ◌<ℤ◌, ◌≤ℤ◌, slice_get, Contains, ⊤}
+use Rattle.jiff.specs.Types.{TimeZone}
+use Rattle.cron_fields.specs.declared.field.Fields.{Fields}
+use Rattle.zone_minutes.specs.Window.{IsInWindow, IsWithinLimits}
+use Rattle.zone_minutes.specs.Zone.{Zone, IsReadAs}
+use Rattle.zone_minutes.specs.declared.minute.Minute.{Minute}
+use Rattle.zone_minutes.specs.declared.minute.Window.{Window}
+use Rattle.due_set.specs.Due.{IsDue, IsRising}
+use Rattle.due_set.specs.declared.job.JobKind.{JobKind}
+use Rattle.due_set.specs.declared.job.JobKind.TheVariants.{Crontab, Anacron}
+use Rattle.due_set.specs.declared.job.JobSpec.{JobSpec}
+
+-- a job: its name, the number of its zone, and when it runs
+pub record Job : Type 0 where
+  pub name : List ℕ
+  pub zone : ℕ
+  pub kind : JobKind
+
+-- a table of jobs: its window, the minutes of grace, the zones that it names, and the jobs in order
+pub record Table : Type 0 where
+  pub window : Window
+  pub grace : ℕ
+  pub zones : List Zone
+  pub jobs : List Job
+
+-- what a job of the program stands for
+abbrev pub job_of : JobSpec → Job
+job_of spec = record { name = spec.name; zone = spec.zone; kind = spec.kind }
+
+-- the job runs once in a period
+abbrev pub IsAnacron : JobKind → Type 0
+IsAnacron (Anacron period first last) = ⊤
+IsAnacron kind = ⊥
+
+-- the zone's offsets are known at the instants of the window
+pub record IsBuiltFor (window : Window) (zone : Zone) : Type 0 where
+  pub from : zone.from ≡ window.from.0
+  pub until : zone.until ≡ window.until.0
+
+-- no two jobs have one name
+abbrev pub AreNamesDistinct : List Job → Type 0
+AreNamesDistinct jobs = AllPairs (λ a b. a.name ≢ b.name) jobs
+
+-- each job's zone is one of so many
+abbrev pub AreZonesBelow : ℕ → List Job → Type 0
+AreZonesBelow count jobs = All (λ job. job.zone < count) jobs
+
+-- what holds of each table: grace of at most a year, at most 1,000 jobs, and no anacron job
+pub record IsSound (table : Table) : Type 0 where
+  pub limits : IsWithinLimits table.window
+  pub grace : table.grace ≤ 525_600
+  pub built : All (IsBuiltFor table.window) table.zones
+  pub zone_numbers : AreZonesBelow (length table.zones) table.jobs
+  pub few : length table.jobs ≤ 1000
+  pub distinct : AreNamesDistinct table.jobs
+  pub plain : All (λ job. IsAnacron job.kind → ⊥) table.jobs
+
+-- a job of the table and its zone, as `jiff` reads it
+pub record IsJobIn (table : Table) (number : ℕ) (job : Job) (zone : TimeZone) : Type 0 where
+  pub is_job : slice_get table.jobs number ≡ Some job
+  pub source : Zone
+  pub is_zone : slice_get table.zones job.zone ≡ Some source
+  pub read : IsReadAs source.source zone
+
+-- the job is an entry of a crontab, and is due at the instant, which is in the window
+pub record IsJobDue (table : Table) (number : ℕ) (instant : ℤ) : Type 0 where
+  pub job : Job
+  pub zone : TimeZone
+  pub is_in : IsJobIn table number job zone
+  pub fields : Fields
+  pub kind : job.kind ≡ Crontab fields
+  pub inside : IsInWindow table.window instant
+  pub due : IsDue fields zone instant
+
+-- the number of the instant, where there is one
+abbrev pub instant_of : Option Minute → Option ℤ
+instant_of None = None
+instant_of (Some instant) = Some instant.0
+
+-- later than the instant, where there is one
+abbrev pub IsAfter : Option ℤ → ℤ → Type 0
+IsAfter None instant = ⊤
+IsAfter (Some before) instant = before <ℤ instant
+
+-- the least due instant of the job that is later
+pub record IsNextDue (table : Table) (number : ℕ) (before : Option ℤ) (instant : ℤ) : Type 0 where
+  pub due : IsJobDue table number instant
+  pub later : IsAfter before instant
+  pub least : (other : ℤ) → IsJobDue table number other → IsAfter before other → instant ≤ℤ other
+
+-- the job's due instants, in order
+pub record IsJobDueList (table : Table) (number : ℕ) (instants : List ℤ) : Type 0 where
+  pub rising : IsRising instants
+  pub sound : (instant : ℤ) → Contains instants instant → IsJobDue table number instant
+  pub complete : (instant : ℤ) → IsJobDue table number instant → Contains instants instant

@@ -1,0 +1,95 @@
+ghost use Rattle.std.specs.Prelude.{◌≡◌, IfOk, Some, codes};
+
+use cron_fields::Fields;
+use std::alloc::{AllocError, Global};
+use std::error::Error;
+use std::fmt;
+use std::marker::Model;
+
+/// Memory ran out.
+#[derive(Clone, Copy, Debug, PartialEq, Eq)]
+pub struct OutOfMemory;
+
+impl fmt::Display for OutOfMemory {
+    ghost output = { λ _. Some (codes "out of memory") };
+
+    fn fmt<W: fmt::Write>(&self, f: &mut fmt::Formatter<W>) -> fmt::Result {
+        write!(f, "out of memory")
+    }
+}
+
+impl Error for OutOfMemory {}
+
+impl From<AllocError> for OutOfMemory {
+    fn from(_error: AllocError) -> OutOfMemory {
+        OutOfMemory
+    }
+}
+
+/// How often an anacron job runs (anacrontab(5)).
+#[derive(Clone, Copy, Debug, PartialEq, Eq)]
+pub enum Period {
+    /// Days, from 1 to 9999.
+    Days(u32),
+    Monthly,
+    Yearly,
+}
+
+/// When a job runs.
+#[derive(Clone, Copy, Debug, PartialEq, Eq)]
+pub enum JobKind {
+    /// At the due instants of an entry of a crontab.
+    Crontab {
+        fields: Fields,
+    },
+    /// Once in a period, at an hour of the day that is allowed: `first_minute` and `last_minute` are minutes of the
+    /// local day, the first inside and the last outside.
+    Anacron {
+        period: Period,
+        first_minute: u16,
+        last_minute: u16,
+    },
+    /// At no time.
+    Never,
+}
+
+/// The name of a job.
+#[derive(Debug, Drop)]
+pub struct JobName {
+    text: String,
+}
+
+impl Model for JobName {
+    ghost use Rattle.std.specs.Prelude.{List, ℕ, string_bytes};
+
+    ghost Value = { List ℕ };
+
+    ghost view = { λ name. string_bytes name.text };
+}
+
+impl JobName {
+    /// The name that a text says.
+    pub fn new(alloc: Global, text: &str) -> Result<JobName, OutOfMemory>
+        ensures { IfOk result (λ name. name ≡ text.now) }
+    {
+        Ok(JobName {
+            text: String::from_str(alloc, text)?,
+        })
+    }
+
+    /// The text of the name.
+    pub fn as_str(&self) -> &str
+        ensures { result.now ≡ self.now }
+    {
+        self.text.as_str()
+    }
+}
+
+/// A job of a table.
+#[derive(Debug, Drop)]
+pub struct JobSpec {
+    pub name: JobName,
+    /// The number of its zone in the table, from 0.
+    pub zone: u16,
+    pub kind: JobKind,
+}

@@ -1,0 +1,17 @@
+//! Tables of jobs, and when their jobs are due.
+#![tactic(auto)]
+
+mod call;
+mod due;
+mod job;
+mod laws;
+mod scan;
+mod table;
+
+pub use call::Kind2;
+pub use job::{JobKind, JobName, JobSpec, OutOfMemory, Period};
+pub use laws::{a_job_has_one_due_list, a_job_has_one_next_instant};
+pub use table::JobTable;
+
+#[cfg(test)]
+mod tests;

@@ -1,0 +1,222 @@
+ghost use Rattle.std.specs.Prelude.{◌≡◌, ◌<◌, ◌≤◌, ◌↔◌, ℤ, List, length, map, All, IsTrue, IsSomeAnd, IfSome, IfNone, slice_get, Some};
+ghost use Rattle.jiff.specs.Types.{TimeZone};
+ghost use Rattle.zone_minutes.specs.Window.{IsInWindow, IsWithinLimits};
+ghost use Rattle.due_set.specs.Calls.{HasCome, IsOnTime};
+ghost use Rattle.due_set.specs.Table.{Job, Table, job_of, instant_of, IsAfter, IsAnacron, IsBuiltFor, IsJobDue, IsJobDueList, IsJobIn, IsNextDue, AreNamesDistinct, AreZonesBelow};
+
+use crate::call::{Kind2, has_come, is_on_time};
+use crate::job::{JobKind, JobSpec};
+use crate::{due, scan};
+use std::marker::Model;
+use zone_minutes::{Minute, Window, ZoneRuns};
+
+// A table doesn't change during a run.
+const VERSIONS: u32 = 1;
+
+/// The jobs of a run, their zones and its window. Jobs are numbered from 0.
+#[derive(Debug, Drop)]
+pub struct JobTable {
+    window: Window,
+    /// Minutes.
+    grace: u32,
+    zones: Vec<ZoneRuns>,
+    jobs: Vec<JobSpec>,
+}
+
+impl Model for JobTable {
+    ghost use Rattle.std.specs.Prelude.{map};
+    ghost use Rattle.due_set.specs.Table.{Table, job_of, IsSound};
+
+    ghost Value = { Table };
+
+    ghost view = { λ table. record {
+      window = table.window;
+      grace = table.grace;
+      zones = table.zones.items;
+      jobs = map job_of table.jobs.items;
+    } };
+
+    ghost invariant = { λ table. IsSound (record {
+      window = table.window;
+      grace = table.grace;
+      zones = table.zones.items;
+      jobs = map job_of table.jobs.items;
+    }) };
+}
+
+impl JobTable {
+    /// The table of a window, minutes of grace, zones that were built for the window, and jobs.
+    pub fn assemble(
+        window: Window,
+        grace: u32,
+        zones: Vec<ZoneRuns>,
+        jobs: Vec<JobSpec>,
+    ) -> JobTable
+        requires limits { IsWithinLimits window }
+        requires grace { grace ≤ 525_600 }
+        requires built { All (IsBuiltFor window) zones.items }
+        requires zone_numbers { AreZonesBelow (length zones.items) (map job_of jobs.items) }
+        requires few { length jobs.items ≤ 1000 }
+        requires distinct { AreNamesDistinct (map job_of jobs.items) }
+        requires plain { All (λ job. IsAnacron job.kind → ⊥) (map job_of jobs.items) }
+        ensures { result
+            ≡ record { window = window; grace = grace; zones = zones.items; jobs = map job_of jobs.items } }
+    {
+        JobTable {
+            window,
+            grace,
+            zones,
+            jobs,
+        }
+    }
+
+    /// How many jobs the table has.
+    pub fn jobs(&self) -> u32
+        ensures count { result ≡ length self.now.jobs }
+        ensures few { result ≤ 1000 }
+    {
+        self.jobs.len() as u32
+    }
+
+    /// The job's name.
+    pub fn name(&self, job: u32) -> &str
+        requires { job < length self.now.jobs }
+        ensures { IsSomeAnd (slice_get self.now.jobs job) (λ j. result.now ≡ j.name) }
+    {
+        self.spec(job).name.as_str()
+    }
+
+    /// When the job runs.
+    pub fn kind(&self, job: u32) -> &JobKind
+        requires { job < length self.now.jobs }
+        ensures { IsSomeAnd (slice_get self.now.jobs job) (λ j. result.now ≡ j.kind) }
+    {
+        &self.spec(job).kind
+    }
+
+    /// The instants that the table is about.
+    pub fn window(&self) -> Window
+        ensures window { result ≡ self.now.window }
+        ensures limits { IsWithinLimits result }
+    {
+        self.window
+    }
+
+    /// How many minutes late a launch may be.
+    pub fn grace(&self) -> u32
+        ensures grace { result ≡ self.now.grace }
+        ensures year { result ≤ 525_600 }
+    {
+        self.grace
+    }
+
+    /// The job runs once in a period.
+    pub fn is_anacron(&self, job: u32) -> bool
+        requires { job < length self.now.jobs }
+        ensures { IsSomeAnd (slice_get self.now.jobs job) (λ j. IsTrue result ↔ IsAnacron j.kind) }
+    {
+        match self.spec(job).kind {
+            JobKind::Anacron { .. } => true,
+            JobKind::Crontab { .. } | JobKind::Never => false,
+        }
+    }
+
+    /// How many versions of the table there are.
+    pub fn versions(&self) -> u32
+        ensures { result ≡ 1 }
+    {
+        VERSIONS
+    }
+
+    /// The job is an entry of a crontab, and is due at the instant.
+    pub fn is_due(&self, job: u32, t: Minute) -> bool
+        requires job { job < length self.now.jobs }
+        requires inside { IsInWindow self.now.window t.0 }
+        ensures { IsTrue result ↔ IsJobDue self.now job t.0 }
+    {
+        let spec = self.spec(job);
+        match spec.kind {
+            JobKind::Crontab { fields } => due::is_due(&fields, self.zone(spec.zone), t),
+            JobKind::Anacron { .. } | JobKind::Never => false,
+        }
+    }
+
+    /// The job's first due instant after another, or of all.
+    pub fn next_due(&self, job: u32, after: Option<Minute>) -> Option<Minute>
+        requires { job < length self.now.jobs }
+        ensures found { IfSome result (λ t. IsNextDue self.now job (instant_of after) t.0) }
+        ensures none { IfNone result ((t : ℤ) → IsJobDue self.now job t → IsAfter (instant_of after) t → ⊥) }
+    {
+        let spec = self.spec(job);
+        match spec.kind {
+            JobKind::Crontab { fields } => {
+                let window = self.window();
+                let first = scan::first_minute(window, after);
+                scan::next_due(&fields, self.zone(spec.zone), first, window)
+            }
+            JobKind::Anacron { .. } | JobKind::Never => None,
+        }
+    }
+
+    /// How many due instants the job has in the window.
+    pub fn count_due(&self, job: u32) -> u32
+        requires { job < length self.now.jobs }
+        ensures count { (instants : List ℤ) → IsJobDueList self.now job instants → result ≡ length instants }
+        ensures list { (instants : List ℤ) × IsJobDueList self.now job instants × (result ≡ length instants) }
+    {
+        // The window's limits bound the count.
+        let _ = &self.window;
+        let mut count = 0;
+        let mut last = None;
+        while let Some(t) = self.next_due(job, last) {
+            count += 1;
+            last = Some(t);
+        }
+        count
+    }
+
+    /// Whether the job's launch of the instant has come.
+    pub fn may_call(&self, job: u32, at: i64, now: Minute) -> bool
+        requires job { job < length self.now.jobs }
+        requires inside { IsInWindow self.now.window now.0 }
+        ensures { (j : Job) (zone : TimeZone) → IsJobIn self.now job j zone
+            → (IsTrue result ↔ HasCome j.kind zone at now.0) }
+    {
+        // No job is an anacron job, whose launches wait for a date.
+        let _ = &self.jobs;
+        has_come(at, now)
+    }
+
+    /// What comes of the job's launch of the instant, if it is called now.
+    pub fn call_kind(&self, job: u32, at: i64, now: Minute) -> Kind2
+        requires job { job < length self.now.jobs }
+        requires inside { IsInWindow self.now.window now.0 }
+        ensures { (j : Job) (zone : TimeZone) → IsJobIn self.now job j zone
+            → ((result ≡ Kind2.OnTime) ↔ IsOnTime j.kind zone self.now.grace at now.0) }
+    {
+        if is_on_time(at, self.grace, now) {
+            Kind2::OnTime
+        } else {
+            Kind2::Late
+        }
+    }
+
+    // The job of a number.
+    fn spec(&self, job: u32) -> &JobSpec
+        requires { job < length self.now.jobs }
+        ensures spec { slice_get self.now.jobs job ≡ Some (job_of result.now) }
+        ensures zone { result.now.zone < length self.now.zones }
+    {
+        &self.jobs[job as usize]
+    }
+
+    // The zone of a number.
+    fn zone(&self, number: u16) -> &ZoneRuns
+        requires { number < length self.now.zones }
+        ensures zone { slice_get self.now.zones number ≡ Some result.now }
+        ensures built { IsBuiltFor self.now.window result.now }
+        ensures limits { IsWithinLimits self.now.window }
+    {
+        &self.zones[usize::from(number)]
+    }
+}
