@@ -5,7 +5,7 @@ use Rattle.cron_fields.specs.Match.{MatchesDate, MatchesTime}
 use Rattle.cron_fields.specs.declared.field.Fields.{Fields}
 use Rattle.zone_minutes.specs.Civil.{day_number, minute_of_day, weekday_of}
 use Rattle.zone_minutes.specs.Calendar.{date_of_day}
-use Rattle.cron_serve.specs.Due.{Matches}
+use Rattle.due_set.specs.Due.{Matches}
 use Rattle.cron_serve.specs.Listing.{MatchesDayNumber}
 
 pub day_number-parts : (day rest : ℕ) → rest < 1440 → day_number (pos (day * 1440 + rest)) ≡ pos day

@@ -11,7 +11,7 @@ use Rattle.jiff.specs.Types.{UTC}
 use Rattle.cron_fields.specs.declared.field.Fields.{Fields}
 use Rattle.zone_minutes.specs.declared.minute.Minute.{Minute}
 use Rattle.zone_minutes.specs.declared.minute.Window.{Window}
-use Rattle.cron_serve.specs.Due.{IsDueList}
+use Rattle.due_set.specs.Due.{IsDueList}
 use Rattle.cron_serve.specs.Launches.{JobLaunches, IsLaunchedWhenDue, count_of}
 use Rattle.cron_serve.specs.Run.{Job, numbered_job, section_jobs}
 use Rattle.cron_serve.specs.RunFile.{entry_of, section_of, job_of, launches_of, instants_of}
@@ -19,7 +19,7 @@ use Rattle.cron_serve.specs.declared.job.NamedJob.{NamedJob}
 use Rattle.cron_serve.specs.declared.job.Schedule.{Schedule}
 use Rattle.cron_serve.specs.declared.run.EntryText.{EntryText}
 use Rattle.cron_serve.specs.declared.run.SectionText.{SectionText}
-use Rattle.cron_serve.proofs.Rising.{IsRising-same}
+use Rattle.due_set.proofs.Rising.{IsRising-same}
 
 pub enumerate_from-push : {X : Type 0} (n : ℕ) (xs : List X) (x : X) → enumerate_from n (xs ++ x ∷ []) ≡ enumerate_from n xs ++ (n + length xs, x) ∷ []
 enumerate_from-push {X} n [] x = ap (λ (k : ℕ). (k, x) ∷ []) (omega arith)

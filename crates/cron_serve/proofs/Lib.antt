@@ -1,4 +1,3 @@
-pub mod Rising
 pub mod ListingLemmas
 pub mod CivilParts
 pub mod Utc

@@ -10,11 +10,11 @@ use Rattle.cron_fields.specs.declared.field.Fields.{Fields}
 use Rattle.zone_minutes.specs.Window.{IsInWindow}
 use Rattle.zone_minutes.specs.declared.minute.Window.{Window}
 use Rattle.zone_minutes.specs.declared.minute.Minute.{Minute}
-use Rattle.cron_serve.specs.Due.{Matches}
+use Rattle.due_set.specs.Due.{Matches}
 use Rattle.cron_serve.specs.RunFile.{instants_of}
 use Rattle.cron_serve.specs.Listing.{ListsBefore, MatchesDayNumber}
 use Rattle.cron_serve.proofs.CivilParts.{Matches-from_clock, day_has, hour_has, minute_has}
-use Rattle.cron_serve.proofs.Rising.{IsRising-push, Contains-none}
+use Rattle.due_set.proofs.Rising.{IsRising-push, Contains-none}
 
 pub ListsBefore-start : (f : Fields) (w : Window) (bound : ℕ) → pos bound ≤ℤ w.from.0 → ListsBefore f w bound []
 ListsBefore-start f w bound early = record {

@@ -6,7 +6,7 @@ use Rattle.std.specs.Io.KnownBytes.{Consumes}
 use Rattle.cron_io.specs.Faults.{Rose}
 use Rattle.cron_io.specs.Reading.{IsReadToEnd}
 use Rattle.zone_minutes.specs.declared.minute.Window.{Window}
-use Rattle.cron_serve.proofs.Rising.{IsRising-same}
+use Rattle.due_set.proofs.Rising.{IsRising-same}
 use Rattle.cron_serve.proofs.RunLemmas.{one_run}
 use Rattle.cron_serve.specs.Complete.{IsTaken, HasRoomForReport, LacksRoomForReport}
 use Rattle.cron_serve.specs.Launches.{JobLaunches, IsLaunchedWhenDue, IsScheduled}

@@ -15,9 +15,9 @@ use Rattle.zone_minutes.specs.declared.civil.Civil.{Civil}
 use Rattle.zone_minutes.specs.declared.minute.Window.{Window}
 use Rattle.zone_minutes.specs.declared.minute.Minute.{Minute}
 use Rattle.zone_minutes.proofs.ZoneLemmas.{local_of-same}
-use Rattle.cron_serve.specs.Due.{Matches, IsFirstShown, IsSkipped, IsDue, IsRising, IsDueList}
+use Rattle.due_set.specs.Due.{Matches, IsFirstShown, IsSkipped, IsDue, IsRising, IsDueList}
 use Rattle.cron_serve.specs.RunFile.{instants_of}
-use Rattle.cron_serve.proofs.Rising.{IsRising-push, Contains-none}
+use Rattle.due_set.proofs.Rising.{IsRising-push, Contains-none}
 
 -- a test that failed, of what doesn't hold
 pub false_iff : (P : Type 0) → (P → ⊥) → (IsTrue false ↔ P)

@@ -8,7 +8,7 @@ use Rattle.cron_fields.specs.declared.field.Fields.{Fields}
 use Rattle.zone_minutes.specs.Zone.{local_of}
 use Rattle.zone_minutes.proofs.ZoneLemmas.{local_of-UTC}
 use Rattle.zone_minutes.specs.declared.minute.Window.{Window}
-use Rattle.cron_serve.specs.Due.{Matches, IsDue, IsDueOnce, IsDueList, IsFirstShown, is_frequent}
+use Rattle.due_set.specs.Due.{Matches, IsDue, IsDueOnce, IsDueList, IsFirstShown, is_frequent}
 use Rattle.cron_serve.specs.Listing.{ListsBefore}
 
 once_from_match : (f : Fields) (t : ℤ) → Matches f t → IsDueOnce f UTC t

@@ -4,7 +4,7 @@ use Rattle.std.specs.List.{AllZip}
 use Rattle.jiff.specs.Types.{UTC}
 use Rattle.zone_minutes.specs.Civil.{IsCalendarMinute}
 use Rattle.zone_minutes.specs.declared.minute.Window.{Window}
-use Rattle.cron_serve.specs.Due.{IsDueList}
+use Rattle.due_set.specs.Due.{IsDueList}
 use Rattle.cron_serve.specs.Grammar.{IsRunFile}
 use Rattle.cron_serve.specs.Lines.{Lacks}
 use Rattle.cron_serve.specs.Run.{Run, Job, jobs_of}

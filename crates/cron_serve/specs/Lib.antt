@@ -1,4 +1,3 @@
-pub mod Due
 pub mod Grammar
 pub mod Launches
 pub mod Lines

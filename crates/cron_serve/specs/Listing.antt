@@ -6,7 +6,7 @@ use Rattle.zone_minutes.specs.Calendar.{date_of_day}
 use Rattle.zone_minutes.specs.Civil.{weekday_of}
 use Rattle.zone_minutes.specs.Window.{IsInWindow}
 use Rattle.zone_minutes.specs.declared.minute.Window.{Window}
-use Rattle.cron_serve.specs.Due.{Matches, IsRising}
+use Rattle.due_set.specs.Due.{Matches, IsRising}
 
 -- the fields match the date of a day number
 abbrev pub MatchesDayNumber : Fields → ℕ → Type 0

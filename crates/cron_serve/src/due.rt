@@ -2,7 +2,7 @@ ghost use Rattle.std.specs.Prelude.{◌≡◌, ◌+◌, ◌*◌, ◌<◌, ◌≤
 ghost use Rattle.jiff.specs.Types.{UTC};
 ghost use Rattle.cron_fields.specs.FieldSet.{Has};
 ghost use Rattle.zone_minutes.specs.Window.{IsInWindow, IsWithinLimits};
-ghost use Rattle.cron_serve.specs.Due.{IsDueList};
+ghost use Rattle.due_set.specs.Due.{IsDueList};
 ghost use Rattle.cron_serve.specs.Listing.{ListsBefore, MatchesDayNumber};
 ghost use Rattle.cron_serve.specs.RunFile.{instants_of};
 

@@ -4,7 +4,7 @@ ghost use Rattle.jiff.specs.Types.{TimeZone};
 ghost use Rattle.zone_minutes.specs.Civil.{IsCalendarMinute};
 ghost use Rattle.zone_minutes.specs.Window.{IsWithinLimits};
 ghost use Rattle.zone_minutes.specs.Zone.{IsReadAs, local_of};
-ghost use Rattle.cron_serve.specs.Due.{Matches, IsFirstShown, IsSkipped, IsDueOnce, IsDue, IsDueList};
+ghost use Rattle.due_set.specs.Due.{Matches, IsFirstShown, IsSkipped, IsDueOnce, IsDue, IsDueList};
 ghost use Rattle.cron_serve.specs.RunFile.{instants_of};
 
 use cron_fields::Fields;

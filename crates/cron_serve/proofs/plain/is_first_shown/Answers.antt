@@ -1,6 +1,6 @@
 use Rattle.std.proofs.Common.{◌≡◌, FitsSigned, ap, to_z, of_z, w64, arith}
 use Rattle.std.proofs.lemmas.Int.{ints, to_z-of_z}
-use Rattle.cron_serve.specs.Due.{IsFirstShown}
+use Rattle.due_set.specs.Due.{IsFirstShown}
 use Rattle.cron_serve.proofs.PlainLemmas.{true_iff, false_iff, DiffersBelow-next, IsFirstShown-all, not_first_shown}
 use Rattle.cron_serve.proofs.plain.is_first_shown.Goals as goal
 

@@ -1,6 +1,6 @@
 use Rattle.std.proofs.Common.{◌≡◌, ◌↔◌, ℤ, pos, ◌+ℤ◌, ◌<ℤ◌, IsTrue, FitsSigned, subst, w64, arith}
 use Rattle.std.proofs.lemmas.Int.{ints, to_z-of_z}
-use Rattle.cron_serve.specs.Due.{Matches}
+use Rattle.due_set.specs.Due.{Matches}
 use Rattle.cron_serve.proofs.plain.is_passed_match.Goals as goal
 
 pub returns-then-minute-shown : goal.returns-then-minute-shown

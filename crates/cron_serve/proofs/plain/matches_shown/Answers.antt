@@ -1,7 +1,7 @@
 use Rattle.std.proofs.Common.{◌≡◌, ◌↔◌, ℤ, IsTrue, FitsSigned, subst, w64, arith}
 use Rattle.std.proofs.lemmas.Int.{ints, to_z-of_z}
 use Rattle.zone_minutes.specs.Zone.{local_of}
-use Rattle.cron_serve.specs.Due.{Matches}
+use Rattle.due_set.specs.Due.{Matches}
 use Rattle.cron_serve.proofs.PlainLemmas.{IsLocal-is}
 use Rattle.cron_serve.proofs.plain.matches_shown.Goals as goal
 

@@ -1,6 +1,6 @@
 use Rattle.std.proofs.Common.{◌↔◌, pos, ◌+ℤ◌, ◌-ℤ◌, ◌<ℤ◌, IsTrue, FitsSigned, refl, w64, arith}
 use Rattle.std.proofs.lemmas.Int.{ints, to_z-of_z}
-use Rattle.cron_serve.specs.Due.{Matches}
+use Rattle.due_set.specs.Due.{Matches}
 use Rattle.cron_serve.proofs.PlainLemmas.{true_iff, false_iff, NoneMatchesBelow, NoneMatchesBelow-next, SkipsMatch, SkipsMatch-found, SkipsMatch-long, SkipsMatch-none}
 use Rattle.cron_serve.proofs.plain.skips_match.Goals as goal
 
