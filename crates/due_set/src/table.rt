@@ -1,6 +1,7 @@
 ghost use Rattle.std.specs.Prelude.{◌≡◌, ◌<◌, ◌≤◌, ◌↔◌, ℤ, List, length, map, All, IsTrue, IsSomeAnd, IfSome, IfNone, slice_get, Some};
 ghost use Rattle.jiff.specs.Types.{TimeZone};
 ghost use Rattle.zone_minutes.specs.Window.{IsInWindow, IsWithinLimits};
+ghost use Rattle.zone_minutes.specs.Zone.{local_of};
 ghost use Rattle.due_set.specs.Calls.{HasCome, IsOnTime};
 ghost use Rattle.due_set.specs.Table.{Job, Table, job_of, instant_of, IsAfter, IsAnacron, IsBuiltFor, IsJobDue, IsJobDueList, IsJobIn, IsNextDue, AreNamesDistinct, AreZonesBelow};
 
@@ -179,11 +180,14 @@ impl JobTable {
     pub fn may_call(&self, job: u32, at: i64, now: Minute) -> bool
         requires job { job < length self.now.jobs }
         requires inside { IsInWindow self.now.window now.0 }
-        ensures { (j : Job) (zone : TimeZone) → IsJobIn self.now job j zone
+        ensures come { (j : Job) (zone : TimeZone) → IsJobIn self.now job j zone
             → (IsTrue result ↔ HasCome j.kind zone at now.0) }
+        // `jiff` reads the job's zone.
+        ensures read { (j : Job) × (zone : TimeZone) × IsJobIn self.now job j zone }
     {
-        // No job is an anacron job, whose launches wait for a date.
+        // No job is an anacron job, whose launches wait for a local date.
         let _ = &self.jobs;
+        let _ = self.local(job, now);
         has_come(at, now)
     }
 
@@ -199,6 +203,16 @@ impl JobTable {
         } else {
             Kind2::Late
         }
+    }
+
+    // The job's local time at an instant of the window.
+    fn local(&self, job: u32, t: Minute) -> i64
+        requires job { job < length self.now.jobs }
+        requires inside { IsInWindow self.now.window t.0 }
+        ensures { (j : Job) × (zone : TimeZone) × IsJobIn self.now job j zone
+            × (result ≡ local_of zone t.0) }
+    {
+        self.zone(self.spec(job).zone).local(t)
     }
 
     // The job of a number.
