@@ -1,0 +1,4 @@
+pub mod ClerkLemmas
+pub mod EndLemmas
+pub mod MachineLemmas
+pub mod StartLemmas

@@ -1,0 +1,15 @@
+use Rattle.std.proofs.Common.{FitsSigned, w64, arith, ◌↔◌, IsTrue}
+use Rattle.std.proofs.lemmas.Int.{ints, to_z-of_z}
+use Rattle.jiff.specs.Types.{TimeZone}
+use Rattle.due_set.specs.Calls.{HasCome}
+use Rattle.due_set.specs.Table.{Job, IsJobIn}
+use Rattle.launch_machine.specs.Clerk.{fresh_row}
+use Rattle.launch_machine.proofs.MachineLemmas.{no_call}
+use Rattle.launch_machine.proofs.choice.call_at.Goals as goal
+
+pub returns-else-may_call-clause-none : goal.returns-else-may_call-clause-none
+returns-else-may_call-clause-none c =
+    let at_fits : FitsSigned w64 c.in_ok-at.at = omega (arith, ints) in
+    let tells : (j : Job) (zone : TimeZone) → IsJobIn c.args.table.now c.args.job j zone → (IsTrue c.may_call.result ↔ HasCome j.kind zone c.in_ok-at.at c.args.now.0) =
+    simp to_z-of_z at c.may_call.ensures.come in
+    no_call c.args.table.now c.args.rows.now c.args.job c.in_ok-at.at c.args.now.0 (fresh_row 0) c.may_call.result (omega arith) c.in_ok-at.was tells c.if-may_call.false

@@ -1,0 +1,9 @@
+use Rattle.launch_machine.specs.Clerk.{fresh_rows}
+use Rattle.launch_machine.proofs.ClerkLemmas.{Applies-same, AppliesAll-same}
+use Rattle.launch_machine.proofs.laws.entries_leave_one_table.Goals as goal
+
+pub returns-clause-one : goal.returns-clause-one
+returns-clause-one c = Applies-same
+
+pub returns-clause-all : goal.returns-clause-all
+returns-clause-all c table entries a b p q = AppliesAll-same table (fresh_rows table) entries a b p q

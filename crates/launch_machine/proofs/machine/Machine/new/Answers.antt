@@ -1,0 +1,21 @@
+use Rattle.std.proofs.Common.{List, length, ap, subst, ◌∙◌}
+use Rattle.std.proofs.lemmas.List.FromFn.{length-map-range_with_len}
+use Rattle.paxos_base.specs.Rows.{RowsStand}
+use Rattle.paxos_base.specs.declared.rows.JobRow.{JobRow}
+use Rattle.launch_machine.specs.Clerk.{fresh_row}
+use Rattle.launch_machine.specs.Machine.{AreNexts}
+use Rattle.launch_machine.proofs.MachineLemmas.{fresh_open, fresh_stand}
+use Rattle.launch_machine.proofs.machine.Machine.new.Goals as goal
+
+pub nexts_of-requires : goal.nexts_of-requires
+nexts_of-requires c =
+    ap length c.deref.ensures.value ∙ ap length c.in_ok-rows.ensures ∙ length-map-range_with_len fresh_row 0 c.jobs.result ∙ c.jobs.ensures.count
+
+pub invariant_of-result : goal.invariant_of-result
+invariant_of-result c = fresh_open c.in_ok-rows.rows.items c.jobs.result c.in_ok-rows.ensures
+
+pub returns-clause-stands : goal.returns-clause-stands
+returns-clause-stands c = record {
+  rows = subst (RowsStand c.in_ok-rows.rows.items) c.jobs.ensures.count (fresh_stand c.in_ok-rows.rows.items c.jobs.result c.in_ok-rows.ensures);
+  nexts = subst (λ (r : List JobRow). AreNexts c.args.table.now r c.in_ok-nexts.nexts.items) c.deref.ensures.value c.in_ok-nexts.ensures;
+}

@@ -1,0 +1,34 @@
+-- What a machine answers.
+use Rattle.std.specs.Prelude.{◌≡◌, ◌↔◌, ℕ, List, ℤ}
+use Rattle.jiff.specs.Types.{TimeZone}
+use Rattle.paxos_base.specs.declared.entry.Entry.{Entry}
+use Rattle.paxos_base.specs.declared.entry.Entry.TheVariants as entry
+use Rattle.paxos_base.specs.declared.entry.Kind.{Kind}
+use Rattle.paxos_base.specs.declared.entry.Kind.TheVariants.{Launch}
+use Rattle.paxos_base.specs.declared.rows.JobRow.{JobRow}
+use Rattle.due_set.specs.Table.{Table, Job, IsJobIn}
+use Rattle.due_set.specs.Calls.{IsOnTime}
+use Rattle.launch_machine.specs.Clerk.{TakesStart, TakesEnd, TakesEffect}
+use Rattle.launch_machine.specs.Intent.{IsFirstCall, IsFirstStart, NoCall, NoStart}
+use Rattle.launch_machine.specs.declared.machine.Effect.{Effect}
+use Rattle.launch_machine.specs.declared.machine.Effect.TheVariants.{Opened, Closed, Ignored}
+use Rattle.launch_machine.specs.declared.machine.Intent.{Intent}
+use Rattle.launch_machine.specs.declared.machine.Intent.TheVariants.{Call, Start, Rest}
+
+-- a start that takes effect opens, an end that takes effect closes, and what takes no effect is ignored
+abbrev pub IsEffect : Table → List JobRow → Entry → Effect → Type 0
+IsEffect table rows (entry.Start job at now) Opened = TakesStart table rows job at now
+IsEffect table rows (entry.End job at kind) Closed = TakesEnd rows job at
+IsEffect table rows any Ignored = TakesEffect table rows any → ⊥
+IsEffect table rows any effect = ⊥
+
+-- a launch that is called on time is launched, and any other is void
+abbrev pub IsCallKind : Table → ℕ → ℤ → ℤ → Kind → Type 0
+IsCallKind table job at now kind =
+    (spec : Job) (zone : TimeZone) → IsJobIn table job spec zone → ((kind ≡ Launch) ↔ IsOnTime spec.kind zone table.grace at now)
+
+-- the first call, or else the first start, or else nothing
+abbrev pub IsIntent : Table → List JobRow → ℤ → Intent → Type 0
+IsIntent table rows now (Call job at kind) = IsFirstCall table rows now job at × IsCallKind table job at now kind
+IsIntent table rows now (Start job at) = NoCall table rows now × IsFirstStart table rows now job at
+IsIntent table rows now Rest = NoCall table rows now × NoStart table rows now

@@ -1,0 +1,73 @@
+-- What the entries of the log do to the launch table: one clerk, who goes over one list.
+use Rattle.std.specs.Prelude.{◌≡◌, ◌⊎◌, ℕ, ◌+◌, List, [], ◌∷◌, None, Some, ℤ, ◌≤ℤ◌, length, map, slice_get, slice_set, slice_index_or}
+use Rattle.std.specs.List.{range_with_len}
+use Rattle.paxos_base.specs.declared.entry.Entry.{Entry}
+use Rattle.paxos_base.specs.declared.entry.Entry.TheVariants.{Noop, Start, End}
+use Rattle.paxos_base.specs.declared.entry.Kind.{Kind}
+use Rattle.paxos_base.specs.declared.entry.Kind.TheVariants.{Launch, Void}
+use Rattle.paxos_base.specs.declared.rows.JobRow.{JobRow}
+use Rattle.due_set.specs.Table.{Table, IsNextDue}
+
+-- the row of a job of which nothing was heard
+abbrev pub fresh_row : ℕ → JobRow
+fresh_row job = record { job = job; cursor = None; open_now = None; last = None; launched = 0; voided = 0 }
+
+-- the launch table at first: a fresh row for each job
+abbrev pub fresh_rows : Table → List JobRow
+fresh_rows table = map fresh_row (range_with_len 0 (length table.jobs))
+
+-- a start takes effect: its job is in the table and idle, its instant is the job's next due instant, and has come
+pub record TakesStart (table : Table) (rows : List JobRow) (job : ℕ) (at now : ℤ) : Type 0 where
+  pub row : JobRow
+  pub is_row : slice_get rows job ≡ Some row
+  pub idle : row.open_now ≡ None
+  pub next : IsNextDue table job row.cursor at
+  pub come : at ≤ℤ now
+
+-- an end takes effect: its job is in the table and open at its instant
+pub record TakesEnd (rows : List JobRow) (job : ℕ) (at : ℤ) : Type 0 where
+  pub row : JobRow
+  pub is_row : slice_get rows job ≡ Some row
+  pub since : ℤ
+  pub is_open : row.open_now ≡ Some since
+  pub cursor : row.cursor ≡ Some at
+
+-- an entry takes effect; a no-op never does
+abbrev pub TakesEffect : Table → List JobRow → Entry → Type 0
+TakesEffect table rows Noop = ⊥
+TakesEffect table rows (Start job at now) = TakesStart table rows job at now
+TakesEffect table rows (End job at kind) = TakesEnd rows job at
+
+-- a row that a start opens
+abbrev pub opened_row : ℤ → ℤ → JobRow → JobRow
+opened_row at now row = record row { cursor = Some at; open_now = Some now }
+
+-- a row that an end closes: a launch is counted and remembered, a void is counted
+abbrev pub closed_row : ℤ → Kind → JobRow → JobRow
+closed_row at Launch row = record row { open_now = None; last = Some at; launched = row.launched + 1 }
+closed_row at Void row = record row { open_now = None; voided = row.voided + 1 }
+
+-- the rows with one of them changed
+abbrev pub with_row : (JobRow → JobRow) → List JobRow → ℕ → List JobRow
+with_row change rows job = slice_set rows job (change (slice_index_or rows job (fresh_row job)))
+
+-- the rows after an entry that takes effect
+abbrev pub rows_after : List JobRow → Entry → List JobRow
+rows_after rows Noop = rows
+rows_after rows (Start job at now) = with_row (opened_row at now) rows job
+rows_after rows (End job at kind) = with_row (closed_row at kind) rows job
+
+-- one entry: where it takes no effect, it changes nothing
+abbrev pub Applies : Table → List JobRow → Entry → List JobRow → Type 0
+Applies table old entry new =
+    (TakesEffect table old entry × (new ≡ rows_after old entry)) ⊎ ((TakesEffect table old entry → ⊥) × (new ≡ old))
+
+-- entries, one after another
+abbrev pub AppliesAll : Table → List JobRow → List Entry → List JobRow → Type 0
+AppliesAll table old [] new = new ≡ old
+AppliesAll table old (entry ∷ entries) new =
+    (middle : List JobRow) × Applies table old entry middle × AppliesAll table middle entries new
+
+-- the launch table of a list of entries
+abbrev pub IsClerkOf : Table → List Entry → List JobRow → Type 0
+IsClerkOf table entries rows = AppliesAll table (fresh_rows table) entries rows

@@ -1,0 +1,5 @@
+pub mod Answers
+pub mod Clerk
+pub mod Intent
+pub mod Machine
+pub mod Starts

@@ -1,0 +1,53 @@
+-- The launches that a list of entries starts and ends: each entry is applied to the rows that those before it left.
+use Rattle.std.specs.Prelude.{◌≡◌, ◌⊎◌, ℕ, ◌+◌, List, [], ◌∷◌, ℤ}
+use Rattle.paxos_base.specs.declared.entry.Entry.{Entry}
+use Rattle.paxos_base.specs.declared.entry.Entry.TheVariants.{Start, End}
+use Rattle.paxos_base.specs.declared.entry.Kind.{Kind}
+use Rattle.paxos_base.specs.declared.rows.JobRow.{JobRow}
+use Rattle.due_set.specs.Table.{Table}
+use Rattle.launch_machine.specs.Clerk.{TakesStart, TakesEnd, Applies, fresh_rows}
+
+-- the entry is a start of the job that takes effect
+pub record StartsJob (table : Table) (rows : List JobRow) (entry : Entry) (job : ℕ) (at : ℤ) : Type 0 where
+  pub now : ℤ
+  pub is : entry ≡ Start job at now
+  pub takes : TakesStart table rows job at now
+
+-- the entry is an end of the job that takes effect
+pub record EndsJob (rows : List JobRow) (entry : Entry) (job : ℕ) : Type 0 where
+  pub at : ℤ
+  pub kind : Kind
+  pub is : entry ≡ End job at kind
+  pub takes : TakesEnd rows job at
+
+-- a start of the job that takes effect puts its instant before those that follow
+abbrev pub AddsStart : Table → List JobRow → Entry → ℕ → List ℤ → List ℤ → Type 0
+AddsStart table rows entry job later instants =
+    ((at : ℤ) × StartsJob table rows entry job at × (instants ≡ at ∷ later))
+    ⊎ (((at : ℤ) → StartsJob table rows entry job at → ⊥) × (instants ≡ later))
+
+-- the instants of the job's starts that take effect, of entries that are applied to the rows
+abbrev pub StartsFrom : Table → List JobRow → List Entry → ℕ → List ℤ → Type 0
+StartsFrom table rows [] job instants = instants ≡ []
+StartsFrom table rows (entry ∷ entries) job instants =
+    (middle : List JobRow) × (later : List ℤ) × Applies table rows entry middle × AddsStart table rows entry job later instants
+    × StartsFrom table middle entries job later
+
+-- the instants of the job's starts that take effect, in the order of the entries
+abbrev pub StartsOf : Table → List Entry → ℕ → List ℤ → Type 0
+StartsOf table entries job instants = StartsFrom table (fresh_rows table) entries job instants
+
+-- an end of the job that takes effect is one more
+abbrev pub AddsEnd : List JobRow → Entry → ℕ → ℕ → ℕ → Type 0
+AddsEnd rows entry job later count = (EndsJob rows entry job × (count ≡ later + 1)) ⊎ ((EndsJob rows entry job → ⊥) × (count ≡ later))
+
+-- how many of the job's ends take effect, of entries that are applied to the rows
+abbrev pub EndsFrom : Table → List JobRow → List Entry → ℕ → ℕ → Type 0
+EndsFrom table rows [] job count = count ≡ 0
+EndsFrom table rows (entry ∷ entries) job count =
+    (middle : List JobRow) × (later : ℕ) × Applies table rows entry middle × AddsEnd rows entry job later count
+    × EndsFrom table middle entries job later
+
+-- how many of the job's ends take effect
+abbrev pub EndsOf : Table → List Entry → ℕ → ℕ → Type 0
+EndsOf table entries job count = EndsFrom table (fresh_rows table) entries job count

@@ -1,0 +1,44 @@
+//! Laws of the launch table. Each is the contract of a function that does nothing.
+ghost use Rattle.std.specs.Prelude.{◌≡◌, ◌↔◌, ◌+◌, ℕ, ℤ, List, [], ◌∷◌, ◌++◌, Some, slice_get};
+ghost use Rattle.paxos_base.specs.declared.entry.Entry.{Entry};
+ghost use Rattle.paxos_base.specs.declared.rows.JobRow.{JobRow};
+ghost use Rattle.due_set.specs.Table.{Table, IsAfter, IsJobDueList};
+ghost use Rattle.launch_machine.specs.Clerk.{Applies, IsClerkOf, TakesStart, rows_after};
+ghost use Rattle.launch_machine.specs.Starts.{StartsOf, EndsOf};
+
+/// One more entry is one more step.
+pub fn one_entry_is_one_step()
+    ensures { (table : Table) (entries : List Entry) (entry : Entry) (rows : List JobRow)
+        → IsClerkOf table (entries ++ entry ∷ []) rows
+        ↔ ((before : List JobRow) × IsClerkOf table entries before × Applies table before entry rows) }
+{}
+
+/// Entries leave one launch table.
+pub fn entries_leave_one_table()
+    ensures one { (table : Table) (old : List JobRow) (entry : Entry) (a b : List JobRow)
+        → Applies table old entry a → Applies table old entry b → a ≡ b }
+    ensures all { (table : Table) (entries : List Entry) (a b : List JobRow)
+        → IsClerkOf table entries a → IsClerkOf table entries b → a ≡ b }
+{}
+
+/// A start that takes effect moves the row's cursor to a later instant.
+pub fn cursors_rise()
+    ensures { (table : Table) (rows : List JobRow) (job : ℕ) (at now : ℤ) (old new : JobRow)
+        → TakesStart table rows job at now → slice_get rows job ≡ Some old
+        → slice_get (rows_after rows (Entry.Start job at now)) job ≡ Some new
+        → (new.cursor ≡ Some at) × IsAfter old.cursor at }
+{}
+
+/// Each end that takes effect is counted, and nothing else is.
+pub fn ends_are_counted()
+    ensures { (table : Table) (entries : List Entry) (rows : List JobRow) (job count : ℕ) (row : JobRow)
+        → IsClerkOf table entries rows → EndsOf table entries job count → slice_get rows job ≡ Some row
+        → row.launched + row.voided ≡ count }
+{}
+
+/// The instants of a job's starts that take effect are the first of its due instants, none left out.
+pub fn starts_are_a_prefix()
+    ensures { (table : Table) (entries : List Entry) (job : ℕ) (instants dues : List ℤ)
+        → StartsOf table entries job instants → IsJobDueList table job dues
+        → (rest : List ℤ) × (dues ≡ instants ++ rest) }
+{}

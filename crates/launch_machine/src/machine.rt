@@ -1,0 +1,168 @@
+ghost use Rattle.std.specs.Prelude.{◌≡◌, ◌<◌, length, IfOk, IfSome, IfNone, Some, slice_get};
+ghost use Rattle.zone_minutes.specs.Window.{IsInWindow};
+ghost use Rattle.paxos_base.specs.Rows.{RowsStand};
+ghost use Rattle.due_set.specs.Table.{Table};
+ghost use Rattle.launch_machine.specs.Answers.{IsEffect, IsIntent};
+ghost use Rattle.launch_machine.specs.Clerk.{Applies, fresh_rows};
+ghost use Rattle.launch_machine.specs.Machine.{CanCount, HasRoom, StandsFor};
+
+use crate::choice::{call_kind, first_call, first_start};
+use crate::next::{next_instant, nexts_of, takes_start};
+use crate::row;
+use due_set::{JobTable, OutOfMemory};
+use paxos_base::{Entry, JobRow, Kind, RowList, rows_stand};
+use std::alloc::Global;
+use std::marker::Model;
+use zone_minutes::Minute;
+
+/// What an entry of the log did.
+#[derive(Clone, Copy, Debug, PartialEq, Eq)]
+pub enum Effect {
+    /// A launch is open.
+    Opened,
+    /// A launch has ended.
+    Closed,
+    /// Nothing.
+    Ignored,
+}
+
+/// What a leader does next.
+#[derive(Clone, Copy, Debug, PartialEq, Eq)]
+pub enum Intent {
+    /// Call the job's launch that is due at `at`, and end it so.
+    Call { job: u32, at: i64, kind: Kind },
+    /// Start the job's launch that is due at `at`.
+    Start { job: u32, at: i64 },
+    /// Nothing for now.
+    Rest,
+}
+
+/// The launch table of a run, and when each job is due next. What is said of a machine is said for one table.
+#[derive(Debug, Drop)]
+pub struct Machine {
+    rows: Vec<JobRow>,
+    // Beside each row, its job's next due instant after the cursor.
+    nexts: Vec<Option<i64>>,
+}
+
+impl Model for Machine {
+    ghost use Rattle.paxos_base.specs.Rows.{OpenHaveCursors};
+    ghost use Rattle.launch_machine.specs.Machine.{Launches};
+
+    ghost Value = { Launches };
+
+    ghost view = { λ machine. record { rows = machine.rows.items; nexts = machine.nexts.items } };
+
+    ghost invariant = { λ machine. OpenHaveCursors machine.rows.items };
+}
+
+impl Machine {
+    /// A machine that has heard of no launch.
+    pub fn new(alloc: Global, table: &JobTable) -> Result<Machine, OutOfMemory>
+        ensures rows { IfOk result (λ machine. machine.rows ≡ fresh_rows table.now) }
+        ensures stands { IfOk result (λ machine. StandsFor table.now machine) }
+    {
+        let rows = row::fresh_rows(alloc, table.jobs())?;
+        let nexts = nexts_of(alloc, table, &rows)?;
+        Ok(Machine { rows, nexts })
+    }
+
+    /// The machine of a launch table, or `None` where the rows are not one for each job, in the order of the jobs.
+    pub fn from_rows(
+        alloc: Global,
+        table: &JobTable,
+        rows: RowList,
+    ) -> Result<Option<Machine>, OutOfMemory>
+        ensures rows { IfOk result (λ found. IfSome found (λ machine. machine.rows ≡ rows)) }
+        ensures stands { IfOk result (λ found. IfSome found (λ machine. StandsFor table.now machine)) }
+        ensures none { IfOk result (λ found. IfNone found (RowsStand rows (length table.now.jobs) → ⊥)) }
+    {
+        if !rows_stand(&rows, table.jobs(), table.versions()) {
+            return Ok(None);
+        }
+        let rows = rows.items;
+        let nexts = nexts_of(alloc, table, &rows)?;
+        Ok(Some(Machine { rows, nexts }))
+    }
+
+    /// The launch table.
+    pub fn copy_rows(&self, alloc: Global) -> Result<RowList, OutOfMemory>
+        ensures { IfOk result (λ rows. rows ≡ self.now.rows) }
+    {
+        let mut items = Vec::new(alloc);
+        items.extend_from_slice(&self.rows)?;
+        Ok(RowList { items })
+    }
+
+    /// The row of a job.
+    pub fn row(&self, job: u32) -> JobRow
+        requires { job < length self.now.rows }
+        ensures { slice_get self.now.rows job ≡ Some result }
+    {
+        self.rows[job as usize]
+    }
+
+    /// Applies an entry of the log.
+    pub fn apply(&mut self, table: &JobTable, entry: Entry) -> Effect
+        requires stands { StandsFor table.now self.old }
+        requires room { CanCount self.old.rows entry }
+        ensures applies { Applies table.now self.old.rows entry self.new.rows }
+        ensures stands { StandsFor table.now self.new }
+        ensures effect { IsEffect table.now self.old.rows entry result }
+    {
+        match entry {
+            Entry::Noop => Effect::Ignored,
+            Entry::Start { job, at, now } => self.start(table, job, at, now),
+            Entry::End { job, at, kind } => self.end(job, at, kind),
+        }
+    }
+
+    // Applies a start.
+    fn start(&mut self, table: &JobTable, job: u32, at: i64, now: i64) -> Effect
+        requires stands { StandsFor table.now self.old }
+        ensures applies { Applies table.now self.old.rows (Entry.Start job at now) self.new.rows }
+        ensures stands { StandsFor table.now self.new }
+        ensures effect { IsEffect table.now self.old.rows (Entry.Start job at now) result }
+    {
+        if takes_start(&self.rows, &self.nexts, job, at, now) {
+            let place = job as usize;
+            self.rows[place] = row::opened(self.rows[place], at, now);
+            self.nexts[place] = next_instant(table, job, Some(at));
+            Effect::Opened
+        } else {
+            Effect::Ignored
+        }
+    }
+
+    // Applies an end, at any table.
+    fn end(&mut self, job: u32, at: i64, kind: Kind) -> Effect
+        requires { HasRoom self.old.rows job }
+        ensures applies { (table : Table) → Applies table self.old.rows (Entry.End job at kind) self.new.rows }
+        ensures stands { (table : Table) → StandsFor table self.old → StandsFor table self.new }
+        ensures effect { (table : Table) → IsEffect table self.old.rows (Entry.End job at kind) result }
+    {
+        if row::takes_end(&self.rows, job, at) {
+            let place = job as usize;
+            self.rows[place] = row::closed(self.rows[place], at, kind);
+            Effect::Closed
+        } else {
+            Effect::Ignored
+        }
+    }
+
+    /// What a leader does next at an instant of the window.
+    pub fn choose(&self, table: &JobTable, now: Minute) -> Intent
+        requires stands { StandsFor table.now self.now }
+        requires inside { IsInWindow table.now.window now.0 }
+        ensures { IsIntent table.now self.now.rows now.0 result }
+    {
+        if let Some((job, at)) = first_call(&self.rows, table, now) {
+            let kind = call_kind(table, job, at, now);
+            return Intent::Call { job, at, kind };
+        }
+        match first_start(&self.rows, &self.nexts, table, now) {
+            Some((job, at)) => Intent::Start { job, at },
+            None => Intent::Rest,
+        }
+    }
+}

@@ -1,0 +1,282 @@
+ghost use Rattle.std.specs.Prelude.{◌≡◌, ◌<◌, ◌+◌, ◌^◌, ◌↔◌, length, IfOk, IfSome, IsSome, IsTrue};
+ghost use Rattle.zone_minutes.specs.Window.{IsInWindow, IsWithinLimits};
+ghost use Rattle.due_set.specs.Table.{IsAnacron};
+ghost use Rattle.launch_machine.specs.Machine.{CanCount, StandsFor};
+
+use crate::{
+    Effect, Intent, Machine, cursors_rise, ends_are_counted, entries_leave_one_table,
+    one_entry_is_one_step, starts_are_a_prefix,
+};
+use cron_fields::{FieldKind, Fields, read_plain_field};
+use due_set::{JobKind, JobName, JobSpec, JobTable};
+use paxos_base::{Entry, JobRow, Kind, RowList};
+use std::alloc::Global;
+use std::test::Fail;
+use zone_minutes::{Minute, Window, ZoneRuns, ZoneSource};
+
+// 2024-03-31T00:00Z.
+const FROM: i64 = 28_530_720;
+
+fn fields_of(minutes: &str) -> Option<Fields> {
+    Some(Fields {
+        minute: read_plain_field(FieldKind::Minute, minutes)?,
+        hour: read_plain_field(FieldKind::Hour, "*")?,
+        month_day: read_plain_field(FieldKind::MonthDay, "*")?,
+        month: read_plain_field(FieldKind::Month, "*")?,
+        week_day: read_plain_field(FieldKind::WeekDay, "*")?,
+    })
+}
+
+// A job of an entry of a crontab.
+fn crontab_job(alloc: Global, name: &str, minutes: &str) -> Result<JobSpec, Fail>
+    ensures name { IfOk result (λ job. job.name ≡ name.now) }
+    ensures zone { IfOk result (λ job. job.zone ≡ 0) }
+    ensures plain { IfOk result (λ job. IsAnacron job.kind → ⊥) }
+{
+    let fields = fields_of(minutes).ok_or("no fields")?;
+    Ok(JobSpec {
+        name: JobName::new(alloc, name)?,
+        zone: 0,
+        kind: JobKind::Crontab { fields },
+    })
+}
+
+// A table of an hour, at no grace, with a job at minutes 0, 20 and 40 and a job at minute 0.
+fn two_jobs(alloc: Global) -> Result<JobTable, Fail> {
+    let window = Window {
+        from: Minute(FROM),
+        until: Minute(FROM + 60),
+    };
+    let mut zones = Vec::new(alloc);
+    zones.push(ZoneRuns::build(alloc, &ZoneSource::Fixed { minutes: 0 }, window)?)?;
+    let mut jobs = Vec::new(alloc);
+    jobs.push(crontab_job(alloc, "alice:1", "0,20,40")?)?;
+    jobs.push(crontab_job(alloc, "bob:2", "0")?)?;
+    Ok(JobTable::assemble(window, 0, zones, jobs))
+}
+
+fn has_room(row: JobRow) -> bool
+    ensures { IsTrue result ↔ ((row.launched + 1 < 2 ^ 32) × (row.voided + 1 < 2 ^ 32)) }
+{
+    row.launched < u32::MAX && row.voided < u32::MAX
+}
+
+// Whether the entry's count can rise.
+fn can_count(machine: &Machine, table: &JobTable, entry: Entry) -> bool
+    requires { StandsFor table.now machine.now }
+    ensures { IsTrue result → CanCount machine.now.rows entry }
+{
+    match entry {
+        Entry::End { job, .. } => job < table.jobs() && has_room(machine.row(job)),
+        Entry::Noop | Entry::Start { .. } => true,
+    }
+}
+
+// What the entry does, where its count can rise.
+fn applied(machine: &mut Machine, table: &JobTable, entry: Entry) -> Option<Effect>
+    requires { StandsFor table.now machine.old }
+    ensures { StandsFor table.now machine.new }
+{
+    if can_count(machine, table, entry) {
+        Some(machine.apply(table, entry))
+    } else {
+        None
+    }
+}
+
+// What a leader does next at a minute of the hour.
+fn chosen(machine: &Machine, table: &JobTable, minute: u8) -> Option<Intent>
+    requires { StandsFor table.now machine.now }
+{
+    let now = instant_in(table, FROM + i64::from(minute))?;
+    Some(machine.choose(table, now))
+}
+
+// The instant of a number, if it is in the table's window.
+fn instant_in(table: &JobTable, number: i64) -> Option<Minute>
+    ensures { IfSome result (λ t. IsInWindow table.now.window t.0) }
+{
+    let window = table.window();
+    if window.from.0 <= number && number < window.until.0 {
+        Some(Minute(number))
+    } else {
+        None
+    }
+}
+
+// A start, at minutes of the hour.
+fn start(job: u32, at: u8, now: u8) -> Entry {
+    Entry::Start {
+        job,
+        at: FROM + i64::from(at),
+        now: FROM + i64::from(now),
+    }
+}
+
+// An end, at a minute of the hour.
+fn end(job: u32, at: u8, kind: Kind) -> Entry {
+    Entry::End {
+        job,
+        at: FROM + i64::from(at),
+        kind,
+    }
+}
+
+fn to_start(job: u32, at: u8) -> Intent {
+    Intent::Start {
+        job,
+        at: FROM + i64::from(at),
+    }
+}
+
+fn to_call(job: u32, at: u8, kind: Kind) -> Intent {
+    Intent::Call {
+        job,
+        at: FROM + i64::from(at),
+        kind,
+    }
+}
+
+// At a minute of the hour a leader does this, and then an entry comes, with an effect.
+type Step = (u8, Intent, Entry, Effect);
+
+// The first of the steps that goes otherwise.
+fn first_difference(machine: &mut Machine, table: &JobTable, steps: &[Step]) -> Option<usize>
+    requires { StandsFor table.now machine.old }
+    ensures { StandsFor table.now machine.new }
+{
+    for (place, (minute, intent, entry, effect)) in steps.iter().enumerate() {
+        if chosen(machine, table, *minute) != Some(*intent) {
+            return Some(place);
+        }
+        if applied(machine, table, *entry) != Some(*effect) {
+            return Some(place);
+        }
+    }
+    None
+}
+
+#[test]
+fn starts_and_ends_launches_in_turn(rt: HostRuntime) -> Result<(), Fail> {
+    let steps = [
+        (0, to_start(0, 0), Entry::Noop, Effect::Ignored),
+        (0, to_start(0, 0), start(0, 20, 20), Effect::Ignored),
+        (0, to_start(0, 0), start(2, 0, 0), Effect::Ignored),
+        (0, to_start(0, 0), end(0, 0, Kind::Launch), Effect::Ignored),
+        (0, to_start(0, 0), start(1, 0, 0), Effect::Opened),
+        (
+            0,
+            to_call(1, 0, Kind::Launch),
+            start(0, 0, 0),
+            Effect::Opened,
+        ),
+        (
+            0,
+            to_call(0, 0, Kind::Launch),
+            start(0, 20, 20),
+            Effect::Ignored,
+        ),
+        (
+            0,
+            to_call(0, 0, Kind::Launch),
+            end(0, 20, Kind::Launch),
+            Effect::Ignored,
+        ),
+        (
+            0,
+            to_call(0, 0, Kind::Launch),
+            end(0, 0, Kind::Launch),
+            Effect::Closed,
+        ),
+        (
+            1,
+            to_call(1, 0, Kind::Void),
+            end(1, 0, Kind::Void),
+            Effect::Closed,
+        ),
+        (19, Intent::Rest, start(0, 20, 19), Effect::Ignored),
+        (20, to_start(0, 20), start(0, 20, 21), Effect::Opened),
+    ];
+    let table = two_jobs(rt.alloc())?;
+    let mut machine = Machine::new(rt.alloc(), &table)?;
+    assert_eq!(rt; first_difference(&mut machine, &table, &steps), None);
+    let rows = machine.copy_rows(rt.alloc())?;
+    assert_eq!(rt; rows.items.as_slice(), ROWS.as_slice());
+    Ok(())
+}
+
+// What the steps above leave.
+const ROWS: [JobRow; 2] = [
+    JobRow {
+        job: 0,
+        cursor: Some(FROM + 20),
+        open_now: Some(FROM + 21),
+        last: Some(FROM),
+        launched: 1,
+        voided: 0,
+    },
+    JobRow {
+        job: 1,
+        cursor: Some(FROM),
+        open_now: None,
+        last: None,
+        launched: 0,
+        voided: 1,
+    },
+];
+
+fn has_cursor(row: JobRow) -> bool
+    ensures { IsTrue result → IsSome row.cursor }
+{
+    row.cursor.is_some()
+}
+
+// What a leader does at a minute of the hour, of a machine of these rows, where they stand for the table.
+fn chosen_of(
+    alloc: Global,
+    table: &JobTable,
+    rows: &[JobRow],
+    minute: u8,
+) -> Result<Option<Intent>, Fail> {
+    let mut items = Vec::new(alloc);
+    for row in rows {
+        if !has_cursor(*row) {
+            return Err(Fail::from("no cursor"));
+        }
+        items.push(*row)?;
+    }
+    match Machine::from_rows(alloc, table, RowList { items })? {
+        Some(machine) => Ok(chosen(&machine, table, minute)),
+        None => Ok(None),
+    }
+}
+
+#[test]
+fn goes_on_from_rows(rt: HostRuntime) -> Result<(), Fail> {
+    let table = two_jobs(rt.alloc())?;
+    let [first, second] = ROWS;
+    let idle = JobRow {
+        open_now: None,
+        ..first
+    };
+    let call = to_call(0, 20, Kind::Launch);
+    for (rows, minute, want) in [
+        ([first, second], 20, Some(call)),
+        ([idle, second], 40, Some(to_start(0, 40))),
+        ([idle, second], 39, Some(Intent::Rest)),
+        ([second, first], 20, None),
+    ] {
+        assert_eq!(rt; chosen_of(rt.alloc(), &table, &rows, minute)?, want);
+    }
+    assert_eq!(rt; chosen_of(rt.alloc(), &table, &[first], 20)?, None);
+    Ok(())
+}
+
+#[test]
+fn laws_hold(_rt: HostRuntime) {
+    one_entry_is_one_step();
+    entries_leave_one_table();
+    cursors_rise();
+    ends_are_counted();
+    starts_are_a_prefix();
+}
