@@ -41,6 +41,19 @@ fn crontab_job(alloc: Global, name: &str, minutes: &str) -> Result<JobSpec, Fail
     })
 }
 
+// A table of an hour, at no grace, with a job at minutes 0, 20 and 40.
+fn one_job(alloc: Global) -> Result<JobTable, Fail> {
+    let window = Window {
+        from: Minute(FROM),
+        until: Minute(FROM + 60),
+    };
+    let mut zones = Vec::new(alloc);
+    zones.push(ZoneRuns::build(alloc, &ZoneSource::Fixed { minutes: 0 }, window)?)?;
+    let mut jobs = Vec::new(alloc);
+    jobs.push(crontab_job(alloc, "alice:1", "0,20,40")?)?;
+    Ok(JobTable::assemble(window, 0, zones, jobs))
+}
+
 // A table of an hour, at no grace, with a job at minutes 0, 20 and 40 and a job at minute 0.
 fn two_jobs(alloc: Global) -> Result<JobTable, Fail> {
     let window = Window {
@@ -154,6 +167,32 @@ fn first_difference(machine: &mut Machine, table: &JobTable, steps: &[Step]) -> 
         }
     }
     None
+}
+
+#[test]
+fn calls_what_it_has_started(rt: HostRuntime) -> Result<(), Fail> {
+    let table = one_job(rt.alloc())?;
+    let mut machine = Machine::new(rt.alloc(), &table)?;
+    assert_eq!(rt; chosen(&machine, &table, 0), Some(to_start(0, 0)));
+    assert_eq!(rt;
+        applied(&mut machine, &table, start(0, 0, 0)),
+        Some(Effect::Opened)
+    );
+    assert_eq!(rt;
+        chosen(&machine, &table, 0),
+        Some(to_call(0, 0, Kind::Launch))
+    );
+    let opened = JobRow {
+        job: 0,
+        cursor: Some(FROM),
+        open_now: Some(FROM),
+        last: None,
+        launched: 0,
+        voided: 0,
+    };
+    let rows = machine.copy_rows(rt.alloc())?;
+    assert_eq!(rt; rows.items.as_slice(), [opened].as_slice());
+    Ok(())
 }
 
 #[test]
