@@ -101,14 +101,14 @@ pub record IsPacket (packet : List ℕ) : Type 0 where
   pub bytes : (i : ℕ) → get_or packet i 0 < 256
 
 -- the bytes of a field are bytes
-bytes_at-bytes : (packet : List ℕ) → IsPacket packet → (offset size : ℕ) → (i : ℕ) → get_or (bytes_at packet offset size) i 0 < 256
+pub bytes_at-bytes : (packet : List ℕ) → IsPacket packet → (offset size : ℕ) → (i : ℕ) → get_or (bytes_at packet offset size) i 0 < 256
 bytes_at-bytes packet p offset size i =
     elim (cases_lt i size) [
       | inl lt ↦ rw (get_or-take size (drop offset packet) i 0 lt) (rw get_or-drop (p.bytes (offset + i)))
       | inr le ↦ rw (get_or_past (bytes_at packet offset size) i 0 (omega (arith, length-take size (drop offset packet)))) (omega arith)
     ]
 
-length-bytes_at : (packet : List ℕ) → IsPacket packet → (offset size : ℕ) → offset + size ≤ 56 → length (bytes_at packet offset size) ≡ size
+pub length-bytes_at : (packet : List ℕ) → IsPacket packet → (offset size : ℕ) → offset + size ≤ 56 → length (bytes_at packet offset size) ≡ size
 length-bytes_at packet p offset size fits =
     let long : length packet ≡ 56 = p.long in
     omega (arith, length-take size (drop offset packet), length-drop offset packet)
@@ -123,18 +123,18 @@ numbers_in packet =
       now = cast_signed w64 (from_be_bytes w64 (bytes_at packet 40 8));
     }
 
-below_32 : (bytes : List ℕ) → ((i : ℕ) → get_or bytes i 0 < 256) → from_be_bytes w32 bytes < 2 ^ 32
+pub below_32 : (bytes : List ℕ) → ((i : ℕ) → get_or bytes i 0 < 256) → from_be_bytes w32 bytes < 2 ^ 32
 below_32 bytes fits = omega (arith, fits 0, fits 1, fits 2, fits 3)
 
-below_64 : (bytes : List ℕ) → ((i : ℕ) → get_or bytes i 0 < 256) → from_be_bytes w64 bytes < 2 ^ 64
+pub below_64 : (bytes : List ℕ) → ((i : ℕ) → get_or bytes i 0 < 256) → from_be_bytes w64 bytes < 2 ^ 64
 below_64 bytes fits = omega (arith, fits 0, fits 1, fits 2, fits 3, fits 4, fits 5, fits 6, fits 7)
 
 -- a minute that is read from eight bytes is spelled so, and fits
-minute_back : (bytes : List ℕ) → length bytes ≡ 8 → ((i : ℕ) → get_or bytes i 0 < 256) → minute_bytes (cast_signed w64 (from_be_bytes w64 bytes)) ≡ bytes
+pub minute_back : (bytes : List ℕ) → length bytes ≡ 8 → ((i : ℕ) → get_or bytes i 0 < 256) → minute_bytes (cast_signed w64 (from_be_bytes w64 bytes)) ≡ bytes
 minute_back bytes long fits =
     ap (to_be_bytes w64) (of_z-to_z w64 (from_be_bytes w64 bytes) (below_64 bytes fits)) ∙ be_bytes_8 bytes (from_be_bytes w64 bytes) long fits refl
 
-minute_fits : (bytes : List ℕ) → ((i : ℕ) → get_or bytes i 0 < 256) → FitsSigned w64 (cast_signed w64 (from_be_bytes w64 bytes))
+pub minute_fits : (bytes : List ℕ) → ((i : ℕ) → get_or bytes i 0 < 256) → FitsSigned w64 (cast_signed w64 (from_be_bytes w64 bytes))
 minute_fits bytes fits = sfits_to_z (record { fits = below_64 bytes fits })
 
 -- what is read is spelled so
@@ -162,7 +162,7 @@ job_from_bytes : (a b : ℕ) → a < 2 ^ 32 → b < 2 ^ 32 → to_be_bytes w32 a
 job_from_bytes a b p q e =
     sym (from_be_bytes-to_be_bytes_4 a p) ∙ ap (from_be_bytes w32) e ∙ from_be_bytes-to_be_bytes_4 b q
 
-unsigned_fits : (z : ℤ) → FitsSigned w64 z → cast_unsigned w64 z < 2 ^ 64
+pub unsigned_fits : (z : ℤ) → FitsSigned w64 z → cast_unsigned w64 z < 2 ^ 64
 unsigned_fits (pos n) f = let small : n < 2 ^ 63 = f.sfits in omega arith
 unsigned_fits (negsuc n) f = omega arith
 

@@ -16,4 +16,7 @@ pub use durable::{Delta, Durable};
 pub use entry::{Entry, EntryList, Kind, Vote, VoteList};
 pub use members::{Members, majority};
 pub use rows::{JobRow, RowList, rows_stand};
-pub use wire::{EntryFault, PACKET_BYTES, get_entry, put_entry};
+pub use wire::{
+    EntryFault, PACKET_BYTES, entry_of, get_entry, i64_at, numbers_of, put_bytes, put_entry,
+    u32_at, u64_at,
+};

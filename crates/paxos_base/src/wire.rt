@@ -27,15 +27,16 @@ pub enum EntryFault {
     NotZero,
 }
 
-// Writes the bytes from the offset on.
-fn put_bytes(into: &mut [u8; PACKET_BYTES], offset: usize, bytes: &[u8])
+/// Writes the bytes into a packet from the offset on.
+pub fn put_bytes(into: &mut [u8; PACKET_BYTES], offset: usize, bytes: &[u8])
     requires { offset + length bytes.now ≤ PACKET_BYTES }
     ensures { into.new ≡ with_bytes into.old offset bytes.now }
 {
     into[offset..offset + bytes.len()].copy_from_slice(bytes);
 }
 
-fn u32_at(packet: &[u8; PACKET_BYTES], offset: usize) -> u32
+/// The number in the four bytes of a packet from the offset on.
+pub fn u32_at(packet: &[u8; PACKET_BYTES], offset: usize) -> u32
     requires { offset + 4 ≤ PACKET_BYTES }
     ensures { result ≡ from_be_bytes w32 (bytes_at packet.now offset 4) }
 {
@@ -43,19 +44,27 @@ fn u32_at(packet: &[u8; PACKET_BYTES], offset: usize) -> u32
     u32::from_be_bytes([bytes[0], bytes[1], bytes[2], bytes[3]])
 }
 
-fn i64_at(packet: &[u8; PACKET_BYTES], offset: usize) -> i64
+/// The number in the eight bytes of a packet from the offset on.
+pub fn u64_at(packet: &[u8; PACKET_BYTES], offset: usize) -> u64
     requires { offset + 8 ≤ PACKET_BYTES }
-    ensures { result ≡ cast_signed w64 (from_be_bytes w64 (bytes_at packet.now offset 8)) }
+    ensures { result ≡ from_be_bytes w64 (bytes_at packet.now offset 8) }
 {
     let bytes = &packet[offset..offset + 8];
     u64::from_be_bytes([
         bytes[0], bytes[1], bytes[2], bytes[3], bytes[4], bytes[5], bytes[6], bytes[7],
     ])
-    .cast_signed()
 }
 
-// The tag, the job and the two minutes of an entry's fields.
-fn numbers_of(entry: Entry) -> (u8, u32, i64, i64)
+/// The minute in the eight bytes of a packet from the offset on, two's complement.
+pub fn i64_at(packet: &[u8; PACKET_BYTES], offset: usize) -> i64
+    requires { offset + 8 ≤ PACKET_BYTES }
+    ensures { result ≡ cast_signed w64 (from_be_bytes w64 (bytes_at packet.now offset 8)) }
+{
+    u64_at(packet, offset).cast_signed()
+}
+
+/// The tag, the job and the two minutes of an entry's fields.
+pub fn numbers_of(entry: Entry) -> (u8, u32, i64, i64)
     ensures { numbers_of entry ≡ entry_numbers result.0 result.1 result.2 result.3 }
 {
     match entry {
@@ -68,8 +77,8 @@ fn numbers_of(entry: Entry) -> (u8, u32, i64, i64)
     }
 }
 
-// The entry of these fields.
-fn entry_of(tag: u8, job: u32, at: i64, now: i64) -> Result<Entry, EntryFault>
+/// The entry that has these in its fields. A tag above 3 is reported as such, whatever the other fields are.
+pub fn entry_of(tag: u8, job: u32, at: i64, now: i64) -> Result<Entry, EntryFault>
     ensures found { IfOk result (λ entry. numbers_of entry ≡ entry_numbers tag job at now) }
     ensures only { (entry : Entry) → numbers_of entry ≡ entry_numbers tag job at now → result ≡ Ok entry }
     ensures tag { (result ≡ Err EntryFault.Tag) ↔ (3 < tag) }
