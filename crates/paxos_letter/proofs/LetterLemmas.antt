@@ -1,0 +1,201 @@
+-- Letters and their bytes.
+use Rattle.std.proofs.Common.{◌≡◌, ◌≢◌, ℕ, suc, ◌+◌, ◌*◌, ◌/◌, ◌%◌, Bool, true, false, not, eqb, cond, List, [], ◌∷◌, length, map, Option, Some, None, refl, sym, ap, subst, ◌∙◌, arith}
+use Rattle.std.specs.List.{flat_map, AllByRecursion}
+use Rattle.std.specs.Prelude.{IsTrue}
+use Rattle.std.specs.Simd.{first_chunks}
+use Rattle.std.proofs.lemmas.Bool.{and_parts, and_from, or_parts, or_from, eqb-true, eqb-false, ne_eqb, eq-eqb, not-false}
+use Rattle.std.proofs.lemmas.List.{length-append}
+use Rattle.std.proofs.lemmas.List.Concat.{flat_map-cons}
+use Rattle.std.proofs.lemmas.List.Folds.{flat_map-map}
+use Rattle.paxos_letter.specs.declared.fault.LetterFault.{LetterFault}
+use Rattle.paxos_letter.specs.declared.fault.LetterFault.TheVariants.{BadLength, BadKind, NotZero, BadMember, BadGroup}
+use Rattle.paxos_letter.specs.declared.fault.OwnedFault.{OwnedFault}
+use Rattle.paxos_letter.specs.declared.fault.OwnedFault.TheVariants.{Letter, OutOfMemory}
+use Rattle.paxos_letter.specs.declared.fields.Fields.{Fields}
+use Rattle.paxos_letter.specs.declared.group.Group.{Group}
+use Rattle.paxos_letter.specs.declared.packet.Packet.{Packet}
+use Rattle.paxos_letter.specs.declared.packet.Packet.TheVariants.{Prepare, Promise, OldVote, Accept, Accepted, Nack, Known, AskFrom, Snap, SnapRow, Lead}
+use Rattle.paxos_letter.specs.Fields.{bytes_of, fields_in, all_in, Fits}
+use Rattle.paxos_letter.specs.Spelling.{fields_of, packet_bytes, spelling, AllFit}
+use Rattle.paxos_letter.specs.Rules.{keeps_kind, keeps_zeros, keeps_members}
+use Rattle.paxos_letter.specs.Groups.{no_group, is_filled, keeps_group, after, keep_groups}
+use Rattle.paxos_letter.specs.Letters.{IsLetter, fault_at, or_later, fault_from, has_bad_length, sender_of, fault_of, IsFault}
+use Rattle.paxos_letter.proofs.FieldLemmas.{AreBytes, spelled_so, all_Fit, read_again}
+use Rattle.paxos_letter.proofs.PacketBack.{same_packets, fields_of-zeros}
+use Rattle.paxos_letter.proofs.ReadLemmas.{fault_at-none}
+
+abbrev all_fields_of : ℕ → List Packet → List Fields
+all_fields_of from packets = map (fields_of from) packets
+
+-- ---- spelling
+
+spelling-fields : (from : ℕ) (packets : List Packet) → spelling from packets ≡ flat_map bytes_of (all_fields_of from packets)
+spelling-fields from packets = sym (flat_map-map bytes_of (fields_of from) packets)
+
+length-bytes : (packets : List Fields) → length (flat_map bytes_of packets) ≡ length packets * 56
+length-bytes [] = refl
+length-bytes (p ∷ ps) =
+    ap length (flat_map-cons bytes_of p ps) ∙ omega (arith, length-append (bytes_of p) (flat_map bytes_of ps), length-bytes ps)
+
+length-map : (from : ℕ) (packets : List Packet) → length (all_fields_of from packets) ≡ length packets
+length-map from [] = refl
+length-map from (p ∷ ps) = ap suc (length-map from ps)
+
+AllFit-fields : (from : ℕ) (packets : List Packet) → AllFit from packets → AllByRecursion Fits (all_fields_of from packets)
+AllFit-fields from [] fits = tt
+AllFit-fields from (p ∷ ps) fits = (fits.0, AllFit-fields from ps fits.1)
+
+fields-AllFit : (from : ℕ) (packets : List Packet) → AllByRecursion Fits (all_fields_of from packets) → AllFit from packets
+fields-AllFit from [] fits = tt
+fields-AllFit from (p ∷ ps) fits = (fits.0, fields-AllFit from ps fits.1)
+
+-- ---- faults
+
+later_none : (first later : Option LetterFault) → or_later first later ≡ None → (first ≡ None) × (later ≡ None)
+later_none None later e = (refl, e)
+later_none (Some fault) later e = absurd cc
+
+filled : (is : Bool) (fault : LetterFault) → cond is None (Some fault) ≡ None → is ≡ true
+filled true fault e = refl
+filled false fault e = absurd cc
+
+-- the rules of a letter, after packets that keep them
+pub record Sound (members from : ℕ) (group : Group) (packets : List Packet) : Type 0 where
+  pub kinds : AllByRecursion (λ packet. IsTrue (keeps_kind (fields_of from packet))) packets
+  pub members_keep : AllByRecursion (λ packet. IsTrue (keeps_members members from (fields_of from packet))) packets
+  pub groups : IsTrue (keep_groups group (all_fields_of from packets))
+
+none-Sound : (members from : ℕ) (group : Group) (number : ℕ) (packets : List Packet) → fault_from members from group number (all_fields_of from packets) ≡ None → Sound members from group packets
+none-Sound members from group number [] e = record { kinds = tt; members_keep = tt; groups = filled (is_filled group) (BadGroup number) e }
+none-Sound members from group number (p ∷ ps) e =
+    let fields : Fields = fields_of from p in
+    let both = later_none (fault_at members from group number fields) (fault_from members from (after group fields) (number + 1) (all_fields_of from ps)) e in
+    let keeps = fault_at-none members from group number fields both.0 in
+    let rest = none-Sound members from (after group fields) (number + 1) ps both.1 in
+    record {
+      kinds = (keeps.kind, rest.kinds);
+      members_keep = (keeps.members_keep, rest.members_keep);
+      groups = and_from (keeps_group group fields) _ keeps.group_keeps rest.groups;
+    }
+
+no_fault : (kind zeros members group : Bool) (n : ℕ) → kind ≡ true → zeros ≡ true → members ≡ true → group ≡ true
+    → cond (not kind) (Some (BadKind n)) (cond (not zeros) (Some (NotZero n)) (cond (not members) (Some (BadMember n)) (cond (not group) (Some (BadGroup n)) None))) ≡ None
+no_fault kind zeros members group n p q r s = rw (p, q, r, s) refl
+
+Sound-none : (members from : ℕ) (group : Group) (number : ℕ) (packets : List Packet) → Sound members from group packets → fault_from members from group number (all_fields_of from packets) ≡ None
+Sound-none members from group number [] s = ap (λ (is : Bool). cond is None (Some (BadGroup number))) s.groups
+Sound-none members from group number (p ∷ ps) s =
+    let fields : Fields = fields_of from p in
+    let groups = and_parts (keeps_group group fields) (keep_groups (after group fields) (all_fields_of from ps)) s.groups in
+    let here : fault_at members from group number fields ≡ None =
+    no_fault (keeps_kind fields) (keeps_zeros fields) (keeps_members members from fields) (keeps_group group fields) number s.kinds.0 (fields_of-zeros from p) s.members_keep.0 groups.0 in
+    ap (λ (first : Option LetterFault). or_later first (fault_from members from (after group fields) (number + 1) (all_fields_of from ps))) here
+    ∙ Sound-none members from (after group fields) (number + 1) ps (record { kinds = s.kinds.1; members_keep = s.members_keep.1; groups = groups.1 })
+
+-- ---- the bytes of a letter
+
+pub record IsWhole (bytes : List ℕ) : Type 0 where
+  pub some : length bytes ≢ 0
+  pub packets : length bytes ≡ length bytes / 56 * 56
+
+whole : (bytes : List ℕ) → has_bad_length bytes ≡ false → IsWhole bytes
+whole bytes e =
+    let parts = or_parts (eqb (length bytes) 0) (not (eqb (length bytes % 56) 0)) e in
+    let even : length bytes % 56 ≡ 0 = eqb-true _ _ (not-false _ parts.1) in
+    record { some = eqb-false _ _ parts.0; packets = omega arith }
+
+pub found : (from : ℕ) (bytes : List ℕ) (packets : List Packet) → AreBytes bytes → length bytes ≡ length bytes / 56 * 56 → all_fields_of from packets ≡ all_in bytes → bytes ≡ spelling from packets
+found from bytes packets fits long e =
+    sym (spelled_so (length bytes / 56) bytes long fits) ∙ ap (flat_map bytes_of) (sym e) ∙ sym (spelling-fields from packets)
+
+pub found_fits : (from : ℕ) (bytes : List ℕ) (packets : List Packet) → AreBytes bytes → length bytes ≡ length bytes / 56 * 56 → all_fields_of from packets ≡ all_in bytes → AllFit from packets
+found_fits from bytes packets fits long e =
+    fields-AllFit from packets (subst (AllByRecursion Fits) (sym e) (all_Fit (length bytes / 56) bytes long fits))
+
+pub found_letter : (members from : ℕ) (bytes : List ℕ) (packets : List Packet) → AreBytes bytes → length bytes ≢ 0 → length bytes ≡ length bytes / 56 * 56 → all_fields_of from packets ≡ all_in bytes
+    → fault_from members from no_group 0 (all_in bytes) ≡ None → IsLetter members from packets
+found_letter members from bytes packets fits some long e none =
+    let sound = none-Sound members from no_group 0 packets (ap (fault_from members from no_group 0) e ∙ none) in
+    record {
+      some = λ empty. some (ap length (found from bytes packets fits long e ∙ ap (spelling from) empty));
+      kinds = sound.kinds;
+      members_keep = sound.members_keep;
+      groups = sound.groups;
+    }
+
+abbrev nothing : Option LetterFault
+nothing = None
+
+none_some : (fault : LetterFault) → nothing ≡ Some fault → ⊥
+none_some fault e = absurd cc
+
+-- what a letter's spelling is read as
+pub record Again (members from : ℕ) (packets : List Packet) (bytes : List ℕ) : Type 0 where
+  pub sender : sender_of bytes ≡ from
+  pub fields : all_in bytes ≡ all_fields_of from packets
+  pub fault : fault_of members bytes ≡ None
+
+fields_of-from : (from : ℕ) (packet : Packet) → (fields_of from packet).from ≡ from
+fields_of-from from (Prepare ballot slot) = refl
+fields_of-from from (Promise ballot slot count) = refl
+fields_of-from from (OldVote ballot slot cast entry) = refl
+fields_of-from from (Accept ballot slot entry) = refl
+fields_of-from from (Accepted ballot slot) = refl
+fields_of-from from (Nack ballot promised) = refl
+fields_of-from from (Known slot entry) = refl
+fields_of-from from (AskFrom slot) = refl
+fields_of-from from (Snap slot count) = refl
+fields_of-from from (SnapRow slot row) = refl
+fields_of-from from (Lead ballot slot) = refl
+
+sender_again : (from : ℕ) (packets : List Packet) → packets ≢ [] → sender_of (spelling from packets) ≡ from
+sender_again from [] some = absurd (some refl)
+sender_again from (p ∷ ps) some = ap sender_of (flat_map-cons (packet_bytes from) p ps) ∙ fields_of-from from p
+
+fields_again : (packets : List Fields) → AllByRecursion Fits packets → all_in (flat_map bytes_of packets) ≡ packets
+fields_again packets fits =
+    let long = length-bytes packets in
+    let count : length (flat_map bytes_of packets) / 56 ≡ length packets = omega arith in
+    ap (λ (n : ℕ). map fields_in (first_chunks 56 n (flat_map bytes_of packets))) count ∙ read_again packets fits
+
+some_length : (packets : List Packet) → packets ≢ [] → length packets ≢ 0
+some_length [] some = absurd (some refl)
+some_length (p ∷ ps) some = λ e. omega (arith, e)
+
+good_length : (packets : List Fields) → length packets ≢ 0 → has_bad_length (flat_map bytes_of packets) ≡ false
+good_length packets some =
+    let long = length-bytes packets in
+    let nonzero : length (flat_map bytes_of packets) ≢ 0 = omega arith in
+    let even : length (flat_map bytes_of packets) % 56 ≡ 0 = omega arith in
+    or_from _ _ (ne_eqb _ _ nonzero) (ap not (eq-eqb _ _ even))
+
+pub letter_again : (members from : ℕ) (packets : List Packet) (bytes : List ℕ) → AllFit from packets → IsLetter members from packets → bytes ≡ spelling from packets → Again members from packets bytes
+letter_again members from packets bytes fits letter e =
+    let all : List Fields = all_fields_of from packets in
+    let spelled : bytes ≡ flat_map bytes_of all = e ∙ spelling-fields from packets in
+    let sender : sender_of bytes ≡ from = ap sender_of e ∙ sender_again from packets letter.some in
+    let fields : all_in bytes ≡ all = ap all_in spelled ∙ fields_again all (AllFit-fields from packets fits) in
+    let filled : length all ≢ 0 = λ z. some_length packets letter.some (sym (length-map from packets) ∙ z) in
+    let good : has_bad_length bytes ≡ false = ap has_bad_length spelled ∙ good_length all filled in
+    let sound : Sound members from no_group packets = record { kinds = letter.kinds; members_keep = letter.members_keep; groups = letter.groups } in
+    record {
+      sender = sender;
+      fields = fields;
+      fault = ap (λ (bad : Bool). cond bad (Some (BadLength 0)) (fault_from members (sender_of bytes) no_group 0 (all_in bytes))) good
+          ∙ ap (λ (from' : ℕ). fault_from members from' no_group 0 (all_in bytes)) sender
+          ∙ ap (fault_from members from no_group 0) fields
+          ∙ Sound-none members from no_group 0 packets sound;
+    }
+
+-- a letter has no fault
+pub no_fault_of_letter : (members from : ℕ) (packets : List Packet) (bytes : List ℕ) → AllFit from packets → IsLetter members from packets → bytes ≡ spelling from packets
+    → (fault : OwnedFault) → IsFault fault (fault_of members bytes) → fault ≡ OutOfMemory
+no_fault_of_letter members from packets bytes fits letter e (Letter f) is =
+    let none = (letter_again members from packets bytes fits letter e).fault in absurd (none_some f (sym none ∙ is))
+no_fault_of_letter members from packets bytes fits letter e OutOfMemory is = refl
+
+pub same_letter : (members from sender : ℕ) (packets items : List Packet) (bytes : List ℕ) → AllFit from packets → IsLetter members from packets → bytes ≡ spelling from packets
+    → all_fields_of sender items ≡ all_in bytes → (sender_of bytes ≡ from) × (items ≡ packets)
+same_letter members from sender packets items bytes fits letter e found =
+    let again = letter_again members from packets bytes fits letter e in
+    (again.sender, same_packets sender from items packets (found ∙ again.fields))

@@ -1,0 +1,7 @@
+pub mod CallerLemmas
+pub mod FieldLemmas
+pub mod LetterLemmas
+pub mod PacketBack
+pub mod ReadLemmas
+pub mod RuleLemmas
+pub mod WriteLemmas

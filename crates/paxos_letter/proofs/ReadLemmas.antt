@@ -1,0 +1,80 @@
+-- Reading packets one after another, as a loop does.
+use Rattle.std.proofs.Common.{◌≡◌, ℕ, ◌+◌, ◌%◌, ◌<◌, ◌≤◌, Bool, true, false, not, ◌&&◌, ◌||◌, eqb, leb, ltb, cond, List, [], ◌∷◌, ◌++◌, length, get_or, map, take, drop, Option, Some, None, refl, sym, ap, ◌∙◌, arith}
+use Rattle.std.proofs.lemmas.Bool.{and_parts, and_from, eqb-true, eq-eqb, ltb-true, lt-ltb}
+use Rattle.std.proofs.lemmas.List.{map_push, take_more, drop_more}
+use Rattle.paxos_letter.specs.declared.fault.LetterFault.{LetterFault}
+use Rattle.paxos_letter.specs.declared.fault.LetterFault.TheVariants.{BadKind, NotZero, BadMember, BadGroup}
+use Rattle.paxos_letter.specs.declared.fields.Fields.{Fields}
+use Rattle.paxos_letter.specs.declared.group.Group.{Group}
+use Rattle.paxos_letter.specs.declared.packet.Packet.{Packet}
+use Rattle.paxos_letter.specs.Fields.{fields_in}
+use Rattle.paxos_letter.specs.Spelling.{fields_of}
+use Rattle.paxos_letter.specs.Rules.{keeps_kind, keeps_zeros, keeps_members, is_ballot, has_ballot, has_old_ballot}
+use Rattle.paxos_letter.specs.Groups.{no_group, keeps_group, after}
+use Rattle.paxos_letter.specs.Letters.{fault_at, or_later, fault_from}
+
+pub record KeepsAll (members sender : ℕ) (group : Group) (fields : Fields) : Type 0 where
+  pub kind : keeps_kind fields ≡ true
+  pub zeros : keeps_zeros fields ≡ true
+  pub members_keep : keeps_members members sender fields ≡ true
+  pub group_keeps : keeps_group group fields ≡ true
+
+-- no test of four failed
+all_true : (kind zeros members group : Bool) (n : ℕ) → cond (not kind) (Some (BadKind n)) (cond (not zeros) (Some (NotZero n)) (cond (not members) (Some (BadMember n)) (cond (not group) (Some (BadGroup n)) None))) ≡ None
+    → (kind ≡ true) × (zeros ≡ true) × (members ≡ true) × (group ≡ true)
+all_true true true true true n e = (refl, refl, refl, refl)
+all_true true true true false n e = absurd cc
+all_true true true false group n e = absurd cc
+all_true true false members group n e = absurd cc
+all_true false zeros members group n e = absurd cc
+
+pub fault_at-none : (members sender : ℕ) (group : Group) (number : ℕ) (fields : Fields) → fault_at members sender group number fields ≡ None → KeepsAll members sender group fields
+fault_at-none members sender group number fields e =
+    let all = all_true (keeps_kind fields) (keeps_zeros fields) (keeps_members members sender fields) (keeps_group group fields) number e in
+    record { kind = all.0; zeros = all.1; members_keep = all.2; group_keeps = all.3 }
+
+pub keeps_members-sender : (members sender : ℕ) (fields : Fields) → keeps_members members sender fields ≡ true → fields.from ≡ sender
+keeps_members-sender members sender fields e = eqb-true _ _ (and_parts _ _ (and_parts _ _ e).0).1
+
+-- what keeps the rule of the members, keeps it for seven
+seven : (has : Bool) (members number : ℕ) → members ≤ 7 → (not has || is_ballot members number) ≡ true → (not has || is_ballot 7 number) ≡ true
+seven true members number few h =
+    let parts = and_parts (leb 8 number) (ltb (number % 8) members) h in
+    let below : number % 8 < members = ltb-true _ _ parts.1 in
+    and_from _ _ parts.0 (lt-ltb (number % 8) 7 (omega arith))
+seven false members number few h = refl
+
+pub keeps_members-seven : (members sender : ℕ) (fields : Fields) → members ≤ 7 → keeps_members members sender fields ≡ true → keeps_members 7 fields.from fields ≡ true
+keeps_members-seven members sender fields few e =
+    let parts = and_parts (ltb fields.from members && eqb fields.from sender) _ e in
+    let below : fields.from < members = ltb-true _ _ (and_parts _ _ parts.0).0 in
+    let ballots = and_parts (not (has_ballot fields) || is_ballot members fields.ballot) (not (has_old_ballot fields) || is_ballot members fields.old) parts.1 in
+    and_from _ _ (and_from _ _ (lt-ltb fields.from 7 (omega arith)) (eq-eqb fields.from fields.from refl))
+    (and_from _ _ (seven (has_ballot fields) members fields.ballot few ballots.0) (seven (has_old_ballot fields) members fields.old few ballots.1))
+
+-- so many packets were read, and the first fault of all is that of those that are left
+pub record Reading (members sender : ℕ) (group : Group) (number at : ℕ) (packets : List (List ℕ)) (items : List Packet) : Type 0 where
+  pub counted : number ≡ at
+  pub fault : fault_from members sender group number (map fields_in (drop at packets)) ≡ fault_from members sender no_group 0 (map fields_in packets)
+  pub found : map (fields_of sender) items ≡ map fields_in (take at packets)
+
+pub Reading-next : (members sender : ℕ) (group : Group) (number at : ℕ) (packets : List (List ℕ)) (items : List Packet) (packet : List ℕ) (fields : Fields) (item : Packet) → at < length packets
+    → fields ≡ fields_in (get_or packets at packet) → fault_at members sender group number fields ≡ None → fields_of fields.from item ≡ fields
+    → Reading members sender group number at packets items → Reading members sender (after group fields) (number + 1) (at + 1) packets (items ++ item ∷ [])
+Reading-next members sender group number at packets items packet fields item lt is none item-is r =
+    let keeps = fault_at-none members sender group number fields none in
+    let rest : List Fields = map fields_in (drop (at + 1) packets) in
+    let one : fault_from members sender group number (map fields_in (drop at packets)) ≡ fault_from members sender (after group fields) (number + 1) rest =
+    ap (λ (left : List (List ℕ)). fault_from members sender group number (map fields_in left)) (drop_more packets at packet lt)
+    ∙ ap (λ (f : Fields). or_later (fault_at members sender group number f) (fault_from members sender (after group f) (number + 1) rest)) (sym is)
+    ∙ ap (λ (fault : Option LetterFault). or_later fault (fault_from members sender (after group fields) (number + 1) rest)) none in
+    let same : fields_of sender item ≡ fields_in (get_or packets at packet) =
+    ap (λ (from : ℕ). fields_of from item) (sym (keeps_members-sender members sender fields keeps.members_keep)) ∙ item-is ∙ is in
+    record {
+      counted = ap (λ (n : ℕ). n + 1) r.counted;
+      fault = sym one ∙ r.fault;
+      found = map_push (fields_of sender) items item
+          ∙ ap (λ (front : List Fields). front ++ fields_of sender item ∷ []) r.found
+          ∙ ap (λ (f : Fields). map fields_in (take at packets) ++ f ∷ []) same
+          ∙ sym (ap (map fields_in) (take_more packets at packet lt) ∙ map_push fields_in (take at packets) (get_or packets at packet));
+    }

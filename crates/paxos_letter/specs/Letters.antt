@@ -1,0 +1,73 @@
+-- Letters, and the first rule that bytes break.
+use Rattle.std.specs.Prelude.{◌≡◌, ◌≢◌, ⊤, ℕ, ◌+◌, ◌%◌, Bool, not, ◌||◌, ◌==◌, if◌then◌else◌, IsTrue, List, [], ◌∷◌, length, map, slice_index, Option, None, Some, Result, Ok, Err}
+use Rattle.std.specs.List.{AllByRecursion}
+use Rattle.paxos_base.specs.Packet.{offset_of, FromField}
+use Rattle.paxos_letter.specs.declared.fault.LetterFault.{LetterFault}
+use Rattle.paxos_letter.specs.declared.fault.LetterFault.TheVariants.{BadLength, BadKind, NotZero, BadMember, BadGroup}
+use Rattle.paxos_letter.specs.declared.fault.OwnedFault.{OwnedFault}
+use Rattle.paxos_letter.specs.declared.fault.OwnedFault.TheVariants.{Letter, OutOfMemory}
+use Rattle.paxos_letter.specs.declared.fields.Fields.{Fields}
+use Rattle.paxos_letter.specs.declared.group.Group.{Group}
+use Rattle.paxos_letter.specs.declared.packet.Packet.{Packet}
+use Rattle.paxos_letter.specs.declared.packet.OwnedLetter.{OwnedLetter}
+use Rattle.paxos_letter.specs.Fields.{all_in}
+use Rattle.paxos_letter.specs.Spelling.{fields_of, spelling, AllFit}
+use Rattle.paxos_letter.specs.Rules.{keeps_kind, keeps_zeros, keeps_members}
+use Rattle.paxos_letter.specs.Groups.{no_group, is_filled, keeps_group, after, keep_groups}
+
+-- The packets are a letter of a replica to another, of that many: at least one, each of a known kind, with ballots of
+-- the members, and in groups that are whole.
+pub record IsLetter (members from : ℕ) (packets : List Packet) : Type 0 where
+  pub some : packets ≢ []
+  pub kinds : AllByRecursion (λ packet. IsTrue (keeps_kind (fields_of from packet))) packets
+  pub members_keep : AllByRecursion (λ packet. IsTrue (keeps_members members from (fields_of from packet))) packets
+  pub groups : IsTrue (keep_groups no_group (map (fields_of from) packets))
+
+-- the first rule that a packet of a number breaks
+abbrev pub fault_at : ℕ → ℕ → Group → ℕ → Fields → Option LetterFault
+fault_at members sender group number fields =
+    if not (keeps_kind fields) then Some (BadKind number)
+    else if not (keeps_zeros fields) then Some (NotZero number)
+    else if not (keeps_members members sender fields) then Some (BadMember number)
+    else if not (keeps_group group fields) then Some (BadGroup number)
+    else None
+
+-- the first of two faults, where there is one
+abbrev pub or_later : Option LetterFault → Option LetterFault → Option LetterFault
+or_later None later = later
+or_later (Some fault) later = Some fault
+
+-- the first rule that packets break, from one of a number on
+abbrev pub fault_from : ℕ → ℕ → Group → ℕ → List Fields → Option LetterFault
+fault_from members sender group number [] = if is_filled group then None else Some (BadGroup number)
+fault_from members sender group number (first ∷ rest) =
+    or_later (fault_at members sender group number first) (fault_from members sender (after group first) (number + 1) rest)
+
+-- no packet, or a part of one
+abbrev pub has_bad_length : List ℕ → Bool
+has_bad_length bytes = (length bytes == 0) || not (length bytes % 56 == 0)
+
+-- the sender that the first packet names
+abbrev pub sender_of : List ℕ → ℕ
+sender_of bytes = slice_index bytes (offset_of FromField)
+
+-- The first rule that bytes break: the length first, and then the packets in their order.
+abbrev pub fault_of : ℕ → List ℕ → Option LetterFault
+fault_of members bytes =
+    if has_bad_length bytes then Some (BadLength 0) else fault_from members (sender_of bytes) no_group 0 (all_in bytes)
+
+-- a fault that was answered is the first, unless memory ran out
+abbrev pub IsFault : OwnedFault → Option LetterFault → Type 0
+IsFault (Letter fault) first = first ≡ Some fault
+IsFault OutOfMemory first = ⊤
+
+-- the packets of the sender were read, unless memory ran out
+abbrev pub IsRead : ℕ → List Packet → Result OwnedLetter OwnedFault → Type 0
+IsRead from packets (Ok letter) = (letter.from ≡ from) × (letter.packets ≡ packets)
+IsRead from packets (Err fault) = fault ≡ OutOfMemory
+
+-- no two letters to as many replicas have the same bytes
+abbrev pub LettersDiffer : Type 0
+LettersDiffer =
+    (members from other : ℕ) (packets others : List Packet) → AllFit from packets → AllFit other others → IsLetter members from packets → IsLetter members other others
+    → spelling from packets ≡ spelling other others → (from ≡ other) × (packets ≡ others)

@@ -1,0 +1,6 @@
+pub mod Fields
+pub mod Groups
+pub mod Kinds
+pub mod Letters
+pub mod Rules
+pub mod Spelling
