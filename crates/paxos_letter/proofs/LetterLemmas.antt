@@ -19,7 +19,7 @@ use Rattle.paxos_letter.specs.Fields.{bytes_of, fields_in, all_in, Fits}
 use Rattle.paxos_letter.specs.Spelling.{fields_of, packet_bytes, spelling, AllFit}
 use Rattle.paxos_letter.specs.Rules.{keeps_kind, keeps_zeros, keeps_members}
 use Rattle.paxos_letter.specs.Groups.{no_group, is_filled, keeps_group, after, keep_groups}
-use Rattle.paxos_letter.specs.Letters.{IsLetter, fault_at, or_later, fault_from, has_bad_length, sender_of, fault_of, IsFault}
+use Rattle.paxos_letter.specs.Letters.{Spells, fault_at, or_later, fault_from, has_bad_length, sender_of, fault_of, IsFault}
 use Rattle.paxos_letter.proofs.FieldLemmas.{AreBytes, spelled_so, all_Fit, read_again}
 use Rattle.paxos_letter.proofs.PacketBack.{same_packets, fields_of-zeros}
 use Rattle.paxos_letter.proofs.ReadLemmas.{fault_at-none}
@@ -104,23 +104,25 @@ whole bytes e =
     let even : length bytes % 56 ≡ 0 = eqb-true _ _ (not-false _ parts.1) in
     record { some = eqb-false _ _ parts.0; packets = omega arith }
 
-pub found : (from : ℕ) (bytes : List ℕ) (packets : List Packet) → AreBytes bytes → length bytes ≡ length bytes / 56 * 56 → all_fields_of from packets ≡ all_in bytes → bytes ≡ spelling from packets
-found from bytes packets fits long e =
+spelled_back : (from : ℕ) (bytes : List ℕ) (packets : List Packet) → AreBytes bytes → length bytes ≡ length bytes / 56 * 56 → all_fields_of from packets ≡ all_in bytes → bytes ≡ spelling from packets
+spelled_back from bytes packets fits long e =
     sym (spelled_so (length bytes / 56) bytes long fits) ∙ ap (flat_map bytes_of) (sym e) ∙ sym (spelling-fields from packets)
 
-pub found_fits : (from : ℕ) (bytes : List ℕ) (packets : List Packet) → AreBytes bytes → length bytes ≡ length bytes / 56 * 56 → all_fields_of from packets ≡ all_in bytes → AllFit from packets
-found_fits from bytes packets fits long e =
-    fields-AllFit from packets (subst (AllByRecursion Fits) (sym e) (all_Fit (length bytes / 56) bytes long fits))
-
-pub found_letter : (members from : ℕ) (bytes : List ℕ) (packets : List Packet) → AreBytes bytes → length bytes ≢ 0 → length bytes ≡ length bytes / 56 * 56 → all_fields_of from packets ≡ all_in bytes
-    → fault_from members from no_group 0 (all_in bytes) ≡ None → IsLetter members from packets
-found_letter members from bytes packets fits some long e none =
+-- packets that were read from bytes without a fault
+pub found : (members from : ℕ) (bytes : List ℕ) (packets : List Packet) → AreBytes bytes → length bytes ≢ 0 → length bytes ≡ length bytes / 56 * 56 → all_fields_of from packets ≡ all_in bytes
+    → fault_from members from no_group 0 (all_in bytes) ≡ None → Spells members from packets bytes
+found members from bytes packets fits some long e none =
     let sound = none-Sound members from no_group 0 packets (ap (fault_from members from no_group 0) e ∙ none) in
+    let spelled = spelled_back from bytes packets fits long e in
     record {
-      some = λ empty. some (ap length (found from bytes packets fits long e ∙ ap (spelling from) empty));
-      kinds = sound.kinds;
-      members_keep = sound.members_keep;
-      groups = sound.groups;
+      letter = record {
+        some = λ empty. some (ap length (spelled ∙ ap (spelling from) empty));
+        kinds = sound.kinds;
+        members_keep = sound.members_keep;
+        groups = sound.groups;
+      };
+      fits = fields-AllFit from packets (subst (AllByRecursion Fits) (sym e) (all_Fit (length bytes / 56) bytes long fits));
+      spelled = spelled;
     }
 
 abbrev nothing : Option LetterFault
@@ -169,12 +171,13 @@ good_length packets some =
     let even : length (flat_map bytes_of packets) % 56 ≡ 0 = omega arith in
     or_from _ _ (ne_eqb _ _ nonzero) (ap not (eq-eqb _ _ even))
 
-pub letter_again : (members from : ℕ) (packets : List Packet) (bytes : List ℕ) → AllFit from packets → IsLetter members from packets → bytes ≡ spelling from packets → Again members from packets bytes
-letter_again members from packets bytes fits letter e =
+pub letter_again : (members from : ℕ) (packets : List Packet) (bytes : List ℕ) → Spells members from packets bytes → Again members from packets bytes
+letter_again members from packets bytes spells =
+    let letter = spells.letter in
     let all : List Fields = all_fields_of from packets in
-    let spelled : bytes ≡ flat_map bytes_of all = e ∙ spelling-fields from packets in
-    let sender : sender_of bytes ≡ from = ap sender_of e ∙ sender_again from packets letter.some in
-    let fields : all_in bytes ≡ all = ap all_in spelled ∙ fields_again all (AllFit-fields from packets fits) in
+    let spelled : bytes ≡ flat_map bytes_of all = spells.spelled ∙ spelling-fields from packets in
+    let sender : sender_of bytes ≡ from = ap sender_of spells.spelled ∙ sender_again from packets letter.some in
+    let fields : all_in bytes ≡ all = ap all_in spelled ∙ fields_again all (AllFit-fields from packets spells.fits) in
     let filled : length all ≢ 0 = λ z. some_length packets letter.some (sym (length-map from packets) ∙ z) in
     let good : has_bad_length bytes ≡ false = ap has_bad_length spelled ∙ good_length all filled in
     let sound : Sound members from no_group packets = record { kinds = letter.kinds; members_keep = letter.members_keep; groups = letter.groups } in
@@ -188,14 +191,14 @@ letter_again members from packets bytes fits letter e =
     }
 
 -- a letter has no fault
-pub no_fault_of_letter : (members from : ℕ) (packets : List Packet) (bytes : List ℕ) → AllFit from packets → IsLetter members from packets → bytes ≡ spelling from packets
+pub no_fault_of_letter : (members from : ℕ) (packets : List Packet) (bytes : List ℕ) → Spells members from packets bytes
     → (fault : OwnedFault) → IsFault fault (fault_of members bytes) → fault ≡ OutOfMemory
-no_fault_of_letter members from packets bytes fits letter e (Letter f) is =
-    let none = (letter_again members from packets bytes fits letter e).fault in absurd (none_some f (sym none ∙ is))
-no_fault_of_letter members from packets bytes fits letter e OutOfMemory is = refl
+no_fault_of_letter members from packets bytes spells (Letter f) is =
+    let none = (letter_again members from packets bytes spells).fault in absurd (none_some f (sym none ∙ is))
+no_fault_of_letter members from packets bytes spells OutOfMemory is = refl
 
-pub same_letter : (members from sender : ℕ) (packets items : List Packet) (bytes : List ℕ) → AllFit from packets → IsLetter members from packets → bytes ≡ spelling from packets
+pub same_letter : (members from sender : ℕ) (packets items : List Packet) (bytes : List ℕ) → Spells members from packets bytes
     → all_fields_of sender items ≡ all_in bytes → (sender_of bytes ≡ from) × (items ≡ packets)
-same_letter members from sender packets items bytes fits letter e found =
-    let again = letter_again members from packets bytes fits letter e in
+same_letter members from sender packets items bytes spells found =
+    let again = letter_again members from packets bytes spells in
     (again.sender, same_packets sender from items packets (found ∙ again.fields))

@@ -1,5 +1,5 @@
 -- Letters, and the first rule that bytes break.
-use Rattle.std.specs.Prelude.{◌≡◌, ◌≢◌, ⊤, ℕ, ◌+◌, ◌%◌, Bool, not, ◌||◌, ◌==◌, if◌then◌else◌, IsTrue, List, [], ◌∷◌, length, map, slice_index, Option, None, Some, Result, Ok, Err}
+use Rattle.std.specs.Prelude.{◌≡◌, ◌≢◌, ◌⊎◌, ⊤, ℕ, ◌+◌, ◌%◌, Bool, not, ◌||◌, ◌==◌, if◌then◌else◌, IsTrue, List, [], ◌∷◌, length, map, slice_index, Option, None, Some, Result, Ok, Err}
 use Rattle.std.specs.List.{AllByRecursion}
 use Rattle.paxos_base.specs.Packet.{offset_of, FromField}
 use Rattle.paxos_letter.specs.declared.fault.LetterFault.{LetterFault}
@@ -15,13 +15,19 @@ use Rattle.paxos_letter.specs.Spelling.{fields_of, spelling, AllFit}
 use Rattle.paxos_letter.specs.Rules.{keeps_kind, keeps_zeros, keeps_members}
 use Rattle.paxos_letter.specs.Groups.{no_group, is_filled, keeps_group, after, keep_groups}
 
--- The packets are a letter of a replica to another, of that many: at least one, each of a known kind, with ballots of
--- the members, and in groups that are whole.
+-- The packets are a letter from one of that many replicas: there is at least one, each is of a known kind, the sender
+-- and the ballots are of the members, and the groups are whole.
 pub record IsLetter (members from : ℕ) (packets : List Packet) : Type 0 where
   pub some : packets ≢ []
   pub kinds : AllByRecursion (λ packet. IsTrue (keeps_kind (fields_of from packet))) packets
   pub members_keep : AllByRecursion (λ packet. IsTrue (keeps_members members from (fields_of from packet))) packets
   pub groups : IsTrue (keep_groups no_group (map (fields_of from) packets))
+
+-- the bytes are the spelling of a letter
+pub record Spells (members from : ℕ) (packets : List Packet) (bytes : List ℕ) : Type 0 where
+  pub letter : IsLetter members from packets
+  pub fits : AllFit from packets
+  pub spelled : bytes ≡ spelling from packets
 
 -- the first rule that a packet of a number breaks
 abbrev pub fault_at : ℕ → ℕ → Group → ℕ → Fields → Option LetterFault
@@ -66,8 +72,12 @@ abbrev pub IsRead : ℕ → List Packet → Result OwnedLetter OwnedFault → Ty
 IsRead from packets (Ok letter) = (letter.from ≡ from) × (letter.packets ≡ packets)
 IsRead from packets (Err fault) = fault ≡ OutOfMemory
 
--- no two letters to as many replicas have the same bytes
+-- the fault was answered, unless memory ran out
+abbrev pub IsRefused : LetterFault → Result OwnedLetter OwnedFault → Type 0
+IsRefused fault result = (result ≡ Err (Letter fault)) ⊎ (result ≡ Err OutOfMemory)
+
+-- bytes spell no two letters
 abbrev pub LettersDiffer : Type 0
 LettersDiffer =
-    (members from other : ℕ) (packets others : List Packet) → AllFit from packets → AllFit other others → IsLetter members from packets → IsLetter members other others
-    → spelling from packets ≡ spelling other others → (from ≡ other) × (packets ≡ others)
+    (members from other : ℕ) (packets others : List Packet) (bytes : List ℕ) → Spells members from packets bytes → Spells members other others bytes
+    → (from ≡ other) × (packets ≡ others)

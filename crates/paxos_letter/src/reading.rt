@@ -1,11 +1,10 @@
-ghost use Rattle.std.specs.Prelude.{◌≡◌, ◌≤◌, ◌⊎◌, ℕ, List, map, None, Some, Ok, Err, IfOk, IfErr};
+ghost use Rattle.std.specs.Prelude.{◌≡◌, ◌≤◌, ℕ, List, map, None, Some, IfOk, IfErr};
 ghost use Rattle.paxos_letter.specs.declared.fault.LetterFault.{LetterFault};
-ghost use Rattle.paxos_letter.specs.declared.fault.OwnedFault.TheVariants.{Letter, OutOfMemory};
 ghost use Rattle.paxos_letter.specs.declared.packet.Packet.{Packet};
 ghost use Rattle.paxos_letter.specs.Fields.{fields_in};
-ghost use Rattle.paxos_letter.specs.Spelling.{fields_of, spelling, AllFit};
+ghost use Rattle.paxos_letter.specs.Spelling.{fields_of};
 ghost use Rattle.paxos_letter.specs.Groups.{no_group};
-ghost use Rattle.paxos_letter.specs.Letters.{IsLetter, fault_at, fault_from, fault_of, IsFault, IsRead};
+ghost use Rattle.paxos_letter.specs.Letters.{Spells, fault_at, fault_from, fault_of, IsFault, IsRead, IsRefused};
 
 use crate::decoding::packet_of;
 use crate::fault::{LetterFault, OwnedFault};
@@ -46,9 +45,12 @@ fn packets_of(
     packets: &[[u8; PACKET_BYTES]],
 ) -> Result<Vec<Packet>, OwnedFault>
     requires { members ≤ 7 }
-    ensures sound { IfOk result (λ v. fault_from members sender no_group 0 (map fields_in packets.now) ≡ None) }
-    ensures found { IfOk result (λ v. map (fields_of sender) v.items ≡ map fields_in packets.now) }
-    ensures fault { IfErr result (λ e. IsFault e (fault_from members sender no_group 0 (map fields_in packets.now))) }
+    ensures sound { IfOk result (λ _.
+        fault_from members sender no_group 0 (map fields_in packets.now) ≡ None) }
+    ensures found { IfOk result (λ items.
+        map (fields_of sender) items.items ≡ map fields_in packets.now) }
+    ensures fault { IfErr result (λ fault.
+        IsFault fault (fault_from members sender no_group 0 (map fields_in packets.now))) }
 {
     let mut items = Vec::new(alloc);
     let mut group = Group::none();
@@ -78,16 +80,15 @@ pub fn read_letter(alloc: Global, bytes: &[u8], members: u8) -> Result<OwnedLett
     requires few { members ≤ 7 }
 
     // What is read is a letter, and is spelled so.
-    ensures letter { IfOk result (λ letter. IsLetter members letter.from letter.packets) }
-    ensures found { IfOk result (λ letter. bytes.now ≡ spelling letter.from letter.packets) }
-    ensures fits { IfOk result (λ letter. AllFit letter.from letter.packets) }
-
+    ensures found { IfOk result (λ letter. Spells members letter.from letter.packets bytes.now) }
     // A letter that is spelled so is read, unless memory runs out.
-    ensures only { (from : ℕ) (packets : List Packet) → AllFit from packets → IsLetter members from packets → bytes.now ≡ spelling from packets → IsRead from packets result }
+    ensures only { (from : ℕ) (packets : List Packet)
+        → Spells members from packets bytes.now → IsRead from packets result }
 
     // A fault is the first one, and where there is one it is answered, unless memory runs out.
     ensures fault { IfErr result (λ fault. IsFault fault (fault_of members bytes.now)) }
-    ensures faulty { (fault : LetterFault) → fault_of members bytes.now ≡ Some fault → (result ≡ Err (Letter fault)) ⊎ (result ≡ Err OutOfMemory) }
+    ensures faulty { (fault : LetterFault)
+        → fault_of members bytes.now ≡ Some fault → IsRefused fault result }
 {
     if bytes.is_empty() || bytes.len() % PACKET_BYTES != 0 {
         return Err(OwnedFault::Letter(LetterFault::BadLength { packet: 0 }));

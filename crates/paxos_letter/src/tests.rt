@@ -270,6 +270,46 @@ fn faults(rt: HostRuntime) {
     }
 }
 
+#[test]
+fn other_kinds(rt: HostRuntime) {
+    let ballot = Ballot::of(1, 0);
+    let slot = 0;
+    for (bytes, want) in [
+        (
+            with_byte(PREPARE, 0, 5).as_slice(),
+            Packet::Accepted { ballot, slot },
+        ),
+        (
+            with_byte(with_byte(PREPARE, 0, 6), 31, 17).as_slice(),
+            Packet::Nack {
+                ballot,
+                promised: Ballot::of(2, 1),
+            },
+        ),
+        (
+            with_byte(with_byte(ACCEPT, 0, 7), 15, 0).as_slice(),
+            Packet::Known {
+                slot,
+                entry: Entry::Start {
+                    job: 0,
+                    at: MINUTE,
+                    now: MINUTE,
+                },
+            },
+        ),
+        (
+            with_byte(with_byte(PREPARE, 0, 8), 15, 0).as_slice(),
+            Packet::AskFrom { slot },
+        ),
+        (
+            with_byte(PREPARE, 0, 11).as_slice(),
+            Packet::Lead { ballot, slot },
+        ),
+    ] {
+        assert_eq!(rt; only_packet(rt.alloc(), bytes), Ok(want));
+    }
+}
+
 // Each byte of a letter set to ff in turn: it is another letter, or is refused for the rule that the byte breaks.
 #[test]
 fn each_byte(rt: HostRuntime) {
