@@ -1,4 +1,5 @@
 pub mod ClerkLemmas
 pub mod EndLemmas
 pub mod MachineLemmas
+pub mod NextLemmas
 pub mod StartLemmas

@@ -5,9 +5,10 @@ ghost use Rattle.due_set.specs.Table.{Table};
 ghost use Rattle.launch_machine.specs.Answers.{IsEffect, IsIntent};
 ghost use Rattle.launch_machine.specs.Clerk.{Applies, fresh_rows};
 ghost use Rattle.launch_machine.specs.Machine.{CanCount, HasRoom, StandsFor};
+ghost use Rattle.launch_machine.specs.Next.{IsLeastNext, NoNext};
 
 use crate::choice::{call_kind, first_call, first_start};
-use crate::next::{next_instant, nexts_of, takes_start};
+use crate::next::{earliest, next_instant, nexts_of, takes_start};
 use crate::row;
 use due_set::{JobTable, OutOfMemory};
 use paxos_base::{Entry, JobRow, Kind, RowList, rows_stand};
@@ -100,6 +101,17 @@ impl Machine {
         ensures { slice_get self.now.rows job ≡ Some result }
     {
         self.rows[job as usize]
+    }
+
+    /// The least instant at which a job is due next, or `None` where no job is due any more.
+    pub fn next_start(&self) -> Option<Minute>
+        ensures found { (table : Table) → StandsFor table self.now → IfSome result (λ at. IsLeastNext table self.now.rows at.0) }
+        ensures none { (table : Table) → StandsFor table self.now → IfNone result (NoNext table self.now.rows) }
+    {
+        match earliest(&self.nexts) {
+            Some(at) => Some(Minute(at)),
+            None => None,
+        }
     }
 
     /// Applies an entry of the log.

@@ -1,6 +1,7 @@
 //! The next due instants of jobs, kept beside their rows.
 ghost use Rattle.std.specs.Prelude.{◌≡◌, ◌↔◌, ◌<◌, ℤ, ◌≤ℤ◌, Some, length, IfOk, IfSome, IfNone, IsTrue};
 ghost use Rattle.launch_machine.specs.Machine.{AreNexts, IsNext, IsReady};
+ghost use Rattle.launch_machine.specs.Next.{HasNone, IsEarlier, IsLeast};
 
 use due_set::{JobTable, OutOfMemory};
 use paxos_base::JobRow;
@@ -72,5 +73,28 @@ fn come(next: Option<i64>, now: i64) -> Option<i64>
     match next {
         Some(at) if at <= now => Some(at),
         _ => None,
+    }
+}
+
+/// The least of the instants, where there is one.
+pub fn earliest(nexts: &[Option<i64>]) -> Option<i64>
+    ensures found { IfSome result (IsLeast nexts.now) }
+    ensures none { IfNone result (HasNone nexts.now) }
+{
+    let mut least = None;
+    for next in nexts {
+        least = earlier(least, *next);
+    }
+    least
+}
+
+// The earlier of two instants, where there are any.
+fn earlier(least: Option<i64>, next: Option<i64>) -> Option<i64>
+    ensures { IsEarlier least next result }
+{
+    match (least, next) {
+        (Some(least), Some(next)) => Some(least.min(next)),
+        (least, None) => least,
+        (None, next) => next,
     }
 }

@@ -311,6 +311,28 @@ fn goes_on_from_rows(rt: HostRuntime) -> Result<(), Fail> {
     Ok(())
 }
 
+// The next minute of any job, once an entry is applied.
+fn next_after(machine: &mut Machine, table: &JobTable, entry: Entry) -> Option<Minute>
+    requires { StandsFor table.now machine.old }
+    ensures { StandsFor table.now machine.new }
+{
+    applied(machine, table, entry)?;
+    machine.next_start()
+}
+
+// The first job is due at 0, 20 and 40, the second at 0.
+#[test]
+fn knows_the_next_minute_of_any_job(rt: HostRuntime) -> Result<(), Fail> {
+    let table = two_jobs(rt.alloc())?;
+    let mut machine = Machine::new(rt.alloc(), &table)?;
+    let (first, second) = (Some(Minute(FROM)), Some(Minute(FROM + 20)));
+    let ended = end(0, 0, Kind::Launch);
+    assert_eq!(rt; next_after(&mut machine, &table, start(0, 0, 0)), first);
+    assert_eq!(rt; next_after(&mut machine, &table, ended), first);
+    assert_eq!(rt; next_after(&mut machine, &table, start(1, 0, 0)), second);
+    Ok(())
+}
+
 #[test]
 fn laws_hold(_rt: HostRuntime) {
     one_entry_is_one_step();
