@@ -1,0 +1,3 @@
+pub mod LedgerLemmas
+pub mod NameLemmas
+pub mod StampLemmas

@@ -1,0 +1,27 @@
+ghost use Rattle.std.specs.Prelude.{◌≡◌, ◌≤◌, IfOk, IsErrOf};
+ghost use Rattle.cron_io.specs.Faults.{Rose};
+ghost use Rattle.cluster_sched.specs.Held.{Answers, Follows};
+
+use crate::fault::CallFault;
+use crate::row::SchedRow;
+use crate::scheduler::Scheduler;
+
+/// Calls a launch by its name: looks the name up, and creates the row only where nothing is held. Answers the first row
+/// that is held under the name.
+///
+/// # Errors
+///
+/// `Failed` only where the scheduler's count of faults rose, and `OutOfMemory`, where nothing changed.
+pub fn call_by_name<C: Scheduler>(sched: &mut C, row: SchedRow) -> Result<SchedRow, CallFault>
+    ensures first { IfOk result (λ first. Answers (C.held sched.old) row first (C.held sched.new)) }
+    ensures held { Follows (C.held sched.old) row (C.held sched.new) }
+    ensures late { Follows (C.late sched.old) row (C.late sched.new) }
+    ensures memory { IsErrOf result CallFault.OutOfMemory → C.held sched.new ≡ C.held sched.old }
+    ensures later { C.faults sched.old ≤ C.faults sched.new }
+    ensures failed { IsErrOf result CallFault.Failed → Rose (C.faults sched.old) (C.faults sched.new) }
+{
+    match sched.look(row.name)? {
+        Some(first) => Ok(first),
+        None => sched.create(row),
+    }
+}

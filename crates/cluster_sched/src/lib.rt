@@ -1,0 +1,20 @@
+//! Launches under their names, the scheduler that is called by a name, and the ledger of what it holds.
+#![tactic(auto)]
+
+mod call;
+mod fault;
+mod laws;
+mod ledger;
+mod name;
+mod row;
+mod scheduler;
+#[cfg(test)]
+mod tests;
+
+pub use call::call_by_name;
+pub use fault::{CallFault, OutOfMemory};
+pub use laws::{held_rows_stay, names_differ_in_their_texts};
+pub use ledger::{Fate, Ledger};
+pub use name::{read_name, write_name};
+pub use row::{Name, SchedRow};
+pub use scheduler::Scheduler;

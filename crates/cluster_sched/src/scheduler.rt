@@ -1,0 +1,46 @@
+ghost use Rattle.std.specs.Prelude.{◌≡◌, ◌≤◌, ℕ, List, IfOk, IsErrOf};
+ghost use Rattle.cron_io.specs.Faults.{Rose};
+ghost use Rattle.cluster_sched.specs.Held.{Answers, Follows, IsLookedUp};
+ghost use Rattle.cluster_sched.specs.declared.row.SchedRow.{SchedRow};
+
+use crate::fault::CallFault;
+use crate::row::{Name, SchedRow};
+
+/// The scheduler of the machines that run the commands. It holds under each name the first row that was created there,
+/// for good.
+pub trait Scheduler {
+    /// The rows that it holds, in the order in which they came.
+    ghost held: { Self → List SchedRow };
+
+    /// The calls that are still on their way to it, in order.
+    ghost late: { Self → List SchedRow };
+
+    /// How often a call has failed: a count that doesn't fall, and stands still at the last value of a `u64`.
+    ghost faults: { Self → ℕ };
+
+    /// The row that is held under the name.
+    ///
+    /// # Errors
+    ///
+    /// `Failed` only where the count of faults rose, and `OutOfMemory`. Nothing changed then.
+    fn look(&mut self, name: Name) -> Result<Option<SchedRow>, CallFault>
+        ensures found { IfOk result (λ found. IsLookedUp (held self.old) name found) }
+        ensures held { held self.new ≡ held self.old }
+        ensures late { late self.new ≡ late self.old }
+        ensures later { faults self.old ≤ faults self.new }
+        ensures failed { IsErrOf result CallFault.Failed → Rose (faults self.old) (faults self.new) };
+
+    /// Holds the row, where nothing is held under its name yet, and answers the first row that is held there.
+    ///
+    /// # Errors
+    ///
+    /// `Failed` only where the count of faults rose: the row may be held then, or come late. `OutOfMemory`, where nothing
+    /// changed.
+    fn create(&mut self, row: SchedRow) -> Result<SchedRow, CallFault>
+        ensures first { IfOk result (λ first. Answers (held self.old) row first (held self.new)) }
+        ensures held { Follows (held self.old) row (held self.new) }
+        ensures late { Follows (late self.old) row (late self.new) }
+        ensures memory { IsErrOf result CallFault.OutOfMemory → held self.new ≡ held self.old }
+        ensures later { faults self.old ≤ faults self.new }
+        ensures failed { IsErrOf result CallFault.Failed → Rose (faults self.old) (faults self.new) };
+}

@@ -1,0 +1,136 @@
+//! Calls of the ledger, and names.
+ghost use Rattle.std.specs.Prelude.{◌≡◌, IfOk};
+ghost use Rattle.due_set.specs.declared.job.JobKind.TheVariants.{Never};
+ghost use Rattle.cluster_sched.specs.Names.{IsNameIn};
+
+use crate::{
+    Ledger, Name, OutOfMemory, SchedRow, Scheduler, call_by_name, held_rows_stay,
+    names_differ_in_their_texts, read_name, write_name,
+};
+use due_set::{JobKind, JobName, JobSpec, JobTable};
+use paxos_base::Kind;
+use std::alloc::Global;
+use std::test::Fail;
+use zone_minutes::{Minute, Window, ZoneRuns, ZoneSource};
+
+// 2024-03-31T01:00Z.
+const LAUNCH: Name = Name {
+    job: 0,
+    at: 28_530_780,
+};
+
+fn idle_job(alloc: Global, name: &str) -> Result<JobSpec, Fail>
+    ensures name { IfOk result (λ job. job.name ≡ name.now) }
+    ensures zone { IfOk result (λ job. job.zone ≡ 0) }
+    ensures kind { IfOk result (λ job. job.kind ≡ Never) }
+{
+    Ok(JobSpec {
+        name: JobName::new(alloc, name)?,
+        zone: 0,
+        kind: JobKind::Never,
+    })
+}
+
+// A table of two jobs and of two hours, from 2024-03-31T00:00Z on.
+fn two_jobs(alloc: Global) -> Result<JobTable, Fail>
+    ensures { IfOk result (λ table. IsNameIn table LAUNCH) }
+{
+    let window = Window {
+        from: Minute(28_530_720),
+        until: Minute(28_530_840),
+    };
+    let mut zones = Vec::new(alloc);
+    zones.push(ZoneRuns::build(alloc, &ZoneSource::Fixed { minutes: 0 }, window)?)?;
+    let mut jobs = Vec::new(alloc);
+    jobs.push(idle_job(alloc, "alice:1")?)?;
+    jobs.push(idle_job(alloc, "bob@home:2")?)?;
+    Ok(JobTable::assemble(window, 0, zones, jobs))
+}
+
+// Texts, and the launches that have them as their names.
+const TEXTS: [(&str, Option<Name>); 17] = [
+    ("alice:1@20240331T0100Z", Some(LAUNCH)),
+    (
+        "bob@home:2@20240331T0000Z",
+        Some(Name {
+            job: 1,
+            at: 28_530_720,
+        }),
+    ),
+    (
+        "bob@home:2@20240331T0159Z",
+        Some(Name {
+            job: 1,
+            at: 28_530_839,
+        }),
+    ),
+    ("", None),
+    ("20240331T0100Z", None),
+    ("@20240331T0100Z", None),
+    ("alice:1@@20240331T0100Z", None),
+    ("alice:120240331T0100Z", None),
+    ("carol:3@20240331T0100Z", None),
+    ("home:2@20240331T0100Z", None),
+    ("alice:1@20241331T0100Z", None),
+    ("alice:1@20240330T2359Z", None),
+    ("alice:1@20240331T0200Z", None),
+    ("alice:1@20240331T0100Z ", None),
+    ("alice:1@20240331T0100z", None),
+    ("alice:1@2024-03-31T01:00Z", None),
+    // A mark would come between the bytes of a letter.
+    ("alice:1@202é331T0100Z", None),
+];
+
+#[test]
+fn names(rt: HostRuntime) -> Result<(), Fail> {
+    let table = two_jobs(rt.alloc())?;
+    let mut text = String::from_str(rt.alloc(), "called ")?;
+    write_name(&table, LAUNCH, &mut text)?;
+    assert_eq!(rt; text.as_str(), "called alice:1@20240331T0100Z");
+    for (text, name) in TEXTS {
+        assert_eq!(rt; read_name(&table, text), name, "{text}");
+    }
+    Ok(())
+}
+
+#[test]
+fn first_row_is_held_for_good(rt: HostRuntime) {
+    let launch = SchedRow {
+        name: LAUNCH,
+        kind: Kind::Launch,
+        now: Minute(28_530_780),
+        by: 1,
+    };
+    let void = SchedRow {
+        kind: Kind::Void,
+        now: Minute(28_530_800),
+        by: 2,
+        ..launch
+    };
+    let other = SchedRow {
+        name: Name { job: 1, ..LAUNCH },
+        ..void
+    };
+    let mut ledger = Ledger::new(rt.alloc());
+    assert_eq!(rt; ledger.look(LAUNCH), Ok(None));
+    assert_eq!(rt; call_by_name(&mut ledger, launch), Ok(launch));
+    assert_eq!(rt; call_by_name(&mut ledger, void), Ok(launch));
+    assert_eq!(rt; ledger.create(void), Ok(launch));
+    assert_eq!(rt; ledger.held(), [launch].as_slice());
+    assert_eq!(rt; call_by_name(&mut ledger, other), Ok(other));
+    assert_eq!(rt; ledger.look(LAUNCH), Ok(Some(launch)));
+    assert_eq!(rt; ledger.held(), [launch, other].as_slice());
+}
+
+#[test]
+fn want_of_memory_is_told(rt: HostRuntime) -> Result<(), Fail> {
+    let text = format!(in rt.alloc(); "{OutOfMemory}")?;
+    assert_eq!(rt; text.as_str(), "out of memory");
+    Ok(())
+}
+
+#[test]
+fn laws_hold(_rt: HostRuntime) {
+    names_differ_in_their_texts();
+    held_rows_stay();
+}
