@@ -1,0 +1,69 @@
+-- How the log and the rows that the scheduler holds fit together.
+use Rattle.std.specs.Prelude.{◌≡◌, ℕ, List, ◌∷◌, ◌++◌, ℤ, All, Contains}
+use Rattle.jiff.specs.Types.{TimeZone}
+use Rattle.paxos_base.specs.declared.entry.Entry.{Entry}
+use Rattle.paxos_base.specs.declared.entry.Entry.TheVariants.{Start, End}
+use Rattle.paxos_base.specs.declared.entry.Kind.{Kind}
+use Rattle.paxos_base.specs.declared.rows.JobRow.{JobRow}
+use Rattle.due_set.specs.Calls.{HasCome}
+use Rattle.due_set.specs.Table.{Job, Table, IsJobIn, IsJobDueList}
+use Rattle.cluster_sched.specs.Held.{AreNamedOnce}
+use Rattle.cluster_sched.specs.declared.row.SchedRow.{SchedRow}
+use Rattle.launch_machine.specs.Answers.{IsCallKind}
+use Rattle.launch_machine.specs.Clerk.{IsClerkOf, TakesEffect}
+use Rattle.launch_machine.specs.Starts.{StartsOf}
+
+-- an entry of the log that takes effect on what those before it left
+pub record IsEffective (table : Table) (log : List Entry) (entry : Entry) : Type 0 where
+  pub before : List Entry
+  pub after : List Entry
+  pub parts : log ≡ before ++ entry ∷ after
+  pub rows : List JobRow
+  pub clerk : IsClerkOf table before rows
+  pub takes : TakesEffect table rows entry
+
+-- a start of the job's launch takes effect
+abbrev pub HasStart : Table → List Entry → ℕ → ℤ → Type 0
+HasStart table log job at = (now : ℤ) × IsEffective table log (Start job at now)
+
+-- an end of the job's launch takes effect, and says this kind
+abbrev pub HasEnd : Table → List Entry → ℕ → ℤ → Kind → Type 0
+HasEnd table log job at kind = IsEffective table log (End job at kind)
+
+-- each entry of the log takes effect
+abbrev pub AreAllEffective : Table → List Entry → Type 0
+AreAllEffective table log =
+    (before after : List Entry) (entry : Entry) (rows : List JobRow)
+    → log ≡ before ++ entry ∷ after → IsClerkOf table before rows → TakesEffect table rows entry
+
+-- Only after its start was in the log was the launch called, at a clock at which it may be called, and the kind goes by
+-- that clock.
+pub record IsBacked (table : Table) (log : List Entry) (row : SchedRow) : Type 0 where
+  pub start : HasStart table log row.name.job row.name.at
+  pub spec : Job
+  pub zone : TimeZone
+  pub is_in : IsJobIn table row.name.job spec zone
+  pub come : HasCome spec.kind zone row.name.at row.now.0
+  pub kind : IsCallKind table row.name.job row.name.at row.now.0 row.kind
+
+-- a row of this kind is held under the launch's name
+pub record IsHeld (held : List SchedRow) (job : ℕ) (at : ℤ) (kind : Kind) : Type 0 where
+  pub row : SchedRow
+  pub among : Contains held row
+  pub of_job : row.name.job ≡ job
+  pub due_at : row.name.at ≡ at
+  pub of_kind : row.kind ≡ kind
+
+-- the instants of the job's starts that take effect, in order, are the first of its due instants, none left out
+pub record StartsInOrder (table : Table) (log : List Entry) (job : ℕ) : Type 0 where
+  pub instants : List ℤ
+  pub starts : StartsOf table log job instants
+  pub first : (dues : List ℤ) → IsJobDueList table job dues → (rest : List ℤ) × (dues ≡ instants ++ rest)
+
+-- No launch is held twice, and each that is held was started before; an end that takes effect says what is held; and no due
+-- instant is passed over.
+pub record Fits (table : Table) (log : List Entry) (held : List SchedRow) : Type 0 where
+  pub once : AreNamedOnce held
+  pub backed : All (IsBacked table log) held
+  pub ended : (job : ℕ) (at : ℤ) (kind : Kind) → HasEnd table log job at kind → IsHeld held job at kind
+  pub in_order : (job : ℕ) → StartsInOrder table log job
