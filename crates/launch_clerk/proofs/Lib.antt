@@ -1,0 +1,5 @@
+pub mod CallLemmas
+pub mod EndLemmas
+pub mod RowLemmas
+pub mod StepLemmas
+pub mod WalkLemmas

@@ -1,0 +1,139 @@
+ghost use Rattle.std.specs.Prelude.{◌≡◌, ◌<◌, [], ◌∷◌, ◌++◌, IfOk, OnOk};
+ghost use Rattle.cluster_sched.specs.Held.{Answers};
+ghost use Rattle.launch_machine.specs.Answers.{IsCallKind};
+ghost use Rattle.launch_machine.specs.Clerk.{Applies, TakesStart};
+ghost use Rattle.launch_machine.specs.Intent.{MayCall};
+ghost use Rattle.launch_machine.specs.Machine.{CanCount, StandsFor};
+ghost use Rattle.launch_machine.specs.Next.{IsLeastNext};
+ghost use Rattle.launch_clerk.specs.Walk.{IsAtWork, IsResting, steps_left};
+
+use crate::fault::OutOfMemory;
+use cluster_sched::{CallFault, Ledger, Name, SchedRow, call_by_name};
+use due_set::JobTable;
+use launch_machine::{Intent, Machine};
+use paxos_base::{Entry, EntryList, Kind};
+use std::alloc::Global;
+use zone_minutes::Minute;
+
+/// The clerk's launch table, his log, and the scheduler that he calls.
+#[derive(Debug, Drop)]
+pub struct Clerk {
+    pub machine: Machine,
+    pub log: EntryList,
+    pub ledger: Ledger,
+}
+
+impl Clerk {
+    /// A clerk who has done nothing.
+    pub fn new(alloc: Global, table: &JobTable) -> Result<Clerk, OutOfMemory>
+        ensures { IfOk result (λ clerk. IsResting table.now clerk.log clerk.machine clerk.ledger.held) }
+    {
+        // The window's limits bound the launches that are counted.
+        let _ = table.window();
+        let machine = Machine::new(alloc, table)?;
+        Ok(Clerk {
+            machine,
+            log: EntryList {
+                items: Vec::new(alloc),
+            },
+            ledger: Ledger::new(alloc),
+        })
+    }
+
+    /// Does all that is to be done at the minute at which a job is due next.
+    pub fn settle(&mut self, table: &JobTable, now: Minute) -> Result<(), OutOfMemory>
+        requires rests { IsResting table.now self.old.log self.old.machine self.old.ledger.held }
+        requires next { IsLeastNext table.now self.old.machine.rows now.0 }
+        ensures rests { OnOk result (IsResting table.now self.new.log self.new.machine self.new.ledger.held) }
+        // What is left to do grows less.
+        ensures falls { OnOk result (steps_left table.now.window self.new.machine.rows
+            < steps_left table.now.window self.old.machine.rows) }
+    {
+        loop {
+            match self.machine.choose(table, now) {
+                Intent::Rest => return Ok(()),
+                Intent::Start { job, at } => self.start(table, job, at, now)?,
+                Intent::Call { job, at, kind } => self.call(table, job, at, kind, now)?,
+            }
+        }
+    }
+
+    // Starts a launch.
+    fn start(&mut self, table: &JobTable, job: u32, at: i64, now: Minute) -> Result<(), OutOfMemory>
+        requires works { IsAtWork table.now self.old.log self.old.machine self.old.ledger.held now.0 }
+        requires takes { TakesStart table.now self.old.machine.rows job at now.0 }
+        ensures works { OnOk result (IsAtWork table.now self.new.log self.new.machine self.new.ledger.held now.0) }
+        ensures falls { OnOk result (steps_left table.now.window self.new.machine.rows
+            < steps_left table.now.window self.old.machine.rows) }
+    {
+        self.append(
+            table,
+            Entry::Start {
+                job,
+                at,
+                now: now.0,
+            },
+        )
+    }
+
+    // Calls a launch by its name, and ends it as the scheduler's answer says.
+    fn call(
+        &mut self,
+        table: &JobTable,
+        job: u32,
+        at: i64,
+        kind: Kind,
+        now: Minute,
+    ) -> Result<(), OutOfMemory>
+        requires works { IsAtWork table.now self.old.log self.old.machine self.old.ledger.held now.0 }
+        requires may { MayCall table.now self.old.machine.rows job at now.0 }
+        requires kind { IsCallKind table.now job at now.0 kind }
+        ensures works { OnOk result (IsAtWork table.now self.new.log self.new.machine self.new.ledger.held now.0) }
+        ensures falls { OnOk result (steps_left table.now.window self.new.machine.rows
+            < steps_left table.now.window self.old.machine.rows) }
+    {
+        let name = Name { job, at };
+        let first = call_ledger(
+            &mut self.ledger,
+            SchedRow {
+                name,
+                kind,
+                now,
+                by: 0,
+            },
+        )?;
+        self.append(
+            table,
+            Entry::End {
+                job,
+                at,
+                kind: first.kind,
+            },
+        )
+    }
+
+    // Appends an entry to the log, and applies it.
+    fn append(&mut self, table: &JobTable, entry: Entry) -> Result<(), OutOfMemory>
+        requires stands { StandsFor table.now self.old.machine }
+        requires room { CanCount self.old.machine.rows entry }
+        ensures log { OnOk result (self.new.log ≡ self.old.log ++ entry ∷ []) }
+        ensures applies { OnOk result (Applies table.now self.old.machine.rows entry self.new.machine.rows) }
+        ensures stands { OnOk result (StandsFor table.now self.new.machine) }
+        ensures held { self.new.ledger.held ≡ self.old.ledger.held }
+    {
+        self.log.items.push(entry)?;
+        self.machine.apply(table, entry);
+        Ok(())
+    }
+}
+
+// Calls the ledger, whose calls don't fail but for want of memory.
+fn call_ledger(ledger: &mut Ledger, row: SchedRow) -> Result<SchedRow, OutOfMemory>
+    ensures { IfOk result (λ first. Answers ledger.old.held row first ledger.new.held) }
+{
+    match call_by_name(ledger, row) {
+        Ok(first) => Ok(first),
+        Err(CallFault::OutOfMemory) => Err(OutOfMemory),
+        Err(CallFault::Failed) => unreachable!(),
+    }
+}

@@ -1,0 +1,11 @@
+//! One clerk who walks through a run's window, and makes each launch when it is due.
+#![tactic(auto)]
+
+mod clerk;
+mod fault;
+mod run;
+#[cfg(test)]
+mod tests;
+
+pub use fault::OutOfMemory;
+pub use run::{ClerkRun, run_clerk};
