@@ -1,0 +1,5 @@
+pub mod WritingLemmas
+pub mod ReportLemmas
+pub mod CountLemmas
+pub mod OrderLemmas
+pub mod OneOrder

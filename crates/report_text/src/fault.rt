@@ -1,0 +1,46 @@
+ghost use Rattle.std.specs.Prelude.{◌≡◌};
+ghost use Rattle.report_text.specs.declared.fault.ReportFault.TheVariants.{WriteFault, OutOfMemory};
+
+use cron_io::SinkFault;
+use std::alloc::AllocError;
+
+/// Why the report wasn't written whole.
+#[derive(Clone, Copy, Debug, PartialEq, Eq)]
+pub enum ReportFault {
+    /// The sink failed.
+    WriteFault,
+    /// Memory ran out.
+    OutOfMemory,
+}
+
+impl From<SinkFault> for ReportFault {
+    ghost from_gives = { λ _ e. e ≡ WriteFault };
+
+    fn from(_: SinkFault) -> Self {
+        ReportFault::WriteFault
+    }
+}
+
+impl From<AllocError> for ReportFault {
+    ghost from_gives = { λ _ e. e ≡ OutOfMemory };
+
+    fn from(_: AllocError) -> Self {
+        ReportFault::OutOfMemory
+    }
+}
+
+impl From<zone_minutes::OutOfMemory> for ReportFault {
+    ghost from_gives = { λ _ e. e ≡ OutOfMemory };
+
+    fn from(_: zone_minutes::OutOfMemory) -> Self {
+        ReportFault::OutOfMemory
+    }
+}
+
+impl From<cluster_sched::OutOfMemory> for ReportFault {
+    ghost from_gives = { λ _ e. e ≡ OutOfMemory };
+
+    fn from(_: cluster_sched::OutOfMemory) -> Self {
+        ReportFault::OutOfMemory
+    }
+}

@@ -1,0 +1,16 @@
+//! The report of a run, over the rows that a scheduler holds.
+#![tactic(auto)]
+
+mod count;
+mod fault;
+mod laws;
+mod order;
+mod report;
+mod write;
+
+pub use fault::ReportFault;
+pub use laws::a_report_says_one_text;
+pub use report::write_report;
+
+#[cfg(test)]
+mod tests;
