@@ -13,8 +13,8 @@ fn main(rt: HostRuntime) -> ExitCode {
     let end = match words(&rt) {
         Ok(words) => cron_cluster(rt.alloc(), &words, &mut source, &mut sink, &mut notes),
         Err(_) => {
-            let end = RunEnd::OUT_OF_MEMORY;
-            write_note(&mut notes, end);
+            let end = RunEnd::without_run(rt.alloc(), 5, None);
+            write_note(&mut notes, end.status, end.refusal);
             end
         }
     };

@@ -1,74 +1,60 @@
--- What the exits of the program say of its reads, and of the room of its sink.
-use Rattle.std.proofs.Common.{◌≡◌, ℕ, List, Option, Some, Result, Ok, Err, refl, sym, subst, arith}
-use Rattle.std.specs.Prelude.{IsErrAnd, IsErrOf}
-use Rattle.cron_io.specs.declared.source.ReadAllFault.{ReadAllFault}
-use Rattle.cron_io.specs.declared.source.ReadAllFault.TheVariants as reading
-use Rattle.cron_serve.specs.Complete.{HasRoomForReport, LacksRoomForReport, ServesByRoom}
-use Rattle.cron_serve.specs.Ending.{end_of}
-use Rattle.cron_serve.specs.Serve.{IsReportOfInput}
-use Rattle.cron_serve.specs.Stop.{stop_of_read, stop_of_run, stop_of_report}
-use Rattle.cron_serve.specs.Writes.{Writes}
-use Rattle.cron_serve.specs.declared.fault.ReportFault.{ReportFault}
-use Rattle.cron_serve.specs.declared.fault.ReportFault.TheVariants as report
-use Rattle.cron_serve.specs.declared.read.RunFault.{RunFault}
-use Rattle.cron_serve.specs.declared.read.RunFault.TheVariants as run
+-- When an input has to end with its report, and when it has to be refused.
+use Rattle.std.proofs.Common.{◌≡◌, ◌⊎◌, inl, inr, ℕ, ◌<◌, ◌≤◌, ◌+◌, List, ◌++◌, length, Option, Some, None, sym, ap, ◌∙◌, subst, arith, append-nil, length-append}
+use Rattle.std.specs.Io.KnownBytes.{Consumes}
+use Rattle.cron_io.specs.Faults.{Rose}
+use Rattle.cron_io.specs.Reading.{IsReadToEnd}
+use Rattle.paxos_base.specs.declared.entry.Entry.{Entry}
+use Rattle.due_set.specs.Table.{Table}
+use Rattle.cluster_sched.specs.declared.row.SchedRow.{SchedRow}
+use Rattle.cron_serve.specs.Run.{Run}
+use Rattle.cron_serve.specs.Serve.{IsRefused, IsRunOfInput}
+use Rattle.cron_serve.specs.Stop.{StopsFor, status_of}
+use Rattle.cron_serve.specs.Table.{IsTakenRun, TakesNoRun}
+use Rattle.cron_serve.specs.declared.run_end.Refusal.{Refusal}
 use Rattle.cron_serve.specs.declared.stop.Stop.{Stop}
-use Rattle.cron_serve.specs.declared.stop.Stop.TheVariants.{Refused, ReadFault, WriteFault, OutOfMemory}
+use Rattle.cron_serve.specs.declared.stop.Stop.TheVariants.{Refused, ReadFault, OutOfMemory}
 
-pub room_at_0 : (left left' written written' : Option (List ℕ)) (writes writes' : ℕ) (told tells : Option ℕ) (served : Result (Unit {0}) Stop)
-    → ServesByRoom left left' written written' writes writes' told tells served → (end_of served).status ≡ 0
-    → (room : ℕ) → told ≡ Some room → HasRoomForReport left left' written written' writes writes' room tells
-room_at_0 left left' written written' writes writes' told tells (Ok done) by_room e = by_room
-room_at_0 left left' written written' writes writes' told tells (Err (Refused refusal)) by_room e = absurd (omega arith)
-room_at_0 left left' written written' writes writes' told tells (Err ReadFault) by_room e = absurd (omega arith)
-room_at_0 left left' written written' writes writes' told tells (Err WriteFault) by_room e = absurd (omega arith)
-room_at_0 left left' written written' writes writes' told tells (Err OutOfMemory) by_room e = absurd (omega arith)
+-- no more is taken from a source than it has
+consumed : (old new : Option (List ℕ)) (bytes taken : List ℕ) → old ≡ Some bytes → Consumes old new taken → length taken ≤ length bytes
+consumed None new bytes taken told h = absurd (cc)
+consumed (Some xs) None bytes taken told h = absurd h
+consumed (Some xs) (Some ys) bytes taken told h =
+    let same : xs ≡ bytes = cc in
+    let size : length bytes ≡ length taken + length ys = ap length (sym same ∙ h) ∙ length-append taken ys in
+    omega arith
 
-pub room_at_4 : (left left' written written' : Option (List ℕ)) (writes writes' : ℕ) (told tells : Option ℕ) (served : Result (Unit {0}) Stop)
-    → ServesByRoom left left' written written' writes writes' told tells served → (end_of served).status ≡ 4
-    → (room : ℕ) → told ≡ Some room → LacksRoomForReport left left' written written' room
-room_at_4 left left' written written' writes writes' told tells (Ok done) by_room e = absurd (omega arith)
-room_at_4 left left' written written' writes writes' told tells (Err (Refused refusal)) by_room e = absurd (omega arith)
-room_at_4 left left' written written' writes writes' told tells (Err ReadFault) by_room e = absurd (omega arith)
-room_at_4 left left' written written' writes writes' told tells (Err WriteFault) by_room e = by_room
-room_at_4 left left' written written' writes writes' told tells (Err OutOfMemory) by_room e = absurd (omega arith)
+-- what is read to the end is all that the source had
+pub read_whole : (old new : Option (List ℕ)) (bytes taken : List ℕ) → old ≡ Some bytes → IsReadToEnd old new taken → taken ≡ bytes
+read_whole None new bytes taken told h = absurd (cc)
+read_whole (Some xs) None bytes taken told h = absurd h.0
+read_whole (Some xs) (Some ys) bytes taken told h =
+    let same : xs ≡ bytes = cc in
+    sym (append-nil taken) ∙ ap (λ (rest : List ℕ). taken ++ rest) (sym h.1) ∙ sym h.0 ∙ same
 
--- the exit of a `?` with a report that failed
-pub room_of_report : {T : Type 0} (left left' written written' : Option (List ℕ)) (writes writes' : ℕ) (told tells : Option ℕ) (fault : ReportFault)
-    (result : Result (Unit {0}) Stop) (text : List ℕ) → IsErrAnd result (λ stop. stop ≡ stop_of_report fault) → IsReportOfInput left left' text
-    → (let failed : Result T ReportFault = Err fault in Writes written written' writes writes' told tells failed text)
-    → ServesByRoom left left' written written' writes writes' told tells result
-room_of_report {T} left left' written written' writes writes' told tells fault (Ok value) text is report_is w = absurd is
-room_of_report {T} left left' written written' writes writes' told tells report.WriteFault (Err stop) text is report_is w =
-    subst (λ (s : Stop). ServesByRoom left left' written written' writes writes' told tells (Err s)) (sym is)
-    (λ room tells_room. record { text = text; report = report_is; front = w.front; beyond = w.beyond room tells_room refl })
-room_of_report {T} left left' written written' writes writes' told tells report.OutOfMemory (Err stop) text is report_is w =
-    subst (λ (s : Stop). ServesByRoom left left' written written' writes writes' told tells (Err s)) (sym is) tt
+-- a text that is too large is no run that is taken
+pub too_large : (bytes : List ℕ) → 1_048_576 < length bytes → TakesNoRun bytes
+too_large bytes large run taken = let short = taken.short in absurd (omega arith)
 
--- the exit of a `?` with a run that wasn't read
-pub room_of_run : (left left' written written' : Option (List ℕ)) (writes writes' : ℕ) (told tells : Option ℕ) (fault : RunFault)
-    (result : Result (Unit {0}) Stop) → IsErrAnd result (λ stop. stop ≡ stop_of_run fault) → ServesByRoom left left' written written' writes writes' told tells result
-room_of_run left left' written written' writes writes' told tells fault (Ok value) is = absurd is
-room_of_run left left' written written' writes writes' told tells run.NotARun (Err stop) is =
-    subst (λ (s : Stop). ServesByRoom left left' written written' writes writes' told tells (Err s)) (sym is) tt
-room_of_run left left' written written' writes writes' told tells run.OutOfMemory (Err stop) is =
-    subst (λ (s : Stop). ServesByRoom left left' written written' writes writes' told tells (Err s)) (sym is) tt
+-- a run that is taken isn't refused
+pub not_refused : (left left' : Option (List ℕ)) (bytes : List ℕ) (run : Run) (refusal : Refusal) → left ≡ Some bytes → IsTakenRun bytes run → IsRefused left left' refusal → ⊥
+not_refused left left' bytes run refusal told taken refused =
+    elim refused.why [
+      | inl large ↦
+          (let beyond = consumed left left' bytes large.taken.0 told large.taken.1 in
+          let size = large.taken.2 in
+          too_large bytes (omega arith) run taken)
+      | inr other ↦ subst TakesNoRun (read_whole left left' bytes other.bytes told other.read) other.no_run run taken
+    ]
 
--- the exit of a `?` with an input that wasn't read
-pub room_of_read : (left left' written written' : Option (List ℕ)) (writes writes' : ℕ) (told tells : Option ℕ) (fault : ReadAllFault)
-    (result : Result (Unit {0}) Stop) → IsErrAnd result (λ stop. stop ≡ stop_of_read fault) → ServesByRoom left left' written written' writes writes' told tells result
-room_of_read left left' written written' writes writes' told tells fault (Ok value) is = absurd is
-room_of_read left left' written written' writes writes' told tells reading.ReadFault (Err stop) is =
-    subst (λ (s : Stop). ServesByRoom left left' written written' writes writes' told tells (Err s)) (sym is) tt
-room_of_read left left' written written' writes writes' told tells reading.TooLong (Err stop) is =
-    subst (λ (s : Stop). ServesByRoom left left' written written' writes writes' told tells (Err s)) (sym is) tt
-room_of_read left left' written written' writes writes' told tells reading.OutOfMemory (Err stop) is =
-    subst (λ (s : Stop). ServesByRoom left left' written written' writes writes' told tells (Err s)) (sym is) tt
+-- a run that is taken stops only for want of memory, where no read failed
+pub stops_for_memory : (left left' : Option (List ℕ)) (reads reads' : ℕ) (stop : Stop) (status : ℕ) (bytes : List ℕ) (run : Run)
+    → status ≡ status_of stop → StopsFor left left' reads reads' stop → left ≡ Some bytes → IsTakenRun bytes run → ¬ Rose reads reads' → (status ≡ 0) ⊎ (status ≡ 5)
+stops_for_memory left left' reads reads' (Refused refusal) status bytes run is why told taken quiet = absurd (not_refused left left' bytes run refusal told taken why)
+stops_for_memory left left' reads reads' ReadFault status bytes run is why told taken quiet = absurd (quiet why)
+stops_for_memory left left' reads reads' OutOfMemory status bytes run is why told taken quiet = inr is
 
--- a read fault comes only of a read fault
-pub read_fault_of_read : (fault : ReadAllFault) (result : Result (Unit {0}) Stop) → IsErrAnd result (λ stop. stop ≡ stop_of_read fault)
-    → (fault ≡ reading.ReadFault → ⊥) → IsErrOf result ReadFault → ⊥
-read_fault_of_read fault (Ok value) is none e = absurd is
-read_fault_of_read reading.ReadFault (Err stop) is none e = none refl
-read_fault_of_read reading.TooLong (Err stop) is none e = absurd (cc)
-read_fault_of_read reading.OutOfMemory (Err stop) is none e = absurd (cc)
+-- a run that was read is taken
+pub not_others : (left left' : Option (List ℕ)) (table : Table) (log : List Entry) (held : List SchedRow) (bytes : List ℕ)
+    → IsRunOfInput left left' table log held → left ≡ Some bytes → TakesNoRun bytes → ⊥
+not_others left left' table log held bytes run told no_run =
+    no_run run.run (subst (λ (bs : List ℕ). IsTakenRun bs run.run) (read_whole left left' bytes run.bytes told run.read) run.taken)

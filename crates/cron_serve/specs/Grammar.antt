@@ -1,19 +1,15 @@
 -- Which bytes are a run file, and of which run. A relation on whole lines.
+pub use Rattle.report_text.specs.Report.{window_line}
 use Rattle.std.specs.Prelude.{◌≡◌, ◌≢◌, ◌⊎◌, ℕ, ◌<◌, ◌≤◌, List, [], ◌∷◌, ◌++◌, length, flat_map, codes, decimal}
 use Rattle.std.specs.List.{AllByRecursion, AllZip}
 use Rattle.cron_fields.specs.PlainField.{IsPlainField}
 use Rattle.cron_fields.specs.declared.field.FieldKind.{FieldKind}
 use Rattle.cron_fields.specs.declared.field.FieldKind.TheVariants.{Minute, Hour, MonthDay, Month, WeekDay}
 use Rattle.cron_fields.specs.declared.field.FieldSet.{FieldSet}
-use Rattle.zone_minutes.specs.Stamp.{stamp_text}
 use Rattle.zone_minutes.specs.Window.{IsWithinLimits}
 use Rattle.zone_minutes.specs.declared.minute.Window.{Window}
 use Rattle.cron_serve.specs.Lines.{AreLines}
 use Rattle.cron_serve.specs.Run.{Entry, Section, Run}
-
--- window STAMP STAMP
-abbrev pub window_line : Window → List ℕ
-window_line window = codes "window " ++ stamp_text window.from.0 ++ 32 ∷ stamp_text window.until.0
 
 -- grace G, in minutes
 abbrev pub grace_line : ℕ → List ℕ

@@ -1,14 +1,11 @@
 pub mod Grammar
-pub mod Launches
 pub mod Lines
-pub mod Listing
-pub mod Report
 pub mod Reading
 pub mod Run
 pub mod RunFile
-pub mod Writes
+pub mod Table
 pub mod Serve
 pub mod Stop
-pub mod Plan
-pub mod Ending
+pub mod Written
 pub mod Complete
+pub mod OverMemory

@@ -1,5 +1,5 @@
 -- The lines of a text.
-use Rattle.std.specs.Prelude.{◌≡◌, ◌≢◌, ◌⊎◌, ℕ, ◌<◌, List, [], ◌∷◌, ◌++◌, length, flat_map}
+use Rattle.std.specs.Prelude.{◌≡◌, ◌≢◌, ◌⊎◌, ℕ, ◌<◌, List, [], ◌∷◌, ◌++◌, length}
 use Rattle.std.specs.List.{AllByRecursion}
 
 -- the byte stands nowhere in the text
@@ -21,7 +21,3 @@ BeginsWithLines (line ∷ lines) text after =
 -- these are the lines of the text
 abbrev pub AreLines : List (List ℕ) → List ℕ → Type 0
 AreLines lines text = BeginsWithLines lines text []
-
--- the text of whole lines
-abbrev pub text_of_lines : List (List ℕ) → List ℕ
-text_of_lines lines = flat_map (λ line. line ++ 10 ∷ []) lines

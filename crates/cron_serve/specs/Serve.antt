@@ -1,17 +1,19 @@
 -- How the program ends, and what it leaves.
-use Rattle.std.specs.Prelude.{◌≡◌, ◌⊎◌, ℕ, ◌==◌, if◌then◌else◌, List, [], ◌∷◌, ◌++◌, Option, None, Some, codes, decimal}
+use Rattle.std.specs.Prelude.{◌≡◌, ◌⊎◌, ℕ, ◌==◌, if◌then◌else◌, List, [], ◌∷◌, ◌++◌, Option, None, Some, pos, ◌-ℤ◌, codes, decimal}
 use Rattle.std.specs.Io.KnownBytes.{Appends}
 use Rattle.cron_io.specs.Faults.{Rose}
 use Rattle.cron_io.specs.Reading.{IsReadToEnd, HasTakenCount}
 use Rattle.cron_io.specs.Writing.{HasGainedPrefix}
-use Rattle.cron_serve.specs.Launches.{JobLaunches, IsScheduled}
-use Rattle.cron_serve.specs.Report.{report_text}
+use Rattle.paxos_base.specs.declared.entry.Entry.{Entry}
+use Rattle.due_set.specs.Table.{Table}
+use Rattle.cluster_sched.specs.declared.row.SchedRow.{SchedRow}
+use Rattle.launch_law.specs.Fits.{Fits, AreAllEffective}
+use Rattle.launch_law.specs.Launched.{LaunchesEachDue}
+use Rattle.launch_law.specs.Settled.{IsSettled}
+use Rattle.report_text.specs.Report.{IsReport}
 use Rattle.cron_serve.specs.Run.{Run}
+use Rattle.cron_serve.specs.Table.{table_of, IsTakenRun, TakesNoRun}
 use Rattle.cron_serve.specs.declared.run_end.Refusal.{Refusal}
-
--- no run that is taken has this text
-abbrev pub IsNoRun : List ℕ → Type 0
-IsNoRun bytes = (run : Run) (launches : List JobLaunches) → IsScheduled bytes run launches → ⊥
 
 -- more than 1,048,576 bytes came
 pub record IsTooLarge (old new : Option (List ℕ)) (refusal : Refusal) : Type 0 where
@@ -23,7 +25,7 @@ pub record IsNotYet (old new : Option (List ℕ)) (refusal : Refusal) : Type 0 w
   pub cause : refusal.cause ≡ 35
   pub bytes : List ℕ
   pub read : IsReadToEnd old new bytes
-  pub no_run : IsNoRun bytes
+  pub no_run : TakesNoRun bytes
 
 -- why the input was refused: no line is to blame
 pub record IsRefused (old new : Option (List ℕ)) (refusal : Refusal) : Type 0 where
@@ -31,18 +33,55 @@ pub record IsRefused (old new : Option (List ℕ)) (refusal : Refusal) : Type 0 
   pub place : refusal.place ≡ 0
   pub why : IsTooLarge old new refusal ⊎ IsNotYet old new refusal
 
--- the input was read to its end, and this is the report of its launches
-pub record IsReportOfInput (old new : Option (List ℕ)) (text : List ℕ) : Type 0 where
+-- The log and the rows that the ledger holds are those of a run of these jobs, up to the last minute of the window.
+pub record IsWholeRun (table : Table) (log : List Entry) (held : List SchedRow) : Type 0 where
+  -- no launch is held twice, each was started before, and the log's ends say what is held
+  pub fits : Fits table log held
+  -- nothing in the log is ignored
+  pub effective : AreAllEffective table log
+  -- nothing is left to do
+  pub settled : IsSettled table log (table.window.until.0 -ℤ pos 1)
+  -- each due instant is launched, and nothing else
+  pub launched : LaunchesEachDue table held
+
+-- the input was read to its end and is a run that is taken, of these jobs, with this log and these rows
+pub record IsRunOfInput (old new : Option (List ℕ)) (table : Table) (log : List Entry) (held : List SchedRow) : Type 0 where
   pub bytes : List ℕ
   pub read : IsReadToEnd old new bytes
   pub run : Run
-  pub launches : List JobLaunches
-  pub scheduled : IsScheduled bytes run launches
-  pub text_is : text ≡ report_text run.window launches
+  pub taken : IsTakenRun bytes run
+  pub table_is : table ≡ table_of run
+  pub whole : IsWholeRun table log held
+
+-- the input is such a run, and this is the report of its rows: there is one replica
+pub record IsReportOfInput (old new : Option (List ℕ)) (log : List Entry) (held : List SchedRow) (text : List ℕ) : Type 0 where
+  pub table : Table
+  pub run : IsRunOfInput old new table log held
+  pub report : IsReport table 1 held text
+
+-- the report of the input was written
+abbrev pub WritesReport : (left left' written written' : Option (List ℕ)) → List Entry → List SchedRow → Type 0
+WritesReport left left' written written' log held =
+    (text : List ℕ) × IsReportOfInput left left' log held text × Appends written written' text
+
+-- a front of the report of the input was written
+abbrev pub WritesSome : (left left' written written' : Option (List ℕ)) → List Entry → List SchedRow → Type 0
+WritesSome left left' written written' log held =
+    (text : List ℕ) × IsReportOfInput left left' log held text × HasGainedPrefix written written' text
+
+-- a front of the report of some run of the input was written
+abbrev pub WritesSomeOfRun : (left left' written written' : Option (List ℕ)) → Type 0
+WritesSomeOfRun left left' written written' =
+    (log : List Entry) × (held : List SchedRow) × WritesSome left left' written written' log held
 
 -- a sink gained nothing
 abbrev pub GainsNothing : Option (List ℕ) → Option (List ℕ) → Type 0
 GainsNothing old new = Appends old new []
+
+-- there is no log, and nothing is held
+pub record LeavesNoRun (log : List Entry) (held : List SchedRow) : Type 0 where
+  pub no_entry : log ≡ []
+  pub no_row : held ≡ []
 
 -- the note of a refusal
 abbrev pub refusal_note : Refusal → List ℕ

@@ -1,13 +1,14 @@
--- Which stop a fault of a part leads to.
-use Rattle.std.specs.Prelude.{ℕ}
+-- Which stop a fault of a part leads to, and the end that a stop leads to.
+use Rattle.std.specs.Prelude.{ℕ, List, Option, None, Some, ⊤}
+use Rattle.cron_io.specs.Faults.{Rose}
 use Rattle.cron_io.specs.declared.source.ReadAllFault.{ReadAllFault}
 use Rattle.cron_io.specs.declared.source.ReadAllFault.TheVariants as reading
-use Rattle.cron_serve.specs.declared.fault.ReportFault.{ReportFault}
-use Rattle.cron_serve.specs.declared.fault.ReportFault.TheVariants as report
+use Rattle.cron_serve.specs.Serve.{IsRefused}
 use Rattle.cron_serve.specs.declared.read.RunFault.{RunFault}
 use Rattle.cron_serve.specs.declared.read.RunFault.TheVariants as run
+use Rattle.cron_serve.specs.declared.run_end.Refusal.{Refusal}
 use Rattle.cron_serve.specs.declared.stop.Stop.{Stop}
-use Rattle.cron_serve.specs.declared.stop.Stop.TheVariants.{Refused, ReadFault, WriteFault, OutOfMemory}
+use Rattle.cron_serve.specs.declared.stop.Stop.TheVariants.{Refused, ReadFault, OutOfMemory}
 
 abbrev pub refused_for : ℕ → Stop
 refused_for cause = Refused (record { line = 0; cause = cause; place = 0 })
@@ -21,6 +22,20 @@ abbrev pub stop_of_run : RunFault → Stop
 stop_of_run run.NotARun = refused_for 35
 stop_of_run run.OutOfMemory = OutOfMemory
 
-abbrev pub stop_of_report : ReportFault → Stop
-stop_of_report report.WriteFault = WriteFault
-stop_of_report report.OutOfMemory = OutOfMemory
+-- the status of a stop
+abbrev pub status_of : Stop → ℕ
+status_of (Refused refusal) = 2
+status_of ReadFault = 3
+status_of OutOfMemory = 5
+
+-- the refusal, where it is one
+abbrev pub refusal_of : Stop → Option Refusal
+refusal_of (Refused refusal) = Some refusal
+refusal_of ReadFault = None
+refusal_of OutOfMemory = None
+
+-- why the program stopped: the input was refused, a read failed, or memory ran out
+abbrev pub StopsFor : (left left' : Option (List ℕ)) (reads reads' : ℕ) → Stop → Type 0
+StopsFor left left' reads reads' (Refused refusal) = IsRefused left left' refusal
+StopsFor left left' reads reads' ReadFault = Rose reads reads'
+StopsFor left left' reads reads' OutOfMemory = ⊤

@@ -1,22 +1,15 @@
 //! A run, from its file to its report.
 #![tactic(auto)]
 
-mod due;
 mod entry;
-mod fault;
-mod job;
 mod lines;
 mod note;
-#[cfg(test)]
-mod plain;
-mod plan;
 mod read;
-mod report;
 mod run;
 mod run_end;
-mod schedule;
 mod serve;
 mod stop;
+mod table;
 mod words;
 
 pub use note::write_note;

@@ -1,7 +1,7 @@
 ghost use Rattle.std.specs.Prelude.{◌≡◌};
 ghost use Rattle.cron_serve.specs.Serve.{refusal_note, status_note, note_text, IsNoted};
 
-use crate::run_end::{Refusal, RunEnd};
+use crate::run_end::Refusal;
 use arrayvec::ArrayString;
 use cron_io::{Sink, write_all};
 use itoa::Buffer;
@@ -45,13 +45,14 @@ fn write_text<E: Sink>(notes: &mut E, text: &str)
     let _ = write_all(notes, text.as_bytes());
 }
 
-/// Writes the note that goes with an end, where it has one. It takes no memory, and a fault changes nothing of the end.
-pub fn write_note<E: Sink>(notes: &mut E, end: RunEnd)
+/// Writes the note that goes with a status, or with its refusal where there is one. It takes no memory, and a fault
+/// changes nothing of the end.
+pub fn write_note<E: Sink>(notes: &mut E, status: u8, refusal: Option<Refusal>)
     ensures { IsNoted (E.written notes.old) (E.written notes.new) (E.faults notes.old) (E.faults notes.new)
-        (note_text end.status end.refusal) }
+        (note_text status refusal) }
 {
-    match end.refusal {
+    match refusal {
         Some(refusal) => write_text(notes, refusal_note(refusal).as_str()),
-        None => write_text(notes, status_note(end.status)),
+        None => write_text(notes, status_note(status)),
     }
 }

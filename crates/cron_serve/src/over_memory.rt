@@ -1,9 +1,8 @@
 // A caller over memory, where only want of memory can stand between a run and its report.
-ghost use Rattle.std.specs.Prelude.{◌≡◌, ◌⊎◌, ◌<◌, ◌≤◌, List, length, IfOk};
-ghost use Rattle.cron_serve.specs.Launches.{JobLaunches, IsScheduled};
-ghost use Rattle.cron_serve.specs.Report.{report_text};
+ghost use Rattle.std.specs.Prelude.{◌≡◌, ◌⊎◌, IfOk};
+ghost use Rattle.cron_serve.specs.OverMemory.{FitsRoom, IsBeyondRoom};
 ghost use Rattle.cron_serve.specs.Run.{Run};
-ghost use Rattle.cron_serve.specs.Serve.{IsNoRun};
+ghost use Rattle.cron_serve.specs.Table.{IsTakenRun, TakesNoRun};
 
 use crate::cron_cluster;
 use cron_io::{MemSink, MemSource, OutOfMemory};
@@ -17,11 +16,11 @@ fn status_in_memory(
     room: u32,
     notes: &mut MemSink,
 ) -> Result<u8, OutOfMemory>
-    ensures fits { IfOk result (λ status. (run : Run) (launches : List JobLaunches) → IsScheduled bytes.items run launches →
-        length (report_text run.window launches) ≤ room → (status ≡ 0) ⊎ (status ≡ 5)) }
-    ensures exceeds { IfOk result (λ status. (run : Run) (launches : List JobLaunches) → IsScheduled bytes.items run launches →
-        room < length (report_text run.window launches) → (status ≡ 4) ⊎ (status ≡ 5)) }
-    ensures refused { IfOk result (λ status. IsNoRun bytes.items → (status ≡ 2) ⊎ (status ≡ 5)) }
+    ensures fits { IfOk result (λ status. (run : Run) → IsTakenRun bytes.items run → FitsRoom run room
+        → (status ≡ 0) ⊎ (status ≡ 5)) }
+    ensures exceeds { IfOk result (λ status. (run : Run) → IsTakenRun bytes.items run → IsBeyondRoom run room
+        → (status ≡ 4) ⊎ (status ≡ 5)) }
+    ensures refused { IfOk result (λ status. TakesNoRun bytes.items → (status ≡ 2) ⊎ (status ≡ 5)) }
 {
     let mut source = MemSource::new(bytes, Vec::new(alloc));
     let mut sink = MemSink::new(alloc, room, Vec::new(alloc))?;

@@ -12,7 +12,7 @@ use crate::lines::{after_line, next_line};
 use crate::run::{EntryText, RunFile, SectionText};
 use crate::words::{is_label, read_number};
 use std::alloc::{AllocError, AllocFailed, Global};
-use zone_minutes::{Window, read_stamp};
+use zone_minutes::{Window, ZoneFault, read_stamp};
 
 // 1971-01-01T00:00Z, in minutes.
 const EARLIEST: i64 = 525_600;
@@ -53,6 +53,27 @@ impl<T: Drop> From<AllocFailed<T>> for RunFault {
     ghost from_gives = { λ _ e. e ≡ OutOfMemory };
 
     fn from(_error: AllocFailed<T>) -> RunFault {
+        RunFault::OutOfMemory
+    }
+}
+
+impl From<due_set::OutOfMemory> for RunFault {
+    ghost use Rattle.cron_serve.specs.declared.read.RunFault.TheVariants.{OutOfMemory};
+
+    ghost from_gives = { λ _ e. e ≡ OutOfMemory };
+
+    fn from(_error: due_set::OutOfMemory) -> RunFault {
+        RunFault::OutOfMemory
+    }
+}
+
+impl From<ZoneFault> for RunFault {
+    ghost use Rattle.cron_serve.specs.declared.read.RunFault.TheVariants.{OutOfMemory};
+
+    ghost from_gives = { λ _ e. e ≡ OutOfMemory };
+
+    fn from(error: ZoneFault) -> RunFault {
+        let ZoneFault::OutOfMemory = error;
         RunFault::OutOfMemory
     }
 }

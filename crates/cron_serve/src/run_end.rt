@@ -1,3 +1,10 @@
+ghost use Rattle.std.specs.Prelude.{◌≡◌};
+ghost use Rattle.cron_serve.specs.Serve.{LeavesNoRun};
+
+use cluster_sched::Ledger;
+use paxos_base::EntryList;
+use std::alloc::Global;
+
 /// Why an input was refused.
 #[derive(Clone, Copy, Debug, PartialEq, Eq)]
 pub struct Refusal {
@@ -9,20 +16,34 @@ pub struct Refusal {
     pub place: u32,
 }
 
-/// How the program ended.
-#[derive(Clone, Copy, Debug, PartialEq, Eq)]
+/// How the program ended, and what it leaves.
+#[derive(Debug, Drop)]
 pub struct RunEnd {
     /// The exit status: 0 for a report that was written whole, 1 for a faulty command line, 2 for an input that was
     /// refused, 3 for a read fault, 4 for a write fault, 5 for want of memory.
     pub status: u8,
     /// Why the input was refused, at status 2.
     pub refusal: Option<Refusal>,
+    /// The launch starts and ends of the run, in order, at status 0 and 4. Otherwise there are none.
+    pub log: EntryList,
+    /// What the scheduler holds after the run, at status 0 and 4. Otherwise it is empty.
+    pub ledger: Ledger,
 }
 
 impl RunEnd {
-    /// The end for want of memory.
-    pub const OUT_OF_MEMORY: RunEnd = RunEnd {
-        status: 5,
-        refusal: None,
-    };
+    /// The end of a program that leaves no run.
+    pub fn without_run(alloc: Global, status: u8, refusal: Option<Refusal>) -> RunEnd
+        ensures status { result.status ≡ status }
+        ensures refusal { result.refusal ≡ refusal }
+        ensures no_run { LeavesNoRun result.log result.ledger.held }
+    {
+        RunEnd {
+            status,
+            refusal,
+            log: EntryList {
+                items: Vec::new(alloc),
+            },
+            ledger: Ledger::new(alloc),
+        }
+    }
 }

@@ -1,58 +1,120 @@
-ghost use Rattle.std.specs.Prelude.{◌≡◌, ◌⊎◌, ◌↔◌, ◌≢◌, ◌<◌, ◌≤◌, List, ℕ, length, Some, None, IsSome, IsSomeAnd, IsErrOf};
-ghost use Rattle.std.specs.Io.KnownBytes.{Appends};
+ghost use Rattle.std.specs.Prelude.{◌≡◌, ◌⊎◌, ◌↔◌, ◌≢◌, ◌<◌, ◌≤◌, List, ℕ, length, Some, None, IsSome, IsSomeAnd, IfOk, IfErr, IsErrOf, All};
 ghost use Rattle.cron_io.specs.Faults.{Rose};
 ghost use Rattle.cron_io.specs.Reading.{StaysReliable};
-ghost use Rattle.cron_io.specs.Writing.{HasGainedPrefix};
-ghost use Rattle.cron_serve.specs.Complete.{CompletesRun, RefusesOthers, HasRoomForReport, LacksRoomForReport, ServesByRoom};
-ghost use Rattle.cron_serve.specs.Ending.{Serves, WritesSome, end_of};
-ghost use Rattle.cron_serve.specs.Serve.{IsRefused, IsReportOfInput, GainsNothing, note_text, IsNoted};
+ghost use Rattle.cluster_sched.specs.Names.{IsNameIn};
+ghost use Rattle.report_text.specs.Report.{IsReport};
+ghost use Rattle.cron_serve.specs.Complete.{CompletesRun, RefusesOthers, HasRoomForReport, LacksRoomForReport};
+ghost use Rattle.cron_serve.specs.Serve.{IsRefused, IsRunOfInput, WritesReport, WritesSome, WritesSomeOfRun, GainsNothing, LeavesNoRun, note_text, IsNoted};
+ghost use Rattle.cron_serve.specs.Stop.{StopsFor};
+ghost use Rattle.cron_serve.specs.Written.{WritesAtStatus};
 
 use crate::note::write_note;
-use crate::plan::take_plan;
-use crate::report::write_report;
 use crate::run_end::RunEnd;
-use crate::schedule::schedule;
 use crate::stop::Stop;
+use crate::table::take_table;
 use cron_io::{Sink, Source, read_all};
+use due_set::JobTable;
+use launch_clerk::{ClerkRun, run_clerk};
+use report_text::{ReportFault, write_report};
 use std::alloc::Global;
 
 /// The most bytes of an input.
 const MAX_INPUT: u32 = 1_048_576;
 
-// Reads a run and writes its report.
-fn serve<S: Source, K: Sink>(alloc: Global, source: &mut S, sink: &mut K) -> Result<(), Stop>
-    ensures served { Serves (S.left source.old) (S.left source.new) (S.faults source.old) (S.faults source.new)
-        (K.written sink.old) (K.written sink.new) (K.faults sink.old) (K.faults sink.new) result }
+/// There is one replica so far.
+const REPLICAS: u8 = 1;
+
+// A run that was read, with the table of its jobs, and what the clerk left.
+#[derive(Debug, Drop)]
+struct Walked {
+    table: JobTable,
+    run: ClerkRun,
+}
+
+// Reads a run, and lets the clerk walk through it.
+fn walk<S: Source>(alloc: Global, source: &mut S) -> Result<Walked, Stop>
+    ensures run { IfOk result (λ walked. IsRunOfInput (S.left source.old) (S.left source.new)
+        walked.table walked.run.log walked.run.ledger.held) }
+    ensures stop { IfErr result (StopsFor (S.left source.old) (S.left source.new) (S.faults source.old) (S.faults source.new)) }
+    ensures no_read_fault { S.reliable source.old → IsErrOf result Stop.ReadFault → ⊥ }
     ensures reliable { S.reliable source.old →
         StaysReliable (S.faults source.old) (S.faults source.new) (S.reliable source.new) }
-    ensures no_read_fault { S.reliable source.old → IsErrOf result Stop.ReadFault → ⊥ }
-    ensures by_room { ServesByRoom (S.left source.old) (S.left source.new) (K.written sink.old) (K.written sink.new)
-        (K.faults sink.old) (K.faults sink.new) (K.room sink.old) (K.room sink.new) result }
 {
     let bytes = read_all(alloc, source, MAX_INPUT)?;
-    let plan = take_plan(alloc, &bytes)?;
-    let schedules = schedule(alloc, plan.window, &plan.jobs)?;
-    write_report(alloc, sink, plan.window, &schedules)?;
-    Ok(())
+    let table = take_table(alloc, &bytes)?;
+    let run = run_clerk(alloc, &table)?;
+    Ok(Walked { table, run })
 }
 
-// The end of the program that a stop leads to.
-fn end_of(served: Result<(), Stop>) -> RunEnd
-    ensures { result ≡ end_of served }
+// Writes the report of a run.
+fn report<K: Sink>(alloc: Global, sink: &mut K, walked: Walked) -> RunEnd
+    requires { All (λ row. IsNameIn walked.table row.name) walked.run.ledger.held }
+    ensures text { (text : List ℕ) × IsReport walked.table 1 walked.run.ledger.held text
+        × WritesAtStatus (K.written sink.old) (K.written sink.new) (K.faults sink.old) (K.faults sink.new)
+        (K.room sink.old) (K.room sink.new) result.status text }
+    ensures log { result.status ≢ 5 → result.log ≡ walked.run.log }
+    ensures held { result.status ≢ 5 → result.ledger.held ≡ walked.run.ledger.held }
+    ensures no_run { result.status ≡ 5 → LeavesNoRun result.log result.ledger.held }
+    ensures refusal { result.refusal ≡ None }
+    ensures statuses { (result.status ≡ 0) ⊎ (result.status ≡ 4) ⊎ (result.status ≡ 5) }
 {
-    let (status, refusal) = match served {
-        Ok(()) => (0, None),
-        Err(Stop::Refused(refusal)) => (2, Some(refusal)),
-        Err(Stop::ReadFault) => (3, None),
-        Err(Stop::WriteFault) => (4, None),
-        Err(Stop::OutOfMemory) => (5, None),
+    let status = match write_report(
+        alloc,
+        sink,
+        &walked.table,
+        REPLICAS,
+        walked.run.ledger.held(),
+    ) {
+        Ok(()) => 0,
+        Err(ReportFault::WriteFault) => 4,
+        Err(ReportFault::OutOfMemory) => return RunEnd::without_run(alloc, 5, None),
     };
-    RunEnd { status, refusal }
+    RunEnd {
+        status,
+        refusal: None,
+        log: walked.run.log,
+        ledger: walked.run.ledger,
+    }
 }
 
-/// Reads a run file from the source, and writes to the sink the report of its launches: each job of the run is launched
-/// at each instant of the window at which it is due. The program takes no words so far. A note of what went wrong goes to
-/// `notes`.
+// Reads a run, lets the clerk walk through it and writes its report.
+fn serve<S: Source, K: Sink>(alloc: Global, source: &mut S, sink: &mut K) -> RunEnd
+    ensures report { result.status ≡ 0 → WritesReport (S.left source.old) (S.left source.new)
+        (K.written sink.old) (K.written sink.new) result.log result.ledger.held }
+    ensures words { result.status ≢ 1 }
+    ensures refused { result.status ≡ 2 → IsSomeAnd result.refusal (IsRefused (S.left source.old) (S.left source.new)) }
+    ensures refusal { IsSome result.refusal ↔ (result.status ≡ 2) }
+    ensures read_fault { result.status ≡ 3 → Rose (S.faults source.old) (S.faults source.new) }
+    ensures write_fault { result.status ≡ 4 → Rose (K.faults sink.old) (K.faults sink.new) }
+    ensures front { result.status ≡ 4 → WritesSome (S.left source.old) (S.left source.new)
+        (K.written sink.old) (K.written sink.new) result.log result.ledger.held }
+    ensures memory { result.status ≡ 5 → GainsNothing (K.written sink.old) (K.written sink.new)
+        ⊎ WritesSomeOfRun (S.left source.old) (S.left source.new) (K.written sink.old) (K.written sink.new) }
+    ensures nothing { (1 ≤ result.status) → (result.status ≤ 3) → GainsNothing (K.written sink.old) (K.written sink.new) }
+    ensures no_run { result.status ≢ 0 → result.status ≢ 4 → LeavesNoRun result.log result.ledger.held }
+    ensures complete { CompletesRun (S.left source.old) (S.faults source.old) (S.faults source.new)
+        (K.faults sink.old) (K.faults sink.new) result.status }
+    ensures refused_if { RefusesOthers (S.left source.old) (S.faults source.old) (S.faults source.new) result.status }
+    ensures no_read_fault { S.reliable source.old → result.status ≢ 3 }
+    ensures reliable_source { S.reliable source.old →
+        StaysReliable (S.faults source.old) (S.faults source.new) (S.reliable source.new) }
+    ensures fits { result.status ≡ 0 → (room : ℕ) → K.room sink.old ≡ Some room →
+        HasRoomForReport (S.left source.old) (S.left source.new) (K.written sink.old) (K.written sink.new)
+        result.log result.ledger.held (K.faults sink.old) (K.faults sink.new) room (K.room sink.new) }
+    ensures exceeds { result.status ≡ 4 → (room : ℕ) → K.room sink.old ≡ Some room →
+        LacksRoomForReport (S.left source.old) (S.left source.new) (K.written sink.old) (K.written sink.new)
+        result.log result.ledger.held room }
+    ensures statuses { result.status ≤ 5 }
+{
+    match walk(alloc, source) {
+        Ok(walked) => report(alloc, sink, walked),
+        Err(stop) => stop.end(alloc),
+    }
+}
+
+/// Reads a run file from the source, and writes to the sink the report of its launches. One clerk walks through the run's
+/// window, minute by minute: he writes each start of a launch into a log before he calls the launch by its name, and its end
+/// as the scheduler's ledger says. The program takes no words so far. A note of what went wrong goes to `notes`.
 pub fn cron_cluster<S: Source, K: Sink, E: Sink>(
     alloc: Global,
     words: &[String],
@@ -60,9 +122,10 @@ pub fn cron_cluster<S: Source, K: Sink, E: Sink>(
     sink: &mut K,
     notes: &mut E,
 ) -> RunEnd
-    // Status 0: the input was read to its end, and the sink gained the report of its launches.
-    ensures report { result.status ≡ 0 → (text : List ℕ) × IsReportOfInput (S.left source.old) (S.left source.new) text
-        × Appends (K.written sink.old) (K.written sink.new) text }
+    // Status 0: the input was read to its end, the log and the ledger are those of its run, each due instant launched once and
+    // nothing left to do, and the sink gained the report of the ledger.
+    ensures report { result.status ≡ 0 → WritesReport (S.left source.old) (S.left source.new)
+        (K.written sink.old) (K.written sink.new) result.log result.ledger.held }
 
     // Status 1: there is a word.
     ensures usage { (result.status ≡ 1) ↔ (0 < length words.now) }
@@ -71,15 +134,17 @@ pub fn cron_cluster<S: Source, K: Sink, E: Sink>(
     ensures refused { result.status ≡ 2 → IsSomeAnd result.refusal (IsRefused (S.left source.old) (S.left source.new)) }
     ensures refusal { IsSome result.refusal ↔ (result.status ≡ 2) }
 
-    // Status 3 and 4: a read or a write failed.
+    // Status 3 and 4: a read or a write failed. At 4 the log and the ledger are those of the run too.
     ensures read_fault { result.status ≡ 3 → Rose (S.faults source.old) (S.faults source.new) }
     ensures write_fault { result.status ≡ 4 → Rose (K.faults sink.old) (K.faults sink.new) }
+    ensures front { result.status ≡ 4 → WritesSome (S.left source.old) (S.left source.new)
+        (K.written sink.old) (K.written sink.new) result.log result.ledger.held }
 
-    // What is written in the other cases.
-    ensures front { result.status ≡ 4 → WritesSome (S.left source.old) (S.left source.new) (K.written sink.old) (K.written sink.new) }
+    // What is written and what is left in the other cases.
     ensures memory { result.status ≡ 5 → GainsNothing (K.written sink.old) (K.written sink.new)
-        ⊎ WritesSome (S.left source.old) (S.left source.new) (K.written sink.old) (K.written sink.new) }
+        ⊎ WritesSomeOfRun (S.left source.old) (S.left source.new) (K.written sink.old) (K.written sink.new) }
     ensures nothing { (1 ≤ result.status) → (result.status ≤ 3) → GainsNothing (K.written sink.old) (K.written sink.new) }
+    ensures no_run { result.status ≢ 0 → result.status ≢ 4 → LeavesNoRun result.log result.ledger.held }
 
     // A run that is taken ends with its report, and any other input is refused, where no call failed and memory lasts.
     ensures complete { length words.now ≡ 0 → CompletesRun (S.left source.old) (S.faults source.old) (S.faults source.new)
@@ -95,9 +160,10 @@ pub fn cron_cluster<S: Source, K: Sink, E: Sink>(
     // Where the sink tells its room, status 0 comes only where the report fits it, and status 4 only where it doesn't.
     ensures fits { result.status ≡ 0 → (room : ℕ) → K.room sink.old ≡ Some room →
         HasRoomForReport (S.left source.old) (S.left source.new) (K.written sink.old) (K.written sink.new)
-        (K.faults sink.old) (K.faults sink.new) room (K.room sink.new) }
+        result.log result.ledger.held (K.faults sink.old) (K.faults sink.new) room (K.room sink.new) }
     ensures exceeds { result.status ≡ 4 → (room : ℕ) → K.room sink.old ≡ Some room →
-        LacksRoomForReport (S.left source.old) (S.left source.new) (K.written sink.old) (K.written sink.new) room }
+        LacksRoomForReport (S.left source.old) (S.left source.new) (K.written sink.old) (K.written sink.new)
+        result.log result.ledger.held room }
 
     // Status 5, for want of memory, is the last.
     ensures statuses { result.status ≤ 5 }
@@ -105,13 +171,10 @@ pub fn cron_cluster<S: Source, K: Sink, E: Sink>(
         (note_text result.status result.refusal) }
 {
     let end = if words.is_empty() {
-        end_of(serve(alloc, source, sink))
+        serve(alloc, source, sink)
     } else {
-        RunEnd {
-            status: 1,
-            refusal: None,
-        }
+        RunEnd::without_run(alloc, 1, None)
     };
-    write_note(notes, end);
+    write_note(notes, end.status, end.refusal);
     end
 }

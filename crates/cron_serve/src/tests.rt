@@ -1,8 +1,10 @@
 //! Whole runs, from the bytes of a run file to the report and the note.
 use crate::{RunEnd, cron_cluster};
 use cron_io::{MemSink, MemSource};
+use paxos_base::{Entry, Kind};
 use std::alloc::Global;
 use std::test::Fail;
+use zone_minutes::Minute;
 
 const THREE_LAUNCHES: &str = "cronrun 1
 replicas 1
@@ -247,6 +249,61 @@ fn faults_are_told(rt: HostRuntime) -> Result<(), Fail> {
         assert_eq!(rt; left.end.status, status);
         assert_eq!(rt; left.report.bytes(), report.as_bytes());
         assert_eq!(rt; left.notes.bytes(), note.as_bytes());
+    }
+    Ok(())
+}
+
+// 2024-03-31T00:00Z.
+const FROM: i64 = 28_530_720;
+
+// The start of a launch of the only job, at a minute of the hour.
+fn start(minute: u8) -> Entry {
+    let at = FROM + i64::from(minute);
+    Entry::Start {
+        job: 0,
+        at,
+        now: at,
+    }
+}
+
+// The end of a launch of the only job.
+fn end(minute: u8) -> Entry {
+    Entry::End {
+        job: 0,
+        at: FROM + i64::from(minute),
+        kind: Kind::Launch,
+    }
+}
+
+#[test]
+fn the_log_and_the_ledger_are_left(rt: HostRuntime) -> Result<(), Fail> {
+    let left = run(rt.alloc(), THREE_LAUNCHES.as_bytes(), &[], &NO_FAULTS)?;
+    let log = [start(0), end(0), start(20), end(20), start(40), end(40)];
+    assert_eq!(rt; left.end.log.items.as_slice(), log.as_slice());
+    let held = left.end.ledger.held();
+    assert_eq!(rt; held.len(), 3);
+    for row in held {
+        assert_eq!(rt; row.name.job, 0);
+        assert_eq!(rt; row.now, Minute(row.name.at));
+        assert_eq!(rt; row.kind, Kind::Launch);
+    }
+    Ok(())
+}
+
+#[test]
+fn a_run_is_left_only_where_its_report_was_begun(rt: HostRuntime) -> Result<(), Fail> {
+    for (reads, writes, entries) in [
+        ([].as_slice(), [1].as_slice(), 6),
+        ([0].as_slice(), [].as_slice(), 0),
+    ] {
+        let faults = Faults {
+            reads,
+            writes,
+            notes: &[],
+        };
+        let left = run(rt.alloc(), THREE_LAUNCHES.as_bytes(), &[], &faults)?;
+        assert_eq!(rt; left.end.log.items.len(), entries);
+        assert_eq!(rt; left.end.ledger.held().is_empty(), entries == 0);
     }
     Ok(())
 }

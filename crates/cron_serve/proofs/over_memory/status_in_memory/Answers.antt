@@ -10,7 +10,7 @@ returns c =
     let sink = c.in_ok-sink.ensures in
     let sure = source.fails ∙ c.new.ensures.items in
     let told = ap (λ fails. room_unless fails c.in_ok-sink.sink.room) (sink.fails ∙ c.new-2.ensures.items) ∙ ap Some sink.room in
-    let over_memory : EndsOverMemory _ _ _ _ _ _ _ _ c.args.bytes.items c.args.room c.cron_cluster-end.result.status c.cron_cluster-end.result.refusal = record {
+    let over_memory : EndsOverMemory _ _ _ _ c.cron_cluster-end.result.log c.cron_cluster-end.result.ledger.held _ _ _ _ c.args.bytes.items c.args.room c.cron_cluster-end.result.status c.cron_cluster-end.result.refusal = record {
       has = ap Some source.left;
       has_room = told;
       last = ends.statuses;
@@ -21,7 +21,7 @@ returns c =
       exceeds = ends.exceeds;
     } in
     record {
-      fits = λ run launches. ends_whole _ _ _ _ _ _ _ _ _ _ _ _ run launches over_memory;
-      exceeds = λ run launches. ends_cut _ _ _ _ _ _ _ _ _ _ _ _ run launches over_memory;
+      fits = λ run taken. ends_whole _ _ _ _ _ _ _ _ _ _ _ _ _ _ over_memory run taken;
+      exceeds = λ run taken. ends_cut _ _ _ _ _ _ _ _ _ _ _ _ _ _ over_memory run taken;
       refused = λ no_run. ends.refused_if (omega arith) _ (ap Some source.left) no_run (not_risen _ _ (ends.reliable_source sure).quiet source.faults);
     }
