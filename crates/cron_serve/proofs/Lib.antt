@@ -7,6 +7,7 @@ pub mod JobTableLemmas
 pub mod LimitLemmas
 pub mod LineLemmas
 pub mod ListLemmas
+pub mod ListingLemmas
 pub mod NumberLemmas
 pub mod OverMemoryLemmas
 pub mod PhraseLemmas

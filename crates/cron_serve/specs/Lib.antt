@@ -9,3 +9,4 @@ pub mod Stop
 pub mod Written
 pub mod Complete
 pub mod OverMemory
+pub mod Listing

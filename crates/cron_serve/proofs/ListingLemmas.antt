@@ -1,0 +1,167 @@
+-- The rows of a job in a report's order are its due instants in order.
+use Rattle.std.proofs.Common.{◌≡◌, ◌≢◌, inl, inr, ℕ, suc, ◌<◌, Bool, true, false, cond, ◌&&◌, ◌==◌, List, [], ◌∷◌, get_or, length, map, sym, ap, ◌∙◌, subst, arith, ℤ, pos, ◌<ℤ◌, Decides}
+use Rattle.std.specs.Prelude.{All, AllPairs, Contains, filter, ◌≤ℤ◌}
+use Rattle.std.specs.List.Sorted.{IsPermutation}
+use Rattle.std.specs.Ordering.{int_eq}
+use Rattle.std.proofs.Math.ListN.{get_or-map}
+use Rattle.std.proofs.lemmas.Bool.{eqb-true, eq-eqb}
+use Rattle.std.proofs.lemmas.Bool.Decides.{Decides-and, Decides-eqb, Decides-int_eq, Decides-like, same_from_decides}
+use Rattle.std.proofs.lemmas.Int.{ints}
+use Rattle.std.proofs.lemmas.List.{length-map}
+use Rattle.std.proofs.lemmas.List.Elements.{All-contains, All-contains_itself, All-filter, All-map, All-head, All-tail, filter_passes, recursion_from_All}
+use Rattle.std.proofs.lemmas.List.Kept.{AllPairs-filter}
+use Rattle.std.proofs.lemmas.List.Sorted.{IsPermutation-map, IsPermutation-sym, Contains-permutation}
+use Rattle.std.proofs.lemmas.Map.Keys.{IsDistinct-IsPermutation}
+use Rattle.std.proofs.lemmas.Map.Made.{AllPairs-from_IsDistinct, IsDistinct-from_AllPairs}
+use Rattle.due_set.specs.Due.{IsRising}
+use Rattle.due_set.specs.Table.{Table, IsJobDue, IsJobDueList}
+use Rattle.due_set.proofs.Rising.{Contains-head, Contains-tail, Contains-cases, Contains-none}
+use Rattle.paxos_base.specs.declared.entry.Kind.TheVariants.{Launch}
+use Rattle.cluster_sched.specs.Held.{AreNamedOnce}
+use Rattle.cluster_sched.specs.declared.row.Name.{Name}
+use Rattle.cluster_sched.specs.declared.row.SchedRow.{SchedRow}
+use Rattle.launch_law.specs.Launched.{LaunchesEachDue}
+use Rattle.report_text.specs.Report.{IsInOrder, IsNotAfter}
+use Rattle.cron_serve.specs.Listing.{instants_of}
+
+same_name : (a b : Name) → a.job ≡ b.job → a.at ≡ b.at → a ≡ b
+same_name a b jobs ats =
+    let with_job : ℕ → Name = λ job. record { job = job; at = a.at } in
+    let with_at : ℤ → Name = λ at. record { job = b.job; at = at } in
+    ap with_job jobs ∙ ap with_at ats
+
+name_eq : Name → Name → Bool
+name_eq a b = (a.job == b.job) && int_eq a.at b.at
+
+name_eq-decides : (a b : Name) → Decides (name_eq a b) (a ≡ b)
+unfolding name_eq
+name_eq-decides a b =
+    Decides-like ((a.job == b.job) && int_eq a.at b.at) (λ both. same_name a b both.0 both.1) (λ e. (ap (λ (n : Name). n.job) e, ap (λ (n : Name). n.at) e))
+    (Decides-and (a.job == b.job) (int_eq a.at b.at) (Decides-eqb a.job b.job) (Decides-int_eq a.at b.at))
+
+name_eq-flips : (a b : Name) → name_eq a b ≡ name_eq b a
+name_eq-flips a b = same_from_decides (name_eq a b) (name_eq b a) (name_eq-decides a b) (Decides-like (name_eq b a) (λ e. sym e) (λ e. sym e) (name_eq-decides b a))
+
+abbrev name_of : SchedRow → Name
+name_of row = row.name
+
+abbrev row_named : Name → SchedRow
+row_named name = record { name = name; kind = Launch; now = record { 0 = pos 0 }; by = 0 }
+
+names_differ : (rows : List SchedRow) → AreNamedOnce rows → AllPairs (λ (a b : Name). a ≢ b) (map name_of rows)
+names_differ rows once i j d before within same =
+    let inside : j < length rows = subst (λ (n : ℕ). j < n) (length-map _ _) within in
+    once i j (row_named d) before inside (sym (get_or-map name_of rows i (row_named d)) ∙ same ∙ get_or-map name_of rows j (row_named d))
+
+rows_differ : (rows : List SchedRow) → AllPairs (λ (a b : Name). a ≢ b) (map name_of rows) → AreNamedOnce rows
+rows_differ rows once i j d before within same =
+    let inside : j < length (map name_of rows) = subst (λ (n : ℕ). j < n) (sym (length-map _ _)) within in
+    once i j d.name before inside (get_or-map name_of rows i d ∙ same ∙ sym (get_or-map name_of rows j d))
+
+AreNamedOnce-permutation : (held rows : List SchedRow) → IsPermutation held rows → AreNamedOnce held → AreNamedOnce rows
+AreNamedOnce-permutation held rows moved once =
+    rows_differ rows (AllPairs-from_IsDistinct name_eq-decides (map name_of rows)
+    (IsDistinct-IsPermutation name_eq name_eq-flips (map name_of held) (map name_of rows) (IsPermutation-map name_of held rows moved)
+    (IsDistinct-from_AllPairs name_eq-decides (map name_of held) (names_differ held once))))
+
+-- where both are of one job, the first is earlier
+abbrev IsBefore : SchedRow → SchedRow → Type 0
+IsBefore a b = a.name.job ≡ b.name.job → a.name.at <ℤ b.name.at
+
+strictly_before : (a b : SchedRow) → IsNotAfter a.name b.name → a.name ≢ b.name → IsBefore a b
+strictly_before a b (inl less) differ same = absurd (omega arith)
+strictly_before a b (inr upto) differ same = strictly upto.1 (λ e. differ (same_name a.name b.name same e))
+  where
+    strictly : a.name.at ≤ℤ b.name.at → (a.name.at ≡ b.name.at → ⊥) → a.name.at <ℤ b.name.at
+    strictly le ne = omega (arith, ints)
+
+all_before : (held rows : List SchedRow) → AreNamedOnce held → IsInOrder held rows → AllPairs IsBefore rows
+all_before held rows once x i j d less within =
+    strictly_before (get_or rows i d) (get_or rows j d) (x.sorted i j d less within) (AreNamedOnce-permutation held rows x.same once i j d less within)
+
+abbrev is_of : ℕ → SchedRow → Bool
+is_of job row = row.name.job == job
+
+abbrev at_of : SchedRow → ℤ
+at_of row = row.name.at
+
+-- the instants of rows that are all of one job rise
+rising : (job : ℕ) (rows : List SchedRow) → All (λ row. is_of job row ≡ true) rows → AllPairs IsBefore rows → IsRising (map at_of rows)
+rising job [] of_job pairs = tt
+rising job (row ∷ rows) of_job pairs =
+    (recursion_from_All (λ later. row.name.at <ℤ later) (map at_of rows) (All-map (λ later. row.name.at <ℤ later) at_of rows behind), rising job rows rest (λ i j d less within. pairs (suc i) (suc j) d (omega arith) (omega arith)))
+  where
+    first : row.name.job ≡ job
+    first = eqb-true _ _ (All-head (λ row. is_of job row ≡ true) row rows of_job)
+
+    rest : All (λ row. is_of job row ≡ true) rows
+    rest = All-tail (λ row. is_of job row ≡ true) row rows of_job
+
+    behind : All (λ other. row.name.at <ℤ other.name.at) rows
+    behind k d within = pairs 0 (suc k) d (omega arith) (omega arith) (first ∙ sym (eqb-true _ _ (rest k d within)))
+
+Contains-map : {X Y : Type 0} (f : X → Y) (xs : List X) (x : X) → Contains xs x → Contains (map f xs) (f x)
+Contains-map f [] x h = absurd (Contains-none x h)
+Contains-map f (first ∷ xs) x h = elim (Contains-cases first xs x h) [
+  | inl e ↦ subst (λ y. Contains (f first ∷ map f xs) (f y)) e (Contains-head (f first) (map f xs))
+  | inr more ↦ Contains-tail (f first) (map f xs) (f x) (Contains-map f xs x more)
+]
+
+-- a member of a map, and a member that it is the image of
+record IsMapped {X Y : Type 0} (f : X → Y) (xs : List X) (y : Y) : Type 0 where
+  origin : X
+  among : Contains xs origin
+  is : f origin ≡ y
+
+mapped : {X Y : Type 0} (f : X → Y) (xs : List X) (y : Y) → Contains (map f xs) y → IsMapped f xs y
+mapped f [] y h = absurd (Contains-none y h)
+mapped f (first ∷ xs) y h = elim (Contains-cases (f first) (map f xs) y h) [
+  | inl e ↦ record { origin = first; among = Contains-head first xs; is = e }
+  | inr more ↦ (let rest = mapped f xs y more in record { origin = rest.origin; among = Contains-tail first xs rest.origin rest.among; is = rest.is })
+]
+
+kept_first : {X : Type 0} (b : Bool) (x : X) (xs : List X) → b ≡ true → Contains (cond b (x ∷ xs) xs) x
+kept_first true x xs e = Contains-head x xs
+kept_first false x xs e = absurd (cc)
+
+kept_behind : {X : Type 0} (b : Bool) (first : X) (xs : List X) (x : X) → Contains xs x → Contains (cond b (first ∷ xs) xs) x
+kept_behind true first xs x h = Contains-tail first xs x h
+kept_behind false first xs x h = h
+
+-- what passes is kept
+Contains-filter : {X : Type 0} (p : X → Bool) (xs : List X) (x : X) → p x ≡ true → Contains xs x → Contains (filter p xs) x
+Contains-filter p [] x passes h = absurd (Contains-none x h)
+Contains-filter p (first ∷ xs) x passes h = elim (Contains-cases first xs x h) [
+  | inl e ↦ subst (λ y. Contains (filter p (first ∷ xs)) y) e (kept_first (p first) first (filter p xs) (ap p e ∙ passes))
+  | inr more ↦ kept_behind (p first) first (filter p xs) x (Contains-filter p xs x passes more)
+]
+
+-- what is kept was there
+Contains-from_filter : {X : Type 0} (p : X → Bool) (xs : List X) (x : X) → Contains (filter p xs) x → Contains xs x
+Contains-from_filter p xs x h = All-contains (Contains xs) (filter p xs) x (All-filter p (Contains xs) xs (All-contains_itself xs)) h
+
+listed_is_due : (table : Table) (held rows : List SchedRow) (job : ℕ) → LaunchesEachDue table held → IsInOrder held rows
+    → (instant : ℤ) → Contains (instants_of rows job) instant → IsJobDue table job instant
+listed_is_due table held rows job launches x instant h =
+    let made = mapped at_of (filter (is_of job) rows) instant h in
+    let of_job : made.origin.name.job ≡ job = eqb-true _ _ (All-contains (λ row. is_of job row ≡ true) (filter (is_of job) rows) made.origin (filter_passes (is_of job) rows) made.among) in
+    let among : Contains held made.origin = Contains-permutation rows held made.origin (IsPermutation-sym held rows x.same) (Contains-from_filter (is_of job) rows made.origin made.among) in
+    let due : IsJobDue table made.origin.name.job made.origin.name.at × (made.origin.kind ≡ Launch) =
+    All-contains (λ (row : SchedRow). IsJobDue table row.name.job row.name.at × (row.kind ≡ Launch)) held made.origin launches.no_other among in
+    subst (λ at. IsJobDue table job at) made.is (subst (λ k. IsJobDue table k made.origin.name.at) of_job due.0)
+
+due_is_listed : (table : Table) (held rows : List SchedRow) (job : ℕ) → LaunchesEachDue table held → IsInOrder held rows
+    → (instant : ℤ) → IsJobDue table job instant → Contains (instants_of rows job) instant
+due_is_listed table held rows job launches x instant due =
+    let h = launches.each job instant due in
+    let among : Contains rows h.row = Contains-permutation held rows h.row x.same h.among in
+    subst (λ at. Contains (instants_of rows job) at) h.due_at
+    (Contains-map at_of (filter (is_of job) rows) h.row (Contains-filter (is_of job) rows h.row (eq-eqb _ _ h.of_job) among))
+
+pub each_due_listed : (table : Table) (held rows : List SchedRow) (job : ℕ) → AreNamedOnce held → LaunchesEachDue table held → IsInOrder held rows
+    → IsJobDueList table job (instants_of rows job)
+each_due_listed table held rows job once launches x = record {
+  rising = rising job (filter (is_of job) rows) (filter_passes (is_of job) rows) (AllPairs-filter IsBefore (is_of job) rows (all_before held rows once x));
+  sound = listed_is_due table held rows job launches x;
+  complete = due_is_listed table held rows job launches x;
+}
