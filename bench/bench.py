@@ -1,5 +1,5 @@
 #!/usr/bin/env python3
-"""Measures the built program on three run files, beside `cat` of the same report.
+"""Measures the built program on four run files, beside `cat` of the same report.
 
 Usage: bench/bench.py [PROGRAM]
 
@@ -26,13 +26,16 @@ def run_file(start, end, entries):
 def runs():
     """The run files, each with its name."""
     year = ("2024-01-01T00:00Z", "2025-02-04T00:00Z")
+    ten_days = ("2024-01-01T00:00Z", "2024-01-11T00:00Z")
     busy = ["0,30 * * * * one job of 19,200 launches"]
     # A weekday of four months: 17 or 18 launches.
     many = [f"{k % 60} {k % 24} * 3,4,5,6 {k % 7} job {k}" for k in range(1000)]
+    twice_a_day = [f"{k % 60} {k % 12},{k % 12 + 12} * * * job {k}" for k in range(1000)]
     never = [f"{k % 60} {k % 24} 31 2 * job {k}" for k in range(1000)]
     yield "400 days, one job of 19,200 launches", run_file(*year, busy)
     yield "400 days, 1,000 jobs of 17 or 18 launches", run_file(*year, many)
-    yield "10 days, 1,000 jobs that are never due", run_file("2024-01-01T00:00Z", "2024-01-11T00:00Z", never)
+    yield "10 days, 1,000 jobs of 20 launches", run_file(*ten_days, twice_a_day)
+    yield "10 days, 1,000 jobs that are never due", run_file(*ten_days, never)
 
 
 def best_time(command, source, sink):
