@@ -1,4 +1,4 @@
-use Rattle.std.proofs.Common.{◌≡◌, ℤ, FitsSigned, w64, arith}
+use Rattle.std.proofs.Common.{◌≡◌, FitsSigned, w64, arith}
 use Rattle.std.proofs.lemmas.Int.{ints, to_z-of_z}
 use Rattle.jiff.specs.Types.{TimeZone}
 use Rattle.zone_minutes.specs.Zone.{local_of}
