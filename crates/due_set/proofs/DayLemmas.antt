@@ -22,7 +22,7 @@ no_skip minutes z t minute read skipped =
     absurd (omega (arith, ints))
 
 -- at a fixed offset an entry is due only where it matches the local time
-due_matches : (fields : Fields) (source : Source) (z : TimeZone) (t : ℤ) → IsReadAs source z → IsDue fields z t → Matches fields (local_of z t)
+pub due_matches : (fields : Fields) (source : Source) (z : TimeZone) (t : ℤ) → IsReadAs source z → IsDue fields z t → Matches fields (local_of z t)
 due_matches fields (FixedOffset minutes) z t read due = by_kind (is_frequent fields) due
   where
     by_kind : (frequent : Bool) → MatchBool frequent (Matches fields (local_of z t)) (IsDueOnce fields z t) → Matches fields (local_of z t)
@@ -38,7 +38,7 @@ IsNotDueIn-day fields source from until shown day local none t since lt (z, read
     let m : Matches fields (local_of z t) = due_matches fields source z t read due in
     none (subst (λ (d : ℤ). MatchesDate fields (date_of_day d).month (date_of_day d).day (weekday_of d)) same m.date)
 
-gap_of : (from t : ℤ) → from ≤ℤ t → (k : ℕ) × (t ≡ from +ℤ pos k)
+pub gap_of : (from t : ℤ) → from ≤ℤ t → (k : ℕ) × (t ≡ from +ℤ pos k)
 gap_of from t le = by_gap (t -ℤ from) refl
   where
     by_gap : (gap : ℤ) → gap ≡ t -ℤ from → (k : ℕ) × (t ≡ from +ℤ pos k)

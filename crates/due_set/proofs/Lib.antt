@@ -2,4 +2,5 @@ pub mod DueLemmas
 pub mod Rising
 pub mod TableLemmas
 pub mod DayLemmas
+pub mod HourLemmas
 pub mod CountLemmas

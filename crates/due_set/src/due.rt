@@ -1,7 +1,8 @@
 //! When an entry of a crontab is due, by the definition alone.
 ghost use Rattle.std.specs.Prelude.{◌≡◌, ◌↔◌, ℤ, pos, ◌+ℤ◌, ◌-ℤ◌, ◌≤ℤ◌, ◌<ℤ◌, IsTrue};
 ghost use Rattle.jiff.specs.Types.{TimeZone};
-ghost use Rattle.zone_minutes.specs.Civil.{IsCalendarMinute};
+ghost use Rattle.cron_fields.specs.FieldSet.{Has};
+ghost use Rattle.zone_minutes.specs.Civil.{IsCalendarMinute, civil_at};
 ghost use Rattle.zone_minutes.specs.Zone.{IsReadAs, local_of};
 ghost use Rattle.due_set.specs.Due.{Matches, MatchesDateAt, IsFirstShown, IsSkipped, IsDueOnce, IsDue, IsReadable, IsDueIn};
 
@@ -25,6 +26,14 @@ pub fn matches_date(fields: &Fields, minute: i64) -> bool
 {
     let civil = civil_of(minute);
     fields.matches_date(civil.month, civil.day, weekday_of(day_of(minute)))
+}
+
+/// Whether the hour field has a civil minute's hour.
+pub fn matches_hour(fields: &Fields, minute: i64) -> bool
+    requires { IsCalendarMinute minute }
+    ensures { IsTrue result ↔ Has fields.now.hour (civil_at minute).hour }
+{
+    fields.hour.has(civil_of(minute).hour)
 }
 
 // The instant some minutes before another.

@@ -2,10 +2,10 @@
 ghost use Rattle.std.specs.Prelude.{◌≡◌, ◌<◌, ◌≤◌, ℕ, ℤ, pos, ◌+ℤ◌, ◌≤ℤ◌, ◌<ℤ◌, IfSome, IfNone, ◌↔◌};
 ghost use Rattle.zone_minutes.specs.Civil.{day_number};
 ghost use Rattle.zone_minutes.specs.Window.{IsInWindow, IsWithinLimits};
-ghost use Rattle.due_set.specs.Due.{AreOfOneDay, IsFirstDue, IsNotDueIn};
+ghost use Rattle.due_set.specs.Due.{AreOfOneDay, AreOfOneHour, IsFirstDue, IsNotDueIn, hour_number};
 ghost use Rattle.due_set.specs.Table.{IsAfter, instant_of};
 
-use crate::due::{is_due, matches_date};
+use crate::due::{is_due, matches_date, matches_hour};
 use cron_fields::Fields;
 use zone_minutes::{Minute, Window, ZoneRuns};
 
@@ -90,6 +90,54 @@ fn first_due_of_day(fields: &Fields, zone: &ZoneRuns, first: u32, until: u32) ->
     ensures none { IfNone result (IsNotDueIn fields.now zone.now.source (pos first) (pos until)) }
 {
     if !matches_date(fields, zone.local(Minute(i64::from(first)))) {
+        return None;
+    }
+    let mut minute = first;
+    while minute < until {
+        let end = hour_end(zone, minute, until);
+        if let Some(at) = first_due_of_hour(fields, zone, minute, end) {
+            return Some(at);
+        }
+        minute = end;
+    }
+    None
+}
+
+// How many minutes of the hour are left, this one too.
+fn rest_of_hour(minute: i64) -> u32
+    ensures some { 0 < result }
+    ensures hour { result ≤ 60 }
+    ensures same { (k : ℕ) → k < result → hour_number (minute +ℤ pos k) ≡ hour_number minute }
+{
+    60 - minute.rem_euclid(60) as u32
+}
+
+// The end of the instant's local hour, or another end that is sooner.
+fn hour_end(zone: &ZoneRuns, minute: u32, end: u32) -> u32
+    requires range { end ≤ 120_968_640 }
+    requires since { zone.now.from ≤ℤ pos minute }
+    requires before { minute < end }
+    requires until { pos end ≤ℤ zone.now.until }
+    ensures later { minute < result }
+    ensures end { result ≤ end }
+    ensures hour { AreOfOneHour zone.now.source (pos minute) (pos result) }
+{
+    let shown = zone.local(Minute(i64::from(minute)));
+    end.min(minute + rest_of_hour(shown))
+}
+
+// The first instant from one on and before another at which the entry is due, where both are of one local hour.
+fn first_due_of_hour(fields: &Fields, zone: &ZoneRuns, first: u32, until: u32) -> Option<Minute>
+    requires range { until ≤ 120_968_640 }
+    requires since { zone.now.from ≤ℤ pos first }
+    requires some { first < until }
+    requires until { pos until ≤ℤ zone.now.until }
+    requires hour { AreOfOneHour zone.now.source (pos first) (pos until) }
+    ensures found { IfSome result (λ t. IsFirstDue fields.now zone.now.source (pos first) t.0) }
+    ensures before { IfSome result (λ t. t.0 <ℤ pos until) }
+    ensures none { IfNone result (IsNotDueIn fields.now zone.now.source (pos first) (pos until)) }
+{
+    if !matches_hour(fields, zone.local(Minute(i64::from(first)))) {
         return None;
     }
     for minute in first..until {

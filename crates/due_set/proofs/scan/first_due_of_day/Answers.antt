@@ -3,14 +3,8 @@ use Rattle.std.proofs.lemmas.Int.{ints, to_z-of_z}
 use Rattle.zone_minutes.specs.Zone.{IsLocal}
 use Rattle.due_set.specs.Due.{MatchesDateAt}
 use Rattle.due_set.proofs.DayLemmas.{IsNotDueIn-day}
-use Rattle.due_set.proofs.TableLemmas.{IsNotDueIn-next}
+use Rattle.due_set.proofs.HourLemmas.{IsFirstDue-after}
 use Rattle.due_set.proofs.scan.first_due_of_day.Goals as goal
-
-pub loop-minute-preserved : goal.loop-minute-preserved
-loop-minute-preserved c =
-    let at_is : to_z w64 (of_z w64 c.from-in-loop-minute.result) ≡ pos c.loop-minute.minute = omega (arith, ints) in
-    IsNotDueIn-next c.args.fields.now c.args.zone.now.source (pos c.args.first) _ c.loop-minute.minute c.loop-minute.invariant at_is
-    (λ due. let found = c.is_due.ensures.1 due in let not = c.if-is_due.false in cc (found, not))
 
 pub returns-then-not-matches_date-clause-none : goal.returns-then-not-matches_date-clause-none
 returns-then-not-matches_date-clause-none c =
@@ -21,3 +15,7 @@ returns-then-not-matches_date-clause-none c =
     let tells : IsTrue c.matches_date.result ↔ MatchesDateAt c.args.fields.now c.local.result = simp to_z-of_z at c.matches_date.ensures in
     IsNotDueIn-day c.args.fields.now c.args.zone.now.source (pos c.args.first) (pos c.args.until) c.local.result c.requires.day local
     (λ m. let found = tells.1 m in let not = c.if-not-matches_date.true in cc (found, not))
+
+pub returns-in-Some-clause-found : goal.returns-in-Some-clause-found
+returns-in-Some-clause-found c =
+    IsFirstDue-after c.args.fields.now c.args.zone.now.source (pos c.args.first) (pos c.loop-minute.minute) c.in-Some.at.0 (omega (arith, ints, c.loop-minute.invariant.from)) c.loop-minute.invariant.none c.in-Some.ensures.found

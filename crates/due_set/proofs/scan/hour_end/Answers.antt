@@ -1,0 +1,15 @@
+use Rattle.std.proofs.Common.{◌≡◌, ℕ, ◌<◌, ℤ, pos, ◌+ℤ◌, FitsSigned, subst, to_z, of_z, w64, arith}
+use Rattle.std.proofs.lemmas.Int.{ints, to_z-of_z}
+use Rattle.zone_minutes.specs.Zone.{IsLocal}
+use Rattle.due_set.specs.Due.{hour_number}
+use Rattle.due_set.proofs.HourLemmas.{AreOfOneHour-from}
+use Rattle.due_set.proofs.scan.hour_end.Goals as goal
+
+pub returns-clause-hour : goal.returns-clause-hour
+returns-clause-hour c =
+    let at_is : to_z w64 (of_z w64 c.from.result) ≡ pos c.args.minute = omega (arith, ints) in
+    let shown_fits : FitsSigned w64 c.local-shown.result = omega (arith, ints) in
+    let local : IsLocal c.args.zone.now.source (pos c.args.minute) c.local-shown.result =
+    subst (λ (t : ℤ). IsLocal c.args.zone.now.source t c.local-shown.result) at_is c.local-shown.ensures.local in
+    let same : (k : ℕ) → k < c.rest_of_hour.result → hour_number (c.local-shown.result +ℤ pos k) ≡ hour_number c.local-shown.result = simp to_z-of_z at c.rest_of_hour.ensures.same in
+    AreOfOneHour-from c.args.zone.now.source (pos c.args.minute) (pos c.min.result) c.local-shown.result c.rest_of_hour.result local same (omega (arith, ints))
