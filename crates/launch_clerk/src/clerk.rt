@@ -1,10 +1,10 @@
-ghost use Rattle.std.specs.Prelude.{◌≡◌, ◌<◌, [], ◌∷◌, ◌++◌, IfOk, OnOk};
+ghost use Rattle.std.specs.Prelude.{◌≡◌, ◌<◌, [], ◌∷◌, ◌++◌, IfOk, IfSome, IfNone, OnOk};
 ghost use Rattle.cluster_sched.specs.Held.{Answers};
 ghost use Rattle.launch_machine.specs.Answers.{IsCallKind};
 ghost use Rattle.launch_machine.specs.Clerk.{Applies, TakesStart};
 ghost use Rattle.launch_machine.specs.Intent.{MayCall};
 ghost use Rattle.launch_machine.specs.Machine.{CanCount, StandsFor};
-ghost use Rattle.launch_machine.specs.Next.{IsLeastNext};
+ghost use Rattle.launch_machine.specs.Next.{IsLeastNext, NoNext};
 ghost use Rattle.launch_clerk.specs.Walk.{IsAtWork, IsResting, steps_left};
 
 use crate::fault::OutOfMemory;
@@ -40,8 +40,29 @@ impl Clerk {
         })
     }
 
-    /// Does all that is to be done at the minute at which a job is due next.
-    pub fn settle(&mut self, table: &JobTable, now: Minute) -> Result<(), OutOfMemory>
+    /// Goes from one minute at which a job is due to the next, until no job is due any more.
+    pub fn walk(&mut self, table: &JobTable) -> Result<(), OutOfMemory>
+        requires { IsResting table.now self.old.log self.old.machine self.old.ledger.held }
+        ensures rests { OnOk result (IsResting table.now self.new.log self.new.machine self.new.ledger.held) }
+        ensures done { OnOk result (NoNext table.now self.new.machine.rows) }
+    {
+        while let Some(now) = self.next_minute(table) {
+            self.settle(table, now)?;
+        }
+        Ok(())
+    }
+
+    // The next minute at which a job is due.
+    fn next_minute(&self, _table: &JobTable) -> Option<Minute>
+        requires { StandsFor _table.now self.now.machine }
+        ensures found { IfSome result (λ now. IsLeastNext _table.now self.now.machine.rows now.0) }
+        ensures none { IfNone result (NoNext _table.now self.now.machine.rows) }
+    {
+        self.machine.next_start()
+    }
+
+    // Does all that is to be done at the minute at which a job is due next.
+    fn settle(&mut self, table: &JobTable, now: Minute) -> Result<(), OutOfMemory>
         requires rests { IsResting table.now self.old.log self.old.machine self.old.ledger.held }
         requires next { IsLeastNext table.now self.old.machine.rows now.0 }
         ensures rests { OnOk result (IsResting table.now self.new.log self.new.machine self.new.ledger.held) }

@@ -26,9 +26,7 @@ pub fn run_clerk(alloc: Global, table: &JobTable) -> Result<ClerkRun, OutOfMemor
     ensures launched { IfOk result (λ run. LaunchesEachDue table.now run.ledger.held) }
 {
     let mut clerk = Clerk::new(alloc, table)?;
-    while let Some(now) = clerk.machine.next_start() {
-        clerk.settle(table, now)?;
-    }
+    clerk.walk(table)?;
     Ok(ClerkRun {
         log: clerk.log,
         ledger: clerk.ledger,
