@@ -7,11 +7,13 @@
 #![tactic(auto)]
 
 mod memory;
+mod out_of_memory;
 mod sink;
 mod source;
 mod standard;
 
-pub use memory::{MemSink, MemSource, OutOfMemory};
+pub use memory::{MemSink, MemSource};
+pub use out_of_memory::OutOfMemory;
 pub use sink::{Sink, SinkFault, write_all};
 pub use source::{ReadAllFault, Source, SourceFault, read_all};
 pub use standard::{StdSink, StdSource};

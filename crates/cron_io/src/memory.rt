@@ -6,18 +6,8 @@ ghost use Rattle.cron_io.specs.Faults.{HasCause, next_count};
 ghost use Rattle.cron_io.specs.Reading.{StaysReliable};
 ghost use Rattle.cron_io.specs.Writing.{TakesByRoom};
 
-use crate::{Sink, SinkFault, Source, SourceFault};
-use std::alloc::{AllocError, Global};
-
-/// Memory ran out.
-#[derive(Clone, Copy, Debug, PartialEq, Eq)]
-pub struct OutOfMemory;
-
-impl From<AllocError> for OutOfMemory {
-    fn from(_: AllocError) -> Self {
-        OutOfMemory
-    }
-}
+use crate::{OutOfMemory, Sink, SinkFault, Source, SourceFault};
+use std::alloc::Global;
 
 fn is_listed(list: &[u64], number: u64) -> bool
     ensures { IsTrue result ↔ Contains list.now number }
