@@ -47,10 +47,6 @@ abbrev pub IsDue : Fields → TimeZone → ℤ → Type 0
 IsDue fields zone instant =
     MatchBool (is_frequent fields) (Matches fields (local_of zone instant)) (IsDueOnce fields zone instant)
 
--- `jiff` reads the source as some zone
-abbrev pub IsReadable : Source → Type 0
-IsReadable source = (zone : TimeZone) × IsReadAs source zone
-
 -- the entry is due at the instant in a zone that the source is read as
 abbrev pub IsDueIn : Fields → Source → ℤ → Type 0
 IsDueIn fields source instant = (zone : TimeZone) × IsReadAs source zone × IsDue fields zone instant

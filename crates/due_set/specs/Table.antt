@@ -3,7 +3,7 @@ use Rattle.std.specs.Prelude.{◌≡◌, ℕ, ◌≢◌, ◌<◌, ◌≤◌, Lis
 use Rattle.jiff.specs.Types.{TimeZone}
 use Rattle.cron_fields.specs.declared.field.Fields.{Fields}
 use Rattle.zone_minutes.specs.Window.{IsInWindow, IsWithinLimits}
-use Rattle.zone_minutes.specs.Zone.{Zone, IsReadAs}
+use Rattle.zone_minutes.specs.Zone.{Zone, IsReadable, IsReadAs}
 use Rattle.zone_minutes.specs.declared.minute.Minute.{Minute}
 use Rattle.zone_minutes.specs.declared.minute.Window.{Window}
 use Rattle.due_set.specs.Due.{IsDue, IsRising}
@@ -33,10 +33,11 @@ abbrev pub IsAnacron : JobKind → Type 0
 IsAnacron (Anacron period first last) = ⊤
 IsAnacron kind = ⊥
 
--- the zone's offsets are known at the instants of the window
+-- the zone was built for the window: `jiff` reads it, and its offsets are known at the window's instants
 pub record IsBuiltFor (window : Window) (zone : Zone) : Type 0 where
   pub from : zone.from ≡ window.from.0
   pub until : zone.until ≡ window.until.0
+  pub read : IsReadable zone.source
 
 -- no two jobs have one name
 abbrev pub AreNamesDistinct : List Job → Type 0
@@ -94,3 +95,10 @@ pub record IsJobDueList (table : Table) (number : ℕ) (instants : List ℤ) : T
   pub rising : IsRising instants
   pub sound : (instant : ℤ) → Contains instants instant → IsJobDue table number instant
   pub complete : (instant : ℤ) → IsJobDue table number instant → Contains instants instant
+
+-- The instants are the first of the job's due instants, none left out: they rise, each is due, and each due instant that isn't
+-- after one of them is among them.
+pub record IsDueFront (table : Table) (number : ℕ) (instants : List ℤ) : Type 0 where
+  pub rising : IsRising instants
+  pub sound : (instant : ℤ) → Contains instants instant → IsJobDue table number instant
+  pub complete : (instant last : ℤ) → Contains instants last → IsJobDue table number instant → instant ≤ℤ last → Contains instants instant

@@ -1,30 +1,9 @@
-ghost use Rattle.std.specs.Prelude.{◌≡◌, IfOk, Some, codes};
+ghost use Rattle.std.specs.Prelude.{◌≡◌, IfOk};
 
 use cron_fields::Fields;
-use std::alloc::{AllocError, Global};
-use std::error::Error;
-use std::fmt;
+use cron_io::OutOfMemory;
+use std::alloc::Global;
 use std::marker::Model;
-
-/// Memory ran out.
-#[derive(Clone, Copy, Debug, PartialEq, Eq)]
-pub struct OutOfMemory;
-
-impl fmt::Display for OutOfMemory {
-    ghost output = { λ _. Some (codes "out of memory") };
-
-    fn fmt<W: fmt::Write>(&self, f: &mut fmt::Formatter<W>) -> fmt::Result {
-        write!(f, "out of memory")
-    }
-}
-
-impl Error for OutOfMemory {}
-
-impl From<AllocError> for OutOfMemory {
-    fn from(_error: AllocError) -> OutOfMemory {
-        OutOfMemory
-    }
-}
 
 /// How often an anacron job runs (anacrontab(5)).
 #[derive(Clone, Copy, Debug, PartialEq, Eq)]

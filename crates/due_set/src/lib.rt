@@ -9,7 +9,7 @@ mod scan;
 mod table;
 
 pub use call::Kind2;
-pub use job::{JobKind, JobName, JobSpec, OutOfMemory, Period};
+pub use job::{JobKind, JobName, JobSpec, Period};
 pub use laws::{a_job_has_one_due_list, a_job_has_one_next_instant};
 pub use table::JobTable;
 

@@ -6,7 +6,9 @@ use Rattle.jiff.specs.Types.{TimeZone, UTC}
 use Rattle.jiff.proofs.ZoneFacts.{offset_at-fixed_zone, offset_at-UTC}
 use Rattle.jiff_core.proofs.SignedLemmas.{signed_arith}
 use Rattle.jiff_core.specs.declared.offset.Offset.{Offset}
-use Rattle.zone_minutes.specs.Zone.{Source, FixedOffset, local_of, minute_nanos, IsFixedZone, IsLocal, IsOffsetMinutes, IsReadAs}
+use Rattle.zone_minutes.specs.Zone.{Source, FixedOffset, local_of, minute_nanos, IsFixedZone, IsLocal, IsOffsetInRange, IsOffsetMinutes, IsReadable, IsReadAs, source_of}
+use Rattle.zone_minutes.specs.declared.zone.ZoneSource.{ZoneSource}
+use Rattle.zone_minutes.specs.declared.zone.ZoneSource.TheVariants.{Fixed}
 
 whole_minutes : (t minutes : ℤ) → int_div_euclid (t *ℤ pos 60 +ℤ minutes *ℤ pos 60) (pos 60) ≡ t +ℤ minutes
 whole_minutes t minutes = omega (arith, signed_arith)
@@ -26,9 +28,19 @@ local_of-UTC t = rw (offset_at-UTC (minute_nanos t)) (omega (arith, signed_arith
 pub local_of-same : (source : Source) (a b : TimeZone) (t : ℤ) → IsReadAs source a → IsReadAs source b → local_of a t ≡ local_of b t
 local_of-same (FixedOffset minutes) a b t in_a in_b = local_of-fixed minutes t a in_a ∙ sym (local_of-fixed minutes t b in_b)
 
+-- `jiff` reads each offset of the range
+pub IsReadable-fixed : (minutes : ℤ) → IsOffsetMinutes minutes → IsReadable (FixedOffset minutes)
+IsReadable-fixed minutes h =
+    let offset : Offset = record { seconds = minutes *ℤ pos 60; in_range = (omega (arith, signed_arith), omega (arith, signed_arith)) } in
+    let read : IsFixedZone minutes (fixed_zone offset) = record { offset = offset; is = refl; seconds = refl } in
+    (fixed_zone offset, read)
+
+-- and so each source that is in range
+pub IsReadable-source : (zone : ZoneSource) → IsOffsetInRange zone → IsReadable (source_of zone)
+IsReadable-source (Fixed minutes) h = IsReadable-fixed minutes h
+
 -- the sum of an instant and an offset is the local time at that offset
 pub IsLocal-fixed : (minutes t : ℤ) → IsOffsetMinutes minutes → IsLocal (FixedOffset minutes) t (t +ℤ minutes)
 IsLocal-fixed minutes t h =
-    let offset : Offset = record { seconds = minutes *ℤ pos 60; in_range = (omega (arith, signed_arith), omega (arith, signed_arith)) } in
-    let read : IsFixedZone minutes (fixed_zone offset) = record { offset = offset; is = refl; seconds = refl } in
-    record { zone = fixed_zone offset; read = read; is = sym (local_of-fixed minutes t (fixed_zone offset) read) }
+    let readable = IsReadable-fixed minutes h in
+    record { zone = readable.0; read = readable.1; is = sym (local_of-fixed minutes t readable.0 readable.1) }

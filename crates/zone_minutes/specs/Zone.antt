@@ -40,6 +40,10 @@ pub record IsFixedZone (minutes : ℤ) (zone : TimeZone) : Type 0 where
 abbrev pub IsReadAs : Source → TimeZone → Type 0
 IsReadAs (FixedOffset minutes) zone = IsFixedZone minutes zone
 
+-- `jiff` reads the source as some zone
+abbrev pub IsReadable : Source → Type 0
+IsReadable source = (zone : TimeZone) × IsReadAs source zone
+
 -- an instant as `jiff` counts, in nanoseconds since the epoch
 abbrev pub minute_nanos : ℤ → ℤ
 minute_nanos instant = instant *ℤ pos 60 *ℤ pos 1_000_000_000

@@ -11,7 +11,7 @@ mod zone;
 pub use civil::{Civil, civil_of, day_of, number_of, weekday_of};
 pub use minute::{Minute, Window};
 pub use stamp::{
-    OutOfMemory, read_stamp, stamps_differ, stamps_have_one_length, write_basic_stamp, write_stamp,
+    read_stamp, stamps_differ, stamps_have_one_length, write_basic_stamp, write_stamp,
 };
 pub use zone::{
     ZoneFault, ZoneRuns, ZoneSource, fixed_offset_is_added, utc_is_its_own_local_time,

@@ -1,8 +1,8 @@
-ghost use Rattle.std.specs.Prelude.{◌≡◌, ℤ, codes, Some, pos, ◌+ℤ◌, ◌-ℤ◌, ◌≤ℤ◌, ◌<ℤ◌, IfOk};
+ghost use Rattle.std.specs.Prelude.{◌≡◌, ℤ, codes, Some, pos, ◌+ℤ◌, ◌-ℤ◌, ◌≤ℤ◌, ◌<ℤ◌, IfOk, OnOk};
 ghost use Rattle.jiff.specs.Types.{TimeZone, UTC};
 ghost use Rattle.zone_minutes.specs.Civil.{IsCalendarMinute};
 ghost use Rattle.zone_minutes.specs.Window.{IsWithinLimits};
-ghost use Rattle.zone_minutes.specs.Zone.{Source, FixedOffset, source_of, local_of, IsLocal, IsReadAs, IsOffsetInRange};
+ghost use Rattle.zone_minutes.specs.Zone.{Source, FixedOffset, source_of, local_of, IsLocal, IsReadable, IsReadAs, IsOffsetInRange};
 
 use crate::minute::{Minute, Window};
 use std::alloc::Global;
@@ -64,6 +64,7 @@ impl ZoneRuns {
     pub fn build(_alloc: Global, zone: &ZoneSource, window: Window) -> Result<ZoneRuns, ZoneFault>
         requires window { IsWithinLimits window }
         requires offset { IsOffsetInRange zone.now }
+        ensures read { OnOk result (IsReadable (source_of zone.now)) }
         ensures built { IfOk result (λ runs. runs
             ≡ record { source = source_of zone.now; from = window.from.0; until = window.until.0 }) }
     {
