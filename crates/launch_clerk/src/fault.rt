@@ -19,8 +19,8 @@ impl fmt::Display for OutOfMemory {
 
 impl Error for OutOfMemory {}
 
-impl From<due_set::OutOfMemory> for OutOfMemory {
-    fn from(_: due_set::OutOfMemory) -> Self {
+impl From<cron_io::OutOfMemory> for OutOfMemory {
+    fn from(_: cron_io::OutOfMemory) -> Self {
         OutOfMemory
     }
 }

@@ -3,7 +3,8 @@ ghost use Rattle.std.specs.Prelude.{◌≡◌, ◌↔◌, ◌<◌, ℤ, ◌≤�
 ghost use Rattle.launch_machine.specs.Machine.{AreNexts, IsNext, IsReady};
 ghost use Rattle.launch_machine.specs.Next.{HasNone, IsEarlier, IsLeast};
 
-use due_set::{JobTable, OutOfMemory};
+use cron_io::OutOfMemory;
+use due_set::JobTable;
 use paxos_base::JobRow;
 use std::alloc::Global;
 use zone_minutes::Minute;
@@ -31,9 +32,7 @@ pub fn nexts_of(
     let mut nexts = Vec::new(alloc);
     for job in 0..table.jobs() {
         let next = next_instant(table, job, rows[job as usize].cursor);
-        if nexts.push(next).is_err() {
-            return Err(OutOfMemory);
-        }
+        nexts.push(next)?;
     }
     Ok(nexts)
 }

@@ -3,7 +3,7 @@ ghost use Rattle.std.specs.Prelude.{◌≡◌, ◌↔◌, ◌+◌, ◌<◌, ◌^
 ghost use Rattle.std.specs.List.{range_with_len};
 ghost use Rattle.launch_machine.specs.Clerk.{TakesEnd, fresh_row, opened_row, closed_row};
 
-use due_set::OutOfMemory;
+use cron_io::OutOfMemory;
 use paxos_base::{JobRow, Kind};
 use std::alloc::Global;
 
