@@ -1,36 +1,36 @@
 -- Writes one after the other.
-use Rattle.std.proofs.Common.{◌≡◌, ℕ, ◌-◌, ◌<◌, ◌≤◌, List, [], ◌++◌, length, Option, Some, IsSome, IsErr, Result, Ok, Err, take, drop, refl, sym, ap, subst, ◌∙◌, ◌+◌, append_assoc, take-append-drop, length-append, length-drop, arith}
+use Rattle.std.proofs.Common.{◌≡◌, ℕ, ◌-◌, ◌<◌, ◌≤◌, List, [], ◌++◌, length, Some, IsSome, IsErr, Result, Ok, Err, take, drop, refl, sym, ap, subst, ◌∙◌, ◌+◌, append_assoc, take-append-drop, length-append, length-drop, arith}
 use Rattle.std.specs.Io.KnownBytes.{Appends}
 use Rattle.std.proofs.KnownBytes.{Appends-trans}
-use Rattle.cron_io.specs.Writing.{HasTakenAll, TakesByRoom}
+use Rattle.cron_io.specs.Views.{SinkView}
+use Rattle.cron_io.specs.Writing.{HasGained, HasTakenAll, TakesByRoom}
 use Rattle.cron_io.specs.declared.sink.SinkFault.{SinkFault}
 
 -- as far as `write_all` has come
-pub record IsWriting (old now : Option (List ℕ)) (before after : ℕ) (told tells : Option ℕ) (bytes rest : List ℕ) : Type 0 where
+pub record IsWriting (old now : SinkView) (bytes rest : List ℕ) : Type 0 where
   pub front : List ℕ
   pub parts : bytes ≡ front ++ rest
-  pub gained : Appends old now front
-  pub later : before ≤ after
-  pub room : (n : ℕ) → told ≡ Some n → HasTakenAll n tells before after front
-  pub at_once : (n : ℕ) → told ≡ Some n → 0 < length rest → front ≡ []
+  pub gained : HasGained old now front
+  pub later : old.faults ≤ now.faults
+  pub room : (n : ℕ) → old.room ≡ Some n → HasTakenAll n old now front
+  pub at_once : (n : ℕ) → old.room ≡ Some n → 0 < length rest → front ≡ []
 
 -- one more write takes the front of the rest, and all of it where the sink tells its room
-pub IsWriting-next : (old mid new : Option (List ℕ)) (before during after : ℕ) (told tells next_tells : Option ℕ) (bytes rest next : List ℕ) (count : ℕ)
-    → IsWriting old mid before during told tells bytes rest → next ≡ drop count rest → Appends mid new (take count rest) → during ≤ after
-    → (IsSome tells → count ≡ length rest) → TakesByRoom {E = SinkFault} tells next_tells during after (Ok count) rest
-    → IsWriting old new before after told next_tells bytes next
-IsWriting-next old mid new before during after told tells next_tells bytes rest next count so_far left wrote later at_once by_room =
+pub IsWriting-next : (old mid new : SinkView) (bytes rest next : List ℕ) (count : ℕ)
+    → IsWriting old mid bytes rest → next ≡ drop count rest → HasGained mid new (take count rest) → mid.faults ≤ new.faults
+    → (IsSome mid.room → count ≡ length rest) → TakesByRoom {E = SinkFault} mid new (Ok count) rest → IsWriting old new bytes next
+IsWriting-next old mid new bytes rest next count so_far left wrote later at_once by_room =
     let taken = take count rest in
     let split : rest ≡ taken ++ next = sym (take-append-drop count rest) ∙ ap (λ l. taken ++ l) (sym left) in
-    let all : (n : ℕ) → told ≡ Some n → length next ≡ 0 = λ n is.
+    let all : (n : ℕ) → old.room ≡ Some n → length next ≡ 0 = λ n is.
     let whole : count ≡ length rest = at_once (subst IsSome (sym (so_far.room n is).left) refl) in
     let size : length next ≡ length rest - count = ap length left ∙ length-drop count rest in
     omega arith in
     record {
       front = so_far.front ++ taken;
       parts = so_far.parts ∙ ap (λ l. so_far.front ++ l) split ∙ sym (append_assoc so_far.front taken next);
-      gained = Appends-trans old mid new so_far.front taken so_far.gained wrote;
-      later = omega arith;
+      gained = Appends-trans old.written mid.written new.written so_far.front taken so_far.gained wrote;
+      later = omega (arith, so_far.later);
       room = λ n is.
           let first = so_far.room n is in
           let fits_first = first.fits in
@@ -48,12 +48,12 @@ IsWriting-next old mid new before during after told tells next_tells bytes rest 
     }
 
 -- a write that is refused is the first one, of all the bytes
-pub IsWriting-refused : {T : Type 0} (old mid : Option (List ℕ)) (before during after : ℕ) (told tells next_tells : Option ℕ) (bytes rest : List ℕ) (fault : SinkFault)
-    (result : Result T SinkFault) → IsWriting old mid before during told tells bytes rest → 0 < length rest → IsErr result
-    → (let failed : Result ℕ SinkFault = Err fault in TakesByRoom tells next_tells during after failed rest) → TakesByRoom told next_tells before after result bytes
-IsWriting-refused {T} old mid before during after told tells next_tells bytes rest fault (Ok value) so_far some failed by_room = absurd (cc)
-IsWriting-refused {T} old mid before during after told tells next_tells bytes rest fault (Err other) so_far some failed by_room =
-    let first : (n : ℕ) → told ≡ Some n → length so_far.front ≡ 0 = λ n is. ap length (so_far.at_once n is some) in
+pub IsWriting-refused : {T : Type 0} (old mid new : SinkView) (bytes rest : List ℕ) (fault : SinkFault)
+    (result : Result T SinkFault) → IsWriting old mid bytes rest → 0 < length rest → IsErr result
+    → (let failed : Result ℕ SinkFault = Err fault in TakesByRoom mid new failed rest) → TakesByRoom old new result bytes
+IsWriting-refused {T} old mid new bytes rest fault (Ok value) so_far some failed by_room = absurd (cc)
+IsWriting-refused {T} old mid new bytes rest fault (Err other) so_far some failed by_room =
+    let first : (n : ℕ) → old.room ≡ Some n → length so_far.front ≡ 0 = λ n is. ap length (so_far.at_once n is some) in
     record {
       taken = λ n is. tt;
       refused = λ n is.
@@ -67,10 +67,9 @@ IsWriting-refused {T} old mid before during after told tells next_tells bytes re
     }
 
 -- no byte is left to write
-pub IsWriting-done : (old new : Option (List ℕ)) (before after : ℕ) (told tells : Option ℕ) (bytes rest : List ℕ)
-    → IsWriting old new before after told tells bytes rest → length rest ≡ 0
-    → (let done : Result (Unit {0}) SinkFault = Ok tt in TakesByRoom told tells before after done bytes)
-IsWriting-done old new before after told tells bytes rest so_far none =
+pub IsWriting-done : (old new : SinkView) (bytes rest : List ℕ) → IsWriting old new bytes rest → length rest ≡ 0
+    → (let done : Result (Unit {0}) SinkFault = Ok tt in TakesByRoom old new done bytes)
+IsWriting-done old new bytes rest so_far none =
     let size : length bytes ≡ length so_far.front = ap length so_far.parts ∙ length-append so_far.front rest ∙ omega arith in
     record {
       taken = λ n is.

@@ -1,4 +1,5 @@
 pub mod Faults
 pub mod Memory
 pub mod Reading
+pub mod Views
 pub mod Writing

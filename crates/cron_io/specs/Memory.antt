@@ -1,5 +1,6 @@
 -- What is seen of the source and the sink in memory.
 use Rattle.std.specs.Prelude.{◌≡◌, ℕ, List, [], ◌∷◌, Option, Some, None, drop}
+use Rattle.cron_io.specs.Views.{SourceView, SinkView}
 use Rattle.cron_io.specs.declared.memory.MemSource.{MemSource}
 use Rattle.cron_io.specs.declared.memory.MemSink.{MemSink}
 
@@ -18,6 +19,10 @@ source_calls source = source.calls
 -- how many reads have failed
 abbrev pub source_faults : MemSource → ℕ
 source_faults source = source.faults
+
+-- what is seen of it: it tells its bytes
+abbrev pub source_seen : MemSource → SourceView
+source_seen source = record { left = Some (source_left source); faults = source_faults source }
 
 -- no read fails from here on
 abbrev pub NeverFails : MemSource → Type 0
@@ -51,3 +56,7 @@ room_unless (_ ∷ _) room = None
 -- how many bytes it still takes, where that is all that its answers turn on
 abbrev pub sink_told : MemSink → Option ℕ
 sink_told sink = room_unless (sink_fails sink) (sink_room sink)
+
+-- what is seen of it: it tells its bytes, and its room where no write is to fail
+abbrev pub sink_seen : MemSink → SinkView
+sink_seen sink = record { written = Some (sink_bytes sink); faults = sink_faults sink; room = sink_told sink }

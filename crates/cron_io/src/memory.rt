@@ -65,11 +65,9 @@ impl MemSource {
 }
 
 impl Source for MemSource {
-    ghost use Rattle.cron_io.specs.Memory.{source_left, source_calls, source_fails, source_faults, NeverFails};
+    ghost use Rattle.cron_io.specs.Memory.{source_left, source_calls, source_fails, source_faults, source_seen, NeverFails};
 
-    ghost left = { λ s. Some (source_left s) };
-
-    ghost faults = { source_faults };
+    ghost seen = { source_seen };
 
     ghost reliable = { NeverFails };
 
@@ -82,7 +80,7 @@ impl Source for MemSource {
         ensures cause { HasCause (source_faults self.old) (source_faults self.new) result }
         ensures no_fault { NeverFails self.old → IsOk result }
         ensures lasting { NeverFails self.old →
-            StaysReliable (source_faults self.old) (source_faults self.new) (NeverFails self.new) }
+            StaysReliable (source_seen self.old) (source_seen self.new) (NeverFails self.new) }
 
         // What a source in memory promises beyond a source.
         ensures fails { IsErr result ↔ Contains (source_fails self.old) (source_calls self.old) }
@@ -159,13 +157,9 @@ impl MemSink {
 }
 
 impl Sink for MemSink {
-    ghost use Rattle.cron_io.specs.Memory.{sink_bytes, sink_room, sink_fails, sink_calls, sink_faults, sink_told};
+    ghost use Rattle.cron_io.specs.Memory.{sink_bytes, sink_room, sink_fails, sink_calls, sink_faults, sink_seen, sink_told};
 
-    ghost written = { λ s. Some (sink_bytes s) };
-
-    ghost faults = { sink_faults };
-
-    ghost room = { sink_told };
+    ghost seen = { sink_seen };
 
     /// Fails exactly where the number of the call is listed or the piece is longer than the room.
     /// Else it takes the whole piece.
@@ -176,8 +170,7 @@ impl Sink for MemSink {
         ensures bytes { WriteAppends (Some (sink_bytes self.old)) (Some (sink_bytes self.new))
             result piece.now }
         ensures cause { HasCause (sink_faults self.old) (sink_faults self.new) result }
-        ensures by_room { TakesByRoom (sink_told self.old) (sink_told self.new)
-            (sink_faults self.old) (sink_faults self.new) result piece.now }
+        ensures by_room { TakesByRoom (sink_seen self.old) (sink_seen self.new) result piece.now }
         ensures at_once { IsSome (sink_told self.old) → IfOk result (λ count. count ≡ length piece.now) }
 
         // What a sink in memory promises beyond a sink.

@@ -1,9 +1,10 @@
 // Where bytes go, and all of a piece at once.
-ghost use Rattle.std.specs.Prelude.{◌≡◌, ◌<◌, ℕ, List, Option, length, IfOk, OnOk, IsSome};
+ghost use Rattle.std.specs.Prelude.{◌≡◌, ◌<◌, length, IfOk, OnOk, IsSome};
 ghost use Rattle.std.specs.Io.{WritesAtMost};
-ghost use Rattle.std.specs.Io.KnownBytes.{WriteAppends, Appends};
+ghost use Rattle.std.specs.Io.KnownBytes.{WriteAppends};
 ghost use Rattle.cron_io.specs.Faults.{HasCause};
-ghost use Rattle.cron_io.specs.Writing.{HasGainedPrefix, TakesByRoom};
+ghost use Rattle.cron_io.specs.Views.{SinkView};
+ghost use Rattle.cron_io.specs.Writing.{HasGained, HasGainedPrefix, TakesByRoom};
 
 /// A write failed.
 #[derive(Clone, Copy, Debug, PartialEq, Eq)]
@@ -11,16 +12,11 @@ pub struct SinkFault;
 
 /// Where bytes go, in order.
 pub trait Sink {
-    /// The bytes that were written, where the sink tells them.
-    ghost written: { Self → Option (List ℕ) };
-
-    /// How often a write has failed: a count that doesn't fall, and stands still at the last value
-    /// of a `u64`.
-    ghost faults: { Self → ℕ };
-
-    /// How many bytes it still takes, where the sink tells that: then it takes each piece that
-    /// fits, whole, and refuses each other piece.
-    ghost room: { Self → Option ℕ };
+    /// What is seen of it: the bytes that were written, where the sink tells them; how often a write has
+    /// failed, a count that doesn't fall, and stands still at the last value of a `u64`; and how many
+    /// bytes it still takes, where the sink tells that: then it takes each piece that fits, whole, and
+    /// refuses each other piece.
+    ghost seen: { Self → SinkView };
 
     /// Writes the front of `piece`, at least one byte, and says how many.
     ///
@@ -31,11 +27,10 @@ pub trait Sink {
         requires { 0 < length piece.now }
         ensures bound { WritesAtMost result piece.now }
         ensures some { IfOk result (λ count. 0 < count) }
-        ensures bytes { WriteAppends (written self.old) (written self.new) result piece.now }
-        ensures cause { HasCause (faults self.old) (faults self.new) result }
-        ensures by_room { TakesByRoom (room self.old) (room self.new)
-            (faults self.old) (faults self.new) result piece.now }
-        ensures at_once { IsSome (room self.old) → IfOk result (λ count. count ≡ length piece.now) };
+        ensures bytes { WriteAppends (seen self.old).written (seen self.new).written result piece.now }
+        ensures cause { HasCause (seen self.old).faults (seen self.new).faults result }
+        ensures by_room { TakesByRoom (seen self.old) (seen self.new) result piece.now }
+        ensures at_once { IsSome (seen self.old).room → IfOk result (λ count. count ≡ length piece.now) };
 }
 
 /// Writes all of `bytes`, by as few writes as the sink allows. A sink that tells its room takes all
@@ -45,11 +40,10 @@ pub trait Sink {
 ///
 /// A fault only where a write failed. Some of the bytes, from the front, may be written then.
 pub fn write_all<K: Sink>(sink: &mut K, bytes: &[u8]) -> Result<(), SinkFault>
-    ensures bytes { OnOk result (Appends (K.written sink.old) (K.written sink.new) bytes.now) }
-    ensures prefix { HasGainedPrefix (K.written sink.old) (K.written sink.new) bytes.now }
-    ensures cause { HasCause (K.faults sink.old) (K.faults sink.new) result }
-    ensures by_room { TakesByRoom (K.room sink.old) (K.room sink.new)
-        (K.faults sink.old) (K.faults sink.new) result bytes.now }
+    ensures bytes { OnOk result (HasGained (K.seen sink.old) (K.seen sink.new) bytes.now) }
+    ensures prefix { HasGainedPrefix (K.seen sink.old) (K.seen sink.new) bytes.now }
+    ensures cause { HasCause (K.seen sink.old).faults (K.seen sink.new).faults result }
+    ensures by_room { TakesByRoom (K.seen sink.old) (K.seen sink.new) result bytes.now }
 {
     let mut rest = bytes;
     'pieces: while !rest.is_empty() {

@@ -1,9 +1,10 @@
 // Where bytes come from, and all of them at once.
-ghost use Rattle.std.specs.Prelude.{◌≡◌, ◌+◌, ◌<◌, ◌≤◌, ℕ, List, Option, length, IfOk, IsOk, IsErrOf};
+ghost use Rattle.std.specs.Prelude.{◌≡◌, ◌+◌, ◌<◌, ◌≤◌, length, IfOk, IsOk, IsErrOf};
 ghost use Rattle.std.specs.Io.{ReadsAtMost};
 ghost use Rattle.std.specs.Io.KnownBytes.{ReadConsumes};
 ghost use Rattle.cron_io.specs.Faults.{HasCause, Rose};
-ghost use Rattle.cron_io.specs.Reading.{IsReadToEnd, HasTaken, HasTakenCount, StaysReliable};
+ghost use Rattle.cron_io.specs.Reading.{IsReadToEnd, HasReadOn, HasTakenCount, StaysReliable};
+ghost use Rattle.cron_io.specs.Views.{SourceView};
 ghost use Rattle.cron_io.specs.declared.source.ReadAllFault.TheVariants.{ReadFault, OutOfMemory};
 
 use std::alloc::{AllocError, Global};
@@ -17,12 +18,9 @@ pub struct SourceFault;
 
 /// Where bytes come from, in order, up to an end.
 pub trait Source {
-    /// The bytes that are left, where the source tells them.
-    ghost left: { Self → Option (List ℕ) };
-
-    /// How often a read has failed: a count that doesn't fall, and stands still at the last value
-    /// of a `u64`.
-    ghost faults: { Self → ℕ };
+    /// What is seen of it: the bytes that are left, where the source tells them, and how often a read
+    /// has failed, a count that doesn't fall, and stands still at the last value of a `u64`.
+    ghost seen: { Self → SourceView };
 
     /// No read fails from here on, where the source tells that.
     ghost reliable: { Self → Type 0 };
@@ -37,11 +35,11 @@ pub trait Source {
     fn read(&mut self, into: &mut [u8]) -> Result<usize, SourceFault>
         requires { 0 < length into.old }
         ensures bound { ReadsAtMost result into.new }
-        ensures bytes { ReadConsumes (left self.old) (left self.new) result into.new }
-        ensures cause { HasCause (faults self.old) (faults self.new) result }
+        ensures bytes { ReadConsumes (seen self.old).left (seen self.new).left result into.new }
+        ensures cause { HasCause (seen self.old).faults (seen self.new).faults result }
         ensures no_fault { reliable self.old → IsOk result }
         ensures lasting { reliable self.old →
-            StaysReliable (faults self.old) (faults self.new) (reliable self.new) };
+            StaysReliable (seen self.old) (seen self.new) (reliable self.new) };
 }
 
 /// Why not all the bytes were read.
@@ -83,17 +81,16 @@ pub fn read_all<S: Source>(
     source: &mut S,
     limit: u32,
 ) -> Result<Vec<u8>, ReadAllFault>
-    ensures bytes { IfOk result (λ v. IsReadToEnd (S.left source.old) (S.left source.new) v.items) }
+    ensures bytes { IfOk result (λ v. IsReadToEnd (S.seen source.old) (S.seen source.new) v.items) }
     ensures short { IfOk result (λ v. length v.items ≤ limit) }
     ensures long { IsErrOf result ReadAllFault.TooLong →
-        HasTakenCount (S.left source.old) (S.left source.new) (limit + 1) }
-    ensures taken { HasTaken (S.left source.old) (S.left source.new) }
+        HasTakenCount (S.seen source.old) (S.seen source.new) (limit + 1) }
+    ensures read_on { HasReadOn (S.seen source.old) (S.seen source.new) }
     ensures fault { IsErrOf result ReadAllFault.ReadFault →
-        Rose (S.faults source.old) (S.faults source.new) }
-    ensures later { S.faults source.old ≤ S.faults source.new }
+        Rose (S.seen source.old).faults (S.seen source.new).faults }
     ensures no_fault { S.reliable source.old → IsErrOf result ReadAllFault.ReadFault → ⊥ }
     ensures lasting { S.reliable source.old →
-        StaysReliable (S.faults source.old) (S.faults source.new) (S.reliable source.new) }
+        StaysReliable (S.seen source.old) (S.seen source.new) (S.reliable source.new) }
 {
     // One byte past the limit tells a source that is too long from one that just fits.
     let most = limit as usize + 1;

@@ -15,17 +15,15 @@ pub struct StdSource<R> {
 impl<R: Read> StdSource<R> {
     /// A source of what the reader has left.
     pub fn new(reader: R) -> Self
-        ensures left { ⟦<StdSource<R> as Source>⟧.left result ≡ R.remaining reader }
-        ensures faults { ⟦<StdSource<R> as Source>⟧.faults result ≡ 0 }
+        ensures left { (⟦<StdSource<R> as Source>⟧.seen result).left ≡ R.remaining reader }
+        ensures faults { (⟦<StdSource<R> as Source>⟧.seen result).faults ≡ 0 }
     {
         StdSource { reader, faults: 0 }
     }
 }
 
 impl<R: Read> Source for StdSource<R> {
-    ghost left = { λ s. R.remaining s.reader };
-
-    ghost faults = { λ s. s.faults };
+    ghost seen = { λ s. record { left = R.remaining s.reader; faults = s.faults } };
 
     // Nothing is known of the reads to come.
     ghost reliable = { λ _. ⊥ };
@@ -53,20 +51,16 @@ pub struct StdSink<W> {
 impl<W: Write> StdSink<W> {
     /// A sink that writes to the writer.
     pub fn new(writer: W) -> Self
-        ensures written { ⟦<StdSink<W> as Sink>⟧.written result ≡ W.contents writer }
-        ensures faults { ⟦<StdSink<W> as Sink>⟧.faults result ≡ 0 }
+        ensures written { (⟦<StdSink<W> as Sink>⟧.seen result).written ≡ W.contents writer }
+        ensures faults { (⟦<StdSink<W> as Sink>⟧.seen result).faults ≡ 0 }
     {
         StdSink { writer, faults: 0 }
     }
 }
 
 impl<W: Write> Sink for StdSink<W> {
-    ghost written = { λ s. W.contents s.writer };
-
-    ghost faults = { λ s. s.faults };
-
     // Nothing is known of the writes to come.
-    ghost room = { λ _. None };
+    ghost seen = { λ s. record { written = W.contents s.writer; faults = s.faults; room = None } };
 
     fn write(&mut self, piece: &[u8]) -> Result<usize, SinkFault> {
         match self.writer.write(piece) {
