@@ -12,7 +12,7 @@ mod scheduler;
 mod tests;
 
 pub use call::call_by_name;
-pub use fault::{CallFault, OutOfMemory};
+pub use fault::CallFault;
 pub use laws::{held_rows_stay, names_differ_in_their_texts};
 pub use ledger::{Fate, Ledger};
 pub use name::{read_name, write_name};

@@ -4,8 +4,8 @@ ghost use Rattle.zone_minutes.specs.Stamp.{stamp_text, basic_stamp_text};
 ghost use Rattle.cluster_sched.specs.Names.{IsNameIn, job_name, name_text};
 ghost use Rattle.cluster_sched.specs.declared.row.Name.{Name};
 
-use crate::fault::OutOfMemory;
 use crate::row::Name;
+use cron_io::OutOfMemory;
 use due_set::JobTable;
 use std::str;
 use zone_minutes::{Minute, read_stamp, write_basic_stamp};

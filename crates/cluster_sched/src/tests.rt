@@ -4,8 +4,8 @@ ghost use Rattle.due_set.specs.declared.job.JobKind.TheVariants.{Never};
 ghost use Rattle.cluster_sched.specs.Names.{IsNameIn};
 
 use crate::{
-    Ledger, Name, OutOfMemory, SchedRow, Scheduler, call_by_name, held_rows_stay,
-    names_differ_in_their_texts, read_name, write_name,
+    Ledger, Name, SchedRow, Scheduler, call_by_name, held_rows_stay, names_differ_in_their_texts,
+    read_name, write_name,
 };
 use due_set::{JobKind, JobName, JobSpec, JobTable};
 use paxos_base::Kind;
@@ -120,13 +120,6 @@ fn first_row_is_held_for_good(rt: HostRuntime) {
     assert_eq!(rt; call_by_name(&mut ledger, other), Ok(other));
     assert_eq!(rt; ledger.look(LAUNCH), Ok(Some(launch)));
     assert_eq!(rt; ledger.held(), [launch, other].as_slice());
-}
-
-#[test]
-fn want_of_memory_is_told(rt: HostRuntime) -> Result<(), Fail> {
-    let text = format!(in rt.alloc(); "{OutOfMemory}")?;
-    assert_eq!(rt; text.as_str(), "out of memory");
-    Ok(())
 }
 
 #[test]

@@ -6,12 +6,14 @@
 //! [`write_all`] put the parts together.
 #![tactic(auto)]
 
+mod laws;
 mod memory;
 mod out_of_memory;
 mod sink;
 mod source;
 mod standard;
 
+pub use laws::{a_count_that_stays_has_not_risen, what_a_sink_gained, what_a_source_gave};
 pub use memory::{MemSink, MemSource};
 pub use out_of_memory::OutOfMemory;
 pub use sink::{Sink, SinkFault, write_all};

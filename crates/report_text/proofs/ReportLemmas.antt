@@ -1,8 +1,9 @@
 -- The parts of a report.
-use Rattle.std.proofs.Common.{◌≡◌, ℕ, List, [], ◌∷◌, ◌++◌, map, length, ap, ◌∙◌, append_assoc, refl, sym, subst, Option, Result}
+use Rattle.std.proofs.Common.{◌≡◌, ℕ, List, [], ◌∷◌, ◌++◌, map, length, ap, ◌∙◌, append_assoc, refl, sym, subst, Result}
 use Rattle.std.specs.Prelude.{codes, IsErrAnd}
 use Rattle.std.specs.List.{range_with_len}
 use Rattle.std.proofs.lemmas.Grind.{flat_map-append}
+use Rattle.cron_io.specs.Views.{SinkView}
 use Rattle.due_set.specs.Table.{Table}
 use Rattle.cluster_sched.specs.declared.row.SchedRow.{SchedRow}
 use Rattle.report_text.specs.Counts.{counts_of}
@@ -31,18 +32,18 @@ report_parts table members held rows =
     ∙ append_assoc (text_of_lines head) (text_of_lines counts) (text_of_lines lines ++ text_of_lines last)
 
 -- a text of the rows in order, which is written so, is a report that is written so
-pub report_of : {T : Type 0} (table : Table) (members : ℕ) (held rows : List SchedRow) (a b : Option (List ℕ)) (n m : ℕ) (r s : Option ℕ) (result : Result T ReportFault) → IsInOrder held rows
-    → Writes a b n m r s result (text_of_lines (head_lines table members) ++ (text_of_lines (map (count_line table held) (range_with_len 0 (length table.jobs))) ++ (text_of_lines (map (row_line table) rows) ++ text_of_lines (codes "end" ∷ []))))
-    → (text : List ℕ) × IsReport table members held text × Writes a b n m r s result text
-report_of table members held rows a b n m r s result in_order written =
-    (text_of_lines (report_lines table members held rows), record { rows = rows; in_order = in_order; text_is = refl }, subst (Writes a b n m r s result) (sym (report_parts table members held rows)) written)
+pub report_of : {T : Type 0} (table : Table) (members : ℕ) (held rows : List SchedRow) (a b : SinkView) (result : Result T ReportFault) → IsInOrder held rows
+    → Writes a b result (text_of_lines (head_lines table members) ++ (text_of_lines (map (count_line table held) (range_with_len 0 (length table.jobs))) ++ (text_of_lines (map (row_line table) rows) ++ text_of_lines (codes "end" ∷ []))))
+    → (text : List ℕ) × IsReport table members held text × Writes a b result text
+report_of table members held rows a b result in_order written =
+    (text_of_lines (report_lines table members held rows), record { rows = rows; in_order = in_order; text_is = refl }, subst (Writes a b result) (sym (report_parts table members held rows)) written)
 
 -- without memory no part of a report is written
-pub report_of_none : {T : Type 0} (table : Table) (members : ℕ) (held : List SchedRow) (a : Option (List ℕ)) (n : ℕ) (r : Option ℕ) (result : Result T ReportFault) → IsErrAnd result (λ e. e ≡ OutOfMemory)
-    → (text : List ℕ) × IsReport table members held text × Writes a a n n r r result text
-report_of_none table members held a n r result is =
+pub report_of_none : {T : Type 0} (table : Table) (members : ℕ) (held : List SchedRow) (a : SinkView) (result : Result T ReportFault) → IsErrAnd result (λ e. e ≡ OutOfMemory)
+    → (text : List ℕ) × IsReport table members held text × Writes a a result text
+report_of_none table members held a result is =
     let order = some_order held in
-    report_of table members held order.0 a a n n r r result order.1 (writes_no_memory a n r result _ is)
+    report_of table members held order.0 a a result order.1 (writes_no_memory a result _ is)
 
 -- the counts are those of each job of the table
 pub counts_of_table : (table : Table) (held : List SchedRow) (lent counts : List Counts) (jobs : ℕ) → lent ≡ counts → counts ≡ map (counts_of held) (range_with_len 0 jobs) → jobs ≡ length table.jobs

@@ -1,13 +1,13 @@
 -- Parts of a text that are written one after the other.
-use Rattle.std.proofs.Common.{◌≡◌, inl, inr, ℕ, ◌+◌, ◌<◌, ◌≤◌, ◌-◌, List, [], ◌∷◌, ◌++◌, Option, Result, Ok, Err, refl, sym, ap, ◌∙◌, subst, arith, append_assoc, append-nil, drop-cons, take-append-drop, suc, length, map, take, drop, get_or, Some, length-append}
-use Rattle.std.specs.Io.KnownBytes.{Appends}
+use Rattle.std.proofs.Common.{◌≡◌, inl, inr, ℕ, ◌+◌, ◌<◌, ◌≤◌, ◌-◌, List, [], ◌∷◌, ◌++◌, Result, Ok, Err, refl, sym, ap, ◌∙◌, subst, arith, append_assoc, append-nil, drop-cons, take-append-drop, suc, length, map, take, drop, get_or, Some, length-append}
 use Rattle.std.specs.Prelude.{IsErrAnd, flat_map}
 use Rattle.std.proofs.lemmas.List.{take_more, length-map}
 use Rattle.std.proofs.Math.ListN.{get_or-map}
 use Rattle.std.proofs.lemmas.Grind.{flat_map-append}
 use Rattle.std.proofs.KnownBytes.{Appends-nil, Appends-trans}
 use Rattle.cron_io.specs.Faults.{Rose}
-use Rattle.cron_io.specs.Writing.{HasGainedPrefix, HasTakenAll, TakesByRoom}
+use Rattle.cron_io.specs.Views.{SinkView}
+use Rattle.cron_io.specs.Writing.{HasGained, HasGainedPrefix, HasTakenAll, TakesByRoom}
 use Rattle.cron_io.specs.declared.sink.SinkFault.{SinkFault}
 use Rattle.report_text.specs.Writes.{Writes, HasWritten}
 use Rattle.report_text.specs.declared.fault.ReportFault.{ReportFault}
@@ -19,10 +19,10 @@ Rose-later a b c le (inl lt) = inl (omega arith)
 Rose-later a b c le (inr last) = inr last
 
 -- nothing was written, as there was nothing to write
-pub writes_nothing : {T : Type 0} (a : Option (List ℕ)) (n : ℕ) (r : Option ℕ) (value : T) → let done : Result T ReportFault = Ok value in Writes a a n n r r done []
-writes_nothing a n r value = record {
-  written = Appends-nil a;
-  front = record { front = []; back = []; parts = refl; gained = Appends-nil a };
+pub writes_nothing : {T : Type 0} (a : SinkView) (value : T) → let done : Result T ReportFault = Ok value in Writes a a done []
+writes_nothing a value = record {
+  written = Appends-nil a.written;
+  front = record { front = []; back = []; parts = refl; gained = Appends-nil a.written };
   later = omega arith;
   fault = λ e. absurd (cc);
   taken = λ room is. record { fits = omega arith; left = is ∙ ap Some (omega arith); quiet = refl };
@@ -30,10 +30,10 @@ writes_nothing a n r value = record {
 }
 
 -- nothing was written, for want of memory
-writes_none : {T : Type 0} (a : Option (List ℕ)) (n : ℕ) (r : Option ℕ) (fault : ReportFault) (text : List ℕ) → fault ≡ OutOfMemory → let failed : Result T ReportFault = Err fault in Writes a a n n r r failed text
-writes_none {T} a n r fault text e = record {
+writes_none : {T : Type 0} (a : SinkView) (fault : ReportFault) (text : List ℕ) → fault ≡ OutOfMemory → let failed : Result T ReportFault = Err fault in Writes a a failed text
+writes_none {T} a fault text e = record {
   written = tt;
-  front = record { front = []; back = text; parts = refl; gained = Appends-nil a };
+  front = record { front = []; back = text; parts = refl; gained = Appends-nil a.written };
   later = omega arith;
   fault = λ is. absurd (cc);
   taken = λ room is. tt;
@@ -41,16 +41,16 @@ writes_none {T} a n r fault text e = record {
 }
 
 -- the exit of a `?` that wants memory, before a part wrote anything
-pub writes_no_memory : {T : Type 0} (a : Option (List ℕ)) (n : ℕ) (r : Option ℕ) (result : Result T ReportFault) (text : List ℕ) → IsErrAnd result (λ e. e ≡ OutOfMemory) → Writes a a n n r r result text
-writes_no_memory a n r (Ok value) text is = absurd is
-writes_no_memory a n r (Err fault) text is = writes_none a n r fault text is
+pub writes_no_memory : {T : Type 0} (a : SinkView) (result : Result T ReportFault) (text : List ℕ) → IsErrAnd result (λ e. e ≡ OutOfMemory) → Writes a a result text
+writes_no_memory a (Ok value) text is = absurd is
+writes_no_memory a (Err fault) text is = writes_none a fault text is
 
 -- all of a text was written at once
-pub writes_whole : {T : Type 0} (a b : Option (List ℕ)) (n m : ℕ) (r s : Option ℕ) (value : T) (lent text : List ℕ) → lent ≡ text → Appends a b lent
-    → HasGainedPrefix a b lent → n ≤ m → (let done : Result (Unit {0}) SinkFault = Ok tt in TakesByRoom r s n m done lent)
-    → let done : Result T ReportFault = Ok value in Writes a b n m r s done text
-writes_whole {T} a b n m r s value lent text same wrote front later by_room =
-    subst (λ (bytes : List ℕ). (let done : Result T ReportFault = Ok value in Writes a b n m r s done bytes)) same
+pub writes_whole : {T : Type 0} (a b : SinkView) (value : T) (lent text : List ℕ) → lent ≡ text → HasGained a b lent
+    → HasGainedPrefix a b lent → a.faults ≤ b.faults → (let done : Result (Unit {0}) SinkFault = Ok tt in TakesByRoom a b done lent)
+    → let done : Result T ReportFault = Ok value in Writes a b done text
+writes_whole {T} a b value lent text same wrote front later by_room =
+    subst (λ (bytes : List ℕ). (let done : Result T ReportFault = Ok value in Writes a b done bytes)) same
     (record {
       written = wrote;
       front = front;
@@ -61,9 +61,9 @@ writes_whole {T} a b n m r s value lent text same wrote front later by_room =
     })
 
 -- a part that failed is a front of the whole
-pub writes_part : {S T : Type 0} (a b : Option (List ℕ)) (n m : ℕ) (r s : Option ℕ) (fault : ReportFault) (part rest : List ℕ)
-    → (let failed : Result S ReportFault = Err fault in Writes a b n m r s failed part) → (let failed : Result T ReportFault = Err fault in Writes a b n m r s failed (part ++ rest))
-writes_part a b n m r s fault part rest w = record {
+pub writes_part : {S T : Type 0} (a b : SinkView) (fault : ReportFault) (part rest : List ℕ)
+    → (let failed : Result S ReportFault = Err fault in Writes a b failed part) → (let failed : Result T ReportFault = Err fault in Writes a b failed (part ++ rest))
+writes_part a b fault part rest w = record {
   written = tt;
   front = record {
     front = w.front.front;
@@ -82,40 +82,40 @@ writes_part a b n m r s fault part rest w = record {
 }
 
 -- a part and the rest found room
-both_fit : (room : ℕ) (s t : Option ℕ) (n m k : ℕ) (part rest : List ℕ) → HasTakenAll room s n m part → HasTakenAll (room - length part) t m k rest
-    → HasTakenAll room t n k (part ++ rest)
-both_fit room s t n m k part rest first next =
+both_fit : (room : ℕ) (a b c : SinkView) (part rest : List ℕ) → HasTakenAll room a b part → HasTakenAll (room - length part) b c rest
+    → HasTakenAll room a c (part ++ rest)
+both_fit room a b c part rest first next =
     let fits_first = first.fits in
     let fits_next = next.fits in
     let size = length-append part rest in
     record { fits = omega arith; left = next.left ∙ ap Some (omega arith); quiet = next.quiet ∙ first.quiet }
 
 -- a part that was written, and then the rest
-pub writes_on : {S T : Type 0} (a b c : Option (List ℕ)) (n m k : ℕ) (r s t : Option ℕ) (value : S) (result : Result T ReportFault) (part rest : List ℕ)
-    → Writes a b n m r s (Ok value) part → Writes b c m k s t result rest → Writes a c n k r t result (part ++ rest)
-writes_on {S} {T} a b c n m k r s t value (Ok v) part rest first next = record {
-  written = Appends-trans a b c part rest first.written next.written;
+pub writes_on : {S T : Type 0} (a b c : SinkView) (value : S) (result : Result T ReportFault) (part rest : List ℕ)
+    → Writes a b (Ok value) part → Writes b c result rest → Writes a c result (part ++ rest)
+writes_on {S} {T} a b c value (Ok v) part rest first next = record {
+  written = Appends-trans a.written b.written c.written part rest first.written next.written;
   front = record {
     front = part ++ next.front.front;
     back = next.front.back;
     parts = ap (λ l. part ++ l) next.front.parts ∙ sym (append_assoc part next.front.front next.front.back);
-    gained = Appends-trans a b c part next.front.front first.written next.front.gained;
+    gained = Appends-trans a.written b.written c.written part next.front.front first.written next.front.gained;
   };
   later = omega (arith, first.later, next.later);
-  fault = λ is. Rose-later n m k first.later (next.fault is);
-  taken = λ room is. both_fit room s t n m k part rest (first.taken room is) (next.taken (room - length part) (first.taken room is).left);
+  fault = λ is. Rose-later a.faults b.faults c.faults first.later (next.fault is);
+  taken = λ room is. both_fit room a b c part rest (first.taken room is) (next.taken (room - length part) (first.taken room is).left);
   beyond = λ room told is. absurd (cc);
 }
-writes_on {S} {T} a b c n m k r s t value (Err e) part rest first next = record {
+writes_on {S} {T} a b c value (Err e) part rest first next = record {
   written = tt;
   front = record {
     front = part ++ next.front.front;
     back = next.front.back;
     parts = ap (λ l. part ++ l) next.front.parts ∙ sym (append_assoc part next.front.front next.front.back);
-    gained = Appends-trans a b c part next.front.front first.written next.front.gained;
+    gained = Appends-trans a.written b.written c.written part next.front.front first.written next.front.gained;
   };
   later = omega (arith, first.later, next.later);
-  fault = λ is. Rose-later n m k first.later (next.fault is);
+  fault = λ is. Rose-later a.faults b.faults c.faults first.later (next.fault is);
   taken = λ room is. tt;
   beyond = λ room told is.
       let beyond = next.beyond (room - length part) (first.taken room told).left is in
@@ -124,16 +124,16 @@ writes_on {S} {T} a b c n m k r s t value (Err e) part rest first next = record 
 }
 
 -- the exit of a `?` with a part that failed
-pub writes_exit : {S T : Type 0} (a b : Option (List ℕ)) (n m : ℕ) (r s : Option ℕ) (fault : ReportFault) (result : Result T ReportFault) (part rest : List ℕ)
-    → IsErrAnd result (λ e. e ≡ fault) → (let failed : Result S ReportFault = Err fault in Writes a b n m r s failed part) → Writes a b n m r s result (part ++ rest)
-writes_exit {S} {T} a b n m r s fault (Ok value) part rest is w = absurd is
-writes_exit {S} {T} a b n m r s fault (Err e) part rest is w =
-    let P : ReportFault → Type 0 = λ f. (let failed : Result T ReportFault = Err f in Writes a b n m r s failed (part ++ rest)) in
-    subst P (sym is) (writes_part {S = S} {T = T} a b n m r s fault part rest w)
+pub writes_exit : {S T : Type 0} (a b : SinkView) (fault : ReportFault) (result : Result T ReportFault) (part rest : List ℕ)
+    → IsErrAnd result (λ e. e ≡ fault) → (let failed : Result S ReportFault = Err fault in Writes a b failed part) → Writes a b result (part ++ rest)
+writes_exit {S} {T} a b fault (Ok value) part rest is w = absurd is
+writes_exit {S} {T} a b fault (Err e) part rest is w =
+    let P : ReportFault → Type 0 = λ f. (let failed : Result T ReportFault = Err f in Writes a b failed (part ++ rest)) in
+    subst P (sym is) (writes_part {S = S} {T = T} a b fault part rest w)
 
 -- a last part, with nothing behind it
-pub writes_last : {T : Type 0} (a b : Option (List ℕ)) (n m : ℕ) (r s : Option ℕ) (result : Result T ReportFault) (part : List ℕ) → Writes a b n m r s result part → Writes a b n m r s result (part ++ [])
-writes_last a b n m r s result part w = subst (Writes a b n m r s result) (sym (append-nil part)) w
+pub writes_last : {T : Type 0} (a b : SinkView) (result : Result T ReportFault) (part : List ℕ) → Writes a b result part → Writes a b result (part ++ [])
+writes_last a b result part w = subst (Writes a b result) (sym (append-nil part)) w
 
 -- a list by what stands before a place, there, and behind it
 split_at_place : {X : Type 0} (xs : List X) (i : ℕ) (d : X) → i < length xs → take i xs ++ (get_or xs i d ∷ drop (suc i) xs) ≡ xs
@@ -148,24 +148,24 @@ spelled_at {X} f xs i x lt x_is =
     ∙ ap (flat_map f) (split_at_place xs i x lt)
 
 -- a loop that fails at an item
-pub writes_some : {X S T : Type 0} (f : X → List ℕ) (xs : List X) (i : ℕ) (x : X) (a b c : Option (List ℕ)) (n m k : ℕ) (o p q : Option ℕ) (fault : ReportFault) (result : Result T ReportFault)
-    → i < length xs → x ≡ get_or xs i x → HasWritten a b n m o p (flat_map f (take i xs))
-    → IsErrAnd result (λ e. e ≡ fault) → (let failed : Result S ReportFault = Err fault in Writes b c m k p q failed (f x))
-    → Writes a c n k o q result (flat_map f xs)
-writes_some {X} {S} {T} f xs i x a b c n m k o p q fault result lt x_is before is w =
-    subst (Writes a c n k o q result) (spelled_at f xs i x lt x_is)
-    (writes_on a b c n m k o p q tt result (flat_map f (take i xs)) (f x ++ flat_map f (drop (suc i) xs)) before
-    (writes_exit {S = S} {T = T} b c m k p q fault result (f x) (flat_map f (drop (suc i) xs)) is w))
+pub writes_some : {X S T : Type 0} (f : X → List ℕ) (xs : List X) (i : ℕ) (x : X) (a b c : SinkView) (fault : ReportFault) (result : Result T ReportFault)
+    → i < length xs → x ≡ get_or xs i x → HasWritten a b (flat_map f (take i xs))
+    → IsErrAnd result (λ e. e ≡ fault) → (let failed : Result S ReportFault = Err fault in Writes b c failed (f x))
+    → Writes a c result (flat_map f xs)
+writes_some {X} {S} {T} f xs i x a b c fault result lt x_is before is w =
+    subst (Writes a c result) (spelled_at f xs i x lt x_is)
+    (writes_on a b c tt result (flat_map f (take i xs)) (f x ++ flat_map f (drop (suc i) xs)) before
+    (writes_exit {S = S} {T = T} b c fault result (f x) (flat_map f (drop (suc i) xs)) is w))
 
 -- a loop that has written one more item
-pub writes_more : {X : Type 0} (f : X → List ℕ) (xs : List X) (i : ℕ) (x : X) (a b c : Option (List ℕ)) (n m k : ℕ) (o p q : Option ℕ)
-    → i < length xs → x ≡ get_or xs i x → HasWritten a b n m o p (flat_map f (take i xs)) → HasWritten b c m k p q (f x)
-    → HasWritten a c n k o q (flat_map f (take (i + 1) xs))
-writes_more {X} f xs i x a b c n m k o p q lt x_is before w =
+pub writes_more : {X : Type 0} (f : X → List ℕ) (xs : List X) (i : ℕ) (x : X) (a b c : SinkView)
+    → i < length xs → x ≡ get_or xs i x → HasWritten a b (flat_map f (take i xs)) → HasWritten b c (f x)
+    → HasWritten a c (flat_map f (take (i + 1) xs))
+writes_more {X} f xs i x a b c lt x_is before w =
     let front : flat_map f (take (i + 1) xs) ≡ flat_map f (take i xs) ++ f x =
     ap (flat_map f) (take_more xs i x lt ∙ ap (λ (y : X). take i xs ++ y ∷ []) (sym x_is))
     ∙ flat_map-append f (take i xs) (x ∷ []) ∙ ap (λ (l : List ℕ). flat_map f (take i xs) ++ l) (append-nil (f x)) in
-    subst (HasWritten a c n k o q) (sym front) (writes_on a b c n m k o p q tt (Ok tt) (flat_map f (take i xs)) (f x) before w)
+    subst (HasWritten a c) (sym front) (writes_on a b c tt (Ok tt) (flat_map f (take i xs)) (f x) before w)
 
 -- an element of a list, seen through a function
 pub seen_at : {X Y : Type 0} (f : X → Y) (xs : List X) (i : ℕ) (x : X) → x ≡ get_or xs i x → f x ≡ get_or (map f xs) i (f x)

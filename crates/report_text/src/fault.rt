@@ -29,18 +29,10 @@ impl From<AllocError> for ReportFault {
     }
 }
 
-impl From<zone_minutes::OutOfMemory> for ReportFault {
+impl From<cron_io::OutOfMemory> for ReportFault {
     ghost from_gives = { λ _ e. e ≡ OutOfMemory };
 
-    fn from(_: zone_minutes::OutOfMemory) -> Self {
-        ReportFault::OutOfMemory
-    }
-}
-
-impl From<cluster_sched::OutOfMemory> for ReportFault {
-    ghost from_gives = { λ _ e. e ≡ OutOfMemory };
-
-    fn from(_: cluster_sched::OutOfMemory) -> Self {
+    fn from(_: cron_io::OutOfMemory) -> Self {
         ReportFault::OutOfMemory
     }
 }

@@ -24,8 +24,7 @@ fn write_head<K: Sink>(
     table: &JobTable,
     members: u8,
 ) -> Result<(), ReportFault>
-    ensures { Writes (K.written sink.old) (K.written sink.new) (K.faults sink.old) (K.faults sink.new)
-        (K.room sink.old) (K.room sink.new) result (text_of_lines (head_lines table.now members)) }
+    ensures { Writes (K.seen sink.old) (K.seen sink.new) result (text_of_lines (head_lines table.now members)) }
 {
     write_text(sink, line, "cron report 1")?;
     write_window(sink, line, table.window())?;
@@ -41,8 +40,7 @@ fn write_counts<K: Sink>(
 ) -> Result<(), ReportFault>
     requires { length counts.now ≡ length table.now.jobs }
     ensures { (held : List SchedRow) → counts.now ≡ map (counts_of held) (range_with_len 0 (length table.now.jobs))
-        → Writes (K.written sink.old) (K.written sink.new) (K.faults sink.old) (K.faults sink.new)
-        (K.room sink.old) (K.room sink.new) result
+        → Writes (K.seen sink.old) (K.seen sink.new) result
         (text_of_lines (map (count_line table.now held) (range_with_len 0 (length table.now.jobs)))) }
 {
     for job in 0..table.jobs() {
@@ -58,8 +56,7 @@ fn write_rows<K: Sink>(
     rows: &[SchedRow],
 ) -> Result<(), ReportFault>
     requires { All (λ row. IsNameIn table.now row.name) rows.now }
-    ensures { Writes (K.written sink.old) (K.written sink.new) (K.faults sink.old) (K.faults sink.new)
-        (K.room sink.old) (K.room sink.new) result (text_of_lines (map (row_line table.now) rows.now)) }
+    ensures { Writes (K.seen sink.old) (K.seen sink.new) result (text_of_lines (map (row_line table.now) rows.now)) }
 {
     for row in rows {
         write_row(sink, line, table, *row)?;
@@ -81,8 +78,7 @@ pub fn write_report<K: Sink>(
 ) -> Result<(), ReportFault>
     requires { All (λ row. IsNameIn table.now row.name) held.now }
     ensures { (text : List ℕ) × IsReport table.now members held.now text
-        × Writes (K.written sink.old) (K.written sink.new) (K.faults sink.old) (K.faults sink.new)
-        (K.room sink.old) (K.room sink.new) result text }
+        × Writes (K.seen sink.old) (K.seen sink.new) result text }
 {
     let rows = rows_in_order(alloc, held)?;
     let counts = counts_by_job(alloc, table.jobs(), held)?;

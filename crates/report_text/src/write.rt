@@ -8,17 +8,15 @@ ghost use Rattle.report_text.specs.Writes.{Writes};
 use crate::count::Counts;
 use crate::fault::ReportFault;
 use cluster_sched::{SchedRow, write_name};
-use cron_io::{Sink, write_all};
+use cron_io::{OutOfMemory, Sink, write_all};
 use due_set::JobTable;
 use paxos_base::Kind;
-use std::alloc::AllocError;
 use std::fmt::Write;
-use zone_minutes::{OutOfMemory, Window, write_stamp};
+use zone_minutes::{Window, write_stamp};
 
 // Writes a line and its newline at once.
 fn write_line<K: Sink>(sink: &mut K, line: &mut String) -> Result<(), ReportFault>
-    ensures { Writes (K.written sink.old) (K.written sink.new) (K.faults sink.old) (K.faults sink.new)
-        (K.room sink.old) (K.room sink.new) result (string_bytes line.old ++ 10 ∷ []) }
+    ensures { Writes (K.seen sink.old) (K.seen sink.new) result (string_bytes line.old ++ 10 ∷ []) }
 {
     line.push('\n')?;
     write_all(sink, line.as_bytes())?;
@@ -37,19 +35,16 @@ fn put_window(line: &mut String, window: Window) -> Result<(), OutOfMemory>
     write_stamp(window.until, line)
 }
 
-fn put_counts(line: &mut String, name: &str, counts: Counts) -> Result<(), AllocError>
+fn put_counts(line: &mut String, name: &str, counts: Counts) -> Result<(), OutOfMemory>
     ensures { OnOk result (string_bytes line.new ≡ job_line name.now counts.launched counts.voided) }
 {
     let Counts { launched, voided } = counts;
     line.clear();
-    write!(line, "job {name} launched {launched} void {voided}")
+    write!(line, "job {name} launched {launched} void {voided}")?;
+    Ok(())
 }
 
-fn put_row(
-    line: &mut String,
-    table: &JobTable,
-    row: SchedRow,
-) -> Result<(), cluster_sched::OutOfMemory>
+fn put_row(line: &mut String, table: &JobTable, row: SchedRow) -> Result<(), OutOfMemory>
     requires { IsNameIn table.now row.name }
     ensures { OnOk result (string_bytes line.new ≡ row_line table.now row) }
 {
@@ -63,8 +58,7 @@ fn put_row(
 
 /// Writes the text as a line.
 pub fn write_text<K: Sink>(sink: &mut K, line: &mut String, text: &str) -> Result<(), ReportFault>
-    ensures { Writes (K.written sink.old) (K.written sink.new) (K.faults sink.old) (K.faults sink.new)
-        (K.room sink.old) (K.room sink.new) result (text.now ++ 10 ∷ []) }
+    ensures { Writes (K.seen sink.old) (K.seen sink.new) result (text.now ++ 10 ∷ []) }
 {
     line.clear();
     line.push_str(text)?;
@@ -79,8 +73,7 @@ pub fn write_window<K: Sink>(
 ) -> Result<(), ReportFault>
     requires from { IsCalendarMinute window.from.0 }
     requires until { IsCalendarMinute window.until.0 }
-    ensures { Writes (K.written sink.old) (K.written sink.new) (K.faults sink.old) (K.faults sink.new)
-        (K.room sink.old) (K.room sink.new) result (window_line window ++ 10 ∷ []) }
+    ensures { Writes (K.seen sink.old) (K.seen sink.new) result (window_line window ++ 10 ∷ []) }
 {
     put_window(line, window)?;
     write_line(sink, line)
@@ -92,8 +85,7 @@ pub fn write_members<K: Sink>(
     line: &mut String,
     members: u8,
 ) -> Result<(), ReportFault>
-    ensures { Writes (K.written sink.old) (K.written sink.new) (K.faults sink.old) (K.faults sink.new)
-        (K.room sink.old) (K.room sink.new) result (codes "replicas " ++ decimal members ++ 10 ∷ []) }
+    ensures { Writes (K.seen sink.old) (K.seen sink.new) result (codes "replicas " ++ decimal members ++ 10 ∷ []) }
 {
     line.clear();
     write!(line, "replicas {members}")?;
@@ -106,8 +98,7 @@ pub fn write_job_number<K: Sink>(
     line: &mut String,
     jobs: u32,
 ) -> Result<(), ReportFault>
-    ensures { Writes (K.written sink.old) (K.written sink.new) (K.faults sink.old) (K.faults sink.new)
-        (K.room sink.old) (K.room sink.new) result (codes "jobs " ++ decimal jobs ++ 10 ∷ []) }
+    ensures { Writes (K.seen sink.old) (K.seen sink.new) result (codes "jobs " ++ decimal jobs ++ 10 ∷ []) }
 {
     line.clear();
     write!(line, "jobs {jobs}")?;
@@ -123,8 +114,7 @@ pub fn write_count<K: Sink>(
     counts: Counts,
 ) -> Result<(), ReportFault>
     requires { job < length table.now.jobs }
-    ensures { Writes (K.written sink.old) (K.written sink.new) (K.faults sink.old) (K.faults sink.new)
-        (K.room sink.old) (K.room sink.new) result
+    ensures { Writes (K.seen sink.old) (K.seen sink.new) result
         (job_line (job_name table.now job) counts.launched counts.voided ++ 10 ∷ []) }
 {
     put_counts(line, table.name(job), counts)?;
@@ -139,8 +129,7 @@ pub fn write_row<K: Sink>(
     row: SchedRow,
 ) -> Result<(), ReportFault>
     requires { IsNameIn table.now row.name }
-    ensures { Writes (K.written sink.old) (K.written sink.new) (K.faults sink.old) (K.faults sink.new)
-        (K.room sink.old) (K.room sink.new) result (row_line table.now row ++ 10 ∷ []) }
+    ensures { Writes (K.seen sink.old) (K.seen sink.new) result (row_line table.now row ++ 10 ∷ []) }
 {
     put_row(line, table, row)?;
     write_line(sink, line)

@@ -17,8 +17,8 @@ returns-in_err-write_count g c = λ held known.
     let job = c.loop-job.job in
     let below = rw c.jobs-job-end.ensures.count at c.loop-job-test.true in
     let place = job_in_range (length table.jobs) job below in
-    writes_some whole_line (map line jobs) job (line job) _ _ _ _ _ _ _ _ _ _ _ (inside_map line jobs job place.0) (seen_at line jobs job job place.1) (c.loop-job.invariant held known) c.from_residual.ensures.1
-    (subst (Writes _ _ _ _ _ _ _) (ap whole_line (line_of_counts table held job c.args.counts.now _ below known)) c.in_err-write_count.ensures)
+    writes_some whole_line (map line jobs) job (line job) _ _ _ _ _ (inside_map line jobs job place.0) (seen_at line jobs job job place.1) (c.loop-job.invariant held known) c.from_residual.ensures.1
+    (subst (Writes _ _ _) (ap whole_line (line_of_counts table held job c.args.counts.now _ below known)) c.in_err-write_count.ensures)
 
 pub loop-job-preserved : goal.loop-job-preserved
 loop-job-preserved g c = λ held known.
@@ -28,5 +28,5 @@ loop-job-preserved g c = λ held known.
     let job = c.loop-job.job in
     let below = rw c.jobs-job-end.ensures.count at c.loop-job-test.true in
     let place = job_in_range (length table.jobs) job below in
-    writes_more whole_line (map line jobs) job (line job) _ _ _ _ _ _ _ _ _ (inside_map line jobs job place.0) (seen_at line jobs job job place.1) (c.loop-job.invariant held known)
-    (subst (Writes _ _ _ _ _ _ _) (ap whole_line (line_of_counts table held job c.args.counts.now _ below known)) c.in_ok-write_count.ensures)
+    writes_more whole_line (map line jobs) job (line job) _ _ _ (inside_map line jobs job place.0) (seen_at line jobs job job place.1) (c.loop-job.invariant held known)
+    (subst (Writes _ _ _) (ap whole_line (line_of_counts table held job c.args.counts.now _ below known)) c.in_ok-write_count.ensures)

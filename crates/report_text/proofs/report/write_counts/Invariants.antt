@@ -9,8 +9,8 @@ use Rattle.report_text.proofs.report.write_counts.Given as goal
 
 abbrev pub invariant-loop-job : goal.invariant-loop-job
 invariant-loop-job g l =
-    let written = g.K.Sink.written in let faults = g.K.Sink.faults in let room = g.K.Sink.room in
+    let seen = g.K.Sink.seen in
     let jobs = range_with_len 0 (length l.table.jobs) in
     (held : List SchedRow) → l.counts ≡ map (counts_of held) jobs
-    → HasWritten (written l.fn.sink) (written l.sink) (faults l.fn.sink) (faults l.sink) (room l.fn.sink) (room l.sink)
+    → HasWritten (seen l.fn.sink) (seen l.sink)
     (text_of_lines (take l.job (map (count_line l.table held) jobs)))

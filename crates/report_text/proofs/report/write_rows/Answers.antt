@@ -18,7 +18,7 @@ returns-in_err-write_row g c =
     let row = get_or rows i default_row in
     let inside = inside_map line rows i c.loop-row-test.true in
     let is = seen_at line rows i row (get_or_default rows i _ _ c.loop-row-test.true) in
-    writes_some (λ (text : List ℕ). text ++ 10 ∷ []) (map line rows) i (line row) _ _ _ _ _ _ _ _ _ _ _ inside is c.loop-row.invariant c.from_residual.ensures.1 c.in_err-write_row.ensures
+    writes_some (λ (text : List ℕ). text ++ 10 ∷ []) (map line rows) i (line row) _ _ _ _ _ inside is c.loop-row.invariant c.from_residual.ensures.1 c.in_err-write_row.ensures
 
 pub loop-row-preserved : goal.loop-row-preserved
 loop-row-preserved g c =
@@ -28,4 +28,4 @@ loop-row-preserved g c =
     let row = get_or rows i default_row in
     let inside = inside_map line rows i c.loop-row-test.true in
     let is = seen_at line rows i row (get_or_default rows i _ _ c.loop-row-test.true) in
-    writes_more (λ (text : List ℕ). text ++ 10 ∷ []) (map line rows) i (line row) _ _ _ _ _ _ _ _ _ inside is c.loop-row.invariant c.in_ok-write_row.ensures
+    writes_more (λ (text : List ℕ). text ++ 10 ∷ []) (map line rows) i (line row) _ _ _ inside is c.loop-row.invariant c.in_ok-write_row.ensures

@@ -6,6 +6,6 @@ use Rattle.report_text.proofs.report.write_rows.Given as goal
 
 abbrev pub invariant-loop-row : goal.invariant-loop-row
 invariant-loop-row g l =
-    let written = g.K.Sink.written in let faults = g.K.Sink.faults in let room = g.K.Sink.room in
-    HasWritten (written l.fn.sink) (written l.sink) (faults l.fn.sink) (faults l.sink) (room l.fn.sink) (room l.sink)
+    let seen = g.K.Sink.seen in
+    HasWritten (seen l.fn.sink) (seen l.sink)
     (text_of_lines (take l.row-index (map (row_line l.table) l.rows)))

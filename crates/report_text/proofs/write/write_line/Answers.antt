@@ -5,4 +5,4 @@ use Rattle.report_text.proofs.write.write_line.Goals as goal
 pub returns : goal.returns
 returns g c =
     let wrote = c.in_ok-write_all.ensures in
-    writes_whole _ _ _ _ _ _ _ c.as_bytes.result.now _ (search rules) wrote.bytes wrote.prefix wrote.cause.later wrote.by_room
+    writes_whole _ _ _ c.as_bytes.result.now _ (search rules) wrote.bytes wrote.prefix wrote.cause.later wrote.by_room
