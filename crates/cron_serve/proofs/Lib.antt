@@ -7,7 +7,6 @@ pub mod JobTableLemmas
 pub mod LimitLemmas
 pub mod LineLemmas
 pub mod ListLemmas
-pub mod ListingLemmas
 pub mod NumberLemmas
 pub mod OverMemoryLemmas
 pub mod PhraseLemmas

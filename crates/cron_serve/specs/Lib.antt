@@ -9,4 +9,3 @@ pub mod Stop
 pub mod Written
 pub mod Complete
 pub mod OverMemory
-pub mod Listing

@@ -2,7 +2,6 @@
 #![tactic(auto)]
 
 mod entry;
-mod laws;
 mod lines;
 mod note;
 mod read;
@@ -13,7 +12,6 @@ mod stop;
 mod table;
 mod words;
 
-pub use laws::a_report_lists_each_due_instant;
 pub use note::write_note;
 pub use read::{RunFault, a_text_says_one_run, read_run};
 pub use run::RunFile;

@@ -7,8 +7,8 @@ ghost use Rattle.launch_machine.specs.Machine.{CanCount, StandsFor};
 ghost use Rattle.launch_machine.specs.Next.{IsLeastNext, NoNext};
 ghost use Rattle.launch_clerk.specs.Walk.{IsAtWork, IsResting, steps_left};
 
-use crate::fault::OutOfMemory;
 use cluster_sched::{CallFault, Ledger, Name, SchedRow, call_by_name};
+use cron_io::OutOfMemory;
 use due_set::JobTable;
 use launch_machine::{Intent, Machine};
 use paxos_base::{Entry, EntryList, Kind};

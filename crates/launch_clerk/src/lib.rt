@@ -2,10 +2,8 @@
 #![tactic(auto)]
 
 mod clerk;
-mod fault;
 mod run;
 #[cfg(test)]
 mod tests;
 
-pub use fault::OutOfMemory;
 pub use run::{ClerkRun, run_clerk};

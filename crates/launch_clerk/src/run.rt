@@ -4,8 +4,8 @@ ghost use Rattle.launch_law.specs.Launched.{LaunchesEachDue};
 ghost use Rattle.launch_law.specs.Settled.{IsSettled};
 
 use crate::clerk::Clerk;
-use crate::fault::OutOfMemory;
 use cluster_sched::Ledger;
+use cron_io::OutOfMemory;
 use due_set::JobTable;
 use paxos_base::EntryList;
 use std::alloc::Global;

@@ -3,3 +3,5 @@ pub mod ReportLemmas
 pub mod CountLemmas
 pub mod OrderLemmas
 pub mod OneOrder
+pub mod ListingLemmas
+pub mod CountLaws

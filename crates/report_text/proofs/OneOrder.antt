@@ -21,7 +21,7 @@ use Rattle.report_text.specs.Lines.{text_of_lines}
 use Rattle.report_text.specs.Report.{IsInOrder, IsNotAfter, IsReport, report_lines}
 use Rattle.report_text.proofs.OrderLemmas.{AreInOrder, first_of_order, rest_of_order}
 
-same_name : (a b : Name) → a.job ≡ b.job → a.at ≡ b.at → a ≡ b
+pub same_name : (a b : Name) → a.job ≡ b.job → a.at ≡ b.at → a ≡ b
 same_name a b jobs ats =
     let with_job : ℕ → Name = λ job. record { job = job; at = a.at } in
     let with_at : ℤ → Name = λ at. record { job = b.job; at = at } in
@@ -62,7 +62,7 @@ rows_differ rows once i j d before within same =
     let inside : j < length (map name_of rows) = subst (λ (n : ℕ). j < n) (sym (length-map _ _)) within in
     once i j d.name before inside (get_or-map name_of rows i d ∙ same ∙ sym (get_or-map name_of rows j d))
 
-AreNamedOnce-permutation : (held rows : List SchedRow) → IsPermutation held rows → AreNamedOnce held → AreNamedOnce rows
+pub AreNamedOnce-permutation : (held rows : List SchedRow) → IsPermutation held rows → AreNamedOnce held → AreNamedOnce rows
 AreNamedOnce-permutation held rows moved once =
     rows_differ rows (AllPairs-from_IsDistinct name_eq-decides (map name_of rows)
     (IsDistinct-IsPermutation name_eq name_eq-flips (map name_of held) (map name_of rows) (IsPermutation-map name_of held rows moved)

@@ -9,7 +9,9 @@ mod report;
 mod write;
 
 pub use fault::ReportFault;
-pub use laws::a_report_says_one_text;
+pub use laws::{
+    a_report_counts_what_it_lists, a_report_lists_each_due_instant, a_report_says_one_text,
+};
 pub use report::write_report;
 
 #[cfg(test)]

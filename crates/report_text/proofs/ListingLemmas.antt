@@ -22,47 +22,8 @@ use Rattle.cluster_sched.specs.declared.row.Name.{Name}
 use Rattle.cluster_sched.specs.declared.row.SchedRow.{SchedRow}
 use Rattle.launch_law.specs.Launched.{LaunchesEachDue}
 use Rattle.report_text.specs.Report.{IsInOrder, IsNotAfter}
-use Rattle.cron_serve.specs.Listing.{instants_of}
-
-same_name : (a b : Name) → a.job ≡ b.job → a.at ≡ b.at → a ≡ b
-same_name a b jobs ats =
-    let with_job : ℕ → Name = λ job. record { job = job; at = a.at } in
-    let with_at : ℤ → Name = λ at. record { job = b.job; at = at } in
-    ap with_job jobs ∙ ap with_at ats
-
-name_eq : Name → Name → Bool
-name_eq a b = (a.job == b.job) && int_eq a.at b.at
-
-name_eq-decides : (a b : Name) → Decides (name_eq a b) (a ≡ b)
-unfolding name_eq
-name_eq-decides a b =
-    Decides-like ((a.job == b.job) && int_eq a.at b.at) (λ both. same_name a b both.0 both.1) (λ e. (ap (λ (n : Name). n.job) e, ap (λ (n : Name). n.at) e))
-    (Decides-and (a.job == b.job) (int_eq a.at b.at) (Decides-eqb a.job b.job) (Decides-int_eq a.at b.at))
-
-name_eq-flips : (a b : Name) → name_eq a b ≡ name_eq b a
-name_eq-flips a b = same_from_decides (name_eq a b) (name_eq b a) (name_eq-decides a b) (Decides-like (name_eq b a) (λ e. sym e) (λ e. sym e) (name_eq-decides b a))
-
-abbrev name_of : SchedRow → Name
-name_of row = row.name
-
-abbrev row_named : Name → SchedRow
-row_named name = record { name = name; kind = Launch; now = record { 0 = pos 0 }; by = 0 }
-
-names_differ : (rows : List SchedRow) → AreNamedOnce rows → AllPairs (λ (a b : Name). a ≢ b) (map name_of rows)
-names_differ rows once i j d before within same =
-    let inside : j < length rows = subst (λ (n : ℕ). j < n) (length-map _ _) within in
-    once i j (row_named d) before inside (sym (get_or-map name_of rows i (row_named d)) ∙ same ∙ get_or-map name_of rows j (row_named d))
-
-rows_differ : (rows : List SchedRow) → AllPairs (λ (a b : Name). a ≢ b) (map name_of rows) → AreNamedOnce rows
-rows_differ rows once i j d before within same =
-    let inside : j < length (map name_of rows) = subst (λ (n : ℕ). j < n) (sym (length-map _ _)) within in
-    once i j d.name before inside (get_or-map name_of rows i d ∙ same ∙ sym (get_or-map name_of rows j d))
-
-AreNamedOnce-permutation : (held rows : List SchedRow) → IsPermutation held rows → AreNamedOnce held → AreNamedOnce rows
-AreNamedOnce-permutation held rows moved once =
-    rows_differ rows (AllPairs-from_IsDistinct name_eq-decides (map name_of rows)
-    (IsDistinct-IsPermutation name_eq name_eq-flips (map name_of held) (map name_of rows) (IsPermutation-map name_of held rows moved)
-    (IsDistinct-from_AllPairs name_eq-decides (map name_of held) (names_differ held once))))
+use Rattle.report_text.specs.Listing.{instants_of}
+use Rattle.report_text.proofs.OneOrder.{AreNamedOnce-permutation, same_name}
 
 -- where both are of one job, the first is earlier
 abbrev IsBefore : SchedRow → SchedRow → Type 0

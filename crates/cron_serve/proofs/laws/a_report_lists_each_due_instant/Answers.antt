@@ -1,5 +1,0 @@
-use Rattle.cron_serve.proofs.ListingLemmas.{each_due_listed}
-use Rattle.cron_serve.proofs.laws.a_report_lists_each_due_instant.Goals as goal
-
-pub returns : goal.returns
-returns c = each_due_listed
