@@ -2,7 +2,7 @@
 #![tactic(auto)]
 
 use cron_io::{StdSink, StdSource};
-use cron_serve::{RunEnd, cron_cluster, write_note};
+use cron_serve::{RunEnd, Stop, cron_cluster, write_note};
 use std::process::ExitCode;
 use std::{env, io};
 
@@ -13,8 +13,8 @@ fn main(rt: HostRuntime) -> ExitCode {
     let end = match words(&rt) {
         Ok(words) => cron_cluster(rt.alloc(), &words, &mut source, &mut sink, &mut notes),
         Err(_) => {
-            let end = RunEnd::without_run(rt.alloc(), 5, None);
-            write_note(&mut notes, end.status, end.refusal);
+            let end = RunEnd::stopped(rt.alloc(), Stop::OutOfMemory);
+            write_note(&mut notes, &end);
             end
         }
     };

@@ -1,4 +1,4 @@
-mod LawLemmas
+pub mod LawLemmas
 mod MemoryLemmas
 mod ReadingLemmas
 mod WritingLemmas

@@ -5,7 +5,7 @@ use Rattle.std.proofs.lemmas.List.{append-nil}
 use Rattle.cron_serve.specs.Grammar.{section_line, IsSection}
 use Rattle.cron_serve.specs.Lines.{BeginsWithLine, BeginsWithLines}
 use Rattle.cron_serve.specs.Reading.{IsSectionLine, BeginsWithTable, BeginsWithSection, BeginsWithSections}
-use Rattle.cron_serve.specs.Run.{Entry, Section}
+use Rattle.cron_serve.specs.Run.{CrontabEntry, Section}
 use Rattle.cron_serve.proofs.LineLemmas.{same_line, BeginsWithLines-append, BeginsWithLines-split}
 use Rattle.cron_serve.proofs.PhraseLemmas.{one_section_line, section_not_script}
 use Rattle.cron_serve.proofs.TableLemmas.{one_table}
@@ -32,7 +32,7 @@ parts_of_section text section after begins =
       table = record { table = is.table; begins = others; count_is = refl; each = is.entries };
     }
 
-pub section_from_parts : (text line rest label after : List ℕ) (count : ℕ) (entries : List Entry) → BeginsWithLine text line rest → IsSectionLine line label count → BeginsWithTable rest count entries after → BeginsWithSection text (record { label = label; entries = entries }) after
+pub section_from_parts : (text line rest label after : List ℕ) (count : ℕ) (entries : List CrontabEntry) → BeginsWithLine text line rest → IsSectionLine line label count → BeginsWithTable rest count entries after → BeginsWithSection text (record { label = label; entries = entries }) after
 section_from_parts text line rest label after count entries begins is table = record {
   lines = line ∷ table.table;
   begins = (rest, begins, table.begins);
@@ -52,7 +52,7 @@ no_section_at_line text line rest first none section after begins =
     let same = same_line text line p.line rest p.rest first p.begins in
     none section.label p.count (subst (λ l. IsSectionLine l section.label p.count) (sym same.0) p.is)
 
-pub no_section_at_table : (text line rest label : List ℕ) (count : ℕ) → BeginsWithLine text line rest → IsSectionLine line label count → ((entries : List Entry) (after : List ℕ) → BeginsWithTable rest count entries after → ⊥) → (section : Section) (after : List ℕ) → BeginsWithSection text section after → ⊥
+pub no_section_at_table : (text line rest label : List ℕ) (count : ℕ) → BeginsWithLine text line rest → IsSectionLine line label count → ((entries : List CrontabEntry) (after : List ℕ) → BeginsWithTable rest count entries after → ⊥) → (section : Section) (after : List ℕ) → BeginsWithSection text section after → ⊥
 no_section_at_table text line rest label count first is none section after begins =
     let p = parts_of_section text section after begins in
     let same = same_line text line p.line rest p.rest first p.begins in
@@ -61,7 +61,7 @@ no_section_at_table text line rest label count first is none section after begin
     (subst (λ n. BeginsWithTable rest n section.entries after) (sym head.1)
     (subst (λ t. BeginsWithTable t p.count section.entries after) (sym same.1) p.table))
 
-same_section : (l m : List ℕ) (a b : List Entry) → l ≡ m → a ≡ b → ◌≡◌ {A = Section} (record { label = l; entries = a }) (record { label = m; entries = b })
+same_section : (l m : List ℕ) (a b : List CrontabEntry) → l ≡ m → a ≡ b → ◌≡◌ {A = Section} (record { label = l; entries = a }) (record { label = m; entries = b })
 same_section l m a b p q = rw (p, q)
 
 -- a text begins with one section at most

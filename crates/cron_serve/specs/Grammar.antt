@@ -9,7 +9,7 @@ use Rattle.cron_fields.specs.declared.field.FieldSet.{FieldSet}
 use Rattle.zone_minutes.specs.Window.{IsWithinLimits}
 use Rattle.zone_minutes.specs.declared.minute.Window.{Window}
 use Rattle.cron_serve.specs.Lines.{AreLines}
-use Rattle.cron_serve.specs.Run.{Entry, Section, Run}
+use Rattle.cron_serve.specs.Run.{CrontabEntry, Section, Run}
 
 -- grace G, in minutes
 abbrev pub grace_line : ℕ → List ℕ
@@ -56,7 +56,7 @@ pub record IsCommand (command : List ℕ) : Type 0 where
   pub short : length command ≤ 1000
 
 -- five fields, with blanks behind each, and a command
-pub record IsEntryLine (line : List ℕ) (entry : Entry) : Type 0 where
+pub record IsEntryLine (line : List ℕ) (entry : CrontabEntry) : Type 0 where
   pub minute : List ℕ
   pub hour : List ℕ
   pub month_day : List ℕ

@@ -8,4 +8,5 @@ pub mod Serve
 pub mod Stop
 pub mod Written
 pub mod Complete
+pub mod Ends
 pub mod OverMemory

@@ -7,7 +7,7 @@ use Rattle.zone_minutes.specs.Window.{IsWithinLimits}
 use Rattle.zone_minutes.specs.declared.minute.Window.{Window}
 use Rattle.cron_serve.specs.Grammar.{IsBlank, BeginsWithoutBlank, IsFieldAndBlanks, IsEntryLine, IsLabel, window_line, grace_line, section_line, IsSection, AreSections}
 use Rattle.cron_serve.specs.Lines.{BeginsWithLine, BeginsWithLines}
-use Rattle.cron_serve.specs.Run.{Entry, Section}
+use Rattle.cron_serve.specs.Run.{CrontabEntry, Section}
 
 -- what may begin with a digit of its own: there is no sign, and a 0 only as the one digit
 pub record MayBeginNumber (text : List ℕ) : Type 0 where
@@ -80,13 +80,13 @@ pub record BeginsWithHead (text : List ℕ) (window : Window) (grace : ℕ) (aft
   pub grace_is : IsGraceLine grace_text grace
 
 -- the text begins with a job line
-pub record BeginsWithEntry (text : List ℕ) (entry : Entry) (after : List ℕ) : Type 0 where
+pub record BeginsWithEntry (text : List ℕ) (entry : CrontabEntry) (after : List ℕ) : Type 0 where
   pub line : List ℕ
   pub begins : BeginsWithLine text line after
   pub is : IsEntryLine line entry
 
 -- the text begins with that many job lines
-pub record BeginsWithTable (text : List ℕ) (count : ℕ) (entries : List Entry) (after : List ℕ) : Type 0 where
+pub record BeginsWithTable (text : List ℕ) (count : ℕ) (entries : List CrontabEntry) (after : List ℕ) : Type 0 where
   pub table : List (List ℕ)
   pub begins : BeginsWithLines table text after
   pub count_is : length table ≡ count

@@ -5,14 +5,14 @@ use Rattle.cron_fields.specs.declared.field.Fields.{Fields}
 use Rattle.zone_minutes.specs.declared.minute.Window.{Window}
 
 -- a job line of a crontab
-pub record Entry : Type 0 where
+pub record CrontabEntry : Type 0 where
   pub fields : Fields
   pub command : List ℕ
 
 -- a crontab under its label, in UTC
 pub record Section : Type 0 where
   pub label : List ℕ
-  pub entries : List Entry
+  pub entries : List CrontabEntry
 
 -- what a run file says
 pub record Run : Type 0 where
@@ -20,19 +20,19 @@ pub record Run : Type 0 where
   pub grace : ℕ
   pub sections : List Section
 
--- a job under its name
-pub record Job : Type 0 where
+-- an entry under its job's name
+pub record NamedEntry : Type 0 where
   pub name : List ℕ
   pub fields : Fields
 
 -- the job of the entry at a place, from 1, of the section with the label: LABEL:k
-abbrev pub numbered_job : List ℕ → ℕ × Entry → Job
+abbrev pub numbered_job : List ℕ → ℕ × CrontabEntry → NamedEntry
 numbered_job label numbered = record { name = label ++ (58 ∷ decimal numbered.0); fields = numbered.1.fields }
 
 -- the jobs of a section, in order
-abbrev pub section_jobs : Section → List Job
+abbrev pub section_jobs : Section → List NamedEntry
 section_jobs section = map (numbered_job section.label) (enumerate_from 1 section.entries)
 
 -- the jobs of a run, in order
-abbrev pub jobs_of : Run → List Job
+abbrev pub jobs_of : Run → List NamedEntry
 jobs_of run = flat_map section_jobs run.sections

@@ -1,9 +1,9 @@
 -- How the program ends, and what it leaves.
-use Rattle.std.specs.Prelude.{◌≡◌, ◌⊎◌, ℕ, ◌==◌, if◌then◌else◌, List, [], ◌∷◌, ◌++◌, Option, None, Some, pos, ◌-ℤ◌, codes, decimal}
-use Rattle.std.specs.Io.KnownBytes.{Appends}
+use Rattle.std.specs.Prelude.{◌≡◌, ◌⊎◌, ℕ, ◌≤◌, ◌==◌, if◌then◌else◌, List, [], ◌∷◌, ◌++◌, length, Option, None, Some, pos, ◌-ℤ◌, codes, decimal}
 use Rattle.cron_io.specs.Faults.{Rose}
 use Rattle.cron_io.specs.Reading.{IsReadToEnd, HasTakenCount}
-use Rattle.cron_io.specs.Writing.{HasGainedPrefix}
+use Rattle.cron_io.specs.Views.{SourceView, SinkView}
+use Rattle.cron_io.specs.Writing.{HasGained, HasGainedPrefix}
 use Rattle.paxos_base.specs.declared.entry.Entry.{Entry}
 use Rattle.due_set.specs.Table.{Table}
 use Rattle.cluster_sched.specs.declared.row.SchedRow.{SchedRow}
@@ -16,19 +16,20 @@ use Rattle.cron_serve.specs.Table.{table_of, IsTakenRun, TakesNoRun}
 use Rattle.cron_serve.specs.declared.run_end.Refusal.{Refusal}
 
 -- more than 1,048,576 bytes came
-pub record IsTooLarge (old new : Option (List ℕ)) (refusal : Refusal) : Type 0 where
+pub record IsTooLarge (old new : SourceView) (refusal : Refusal) : Type 0 where
   pub cause : refusal.cause ≡ 33
   pub taken : HasTakenCount old new 1_048_577
 
--- the input was read to its end, and is no run that is taken so far
-pub record IsNotYet (old new : Option (List ℕ)) (refusal : Refusal) : Type 0 where
+-- the input was read to its end, isn't too large, and is no run that is taken so far
+pub record IsNotYet (old new : SourceView) (refusal : Refusal) : Type 0 where
   pub cause : refusal.cause ≡ 35
   pub bytes : List ℕ
   pub read : IsReadToEnd old new bytes
+  pub short : length bytes ≤ 1_048_576
   pub no_run : TakesNoRun bytes
 
 -- why the input was refused: no line is to blame
-pub record IsRefused (old new : Option (List ℕ)) (refusal : Refusal) : Type 0 where
+pub record IsRefused (old new : SourceView) (refusal : Refusal) : Type 0 where
   pub line : refusal.line ≡ 0
   pub place : refusal.place ≡ 0
   pub why : IsTooLarge old new refusal ⊎ IsNotYet old new refusal
@@ -45,7 +46,7 @@ pub record IsWholeRun (table : Table) (log : List Entry) (held : List SchedRow) 
   pub launched : LaunchesEachDue table held
 
 -- the input was read to its end and is a run that is taken, of these jobs, with this log and these rows
-pub record IsRunOfInput (old new : Option (List ℕ)) (table : Table) (log : List Entry) (held : List SchedRow) : Type 0 where
+pub record IsRunOfInput (old new : SourceView) (table : Table) (log : List Entry) (held : List SchedRow) : Type 0 where
   pub bytes : List ℕ
   pub read : IsReadToEnd old new bytes
   pub run : Run
@@ -54,29 +55,25 @@ pub record IsRunOfInput (old new : Option (List ℕ)) (table : Table) (log : Lis
   pub whole : IsWholeRun table log held
 
 -- the input is such a run, and this is the report of its rows: there is one replica
-pub record IsReportOfInput (old new : Option (List ℕ)) (log : List Entry) (held : List SchedRow) (text : List ℕ) : Type 0 where
+pub record IsReportOfInput (old new : SourceView) (log : List Entry) (held : List SchedRow) (text : List ℕ) : Type 0 where
   pub table : Table
   pub run : IsRunOfInput old new table log held
   pub report : IsReport table 1 held text
 
 -- the report of the input was written
-abbrev pub WritesReport : (left left' written written' : Option (List ℕ)) → List Entry → List SchedRow → Type 0
-WritesReport left left' written written' log held =
-    (text : List ℕ) × IsReportOfInput left left' log held text × Appends written written' text
+abbrev pub WritesReport : (source source' : SourceView) (sink sink' : SinkView) → List Entry → List SchedRow → Type 0
+WritesReport source source' sink sink' log held =
+    (text : List ℕ) × IsReportOfInput source source' log held text × HasGained sink sink' text
 
 -- a front of the report of the input was written
-abbrev pub WritesSome : (left left' written written' : Option (List ℕ)) → List Entry → List SchedRow → Type 0
-WritesSome left left' written written' log held =
-    (text : List ℕ) × IsReportOfInput left left' log held text × HasGainedPrefix written written' text
+abbrev pub WritesSome : (source source' : SourceView) (sink sink' : SinkView) → List Entry → List SchedRow → Type 0
+WritesSome source source' sink sink' log held =
+    (text : List ℕ) × IsReportOfInput source source' log held text × HasGainedPrefix sink sink' text
 
 -- a front of the report of some run of the input was written
-abbrev pub WritesSomeOfRun : (left left' written written' : Option (List ℕ)) → Type 0
-WritesSomeOfRun left left' written written' =
-    (log : List Entry) × (held : List SchedRow) × WritesSome left left' written written' log held
-
--- a sink gained nothing
-abbrev pub GainsNothing : Option (List ℕ) → Option (List ℕ) → Type 0
-GainsNothing old new = Appends old new []
+abbrev pub WritesSomeOfRun : (source source' : SourceView) (sink sink' : SinkView) → Type 0
+WritesSomeOfRun source source' sink sink' =
+    (log : List Entry) × (held : List SchedRow) × WritesSome source source' sink sink' log held
 
 -- there is no log, and nothing is held
 pub record LeavesNoRun (log : List Entry) (held : List SchedRow) : Type 0 where
@@ -102,6 +99,7 @@ abbrev pub note_text : ℕ → Option Refusal → List ℕ
 note_text status None = status_note status
 note_text status (Some refusal) = refusal_note refusal
 
--- the notes gained this text, or a front of it where their count of faults rose
-abbrev pub IsNoted : Option (List ℕ) → Option (List ℕ) → ℕ → ℕ → List ℕ → Type 0
-IsNoted old new before now text = Appends old new text ⊎ (HasGainedPrefix old new text × Rose before now)
+-- the notes gained this text, or a front of it where their count of faults rose; that count didn't fall
+pub record IsNoted (old new : SinkView) (text : List ℕ) : Type 0 where
+  pub gained : HasGained old new text ⊎ (HasGainedPrefix old new text × Rose old.faults new.faults)
+  pub later : old.faults ≤ new.faults

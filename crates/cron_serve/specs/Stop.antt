@@ -1,6 +1,7 @@
 -- Which stop a fault of a part leads to, and the end that a stop leads to.
-use Rattle.std.specs.Prelude.{ℕ, List, Option, None, Some, ⊤}
+use Rattle.std.specs.Prelude.{ℕ, Option, None, Some, ⊤}
 use Rattle.cron_io.specs.Faults.{Rose}
+use Rattle.cron_io.specs.Views.{SourceView}
 use Rattle.cron_io.specs.declared.source.ReadAllFault.{ReadAllFault}
 use Rattle.cron_io.specs.declared.source.ReadAllFault.TheVariants as reading
 use Rattle.cron_serve.specs.Serve.{IsRefused}
@@ -8,7 +9,7 @@ use Rattle.cron_serve.specs.declared.read.RunFault.{RunFault}
 use Rattle.cron_serve.specs.declared.read.RunFault.TheVariants as run
 use Rattle.cron_serve.specs.declared.run_end.Refusal.{Refusal}
 use Rattle.cron_serve.specs.declared.stop.Stop.{Stop}
-use Rattle.cron_serve.specs.declared.stop.Stop.TheVariants.{Refused, ReadFault, OutOfMemory}
+use Rattle.cron_serve.specs.declared.stop.Stop.TheVariants.{Usage, Refused, ReadFault, OutOfMemory}
 
 abbrev pub refused_for : ℕ → Stop
 refused_for cause = Refused (record { line = 0; cause = cause; place = 0 })
@@ -24,18 +25,21 @@ stop_of_run run.OutOfMemory = OutOfMemory
 
 -- the status of a stop
 abbrev pub status_of : Stop → ℕ
+status_of Usage = 1
 status_of (Refused refusal) = 2
 status_of ReadFault = 3
 status_of OutOfMemory = 5
 
 -- the refusal, where it is one
 abbrev pub refusal_of : Stop → Option Refusal
+refusal_of Usage = None
 refusal_of (Refused refusal) = Some refusal
 refusal_of ReadFault = None
 refusal_of OutOfMemory = None
 
--- why the program stopped: the input was refused, a read failed, or memory ran out
-abbrev pub StopsFor : (left left' : Option (List ℕ)) (reads reads' : ℕ) → Stop → Type 0
-StopsFor left left' reads reads' (Refused refusal) = IsRefused left left' refusal
-StopsFor left left' reads reads' ReadFault = Rose reads reads'
-StopsFor left left' reads reads' OutOfMemory = ⊤
+-- why a run stopped: the input was refused, a read failed, or memory ran out
+abbrev pub StopsFor : (source source' : SourceView) → Stop → Type 0
+StopsFor source source' Usage = ⊥
+StopsFor source source' (Refused refusal) = IsRefused source source' refusal
+StopsFor source source' ReadFault = Rose source.faults source'.faults
+StopsFor source source' OutOfMemory = ⊤

@@ -2,18 +2,18 @@
 use Rattle.std.specs.Prelude.{◌≡◌, ℕ, ◌≤◌, List, [], ◌∷◌, length, map, sum_by, ℤ, pos, Some, slice_get, IsUtf8}
 use Rattle.zone_minutes.specs.Zone.{Zone, FixedOffset}
 use Rattle.zone_minutes.specs.declared.minute.Window.{Window}
-use Rattle.due_set.specs.Table.{Job as TableJob, Table, IsJobDueList}
+use Rattle.due_set.specs.Table.{Job, Table, IsJobDueList}
 use Rattle.due_set.specs.declared.job.JobKind.TheVariants.{Crontab}
 use Rattle.cron_serve.specs.Grammar.{IsRunFile}
 use Rattle.cron_serve.specs.Lines.{Lacks}
-use Rattle.cron_serve.specs.Run.{Run, Job, jobs_of}
+use Rattle.cron_serve.specs.Run.{Run, NamedEntry, jobs_of}
 
 -- UTC, over the window
 abbrev pub utc : Window → Zone
 utc window = record { source = FixedOffset (pos 0); from = window.from.0; until = window.until.0 }
 
 -- the job of the table that an entry of a crontab is
-abbrev pub table_job : Job → TableJob
+abbrev pub table_job : NamedEntry → Job
 table_job job = record { name = job.name; zone = 0; kind = Crontab job.fields }
 
 -- the table of a run's jobs

@@ -2,7 +2,7 @@ ghost use Rattle.std.specs.Prelude.{◌≡◌, ℕ, ◌<◌, List, length, slice
 ghost use Rattle.cron_fields.specs.declared.field.FieldSet.{FieldSet};
 ghost use Rattle.cron_serve.specs.Grammar.{IsBlank, IsEntryLine};
 ghost use Rattle.cron_serve.specs.Reading.{LacksAny, IsFirstIndex, IsCutAtBlank, SkipsBlanks, BeginsWithField};
-ghost use Rattle.cron_serve.specs.Run.{Entry};
+ghost use Rattle.cron_serve.specs.Run.{CrontabEntry};
 ghost use Rattle.cron_serve.specs.RunFile.{entry_of};
 
 use crate::run::EntryText;
@@ -14,7 +14,7 @@ use cron_fields::{FieldKind, FieldSet, Fields, read_plain_field};
 /// and one that begins with a blank.
 pub fn read_entry(line: &str) -> Option<EntryText<'_>>
     ensures read { IfSome result (λ entry. IsEntryLine line.now (entry_of entry)) }
-    ensures none { IfNone result ((entry : Entry) → IsEntryLine line.now entry → ⊥) }
+    ensures none { IfNone result ((entry : CrontabEntry) → IsEntryLine line.now entry → ⊥) }
 {
     let (minute, rest) = take_field(FieldKind::Minute, line)?;
     let (hour, rest) = take_field(FieldKind::Hour, rest)?;

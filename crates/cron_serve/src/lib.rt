@@ -17,6 +17,7 @@ pub use read::{RunFault, a_text_says_one_run, read_run};
 pub use run::RunFile;
 pub use run_end::{Refusal, RunEnd};
 pub use serve::cron_cluster;
+pub use stop::Stop;
 
 #[cfg(test)]
 mod over_memory;

@@ -1,12 +1,12 @@
 ghost use Rattle.std.specs.Prelude.{◌≡◌};
 ghost use Rattle.cron_serve.specs.Serve.{refusal_note, status_note, note_text, IsNoted};
 
-use crate::run_end::Refusal;
+use crate::run_end::{Refusal, RunEnd};
 use arrayvec::ArrayString;
 use cron_io::{Sink, write_all};
 use itoa::Buffer;
 
-// The longest note of a refusal has 65 bytes.
+// The longest note of a refusal has 55 bytes.
 const NOTE_ROOM: usize = 80;
 
 // cron_cluster: line L: cause C at P
@@ -40,19 +40,18 @@ fn status_note(status: u8) -> &'static str
 
 // Writes a note. A fault is passed over: the notes' count of faults tells it.
 fn write_text<E: Sink>(notes: &mut E, text: &str)
-    ensures { IsNoted (E.written notes.old) (E.written notes.new) (E.faults notes.old) (E.faults notes.new) text.now }
+    ensures { IsNoted (E.seen notes.old) (E.seen notes.new) text.now }
 {
     let _ = write_all(notes, text.as_bytes());
 }
 
-/// Writes the note that goes with a status, or with its refusal where there is one. It takes no memory, and a fault
+/// Writes the note that goes with an end: that of its refusal, or else that of its status. It takes no memory, and a fault
 /// changes nothing of the end.
-pub fn write_note<E: Sink>(notes: &mut E, status: u8, refusal: Option<Refusal>)
-    ensures { IsNoted (E.written notes.old) (E.written notes.new) (E.faults notes.old) (E.faults notes.new)
-        (note_text status refusal) }
+pub fn write_note<E: Sink>(notes: &mut E, end: &RunEnd)
+    ensures { IsNoted (E.seen notes.old) (E.seen notes.new) (note_text end.now.status end.now.refusal) }
 {
-    match refusal {
+    match end.refusal {
         Some(refusal) => write_text(notes, refusal_note(refusal).as_str()),
-        None => write_text(notes, status_note(status)),
+        None => write_text(notes, status_note(end.status)),
     }
 }

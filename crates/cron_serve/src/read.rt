@@ -4,13 +4,14 @@ ghost use Rattle.zone_minutes.specs.declared.minute.Window.{Window};
 ghost use Rattle.cron_serve.specs.Grammar.{IsRunFile};
 ghost use Rattle.cron_serve.specs.Lines.{BeginsWithLine};
 ghost use Rattle.cron_serve.specs.Reading.{IsWindowLine, IsGraceLine, IsSectionLine, BeginsWithHead, BeginsWithEntry, BeginsWithTable, BeginsWithSection, BeginsWithSections};
-ghost use Rattle.cron_serve.specs.Run.{Entry, Section, Run};
+ghost use Rattle.cron_serve.specs.Run.{CrontabEntry, Section, Run};
 ghost use Rattle.cron_serve.specs.RunFile.{entry_of, section_of, run_of};
 
 use crate::entry::read_entry;
 use crate::lines::{after_line, next_line};
 use crate::run::{EntryText, RunFile, SectionText};
 use crate::words::{is_label, read_number};
+use cron_io::OutOfMemory;
 use std::alloc::{AllocError, AllocFailed, Global};
 use zone_minutes::{Window, ZoneFault, read_stamp};
 
@@ -57,12 +58,12 @@ impl<T: Drop> From<AllocFailed<T>> for RunFault {
     }
 }
 
-impl From<due_set::OutOfMemory> for RunFault {
+impl From<OutOfMemory> for RunFault {
     ghost use Rattle.cron_serve.specs.declared.read.RunFault.TheVariants.{OutOfMemory};
 
     ghost from_gives = { λ _ e. e ≡ OutOfMemory };
 
-    fn from(_error: due_set::OutOfMemory) -> RunFault {
+    fn from(_error: OutOfMemory) -> RunFault {
         RunFault::OutOfMemory
     }
 }
@@ -195,7 +196,7 @@ fn read_section_line(line: &str) -> Option<(&str, u32)>
 // That many job lines, and what is behind them.
 fn read_table(alloc: Global, text: &str, count: u32) -> Result<(Vec<EntryText<'_>>, &str), RunFault>
     ensures read { IfOk result (λ parts. BeginsWithTable text.now count (map entry_of parts.0.items) parts.1.now) }
-    ensures refused { IsErrOf result RunFault.NotARun → (entries : List Entry) (after : List ℕ)
+    ensures refused { IsErrOf result RunFault.NotARun → (entries : List CrontabEntry) (after : List ℕ)
         → BeginsWithTable text.now count entries after → ⊥ }
 {
     let mut entries = Vec::new(alloc);
@@ -211,7 +212,7 @@ fn read_table(alloc: Global, text: &str, count: u32) -> Result<(Vec<EntryText<'_
 // A job line, and what is behind it.
 fn next_entry(text: &str) -> Option<(EntryText<'_>, &str)>
     ensures read { IfSome result (λ parts. BeginsWithEntry text.now (entry_of parts.0) parts.1.now) }
-    ensures none { IfNone result ((entry : Entry) (after : List ℕ) → BeginsWithEntry text.now entry after → ⊥) }
+    ensures none { IfNone result ((entry : CrontabEntry) (after : List ℕ) → BeginsWithEntry text.now entry after → ⊥) }
 {
     let (line, after) = next_line(text)?;
     let entry = read_entry(line)?;

@@ -1,6 +1,8 @@
 ghost use Rattle.std.specs.Prelude.{◌≡◌};
 ghost use Rattle.cron_serve.specs.Serve.{LeavesNoRun};
+ghost use Rattle.cron_serve.specs.Stop.{refusal_of, status_of};
 
+use crate::stop::Stop;
 use cluster_sched::Ledger;
 use paxos_base::EntryList;
 use std::alloc::Global;
@@ -31,12 +33,18 @@ pub struct RunEnd {
 }
 
 impl RunEnd {
-    /// The end of a program that leaves no run.
-    pub fn without_run(alloc: Global, status: u8, refusal: Option<Refusal>) -> RunEnd
-        ensures status { result.status ≡ status }
-        ensures refusal { result.refusal ≡ refusal }
+    /// The end of a program that stopped, and leaves no run.
+    pub fn stopped(alloc: Global, stop: Stop) -> RunEnd
+        ensures status { result.status ≡ status_of stop }
+        ensures refusal { result.refusal ≡ refusal_of stop }
         ensures no_run { LeavesNoRun result.log result.ledger.held }
     {
+        let (status, refusal) = match stop {
+            Stop::Usage => (1, None),
+            Stop::Refused(refusal) => (2, Some(refusal)),
+            Stop::ReadFault => (3, None),
+            Stop::OutOfMemory => (5, None),
+        };
         RunEnd {
             status,
             refusal,

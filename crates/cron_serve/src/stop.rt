@@ -1,17 +1,19 @@
 ghost use Rattle.std.specs.Prelude.{◌≡◌};
-ghost use Rattle.cron_serve.specs.Serve.{LeavesNoRun};
-ghost use Rattle.cron_serve.specs.Stop.{refusal_of, status_of};
 
 use crate::read::RunFault;
-use crate::run_end::{Refusal, RunEnd};
+use crate::run_end::Refusal;
 use cron_io::ReadAllFault;
-use std::alloc::Global;
 
-/// Why the program stops before a report is begun.
+/// Why the program stops and leaves no run.
 #[derive(Clone, Copy, Debug, PartialEq, Eq)]
 pub enum Stop {
+    /// The command line is faulty.
+    Usage,
+    /// The input was refused.
     Refused(Refusal),
+    /// A read failed.
     ReadFault,
+    /// Memory ran out.
     OutOfMemory,
 }
 
@@ -28,21 +30,6 @@ const NOT_YET: Refusal = Refusal {
     cause: 35,
     place: 0,
 };
-
-impl Stop {
-    /// The end of the program that a stop leads to.
-    pub fn end(self, alloc: Global) -> RunEnd
-        ensures status { result.status ≡ status_of self }
-        ensures refusal { result.refusal ≡ refusal_of self }
-        ensures no_run { LeavesNoRun result.log result.ledger.held }
-    {
-        match self {
-            Stop::Refused(refusal) => RunEnd::without_run(alloc, 2, Some(refusal)),
-            Stop::ReadFault => RunEnd::without_run(alloc, 3, None),
-            Stop::OutOfMemory => RunEnd::without_run(alloc, 5, None),
-        }
-    }
-}
 
 impl From<ReadAllFault> for Stop {
     ghost use Rattle.cron_serve.specs.Stop.{stop_of_read};
@@ -71,12 +58,12 @@ impl From<RunFault> for Stop {
     }
 }
 
-impl From<launch_clerk::OutOfMemory> for Stop {
+impl From<cron_io::OutOfMemory> for Stop {
     ghost use Rattle.cron_serve.specs.declared.stop.Stop.TheVariants.{OutOfMemory};
 
     ghost from_gives = { λ _ stop. stop ≡ OutOfMemory };
 
-    fn from(_: launch_clerk::OutOfMemory) -> Self {
+    fn from(_: cron_io::OutOfMemory) -> Self {
         Stop::OutOfMemory
     }
 }

@@ -8,7 +8,8 @@ ghost use Rattle.cron_serve.specs.Table.{table_job, table_of, IsDueCount, IsTabl
 
 use crate::read::{RunFault, read_run};
 use crate::run::{RunFile, SectionText};
-use due_set::{JobKind, JobName, JobSpec, JobTable, OutOfMemory};
+use cron_io::OutOfMemory;
+use due_set::{JobKind, JobName, JobSpec, JobTable};
 use std::alloc::Global;
 use zone_minutes::{ZoneRuns, ZoneSource};
 
@@ -51,7 +52,7 @@ fn push_jobs(
                 fields: entry.fields,
             },
         };
-        jobs.push(job).map_err(|_| OutOfMemory)?;
+        jobs.push(job)?;
     }
     Ok(())
 }

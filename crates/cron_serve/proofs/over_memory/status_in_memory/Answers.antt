@@ -5,23 +5,20 @@ use Rattle.cron_serve.proofs.over_memory.status_in_memory.Goals as goal
 
 pub returns : goal.returns
 returns c =
-    let ends = c.cron_cluster-end.ensures in
+    let end = c.cron_cluster-end.ensures in
     let source = c.new-source.ensures in
     let sink = c.in_ok-sink.ensures in
     let sure = source.fails ∙ c.new.ensures.items in
     let told = ap (λ fails. room_unless fails c.in_ok-sink.sink.room) (sink.fails ∙ c.new-2.ensures.items) ∙ ap Some sink.room in
-    let over_memory : EndsOverMemory _ _ _ _ c.cron_cluster-end.result.log c.cron_cluster-end.result.ledger.held _ _ _ _ c.args.bytes.items c.args.room c.cron_cluster-end.result.status c.cron_cluster-end.result.refusal = record {
+    let over_memory : EndsOverMemory _ _ _ _ c.args.bytes.items c.args.room c.cron_cluster-end.result = record {
       has = ap Some source.left;
       has_room = told;
-      last = ends.statuses;
-      usage = λ e. let some = ends.usage.0 e in absurd (omega arith);
-      refused = ends.refused;
-      reliable = ends.no_read_fault sure;
-      fits = ends.fits;
-      exceeds = ends.exceeds;
+      usage = λ e. let some = end.usage.0 e in absurd (omega arith);
+      reliable = end.no_read_fault sure;
+      ends = end.ends;
     } in
     record {
-      fits = λ run taken. ends_whole _ _ _ _ _ _ _ _ _ _ _ _ _ _ over_memory run taken;
-      exceeds = λ run taken. ends_cut _ _ _ _ _ _ _ _ _ _ _ _ _ _ over_memory run taken;
-      refused = λ no_run. ends.refused_if (omega arith) _ (ap Some source.left) no_run (not_risen _ _ (ends.reliable_source sure).quiet source.faults);
+      fits = λ run taken. ends_whole _ _ _ _ _ _ _ over_memory run taken;
+      exceeds = λ run taken. ends_cut _ _ _ _ _ _ _ over_memory run taken;
+      refused = λ no_run. (end.complete (omega arith)).others _ (ap Some source.left) no_run (not_risen _ _ (end.lasting sure).quiet source.faults);
     }

@@ -16,6 +16,6 @@ returns-clause-text g c =
     let text = c.write_report.ensures.0 in
     let report = subst (λ (rows : List SchedRow). IsReport c.args.walked.table 1 rows text) c.held.ensures.held c.write_report.ensures.1 in
     elim c.match-write_report.branch [
-      | in-Ok w ↦ (text, report, written_whole _ _ _ _ _ _ c.write_report.result _ _ text w.in-Ok.is w.status-is c.write_report.ensures.2)
-      | in-Err-WriteFault w ↦ (text, report, written_front _ _ _ _ _ _ c.write_report.result _ text (w.in-Err-WriteFault.is ∙ ap Err w.in-Err-WriteFault.field-0-is) w.status-is c.write_report.ensures.2)
+      | in-Ok w ↦ (text, report, written_whole _ _ c.write_report.result _ _ text w.in-Ok.is w.status-is c.write_report.ensures.2)
+      | in-Err-WriteFault w ↦ (text, report, written_front _ _ c.write_report.result _ text (w.in-Err-WriteFault.is ∙ ap Err w.in-Err-WriteFault.field-0-is) w.status-is c.write_report.ensures.2)
     ]

@@ -5,5 +5,5 @@ use Rattle.cron_serve.proofs.serve.walk.Goals as goal
 
 pub returns-in_err-table-clause-stop : goal.returns-in_err-table-clause-stop
 returns-in_err-table-clause-stop g c =
-    stops_without_table _ _ _ _ c.in_ok-bytes.bytes.items c.in_err-table.field-0.0 _ c.from_residual-in_err-table.ensures.1 c.in_ok-bytes.ensures.bytes
+    stops_without_table _ _ c.in_ok-bytes.bytes.items c.in_err-table.field-0.0 _ c.from_residual-in_err-table.ensures.1 c.in_ok-bytes.ensures.bytes c.in_ok-bytes.ensures.short
     (λ e. subst TakesNoRun c.deref.ensures.value (c.in_err-table.ensures.refused (ap Err e)))
