@@ -14,7 +14,7 @@ mod wire;
 pub use ballot::Ballot;
 pub use durable::{Delta, Durable};
 pub use entry::{Entry, EntryList, Kind, Vote, VoteList};
-pub use members::{Members, majority};
+pub use members::{Members, majorities_meet, majority};
 pub use rows::{JobRow, RowList, rows_stand};
 pub use wire::{
     EntryFault, PACKET_BYTES, entry_of, get_entry, i64_at, numbers_of, put_bytes, put_entry,

@@ -1,5 +1,6 @@
-ghost use Rattle.std.specs.Prelude.{◌≡◌, ◌<◌, ◌↔◌, IsTrue, None, Ok};
+ghost use Rattle.std.specs.Prelude.{◌≡◌, ◌<◌, ◌≤◌, ◌↔◌, IsTrue, None, Ok};
 ghost use Rattle.std.specs.Ordering.{nat_cmp};
+ghost use Rattle.paxos_base.specs.Members.{AllBelow, Meet};
 
 use super::*;
 use std::cmp::Ordering;
@@ -52,6 +53,38 @@ fn ballots(rt: HostRuntime) {
     assert!(rt; same(Ballot::of(2, 1), Ballot::of(2, 1)));
     assert!(rt; Ballot::of(3, 2).is_of(3));
     assert!(rt; !Ballot::of(3, 2).is_of(2));
+}
+
+// Calls the law where both sets have a majority.
+fn meet(members: u8, one: Members, other: Members) -> bool
+    requires some { 1 ≤ members }
+    requires few { members ≤ 7 }
+    requires one_of_these { AllBelow members one }
+    requires other_of_these { AllBelow members other }
+    ensures { IsTrue result → Meet one other }
+{
+    let quorum = majority(members);
+    if one.count() >= quorum && other.count() >= quorum {
+        majorities_meet(members, one, other);
+        true
+    } else {
+        false
+    }
+}
+
+// The set of two replicas.
+fn pair(first: u8, second: u8) -> Members
+    requires first { first < 3 }
+    requires second { second < 3 }
+    ensures { AllBelow 3 result }
+{
+    Members::none().with(first).with(second)
+}
+
+#[test]
+fn majorities(rt: HostRuntime) {
+    assert!(rt; meet(3, pair(0, 1), pair(1, 2)));
+    assert!(rt; !meet(3, pair(0, 0), pair(1, 2)));
 }
 
 #[test]
