@@ -8,7 +8,7 @@ use Rattle.std.proofs.lemmas.List.{length-take, length-drop, get_or-take, get_or
 use Rattle.std.proofs.lemmas.Nat.{be_bytes_4, be_bytes_8, from_be_bytes-to_be_bytes_4, from_be_bytes-to_be_bytes_8}
 use Rattle.std.proofs.lemmas.Bool.{cases_lt}
 use Rattle.paxos_base.specs.Packet.{Field, KindField, FromField, TagField, ZeroField, JobField, BallotField, SlotField, OldField, AtField, NowField, LastField, size_of, bytes_at, field_of, with_bytes, minute_bytes}
-use Rattle.paxos_base.specs.EntryFields.{entry_numbers, EntryNumbers, EntryFields, Fits, spelling_of, entry_fields, IsEntryField, HasStrayBytes, HasStrayNumbers, LeavesUnused, tag_of}
+use Rattle.paxos_base.specs.EntryFields.{entry_numbers, EntryNumbers, EntryFields, FitEntryFields, bytes_of_numbers, entry_fields, IsEntryField, HasStrayBytes, HasStrayNumbers, LeavesUnused, tag_of}
 use Rattle.paxos_base.proofs.PacketLemmas.{apart, length-with_bytes, bytes_at-with_bytes_same, bytes_at-with_bytes_apart}
 
 abbrev pub fields_of : List ℕ → List ℕ → List ℕ → List ℕ → EntryFields
@@ -138,7 +138,7 @@ pub minute_fits : (bytes : List ℕ) → ((i : ℕ) → get_or bytes i 0 < 256) 
 minute_fits bytes fits = sfits_to_z (record { fits = below_64 bytes fits })
 
 -- what is read is spelled so
-pub entry_fields-numbers_in : (packet : List ℕ) → IsPacket packet → entry_fields packet ≡ spelling_of (numbers_in packet)
+pub entry_fields-numbers_in : (packet : List ℕ) → IsPacket packet → entry_fields packet ≡ bytes_of_numbers (numbers_in packet)
 entry_fields-numbers_in packet p =
     let long : length packet ≡ 56 = p.long in
     let tag-is : bytes_at packet 2 1 ≡ get_or packet 2 0 ∷ [] = ap (take 1) (drop_more packet 2 0 (omega arith)) in
@@ -148,15 +148,15 @@ entry_fields-numbers_in packet p =
     (sym (minute_back (bytes_at packet 32 8) (length-bytes_at packet p 32 8 (lit≤ tt)) (bytes_at-bytes packet p 32 8)))
     (sym (minute_back (bytes_at packet 40 8) (length-bytes_at packet p 40 8 (lit≤ tt)) (bytes_at-bytes packet p 40 8)))
 
-pub numbers_in-Fits : (packet : List ℕ) → IsPacket packet → Fits (numbers_in packet)
-numbers_in-Fits packet p =
+pub numbers_in-fit : (packet : List ℕ) → IsPacket packet → FitEntryFields (numbers_in packet)
+numbers_in-fit packet p =
     record {
       job = below_32 (bytes_at packet 4 4) (bytes_at-bytes packet p 4 4);
       at = minute_fits (bytes_at packet 32 8) (bytes_at-bytes packet p 32 8);
       now = minute_fits (bytes_at packet 40 8) (bytes_at-bytes packet p 40 8);
     }
 
--- ---- a spelling is of one entry
+-- ---- the bytes of the four fields are of one entry
 
 job_from_bytes : (a b : ℕ) → a < 2 ^ 32 → b < 2 ^ 32 → to_be_bytes w32 a ≡ to_be_bytes w32 b → a ≡ b
 job_from_bytes a b p q e =
@@ -178,8 +178,8 @@ same_numbers p q r s = cc
 first_of : (a b : ℕ) → a ∷ [] ≡ b ∷ [] → a ≡ b
 first_of a b e = cc
 
-pub numbers_from_spelling : (m n : EntryNumbers) → Fits m → Fits n → spelling_of m ≡ spelling_of n → m ≡ n
-numbers_from_spelling m n p q e =
+pub numbers_from_bytes : (m n : EntryNumbers) → FitEntryFields m → FitEntryFields n → bytes_of_numbers m ≡ bytes_of_numbers n → m ≡ n
+numbers_from_bytes m n p q e =
     same_numbers (first_of m.tag n.tag (ap (λ (f : EntryFields). f.tag) e)) (job_from_bytes m.job n.job p.job q.job (ap (λ (f : EntryFields). f.job) e))
     (minute_from_bytes m.at n.at p.at q.at (ap (λ (f : EntryFields). f.at) e)) (minute_from_bytes m.now n.now p.now q.now (ap (λ (f : EntryFields). f.now) e))
 

@@ -1,3 +1,4 @@
 pub mod EntryLemmas
 pub mod PacketLemmas
 pub mod MemberLemmas
+pub mod VoteLemmas

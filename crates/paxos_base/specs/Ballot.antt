@@ -1,5 +1,5 @@
 -- The numbers of ballots.
-use Rattle.std.specs.Prelude.{ℕ, ◌+◌, ◌*◌, ◌/◌, ◌%◌, ◌^◌, ◌<◌, ◌≤◌}
+use Rattle.std.specs.Prelude.{ℕ, ◌+◌, ◌*◌, ◌/◌, ◌%◌, ◌^◌, ◌<◌, Bool, ◌&&◌, nat_le, nat_lt, IsTrue}
 
 -- The number of a replica's ballot in a round: each replica has numbers of its own ("Paxos Made Simple", section 2.4).
 abbrev pub ballot_number : ℕ → ℕ → ℕ
@@ -13,8 +13,11 @@ round_of number = number / 8
 abbrev pub member_of : ℕ → ℕ
 member_of number = number % 8
 
--- the number is a ballot's: of a round from 1 on, and of one of seven replicas
+-- The test of whether a number is a ballot's: it is of a round from 1 on, and of one of that many replicas.
+abbrev pub is_ballot_of : ℕ → ℕ → Bool
+is_ballot_of members number = nat_le 1 (round_of number) && nat_lt (member_of number) members
+
+-- the number is a ballot's of one of seven replicas
 pub record IsBallot (number : ℕ) : Type 0 where
-  pub round : 1 ≤ round_of number
-  pub member : member_of number < 7
+  pub of_seven : IsTrue (is_ballot_of 7 number)
   pub fits : number < 2 ^ 64

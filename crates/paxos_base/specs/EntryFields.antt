@@ -24,7 +24,7 @@ numbers_of (End job at Launch) = record { tag = 2; job = job; at = at; now = pos
 numbers_of (End job at Void) = record { tag = 3; job = job; at = at; now = pos 0 }
 
 -- the numbers fit their fields, as those of every entry of the program do
-pub record Fits (numbers : EntryNumbers) : Type 0 where
+pub record FitEntryFields (numbers : EntryNumbers) : Type 0 where
   pub job : numbers.job < 2 ^ 32
   pub at : FitsSigned w64 numbers.at
   pub now : FitsSigned w64 numbers.now
@@ -36,8 +36,9 @@ pub record EntryFields : Type 0 where
   pub at : List ℕ
   pub now : List ℕ
 
-abbrev pub spelling_of : EntryNumbers → EntryFields
-spelling_of numbers =
+-- the numbers as the bytes of the four fields
+abbrev pub bytes_of_numbers : EntryNumbers → EntryFields
+bytes_of_numbers numbers =
     record {
       tag = numbers.tag ∷ [];
       job = to_be_bytes w32 numbers.job;
@@ -45,9 +46,9 @@ spelling_of numbers =
       now = minute_bytes numbers.now;
     }
 
--- the spelling of an entry
-abbrev pub spelling : Entry → EntryFields
-spelling entry = spelling_of (numbers_of entry)
+-- the bytes that an entry puts into its four fields
+abbrev pub entry_bytes : Entry → EntryFields
+entry_bytes entry = bytes_of_numbers (numbers_of entry)
 
 -- what a packet has in the four fields of an entry
 abbrev pub entry_fields : List ℕ → EntryFields

@@ -1,7 +1,10 @@
 ghost use Rattle.std.specs.Prelude.{◌≡◌, ℕ, ◌<◌, ◌≤◌, ◌^◌, ◌↔◌, IsTrue, IsSome, IfSome};
-ghost use Rattle.paxos_base.specs.Ballot.{ballot_number, round_of, member_of, IsBallot};
+ghost use Rattle.paxos_base.specs.Ballot.{ballot_number, round_of, member_of, is_ballot_of, IsBallot};
 
 use std::marker::Model;
+
+// How many replicas there are at most.
+const MOST_MEMBERS: u8 = 7;
 
 /// A ballot: a round, from 1 on, and the replica that the ballot belongs to.
 ///
@@ -33,12 +36,19 @@ impl Ballot {
         Ballot(8 * round + u64::from(member))
     }
 
+    /// Whether there is a ballot with this number that belongs to one of that many replicas, which are numbered from 0.
+    pub fn is_number_of(members: u8, number: u64) -> bool
+        ensures { result ≡ is_ballot_of members number }
+    {
+        number >= 8 && number % 8 < u64::from(members)
+    }
+
     /// The ballot that has this number: None exactly where there is no such ballot.
     pub fn from_number(number: u64) -> Option<Ballot>
         ensures some { IsSome result ↔ IsBallot number }
         ensures value { IfSome result (λ ballot. ballot ≡ number) }
     {
-        if number >= 8 && number % 8 < 7 {
+        if Ballot::is_number_of(MOST_MEMBERS, number) {
             Some(Ballot(number))
         } else {
             None

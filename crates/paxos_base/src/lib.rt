@@ -5,6 +5,8 @@
 mod ballot;
 mod durable;
 mod entry;
+mod laws;
+pub mod layout;
 mod members;
 mod rows;
 #[cfg(test)]
@@ -14,9 +16,8 @@ mod wire;
 pub use ballot::Ballot;
 pub use durable::{Delta, Durable};
 pub use entry::{Entry, EntryList, Kind, Vote, VoteList};
-pub use members::{Members, majorities_meet, majority};
+pub use laws::{majorities_meet, slots_have_one_vote};
+pub use layout::PACKET_BYTES;
+pub use members::{Members, majority};
 pub use rows::{JobRow, RowList, rows_stand};
-pub use wire::{
-    EntryFault, PACKET_BYTES, entry_of, get_entry, i64_at, numbers_of, put_bytes, put_entry,
-    u32_at, u64_at,
-};
+pub use wire::{EntryFault, entry_of, get_entry, numbers_of, put_entry};

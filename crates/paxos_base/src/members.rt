@@ -1,5 +1,5 @@
 ghost use Rattle.std.specs.Prelude.{◌≡◌, ℕ, ◌<◌, ◌≤◌, ◌↔◌, ◌⊎◌, IsTrue};
-ghost use Rattle.paxos_base.specs.Members.{HasMember, member_count, majority_of, AllBelow, Meet};
+ghost use Rattle.paxos_base.specs.Members.{HasMember, member_count, majority_of};
 
 use std::marker::Model;
 
@@ -59,13 +59,3 @@ pub fn majority(members: u8) -> u8
 {
     members / 2 + 1
 }
-
-/// A law, with nothing to run: of the same replicas, two sets of at least a majority share one. This is why no two
-/// quorums can choose different values ("Paxos Made Simple", section 2.2).
-pub fn majorities_meet(members: u8, one: Members, other: Members)
-    requires one_of_these { AllBelow members one }
-    requires other_of_these { AllBelow members other }
-    requires one_has_a_majority { majority_of members ≤ member_count one }
-    requires other_has_a_majority { majority_of members ≤ member_count other }
-    ensures { Meet one other }
-{}

@@ -45,6 +45,17 @@ fn ballots(rt: HostRuntime) {
     for number in [0, 7, 15, 23, u64::MAX] {
         assert_eq!(rt; Ballot::from_number(number), None, "at {number}");
     }
+    for (members, number, want) in [
+        (3, 8, true),
+        (3, 10, true),
+        (3, 11, false),
+        (3, 7, false),
+        (1, 9, false),
+        (7, 14, true),
+    ] {
+        let is = Ballot::is_number_of(members, number);
+        assert_eq!(rt; is, want, "{number} of {members}");
+    }
     assert!(rt; below(Ballot::of(1, 6), Ballot::of(2, 0)));
     assert_eq!(rt;
         order(Ballot::of(2, 1), Ballot::of(2, 0)),
@@ -241,6 +252,7 @@ fn votes(rt: HostRuntime) -> Result<(), Fail> {
         ballot,
         entry: Entry::Noop,
     })?;
+    slots_have_one_vote();
     assert_eq!(rt; votes.items.len(), 2);
     Ok(())
 }

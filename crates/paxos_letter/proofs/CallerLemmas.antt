@@ -1,9 +1,9 @@
 -- For callers: which lists of packets are letters.
-use Rattle.std.proofs.Common.{◌≡◌, ◌≢◌, ℕ, ◌+◌, ◌-◌, ◌/◌, ◌%◌, ◌<◌, ◌≤◌, ◌^◌, Bool, true, false, not, ◌&&◌, ◌||◌, eqb, ltb, ℤ, List, [], ◌∷◌, length, map, Option, Some, None, refl, arith}
+use Rattle.std.proofs.Common.{◌≡◌, ◌≢◌, ℕ, ◌+◌, ◌-◌, ◌%◌, ◌<◌, ◌^◌, Bool, true, false, not, ◌&&◌, ◌||◌, eqb, ltb, ℤ, List, [], ◌∷◌, length, map, Option, Some, None, refl, arith}
 use Rattle.std.specs.Prelude.{⊤, IsTrue, IsSome}
 use Rattle.std.specs.List.{AllByRecursion}
-use Rattle.std.proofs.lemmas.Bool.{and_from, le-leb, lt-ltb, eq-eqb, false≢true}
-use Rattle.paxos_base.specs.Ballot.{IsBallot, member_of}
+use Rattle.std.proofs.lemmas.Bool.{and_from, and_parts, lt-ltb, eq-eqb, false≢true}
+use Rattle.paxos_base.specs.Ballot.{IsBallot, member_of, is_ballot_of}
 use Rattle.paxos_base.specs.Rows.{OpenHasCursor}
 use Rattle.paxos_base.specs.declared.entry.Entry.TheVariants.{Noop, Start, End}
 use Rattle.paxos_base.specs.declared.entry.Kind.TheVariants.{Launch, Void}
@@ -11,15 +11,14 @@ use Rattle.paxos_letter.specs.declared.group.Group.{Group}
 use Rattle.paxos_letter.specs.declared.packet.Packet.{Packet}
 use Rattle.paxos_letter.specs.declared.packet.Packet.TheVariants.{Prepare, Promise, OldVote, Accept, Accepted, Nack, Known, AskFrom, Snap, SnapRow, Lead}
 use Rattle.paxos_letter.specs.Spelling.{fields_of}
-use Rattle.paxos_letter.specs.Rules.{keeps_kind, keeps_members, is_ballot}
+use Rattle.paxos_letter.specs.Rules.{keeps_kind, keeps_members}
 use Rattle.paxos_letter.specs.Groups.{no_group, keep_groups}
 use Rattle.paxos_letter.specs.Letters.{IsLetter}
 
 -- a ballot of one of that many replicas
-pub is_ballot-from : (members number : ℕ) → IsBallot number → member_of number < members → is_ballot members number ≡ true
-is_ballot-from members number ballot below =
-    let round : 1 ≤ number / 8 = ballot.round in
-    and_from _ _ (le-leb 8 number (omega arith)) (lt-ltb (number % 8) members below)
+pub is_ballot_of-from : (members number : ℕ) → IsBallot number → member_of number < members → is_ballot_of members number ≡ true
+is_ballot_of-from members number ballot below =
+    and_from _ _ (and_parts _ _ ballot.of_seven).0 (lt-ltb (number % 8) members below)
 
 -- ---- kinds
 
@@ -64,13 +63,13 @@ keeps_kind-packet from (Lead ballot slot) row = refl
 
 -- the packet's ballots are of the members
 abbrev pub BallotsKeep : ℕ → Packet → Type 0
-BallotsKeep members (Prepare ballot slot) = IsTrue (is_ballot members ballot)
-BallotsKeep members (Promise ballot slot count) = IsTrue (is_ballot members ballot)
-BallotsKeep members (OldVote ballot slot cast entry) = IsTrue (is_ballot members ballot) × IsTrue (is_ballot members cast)
-BallotsKeep members (Accept ballot slot entry) = IsTrue (is_ballot members ballot)
-BallotsKeep members (Accepted ballot slot) = IsTrue (is_ballot members ballot)
-BallotsKeep members (Nack ballot promised) = IsTrue (is_ballot members ballot) × IsTrue (is_ballot members promised)
-BallotsKeep members (Lead ballot slot) = IsTrue (is_ballot members ballot)
+BallotsKeep members (Prepare ballot slot) = IsTrue (is_ballot_of members ballot)
+BallotsKeep members (Promise ballot slot count) = IsTrue (is_ballot_of members ballot)
+BallotsKeep members (OldVote ballot slot cast entry) = IsTrue (is_ballot_of members ballot) × IsTrue (is_ballot_of members cast)
+BallotsKeep members (Accept ballot slot entry) = IsTrue (is_ballot_of members ballot)
+BallotsKeep members (Accepted ballot slot) = IsTrue (is_ballot_of members ballot)
+BallotsKeep members (Nack ballot promised) = IsTrue (is_ballot_of members ballot) × IsTrue (is_ballot_of members promised)
+BallotsKeep members (Lead ballot slot) = IsTrue (is_ballot_of members ballot)
 BallotsKeep members packet = ⊤
 
 sender_keeps : (members from : ℕ) (rest : Bool) → from < members → rest ≡ true → ((ltb from members && eqb from from) && rest) ≡ true
@@ -161,7 +160,7 @@ some_first : (first : Packet) (rest : List Packet) → first ∷ rest ≢ []
 some_first first rest e = absurd cc
 
 -- a promise and its votes
-pub IsLetter-promise : (members from ballot slot : ℕ) (votes : List Packet) → from < members → IsTrue (is_ballot members ballot) → AllByRecursion (Keeps members) votes → AllByRecursion IsOldVote votes
+pub IsLetter-promise : (members from ballot slot : ℕ) (votes : List Packet) → from < members → IsTrue (is_ballot_of members ballot) → AllByRecursion (Keeps members) votes → AllByRecursion IsOldVote votes
     → IsLetter members from (Promise ballot slot (length votes) ∷ votes)
 IsLetter-promise members from ballot slot votes below ballot_keeps keep all =
     IsLetter-from members from (Promise ballot slot (length votes) ∷ votes) (some_first _ _) below ((tt, ballot_keeps), keep)

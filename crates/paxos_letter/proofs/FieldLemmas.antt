@@ -12,7 +12,7 @@ use Rattle.paxos_base.specs.Packet.{Field, KindField, FromField, TagField, ZeroF
 use Rattle.paxos_base.proofs.PacketLemmas.{flat_map-all_fields}
 use Rattle.paxos_base.proofs.EntryLemmas.{IsPacket, bytes_at-bytes, length-bytes_at, below_32, below_64, minute_back, minute_fits, unsigned_fits}
 use Rattle.paxos_letter.specs.declared.fields.Fields.{Fields}
-use Rattle.paxos_letter.specs.Fields.{field_bytes, bytes_of, fields_in, Fits}
+use Rattle.paxos_letter.specs.Fields.{field_bytes, bytes_of, fields_in, FitPacketFields}
 use Rattle.paxos_letter.proofs.RuleLemmas.{same_fields}
 
 -- ---- reading
@@ -55,8 +55,8 @@ pub bytes_of-fields_in : (packet : List ℕ) → IsPacket packet → bytes_of (f
 bytes_of-fields_in packet p =
     flat_map-same (field_bytes (fields_in packet)) (field_of packet) (field_bytes-fields_in packet p) all_fields ∙ sym (flat_map-all_fields packet p.long)
 
-fields_in-Fits : (packet : List ℕ) → IsPacket packet → Fits (fields_in packet)
-fields_in-Fits packet p =
+fields_in-fit : (packet : List ℕ) → IsPacket packet → FitPacketFields (fields_in packet)
+fields_in-fit packet p =
     record {
       kind = p.bytes 0;
       from = p.bytes 1;
@@ -77,7 +77,7 @@ minute_again : (minute : ℤ) → FitsSigned w64 minute → cast_signed w64 (fro
 minute_again minute fits =
     ap (cast_signed w64) (from_be_bytes-to_be_bytes_8 (cast_unsigned w64 minute) (unsigned_fits minute fits)) ∙ to_z-of_z w64 minute fits
 
-pub fields_in-bytes_of : (fields : Fields) → Fits fields → fields_in (bytes_of fields) ≡ fields
+pub fields_in-bytes_of : (fields : Fields) → FitPacketFields fields → fields_in (bytes_of fields) ≡ fields
 fields_in-bytes_of fields fits =
     same_fields refl refl refl refl (from_be_bytes-to_be_bytes_4 fields.job fits.job)
     (from_be_bytes-to_be_bytes_8 fields.ballot fits.ballot)
@@ -129,12 +129,12 @@ spelled_so (suc count) bytes long fits =
     ∙ ap (λ (back : List ℕ). take 56 bytes ++ back) (spelled_so count (drop 56 bytes) rest (AreBytes-drop 56 bytes fits))
     ∙ take-append-drop 56 bytes
 
-pub all_Fit : (count : ℕ) (bytes : List ℕ) → length bytes ≡ count * 56 → AreBytes bytes → AllByRecursion Fits (map fields_in (first_chunks 56 count bytes))
-all_Fit zero bytes long fits = tt
-all_Fit (suc count) bytes long fits =
-    (fields_in-Fits (take 56 bytes) (first_packet count bytes long fits), all_Fit count (drop 56 bytes) (omega (arith, length-drop 56 bytes)) (AreBytes-drop 56 bytes fits))
+pub all_fit : (count : ℕ) (bytes : List ℕ) → length bytes ≡ count * 56 → AreBytes bytes → AllByRecursion FitPacketFields (map fields_in (first_chunks 56 count bytes))
+all_fit zero bytes long fits = tt
+all_fit (suc count) bytes long fits =
+    (fields_in-fit (take 56 bytes) (first_packet count bytes long fits), all_fit count (drop 56 bytes) (omega (arith, length-drop 56 bytes)) (AreBytes-drop 56 bytes fits))
 
-pub read_again : (packets : List Fields) → AllByRecursion Fits packets → map fields_in (first_chunks 56 (length packets) (flat_map bytes_of packets)) ≡ packets
+pub read_again : (packets : List Fields) → AllByRecursion FitPacketFields packets → map fields_in (first_chunks 56 (length packets) (flat_map bytes_of packets)) ≡ packets
 read_again [] fits = refl
 read_again (p ∷ ps) fits =
     let whole : flat_map bytes_of (p ∷ ps) ≡ bytes_of p ++ flat_map bytes_of ps = flat_map-cons bytes_of p ps in

@@ -15,12 +15,12 @@ use Rattle.paxos_letter.specs.declared.fields.Fields.{Fields}
 use Rattle.paxos_letter.specs.declared.group.Group.{Group}
 use Rattle.paxos_letter.specs.declared.packet.Packet.{Packet}
 use Rattle.paxos_letter.specs.declared.packet.Packet.TheVariants.{Prepare, Promise, OldVote, Accept, Accepted, Nack, Known, AskFrom, Snap, SnapRow, Lead}
-use Rattle.paxos_letter.specs.Fields.{bytes_of, fields_in, all_in, Fits}
+use Rattle.paxos_letter.specs.Fields.{bytes_of, fields_in, all_in, FitPacketFields}
 use Rattle.paxos_letter.specs.Spelling.{fields_of, packet_bytes, spelling, AllFit}
 use Rattle.paxos_letter.specs.Rules.{keeps_kind, keeps_zeros, keeps_members}
 use Rattle.paxos_letter.specs.Groups.{no_group, is_filled, keeps_group, after, keep_groups}
 use Rattle.paxos_letter.specs.Letters.{Spells, fault_at, or_later, fault_from, has_bad_length, sender_of, fault_of, IsFault}
-use Rattle.paxos_letter.proofs.FieldLemmas.{AreBytes, spelled_so, all_Fit, read_again}
+use Rattle.paxos_letter.proofs.FieldLemmas.{AreBytes, spelled_so, all_fit, read_again}
 use Rattle.paxos_letter.proofs.PacketBack.{same_packets, fields_of-zeros}
 use Rattle.paxos_letter.proofs.ReadLemmas.{fault_at-none}
 
@@ -41,11 +41,11 @@ length-map : (from : ℕ) (packets : List Packet) → length (all_fields_of from
 length-map from [] = refl
 length-map from (p ∷ ps) = ap suc (length-map from ps)
 
-AllFit-fields : (from : ℕ) (packets : List Packet) → AllFit from packets → AllByRecursion Fits (all_fields_of from packets)
+AllFit-fields : (from : ℕ) (packets : List Packet) → AllFit from packets → AllByRecursion FitPacketFields (all_fields_of from packets)
 AllFit-fields from [] fits = tt
 AllFit-fields from (p ∷ ps) fits = (fits.0, AllFit-fields from ps fits.1)
 
-fields-AllFit : (from : ℕ) (packets : List Packet) → AllByRecursion Fits (all_fields_of from packets) → AllFit from packets
+fields-AllFit : (from : ℕ) (packets : List Packet) → AllByRecursion FitPacketFields (all_fields_of from packets) → AllFit from packets
 fields-AllFit from [] fits = tt
 fields-AllFit from (p ∷ ps) fits = (fits.0, fields-AllFit from ps fits.1)
 
@@ -121,7 +121,7 @@ found members from bytes packets fits some long e none =
         members_keep = sound.members_keep;
         groups = sound.groups;
       };
-      fits = fields-AllFit from packets (subst (AllByRecursion Fits) (sym e) (all_Fit (length bytes / 56) bytes long fits));
+      fits = fields-AllFit from packets (subst (AllByRecursion FitPacketFields) (sym e) (all_fit (length bytes / 56) bytes long fits));
       spelled = spelled;
     }
 
@@ -154,7 +154,7 @@ sender_again : (from : ℕ) (packets : List Packet) → packets ≢ [] → sende
 sender_again from [] some = absurd (some refl)
 sender_again from (p ∷ ps) some = ap sender_of (flat_map-cons (packet_bytes from) p ps) ∙ fields_of-from from p
 
-fields_again : (packets : List Fields) → AllByRecursion Fits packets → all_in (flat_map bytes_of packets) ≡ packets
+fields_again : (packets : List Fields) → AllByRecursion FitPacketFields packets → all_in (flat_map bytes_of packets) ≡ packets
 fields_again packets fits =
     let long = length-bytes packets in
     let count : length (flat_map bytes_of packets) / 56 ≡ length packets = omega arith in

@@ -1,7 +1,8 @@
 -- Reading packets one after another, as a loop does.
-use Rattle.std.proofs.Common.{◌≡◌, ℕ, ◌+◌, ◌%◌, ◌<◌, ◌≤◌, Bool, true, false, not, ◌&&◌, ◌||◌, eqb, leb, ltb, cond, List, [], ◌∷◌, ◌++◌, length, get_or, map, take, drop, Option, Some, None, refl, sym, ap, ◌∙◌, arith}
+use Rattle.std.proofs.Common.{◌≡◌, ℕ, ◌+◌, ◌/◌, ◌%◌, ◌<◌, ◌≤◌, Bool, true, false, not, ◌&&◌, ◌||◌, eqb, leb, ltb, cond, List, [], ◌∷◌, ◌++◌, length, get_or, map, take, drop, Option, Some, None, refl, sym, ap, ◌∙◌, arith}
 use Rattle.std.proofs.lemmas.Bool.{and_parts, and_from, eqb-true, eq-eqb, ltb-true, lt-ltb}
 use Rattle.std.proofs.lemmas.List.{map_push, take_more, drop_more}
+use Rattle.paxos_base.specs.Ballot.{is_ballot_of}
 use Rattle.paxos_letter.specs.declared.fault.LetterFault.{LetterFault}
 use Rattle.paxos_letter.specs.declared.fault.LetterFault.TheVariants.{BadKind, NotZero, BadMember, BadGroup}
 use Rattle.paxos_letter.specs.declared.fields.Fields.{Fields}
@@ -9,7 +10,7 @@ use Rattle.paxos_letter.specs.declared.group.Group.{Group}
 use Rattle.paxos_letter.specs.declared.packet.Packet.{Packet}
 use Rattle.paxos_letter.specs.Fields.{fields_in}
 use Rattle.paxos_letter.specs.Spelling.{fields_of}
-use Rattle.paxos_letter.specs.Rules.{keeps_kind, keeps_zeros, keeps_members, is_ballot, has_ballot, has_old_ballot}
+use Rattle.paxos_letter.specs.Rules.{keeps_kind, keeps_zeros, keeps_members, has_ballot, has_old_ballot}
 use Rattle.paxos_letter.specs.Groups.{no_group, keeps_group, after}
 use Rattle.paxos_letter.specs.Letters.{fault_at, or_later, fault_from}
 
@@ -37,9 +38,9 @@ pub keeps_members-sender : (members sender : ℕ) (fields : Fields) → keeps_me
 keeps_members-sender members sender fields e = eqb-true _ _ (and_parts _ _ (and_parts _ _ e).0).1
 
 -- what keeps the rule of the members, keeps it for seven
-seven : (has : Bool) (members number : ℕ) → members ≤ 7 → (not has || is_ballot members number) ≡ true → (not has || is_ballot 7 number) ≡ true
+seven : (has : Bool) (members number : ℕ) → members ≤ 7 → (not has || is_ballot_of members number) ≡ true → (not has || is_ballot_of 7 number) ≡ true
 seven true members number few h =
-    let parts = and_parts (leb 8 number) (ltb (number % 8) members) h in
+    let parts = and_parts (leb 1 (number / 8)) (ltb (number % 8) members) h in
     let below : number % 8 < members = ltb-true _ _ parts.1 in
     and_from _ _ parts.0 (lt-ltb (number % 8) 7 (omega arith))
 seven false members number few h = refl
@@ -48,7 +49,7 @@ pub keeps_members-seven : (members sender : ℕ) (fields : Fields) → members �
 keeps_members-seven members sender fields few e =
     let parts = and_parts (ltb fields.from members && eqb fields.from sender) _ e in
     let below : fields.from < members = ltb-true _ _ (and_parts _ _ parts.0).0 in
-    let ballots = and_parts (not (has_ballot fields) || is_ballot members fields.ballot) (not (has_old_ballot fields) || is_ballot members fields.old) parts.1 in
+    let ballots = and_parts (not (has_ballot fields) || is_ballot_of members fields.ballot) (not (has_old_ballot fields) || is_ballot_of members fields.old) parts.1 in
     and_from _ _ (and_from _ _ (lt-ltb fields.from 7 (omega arith)) (eq-eqb fields.from fields.from refl))
     (and_from _ _ (seven (has_ballot fields) members fields.ballot few ballots.0) (seven (has_old_ballot fields) members fields.old few ballots.1))
 

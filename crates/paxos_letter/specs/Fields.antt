@@ -75,7 +75,7 @@ abbrev pub all_in : List ℕ → List Fields
 all_in bytes = map fields_in (first_chunks 56 (length bytes / 56) bytes)
 
 -- the numbers fit their fields, as those of every packet of the program do
-pub record Fits (fields : Fields) : Type 0 where
+pub record FitPacketFields (fields : Fields) : Type 0 where
   pub kind : fields.kind < 256
   pub from : fields.from < 256
   pub tag : fields.tag < 256

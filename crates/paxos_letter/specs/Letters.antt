@@ -68,13 +68,13 @@ IsFault (Letter fault) first = first ≡ Some fault
 IsFault OutOfMemory first = ⊤
 
 -- the packets of the sender were read, unless memory ran out
-abbrev pub IsRead : ℕ → List Packet → Result OwnedLetter OwnedFault → Type 0
-IsRead from packets (Ok letter) = (letter.from ≡ from) × (letter.packets ≡ packets)
-IsRead from packets (Err fault) = fault ≡ OutOfMemory
+abbrev pub ReadsPackets : ℕ → List Packet → Result OwnedLetter OwnedFault → Type 0
+ReadsPackets from packets (Ok letter) = (letter.from ≡ from) × (letter.packets ≡ packets)
+ReadsPackets from packets (Err fault) = fault ≡ OutOfMemory
 
 -- the fault was answered, unless memory ran out
-abbrev pub IsRefused : LetterFault → Result OwnedLetter OwnedFault → Type 0
-IsRefused fault result = (result ≡ Err (Letter fault)) ⊎ (result ≡ Err OutOfMemory)
+abbrev pub AnswersFault : LetterFault → Result OwnedLetter OwnedFault → Type 0
+AnswersFault fault result = (result ≡ Err (Letter fault)) ⊎ (result ≡ Err OutOfMemory)
 
 -- bytes spell no two letters
 abbrev pub LettersDiffer : Type 0

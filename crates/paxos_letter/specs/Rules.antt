@@ -3,7 +3,7 @@ use Rattle.std.specs.Prelude.{ℕ, pos, ◌^◌, Bool, true, false, not, ◌&&�
 use Rattle.std.specs.Int.{bit_at}
 use Rattle.std.specs.List.{list_all}
 use Rattle.std.specs.Ordering.{int_eq}
-use Rattle.paxos_base.specs.Ballot.{member_of}
+use Rattle.paxos_base.specs.Ballot.{is_ballot_of}
 use Rattle.paxos_base.specs.Packet.{Field, KindField, FromField, TagField, ZeroField, JobField, BallotField, SlotField, OldField, AtField, NowField, LastField, all_fields}
 use Rattle.paxos_letter.specs.declared.fields.Fields.{Fields}
 use Rattle.paxos_letter.specs.Kinds.{promise, old_vote, accept, nack, known, ask_from, snap, snap_row}
@@ -81,10 +81,6 @@ keeps_zeros fields = list_all (keeps_zero fields) all_fields
 
 -- ---- the sender and the ballots are of the members
 
--- a number of a ballot: of a round from 1 on, and of one of that many replicas
-abbrev pub is_ballot : ℕ → ℕ → Bool
-is_ballot members number = nat_le 8 number && nat_lt (member_of number) members
-
 -- the field ballot has a ballot
 abbrev pub has_ballot : Fields → Bool
 has_ballot fields = uses fields BallotField && not (has_row fields)
@@ -96,4 +92,4 @@ has_old_ballot fields = (fields.kind == old_vote) || (fields.kind == nack)
 -- the letter's sender is one of that many replicas, and the packet is of that sender
 abbrev pub keeps_members : ℕ → ℕ → Fields → Bool
 keeps_members members sender fields =
-    (nat_lt fields.from members && (fields.from == sender)) && ((not (has_ballot fields) || is_ballot members fields.ballot) && (not (has_old_ballot fields) || is_ballot members fields.old))
+    (nat_lt fields.from members && (fields.from == sender)) && ((not (has_ballot fields) || is_ballot_of members fields.ballot) && (not (has_old_ballot fields) || is_ballot_of members fields.old))

@@ -7,7 +7,7 @@ use Rattle.paxos_letter.specs.declared.fields.Fields.{Fields}
 use Rattle.paxos_letter.specs.declared.packet.Packet.{Packet}
 use Rattle.paxos_letter.specs.declared.packet.Packet.TheVariants.{Prepare, Promise, OldVote, Accept, Accepted, Nack, Known, AskFrom, Snap, SnapRow, Lead}
 use Rattle.paxos_letter.specs.Kinds.{prepare, promise, old_vote, accept, accepted, nack, known, ask_from, snap, snap_row, lead}
-use Rattle.paxos_letter.specs.Fields.{blank, bytes_of, Fits}
+use Rattle.paxos_letter.specs.Fields.{blank, bytes_of, FitPacketFields}
 
 -- the fields of a packet that has nothing but a kind, a sender and an entry
 abbrev pub with_entry : ℕ → ℕ → EntryNumbers → Fields
@@ -59,4 +59,4 @@ spelling from packets = flat_map (packet_bytes from) packets
 
 -- the numbers of each packet fit their fields, as those of every packet of the program do
 abbrev pub AllFit : ℕ → List Packet → Type 0
-AllFit from packets = AllByRecursion (λ packet. Fits (fields_of from packet)) packets
+AllFit from packets = AllByRecursion (λ packet. FitPacketFields (fields_of from packet)) packets

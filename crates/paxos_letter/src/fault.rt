@@ -1,16 +1,6 @@
 ghost use Rattle.std.specs.Prelude.{◌≡◌};
 
-use std::alloc::{AllocError, AllocFailed};
-
-/// Memory ran out.
-#[derive(Clone, Copy, Debug, PartialEq, Eq)]
-pub struct OutOfMemory;
-
-impl From<AllocError> for OutOfMemory {
-    fn from(_: AllocError) -> Self {
-        OutOfMemory
-    }
-}
+use std::alloc::AllocFailed;
 
 /// The first rule that the bytes of a letter break, and the number, from 0, of the packet that breaks it.
 ///

@@ -37,7 +37,7 @@ mod rules;
 mod tests;
 mod writing;
 
-pub use fault::{LetterFault, OutOfMemory, OwnedFault};
+pub use fault::{LetterFault, OwnedFault};
 pub use laws::letters_differ_in_their_bytes;
 pub use packet::{LetterBytes, OwnedLetter, Packet, PacketList};
 pub use reading::read_letter;

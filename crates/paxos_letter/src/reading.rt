@@ -4,14 +4,14 @@ ghost use Rattle.paxos_letter.specs.declared.packet.Packet.{Packet};
 ghost use Rattle.paxos_letter.specs.Fields.{fields_in};
 ghost use Rattle.paxos_letter.specs.Spelling.{fields_of};
 ghost use Rattle.paxos_letter.specs.Groups.{no_group};
-ghost use Rattle.paxos_letter.specs.Letters.{Spells, fault_at, fault_from, fault_of, IsFault, IsRead, IsRefused};
+ghost use Rattle.paxos_letter.specs.Letters.{Spells, fault_at, fault_from, fault_of, IsFault, ReadsPackets, AnswersFault};
 
 use crate::decoding::packet_of;
 use crate::fault::{LetterFault, OwnedFault};
 use crate::fields::{Fields, fields_at};
 use crate::group::Group;
 use crate::packet::{OwnedLetter, Packet, PacketList};
-use paxos_base::PACKET_BYTES;
+use paxos_base::layout::{FROM, PACKET_BYTES};
 use std::alloc::Global;
 
 // The first rule that the packet of a number breaks.
@@ -83,17 +83,17 @@ pub fn read_letter(alloc: Global, bytes: &[u8], members: u8) -> Result<OwnedLett
     ensures found { IfOk result (λ letter. Spells members letter.from letter.packets bytes.now) }
     // A letter that is spelled so is read, unless memory runs out.
     ensures only { (from : ℕ) (packets : List Packet)
-        → Spells members from packets bytes.now → IsRead from packets result }
+        → Spells members from packets bytes.now → ReadsPackets from packets result }
 
     // A fault is the first one, and where there is one it is answered, unless memory runs out.
     ensures fault { IfErr result (λ fault. IsFault fault (fault_of members bytes.now)) }
     ensures faulty { (fault : LetterFault)
-        → fault_of members bytes.now ≡ Some fault → IsRefused fault result }
+        → fault_of members bytes.now ≡ Some fault → AnswersFault fault result }
 {
     if bytes.is_empty() || bytes.len() % PACKET_BYTES != 0 {
         return Err(OwnedFault::Letter(LetterFault::BadLength { packet: 0 }));
     }
-    let from = bytes[1];
+    let from = bytes[FROM];
     let (packets, _) = bytes.as_chunks::<PACKET_BYTES>();
     let items = packets_of(alloc, members, from, packets)?;
     Ok(OwnedLetter {

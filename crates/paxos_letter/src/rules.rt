@@ -1,13 +1,14 @@
 ghost use Rattle.std.specs.Prelude.{◌≡◌, ◌<◌, ◌==◌, [], ◌∷◌};
 ghost use Rattle.std.specs.Int.{bit_at};
 ghost use Rattle.std.specs.List.{list_all};
-ghost use Rattle.paxos_letter.specs.Rules.{has_entry, has_row, has_cursor, is_open, has_last, keeps_row, keeps_kind, keeps_zero, keeps_zeros, is_ballot, has_ballot, has_old_ballot, keeps_members, uses};
+ghost use Rattle.paxos_letter.specs.Rules.{has_entry, has_row, has_cursor, is_open, has_last, keeps_row, keeps_kind, keeps_zero, keeps_zeros, has_ballot, has_old_ballot, keeps_members, uses};
 ghost use Rattle.paxos_base.specs.Packet.{BallotField, OldField, AtField, NowField, LastField};
 
 use crate::fields::Fields;
 use crate::kinds::{
     ACCEPT, ASK_FROM, KNOWN, LEAD, NACK, OLD_VOTE, PREPARE, PROMISE, SNAP, SNAP_ROW,
 };
+use paxos_base::Ballot;
 
 // What the bits of a row's tag say.
 const CURSOR_BIT: u8 = 0;
@@ -21,13 +22,6 @@ fn has_bit(tag: u8, bit: u8) -> bool
     ensures { result ≡ (bit_at tag bit == 1) }
 {
     tag >> bit & 1 == 1
-}
-
-// A number of a ballot: of a round from 1 on, and of one of that many replicas.
-fn is_ballot(members: u8, number: u64) -> bool
-    ensures { result ≡ is_ballot members number }
-{
-    number >= 8 && number % 8 < u64::from(members)
 }
 
 impl Fields {
@@ -137,7 +131,7 @@ impl Fields {
     {
         self.from < members
             && self.from == sender
-            && (!self.has_ballot() || is_ballot(members, self.ballot))
-            && (!self.has_old_ballot() || is_ballot(members, self.old))
+            && (!self.has_ballot() || Ballot::is_number_of(members, self.ballot))
+            && (!self.has_old_ballot() || Ballot::is_number_of(members, self.old))
     }
 }

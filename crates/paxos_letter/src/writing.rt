@@ -3,9 +3,9 @@ ghost use Rattle.paxos_letter.specs.Letters.{IsLetter};
 ghost use Rattle.paxos_letter.specs.Spelling.{spelling, AllFit};
 
 use crate::encoding::fields_of;
-use crate::fault::OutOfMemory;
 use crate::fields::bytes_of;
 use crate::packet::Packet;
+use cron_io::OutOfMemory;
 use paxos_base::PACKET_BYTES;
 use std::alloc::AllocError;
 

@@ -11,12 +11,12 @@ returns c =
     let at : FitsSigned w64 fields.at = search rules in
     let moment : FitsSigned w64 fields.moment = search rules in
     let last : FitsSigned w64 fields.last = search rules in
-    laid_out fields c.put_bytes.new.into c.put_bytes-2.new.into c.put_bytes-3.new.into c.put_bytes-4.new.into c.put_bytes-5.new.into c.put_minute.new.packet c.put_minute-2.new.packet c.put_minute-3.new.packet
+    laid_out fields c.put_bytes.new.into c.put_bytes-2.new.into c.put_bytes-3.new.into c.put_bytes-4.new.into c.put_bytes-5.new.into c.put_minute.new.into c.put_minute-2.new.into c.put_minute-3.new.into
     c.put_bytes.ensures
     (c.put_bytes-2.ensures ∙ ap (with_bytes c.put_bytes.new.into 4) c.to_be_bytes.ensures)
     (c.put_bytes-3.ensures ∙ ap (with_bytes c.put_bytes-2.new.into 8) c.to_be_bytes-2.ensures)
     (c.put_bytes-4.ensures ∙ ap (with_bytes c.put_bytes-3.new.into 16) c.to_be_bytes-3.ensures)
     (c.put_bytes-5.ensures ∙ ap (with_bytes c.put_bytes-4.new.into 24) c.to_be_bytes-4.ensures)
     (c.put_minute.ensures ∙ ap (λ z. with_bytes c.put_bytes-5.new.into 32 (minute_bytes z)) (to_z-of_z w64 fields.at at))
-    (c.put_minute-2.ensures ∙ ap (λ z. with_bytes c.put_minute.new.packet 40 (minute_bytes z)) (to_z-of_z w64 fields.moment moment))
-    (c.put_minute-3.ensures ∙ ap (λ z. with_bytes c.put_minute-2.new.packet 48 (minute_bytes z)) (to_z-of_z w64 fields.last last))
+    (c.put_minute-2.ensures ∙ ap (λ z. with_bytes c.put_minute.new.into 40 (minute_bytes z)) (to_z-of_z w64 fields.moment moment))
+    (c.put_minute-3.ensures ∙ ap (λ z. with_bytes c.put_minute-2.new.into 48 (minute_bytes z)) (to_z-of_z w64 fields.last last))

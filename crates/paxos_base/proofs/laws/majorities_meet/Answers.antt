@@ -1,5 +1,5 @@
 use Rattle.paxos_base.proofs.MemberLemmas.{majorities-Meet}
-use Rattle.paxos_base.proofs.members.majorities_meet.Goals as goal
+use Rattle.paxos_base.proofs.laws.majorities_meet.Goals as goal
 
 pub returns : goal.returns
 returns c =
