@@ -1,15 +1,18 @@
 -- For callers: which lists of packets are letters.
-use Rattle.std.proofs.Common.{◌≡◌, ◌≢◌, ℕ, ◌+◌, ◌-◌, ◌%◌, ◌<◌, ◌^◌, Bool, true, false, not, ◌&&◌, ◌||◌, eqb, ltb, ℤ, List, [], ◌∷◌, length, map, Option, Some, None, refl, arith}
-use Rattle.std.specs.Prelude.{⊤, IsTrue, IsSome}
+use Rattle.std.proofs.Common.{◌≡◌, ◌≢◌, ℕ, ◌+◌, ◌-◌, ◌%◌, ◌<◌, ◌^◌, Bool, true, false, not, ◌&&◌, ◌||◌, eqb, ltb, ℤ, List, [], ◌∷◌, length, map, Option, Some, None, suc, refl, ap, subst, arith}
+use Rattle.std.specs.Prelude.{⊤, IsTrue, IsSome, All, slice_get}
+use Rattle.std.proofs.lemmas.List.Elements.{All-head, All-tail}
 use Rattle.std.specs.List.{AllByRecursion}
 use Rattle.std.proofs.lemmas.Bool.{and_from, and_parts, lt-ltb, eq-eqb, false≢true}
 use Rattle.paxos_base.specs.Ballot.{IsBallot, member_of, is_ballot_of}
-use Rattle.paxos_base.specs.Rows.{OpenHasCursor}
+use Rattle.paxos_base.specs.Rows.{OpenHasCursor, OpenHaveCursors, RowsStand}
+use Rattle.paxos_base.specs.declared.rows.JobRow.{JobRow}
 use Rattle.paxos_base.specs.declared.entry.Entry.TheVariants.{Noop, Start, End}
 use Rattle.paxos_base.specs.declared.entry.Kind.TheVariants.{Launch, Void}
 use Rattle.paxos_letter.specs.declared.group.Group.{Group}
 use Rattle.paxos_letter.specs.declared.packet.Packet.{Packet}
 use Rattle.paxos_letter.specs.declared.packet.Packet.TheVariants.{Prepare, Promise, OldVote, Accept, Accepted, Nack, Known, AskFrom, Snap, SnapRow, Lead}
+use Rattle.paxos_letter.specs.Copies.{copy_of, HasFewCounts}
 use Rattle.paxos_letter.specs.Spelling.{fields_of}
 use Rattle.paxos_letter.specs.Rules.{keeps_kind, keeps_members}
 use Rattle.paxos_letter.specs.Groups.{no_group, keep_groups}
@@ -237,3 +240,39 @@ alone-filled from (Lead ballot slot) alone = refl
 pub IsLetter-one : (members from : ℕ) (packet : Packet) → from < members → Keeps members packet → StandsAlone packet → IsLetter members from (packet ∷ [])
 IsLetter-one members from packet below keep alone =
     IsLetter-from members from (packet ∷ []) (some_first packet []) below (keep, tt) (alone-filled from packet alone)
+
+-- ---- a copy of the rows of a table
+
+-- the rows count from a job on
+RowsCount : ℕ → List JobRow → Type 0
+RowsCount job rows = (k : ℕ) (row : JobRow) → slice_get rows k ≡ Some row → row.job ≡ job + k
+
+rows_from : (slot job : ℕ) (rows : List JobRow) → RowsCount job rows → AreRowsFrom job (map (λ row. SnapRow slot row) rows)
+unfolding RowsCount
+rows_from slot job [] count = tt
+rows_from slot job (row ∷ rows) count = (
+  (let first : row.job ≡ job + 0 = count 0 row refl in omega (arith, first)),
+  rows_from slot (job + 1) rows (λ k later is. let e : later.job ≡ job + suc k = count (suc k) later is in omega (arith, e)),
+)
+
+rows_keep : (members slot : ℕ) (rows : List JobRow) → OpenHaveCursors rows → All HasFewCounts rows → AllByRecursion (Keeps members) (map (λ row. SnapRow slot row) rows)
+rows_keep members slot [] cursors few = tt
+rows_keep members slot (row ∷ rows) cursors few =
+    let counts : HasFewCounts row = All-head HasFewCounts row rows few in (
+      ((All-head OpenHasCursor row rows cursors, counts.0, counts.1), tt),
+      rows_keep members slot rows (All-tail OpenHasCursor row rows cursors) (All-tail HasFewCounts row rows few),
+    )
+
+length-rows : (slot : ℕ) (rows : List JobRow) → length (map (λ row. SnapRow slot row) rows) ≡ length rows
+length-rows slot [] = refl
+length-rows slot (row ∷ rows) = ap suc (length-rows slot rows)
+
+-- the rows of a table are a letter
+pub IsLetter-copy : (members from slot jobs : ℕ) (rows : List JobRow) → from < members → RowsStand rows jobs → OpenHaveCursors rows → All HasFewCounts rows
+    → IsLetter members from (copy_of slot rows)
+unfolding RowsCount
+IsLetter-copy members from slot jobs rows below stand cursors few =
+    let packets : List Packet = map (λ row. SnapRow slot row) rows in
+    let count : RowsCount 0 rows = λ k row is. let e : row.job ≡ k = stand.in_order k row is in omega (arith, e) in
+    subst (λ (n : ℕ). IsLetter members from (Snap slot n ∷ packets)) (length-rows slot rows)
+    (IsLetter-snap members from slot packets below (rows_keep members slot rows cursors few) (rows_from slot 0 rows count))

@@ -19,7 +19,7 @@ use Rattle.paxos_letter.specs.Fields.{bytes_of, fields_in, all_in, FitPacketFiel
 use Rattle.paxos_letter.specs.Spelling.{fields_of, packet_bytes, spelling, AllFit}
 use Rattle.paxos_letter.specs.Rules.{keeps_kind, keeps_zeros, keeps_members}
 use Rattle.paxos_letter.specs.Groups.{no_group, is_filled, keeps_group, after, keep_groups}
-use Rattle.paxos_letter.specs.Letters.{Spells, fault_at, or_later, fault_from, has_bad_length, sender_of, fault_of, IsFault}
+use Rattle.paxos_letter.specs.Letters.{IsLetter, Spells, LettersHavePackets, LettersBreakNoRule, fault_at, or_later, fault_from, has_bad_length, sender_of, fault_of, IsFault}
 use Rattle.paxos_letter.proofs.FieldLemmas.{AreBytes, spelled_so, all_fit, read_again}
 use Rattle.paxos_letter.proofs.PacketBack.{same_packets, fields_of-zeros}
 use Rattle.paxos_letter.proofs.ReadLemmas.{fault_at-none}
@@ -131,11 +131,11 @@ nothing = None
 none_some : (fault : LetterFault) → nothing ≡ Some fault → ⊥
 none_some fault e = absurd cc
 
--- what a letter's spelling is read as
+-- what the spelling of packets is read as
 pub record Again (members from : ℕ) (packets : List Packet) (bytes : List ℕ) : Type 0 where
   pub sender : sender_of bytes ≡ from
   pub fields : all_in bytes ≡ all_fields_of from packets
-  pub fault : fault_of members bytes ≡ None
+  pub fault : fault_of members bytes ≡ fault_from members from no_group 0 (all_fields_of from packets)
 
 fields_of-from : (from : ℕ) (packet : Packet) → (fields_of from packet).from ≡ from
 fields_of-from from (Prepare ballot slot) = refl
@@ -171,30 +171,37 @@ good_length packets some =
     let even : length (flat_map bytes_of packets) % 56 ≡ 0 = omega arith in
     or_from _ _ (ne_eqb _ _ nonzero) (ap not (eq-eqb _ _ even))
 
-pub letter_again : (members from : ℕ) (packets : List Packet) (bytes : List ℕ) → Spells members from packets bytes → Again members from packets bytes
-letter_again members from packets bytes spells =
-    let letter = spells.letter in
+spelled_again : (members from : ℕ) (packets : List Packet) (bytes : List ℕ) → packets ≢ [] → AllFit from packets → bytes ≡ spelling from packets → Again members from packets bytes
+spelled_again members from packets bytes some fits is =
     let all : List Fields = all_fields_of from packets in
-    let spelled : bytes ≡ flat_map bytes_of all = spells.spelled ∙ spelling-fields from packets in
-    let sender : sender_of bytes ≡ from = ap sender_of spells.spelled ∙ sender_again from packets letter.some in
-    let fields : all_in bytes ≡ all = ap all_in spelled ∙ fields_again all (AllFit-fields from packets spells.fits) in
-    let filled : length all ≢ 0 = λ z. some_length packets letter.some (sym (length-map from packets) ∙ z) in
+    let spelled : bytes ≡ flat_map bytes_of all = is ∙ spelling-fields from packets in
+    let sender : sender_of bytes ≡ from = ap sender_of is ∙ sender_again from packets some in
+    let fields : all_in bytes ≡ all = ap all_in spelled ∙ fields_again all (AllFit-fields from packets fits) in
+    let filled : length all ≢ 0 = λ z. some_length packets some (sym (length-map from packets) ∙ z) in
     let good : has_bad_length bytes ≡ false = ap has_bad_length spelled ∙ good_length all filled in
-    let sound : Sound members from no_group packets = record { kinds = letter.kinds; members_keep = letter.members_keep; groups = letter.groups } in
     record {
       sender = sender;
       fields = fields;
       fault = ap (λ (bad : Bool). cond bad (Some (BadLength 0)) (fault_from members (sender_of bytes) no_group 0 (all_in bytes))) good
           ∙ ap (λ (from' : ℕ). fault_from members from' no_group 0 (all_in bytes)) sender
-          ∙ ap (fault_from members from no_group 0) fields
-          ∙ Sound-none members from no_group 0 packets sound;
+          ∙ ap (fault_from members from no_group 0) fields;
     }
+
+pub letter_again : (members from : ℕ) (packets : List Packet) (bytes : List ℕ) → Spells members from packets bytes → Again members from packets bytes
+letter_again members from packets bytes spells =
+    spelled_again members from packets bytes spells.letter.some spells.fits spells.spelled
+
+letter_none : (members from : ℕ) (packets : List Packet) (bytes : List ℕ) → Spells members from packets bytes → fault_of members bytes ≡ None
+letter_none members from packets bytes spells =
+    let letter = spells.letter in
+    let sound : Sound members from no_group packets = record { kinds = letter.kinds; members_keep = letter.members_keep; groups = letter.groups } in
+    (letter_again members from packets bytes spells).fault ∙ Sound-none members from no_group 0 packets sound
 
 -- a letter has no fault
 pub no_fault_of_letter : (members from : ℕ) (packets : List Packet) (bytes : List ℕ) → Spells members from packets bytes
     → (fault : OwnedFault) → IsFault fault (fault_of members bytes) → fault ≡ OutOfMemory
 no_fault_of_letter members from packets bytes spells (Letter f) is =
-    let none = (letter_again members from packets bytes spells).fault in absurd (none_some f (sym none ∙ is))
+    absurd (none_some f (sym (letter_none members from packets bytes spells) ∙ is))
 no_fault_of_letter members from packets bytes spells OutOfMemory is = refl
 
 pub same_letter : (members from sender : ℕ) (packets items : List Packet) (bytes : List ℕ) → Spells members from packets bytes
@@ -202,3 +209,27 @@ pub same_letter : (members from sender : ℕ) (packets items : List Packet) (byt
 same_letter members from sender packets items bytes spells found =
     let again = letter_again members from packets bytes spells in
     (again.sender, same_packets sender from items packets (found ∙ again.fields))
+
+-- ---- laws
+
+-- what breaks no rule is some packets, and they are a letter
+none_letter : (members from : ℕ) (packets : List Packet) → AllFit from packets → fault_of members (spelling from packets) ≡ None → IsLetter members from packets
+none_letter members from packets fits none =
+    let some : packets ≢ [] = λ empty. none_some (BadLength 0) (sym none ∙ ap (λ (ps : List Packet). fault_of members (spelling from ps)) empty) in
+    let again = spelled_again members from packets (spelling from packets) some fits refl in
+    let sound = none-Sound members from no_group 0 packets (sym again.fault ∙ none) in
+    record { some = some; kinds = sound.kinds; members_keep = sound.members_keep; groups = sound.groups }
+
+pub letters_break_no_rule : LettersBreakNoRule
+letters_break_no_rule members from packets fits = (
+  λ letter. letter_none members from packets (spelling from packets) (record { letter = letter; fits = fits; spelled = refl }),
+  none_letter members from packets fits,
+)
+
+pub letters_have_packets : LettersHavePackets
+letters_have_packets members from packets bytes spells =
+    let all : List Fields = all_fields_of from packets in
+    let long : length bytes ≡ length all * 56 = ap length (spells.spelled ∙ spelling-fields from packets) ∙ length-bytes all in
+    let count : length all ≡ length packets = length-map from packets in
+    let some : length packets ≢ 0 = some_length packets spells.letter.some in
+    (omega arith, omega arith)

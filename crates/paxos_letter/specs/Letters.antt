@@ -1,5 +1,5 @@
 -- Letters, and the first rule that bytes break.
-use Rattle.std.specs.Prelude.{◌≡◌, ◌≢◌, ◌⊎◌, ⊤, ℕ, ◌+◌, ◌%◌, Bool, not, ◌||◌, ◌==◌, if◌then◌else◌, IsTrue, List, [], ◌∷◌, length, map, slice_index, Option, None, Some, Result, Ok, Err}
+use Rattle.std.specs.Prelude.{◌≡◌, ◌≢◌, ◌↔◌, ◌⊎◌, ⊤, ℕ, ◌+◌, ◌*◌, ◌%◌, ◌<◌, Bool, not, ◌||◌, ◌==◌, if◌then◌else◌, IsTrue, List, [], ◌∷◌, length, map, slice_index, Option, None, Some, Result, Ok, Err}
 use Rattle.std.specs.List.{AllByRecursion}
 use Rattle.paxos_base.specs.Packet.{offset_of, FromField}
 use Rattle.paxos_letter.specs.declared.fault.LetterFault.{LetterFault}
@@ -81,3 +81,15 @@ abbrev pub LettersDiffer : Type 0
 LettersDiffer =
     (members from other : ℕ) (packets others : List Packet) (bytes : List ℕ) → Spells members from packets bytes → Spells members other others bytes
     → (from ≡ other) × (packets ≡ others)
+
+-- the bytes of a letter are one or more packets of 56
+abbrev pub LettersHavePackets : Type 0
+LettersHavePackets =
+    (members from : ℕ) (packets : List Packet) (bytes : List ℕ) → Spells members from packets bytes
+    → (0 < length bytes) × (length bytes ≡ 56 * length packets)
+
+-- Packets whose numbers fit are a letter exactly where their spelling breaks no rule.
+abbrev pub LettersBreakNoRule : Type 0
+LettersBreakNoRule =
+    (members from : ℕ) (packets : List Packet) → AllFit from packets
+    → IsLetter members from packets ↔ (fault_of members (spelling from packets) ≡ None)

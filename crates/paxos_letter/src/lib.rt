@@ -38,7 +38,9 @@ mod tests;
 mod writing;
 
 pub use fault::{LetterFault, OwnedFault};
-pub use laws::letters_differ_in_their_bytes;
+pub use laws::{
+    copies_are_letters, letters_break_no_rule, letters_differ_in_their_bytes, letters_have_packets,
+};
 pub use packet::{LetterBytes, OwnedLetter, Packet, PacketList};
 pub use reading::read_letter;
 pub use writing::write_letter;
