@@ -5,7 +5,8 @@ ghost use Rattle.paxos_letter.specs.Letters.{IsLetter};
 
 use super::*;
 use paxos_base::{Ballot, Entry, JobRow, Kind, PACKET_BYTES};
-use std::alloc::Global;
+use std::alloc::{AllocError, Global};
+use std::process::Abort;
 use std::test::*;
 
 const MINUTE: i64 = 28_530_780;
@@ -40,6 +41,31 @@ const SNAP_ROW: [u8; PACKET_BYTES] = [
     2, 0, 0, 0, 0, 0, 0, 1, 0, 0, 0, 0, 0, 0, 0, 1, 1, 255, 255, 255, 255, 255, 255, 255, 254,
 ];
 
+const ACCEPTED: [u8; PACKET_BYTES] = [
+    5, 1, 0, 0, 0, 0, 0, 0, 0, 0, 0, 0, 0, 0, 0, 9, 0, 0, 0, 0, 0, 0, 0, 6, 0, 0, 0, 0, 0, 0, 0, 0,
+    0, 0, 0, 0, 0, 0, 0, 0, 0, 0, 0, 0, 0, 0, 0, 0, 0, 0, 0, 0, 0, 0, 0, 0,
+];
+
+const NACK: [u8; PACKET_BYTES] = [
+    6, 1, 0, 0, 0, 0, 0, 0, 0, 0, 0, 0, 0, 0, 0, 9, 0, 0, 0, 0, 0, 0, 0, 0, 0, 0, 0, 0, 0, 0, 0,
+    17, 0, 0, 0, 0, 0, 0, 0, 0, 0, 0, 0, 0, 0, 0, 0, 0, 0, 0, 0, 0, 0, 0, 0, 0,
+];
+
+const KNOWN: [u8; PACKET_BYTES] = [
+    7, 1, 2, 0, 0, 0, 0, 5, 0, 0, 0, 0, 0, 0, 0, 0, 0, 0, 0, 0, 0, 0, 0, 2, 0, 0, 0, 0, 0, 0, 0, 0,
+    0, 0, 0, 0, 0x01, 0xb3, 0x58, 0x5c, 0, 0, 0, 0, 0, 0, 0, 0, 0, 0, 0, 0, 0, 0, 0, 0,
+];
+
+const ASK_FROM: [u8; PACKET_BYTES] = [
+    8, 1, 0, 0, 0, 0, 0, 0, 0, 0, 0, 0, 0, 0, 0, 0, 1, 0, 0, 0, 0, 0, 0, 3, 0, 0, 0, 0, 0, 0, 0, 0,
+    0, 0, 0, 0, 0, 0, 0, 0, 0, 0, 0, 0, 0, 0, 0, 0, 0, 0, 0, 0, 0, 0, 0, 0,
+];
+
+const LEAD: [u8; PACKET_BYTES] = [
+    11, 1, 0, 0, 0, 0, 0, 0, 0, 0, 0, 0, 0, 0, 0, 9, 0, 0, 0, 0, 0, 0, 1, 2, 0, 0, 0, 0, 0, 0, 0,
+    0, 0, 0, 0, 0, 0, 0, 0, 0, 0, 0, 0, 0, 0, 0, 0, 0, 0, 0, 0, 0, 0, 0, 0, 0,
+];
+
 fn prepare() -> Packet
     ensures { result ≡ Prepare 8 0 }
 {
@@ -56,15 +82,6 @@ fn accept(job: u32, ballot: Ballot, slot: u64, at: i64, now: i64) -> Packet
         ballot,
         slot,
         entry: Entry::Start { job, at, now },
-    }
-}
-
-// The only packet of a letter to three members.
-fn only_packet(alloc: Global, bytes: &[u8]) -> Result<Packet, OwnedFault> {
-    let letter = read_letter(alloc, bytes, 3)?;
-    match letter.packets.items.as_slice() {
-        [packet] => Ok(*packet),
-        _ => Err(OwnedFault::OutOfMemory),
     }
 }
 
@@ -94,22 +111,136 @@ fn written_and_read(alloc: Global, from: u8, packets: &[Packet]) -> Result<Owned
     read_letter(alloc, &bytes, 7)
 }
 
-#[test]
-fn spellings(rt: HostRuntime) -> Result<(), Fail> {
-    let mut bytes = Vec::from_slice(rt.alloc(), &[9])?;
-    let ballot = Ballot::of(1, 0);
-    assert_eq!(rt; write_letter(0, &[prepare()], &mut bytes), Ok(()));
-    assert_eq!(rt;
-        bytes.as_slice(),
-        [[9].as_slice(), &PREPARE].concat(rt.alloc())?.as_slice()
-    );
-    let mut bytes = Vec::new(rt.alloc());
-    assert_eq!(rt;
-        write_letter(0, &[accept(0, ballot, 0, MINUTE, MINUTE)], &mut bytes),
-        Ok(())
-    );
-    assert_eq!(rt; bytes.as_slice(), ACCEPT.as_slice());
+// The bytes of packets one after another.
+fn joined(alloc: Global, packets: &[[u8; PACKET_BYTES]]) -> Result<Vec<u8>, AllocError> {
+    let mut bytes = Vec::new(alloc);
+    for packet in packets {
+        bytes.extend_from_slice(packet)?;
+    }
+    Ok(bytes)
+}
+
+// The packets are written as these bytes, behind those that stand there, and the bytes are read as these packets.
+fn go_and_come(
+    rt: &impl Abort,
+    alloc: Global,
+    from: u8,
+    packets: &[Packet],
+    bytes: &[[u8; PACKET_BYTES]],
+) -> Result<(), Fail>
+    requires { IsLetter 7 from packets.now }
+{
+    let bytes = joined(alloc, bytes)?;
+    let mut written = Vec::from_slice(alloc, &[9])?;
+    assert_eq!(rt; write_letter(from, packets, &mut written), Ok(()));
+    assert_eq!(rt; written.first(), Some(&9));
+    assert_eq!(rt; written.get(1..), Some(bytes.as_slice()));
+    let letter = read_letter(alloc, &bytes, 3)
+        .ok()
+        .ok_or("the letter is read")?;
+    assert_eq!(rt; letter.from, from);
+    assert_eq!(rt; letter.packets.items.as_slice(), packets);
     Ok(())
+}
+
+#[test]
+fn asks(rt: HostRuntime) -> Result<(), Fail> {
+    let first = Ballot::of(1, 0);
+    let ballot = Ballot::of(1, 1);
+    go_and_come(&rt, rt.alloc(), 0, &[prepare()], &[PREPARE])?;
+    go_and_come(
+        &rt,
+        rt.alloc(),
+        0,
+        &[accept(0, first, 0, MINUTE, MINUTE)],
+        &[ACCEPT],
+    )?;
+    let slot = 0x0100_0000_0000_0003;
+    go_and_come(&rt, rt.alloc(), 1, &[Packet::AskFrom { slot }], &[ASK_FROM])?;
+    go_and_come(
+        &rt,
+        rt.alloc(),
+        1,
+        &[Packet::Lead {
+            ballot,
+            slot: 0x0102,
+        }],
+        &[LEAD],
+    )
+}
+
+#[test]
+fn answers(rt: HostRuntime) -> Result<(), Fail> {
+    let ballot = Ballot::of(1, 1);
+    let promised = Ballot::of(2, 1);
+    go_and_come(
+        &rt,
+        rt.alloc(),
+        1,
+        &[Packet::Accepted { ballot, slot: 6 }],
+        &[ACCEPTED],
+    )?;
+    go_and_come(
+        &rt,
+        rt.alloc(),
+        1,
+        &[Packet::Nack { ballot, promised }],
+        &[NACK],
+    )?;
+    let entry = Entry::End {
+        job: 5,
+        at: MINUTE,
+        kind: Kind::Launch,
+    };
+    go_and_come(
+        &rt,
+        rt.alloc(),
+        1,
+        &[Packet::Known { slot: 2, entry }],
+        &[KNOWN],
+    )
+}
+
+#[test]
+fn groups(rt: HostRuntime) -> Result<(), Fail> {
+    let ballot = Ballot::of(1, 1);
+    let promise = Packet::Promise {
+        ballot,
+        slot: 4,
+        count: 1,
+    };
+    let vote = Packet::OldVote {
+        ballot,
+        slot: 5,
+        cast: Ballot::of(1, 0),
+        entry: Entry::End {
+            job: 0x0102,
+            at: -1,
+            kind: Kind::Void,
+        },
+    };
+    go_and_come(&rt, rt.alloc(), 1, &[promise, vote], &[PROMISE, OLD_VOTE])?;
+    let row = JobRow {
+        job: 0,
+        cursor: Some(256),
+        open_now: Some(257),
+        last: Some(-2),
+        launched: 3,
+        voided: 2,
+    };
+    let rows = [
+        Packet::Snap { slot: 7, count: 1 },
+        Packet::SnapRow { slot: 7, row },
+    ];
+    go_and_come(&rt, rt.alloc(), 1, &rows, &[SNAP, SNAP_ROW])
+}
+
+#[test]
+fn laws() {
+    letters_differ_in_their_bytes();
+    letters_have_packets();
+    letters_break_no_rule();
+    copies_are_letters();
 }
 
 #[test]
@@ -117,76 +248,35 @@ fn round_trip(rt: HostRuntime) -> Result<(), Fail> {
     let letter = written_and_read(rt.alloc(), 0, &[prepare()])
         .ok()
         .ok_or("the letter is read")?;
-    assert_eq!(rt; letter.from, 0);
     assert_eq!(rt; letter.packets.items.as_slice(), [prepare()].as_slice());
     Ok(())
 }
 
-// What the packets of one letter to three members are read as.
-fn read_all(alloc: Global, packets: &[[u8; PACKET_BYTES]]) -> Result<OwnedLetter, OwnedFault> {
-    let mut bytes = Vec::new(alloc);
-    for packet in packets {
-        if bytes.extend_from_slice(packet).is_err() {
-            return Err(OwnedFault::OutOfMemory);
-        }
+// The only packet of a letter to three members, or the fault.
+fn only_packet(alloc: Global, bytes: &[u8]) -> Result<Packet, OwnedFault> {
+    let letter = read_letter(alloc, bytes, 3)?;
+    match letter.packets.items.as_slice() {
+        [packet] => Ok(*packet),
+        _ => Err(OwnedFault::OutOfMemory),
     }
-    read_letter(alloc, &bytes, 3)
 }
 
-#[test]
-fn groups(rt: HostRuntime) -> Result<(), Fail> {
-    let ballot = Ballot::of(1, 1);
-    let promise = [
-        Packet::Promise {
-            ballot,
-            slot: 4,
-            count: 1,
-        },
-        Packet::OldVote {
-            ballot,
-            slot: 5,
-            cast: Ballot::of(1, 0),
-            entry: Entry::End {
-                job: 0x0102,
-                at: -1,
-                kind: Kind::Void,
-            },
-        },
-    ];
-    let snap = [
-        Packet::Snap { slot: 7, count: 1 },
-        Packet::SnapRow {
-            slot: 7,
-            row: JobRow {
-                job: 0,
-                cursor: Some(256),
-                open_now: Some(257),
-                last: Some(-2),
-                launched: 3,
-                voided: 2,
-            },
-        },
-    ];
-    let letter = read_all(rt.alloc(), &[PROMISE, OLD_VOTE])
-        .ok()
-        .ok_or("the promise is read")?;
-    assert_eq!(rt; letter.from, 1);
-    assert_eq!(rt; letter.packets.items.as_slice(), promise.as_slice());
-    let letter = read_all(rt.alloc(), &[SNAP, SNAP_ROW])
-        .ok()
-        .ok_or("the rows are read")?;
-    assert_eq!(rt; letter.packets.items.as_slice(), snap.as_slice());
-    Ok(())
+// The fault of a letter to three members of these packets.
+fn fault_of(
+    alloc: Global,
+    packets: &[[u8; PACKET_BYTES]],
+) -> Result<Option<OwnedFault>, AllocError> {
+    let bytes = joined(alloc, packets)?;
+    Ok(read_letter(alloc, &bytes, 3).err())
 }
 
 // The first packet that breaks a rule, and of its rules the first.
 #[test]
-fn later_faults(rt: HostRuntime) {
+fn later_faults(rt: HostRuntime) -> Result<(), Fail> {
     let prepare = with_byte(PREPARE, 1, 1);
-    let accepted = with_byte(prepare, 0, 5);
-    let stray = with_byte(accepted, 3, 1);
+    let stray = with_byte(ACCEPTED, 3, 1);
     for (packets, want) in [
-        ([accepted, prepare, prepare].as_slice(), bad_group(2)),
+        ([ACCEPTED, prepare, prepare].as_slice(), bad_group(2)),
         (&[with_byte(ACCEPT, 1, 1), prepare], bad_group(1)),
         (&[PROMISE], bad_group(1)),
         (&[with_byte(PROMISE, 31, 2), OLD_VOTE], bad_group(2)),
@@ -198,15 +288,15 @@ fn later_faults(rt: HostRuntime) {
         (&[SNAP_ROW], bad_group(0)),
         (&[SNAP], bad_group(1)),
         (
-            &[accepted, with_byte(accepted, 1, 0)],
+            &[ACCEPTED, with_byte(ACCEPTED, 1, 0)],
             LetterFault::BadMember { packet: 1 },
         ),
         (
-            &[accepted, with_byte(stray, 1, 0)],
+            &[ACCEPTED, with_byte(stray, 1, 0)],
             LetterFault::NotZero { packet: 1 },
         ),
         (
-            &[accepted, with_byte(stray, 0, 12)],
+            &[ACCEPTED, with_byte(stray, 0, 12)],
             LetterFault::BadKind { packet: 1 },
         ),
         (
@@ -214,9 +304,10 @@ fn later_faults(rt: HostRuntime) {
             LetterFault::NotZero { packet: 0 },
         ),
     ] {
-        let answer = read_all(rt.alloc(), packets).err();
+        let answer = fault_of(rt.alloc(), packets)?;
         assert_eq!(rt; answer, Some(OwnedFault::Letter(want)));
     }
+    Ok(())
 }
 
 fn bad_group(packet: u64) -> LetterFault {
@@ -270,46 +361,6 @@ fn faults(rt: HostRuntime) {
     }
 }
 
-#[test]
-fn other_kinds(rt: HostRuntime) {
-    let ballot = Ballot::of(1, 0);
-    let slot = 0;
-    for (bytes, want) in [
-        (
-            with_byte(PREPARE, 0, 5).as_slice(),
-            Packet::Accepted { ballot, slot },
-        ),
-        (
-            with_byte(with_byte(PREPARE, 0, 6), 31, 17).as_slice(),
-            Packet::Nack {
-                ballot,
-                promised: Ballot::of(2, 1),
-            },
-        ),
-        (
-            with_byte(with_byte(ACCEPT, 0, 7), 15, 0).as_slice(),
-            Packet::Known {
-                slot,
-                entry: Entry::Start {
-                    job: 0,
-                    at: MINUTE,
-                    now: MINUTE,
-                },
-            },
-        ),
-        (
-            with_byte(with_byte(PREPARE, 0, 8), 15, 0).as_slice(),
-            Packet::AskFrom { slot },
-        ),
-        (
-            with_byte(PREPARE, 0, 11).as_slice(),
-            Packet::Lead { ballot, slot },
-        ),
-    ] {
-        assert_eq!(rt; only_packet(rt.alloc(), bytes), Ok(want));
-    }
-}
-
 // Each byte of a letter set to ff in turn: it is another letter, or is refused for the rule that the byte breaks.
 #[test]
 fn each_byte(rt: HostRuntime) {
@@ -324,10 +375,10 @@ fn each_byte(rt: HostRuntime) {
             5 => Ok(accept(0x00ff_0000, first, 0, MINUTE, MINUTE)),
             6 => Ok(accept(0x0000_ff00, first, 0, MINUTE, MINUTE)),
             7 => Ok(accept(0x0000_00ff, first, 0, MINUTE, MINUTE)),
-            8..=14 => Ok(accept(0, ballot_at(place), 0, MINUTE, MINUTE)),
-            16..=23 => Ok(accept(0, first, slot_at(place), MINUTE, MINUTE)),
-            32..=39 => Ok(accept(0, first, 0, minute_at(place - 32), MINUTE)),
-            _ => Ok(accept(0, first, 0, MINUTE, minute_at(place.saturating_sub(40)))),
+            8..=14 => Ok(accept(0, ballot_with(place), 0, MINUTE, MINUTE)),
+            16..=23 => Ok(accept(0, first, slot_with(place), MINUTE, MINUTE)),
+            32..=39 => Ok(accept(0, first, 0, minute_with(place - 32), MINUTE)),
+            _ => Ok(accept(0, first, 0, MINUTE, minute_with(place.saturating_sub(40)))),
         };
         let bytes = with_byte(ACCEPT, place, 0xff);
         assert_eq!(rt; only_packet(rt.alloc(), &bytes), want, "at {place}");
@@ -335,7 +386,7 @@ fn each_byte(rt: HostRuntime) {
 }
 
 // The ballot 8 with ff in one of its bytes: its round is an eighth of the number.
-fn ballot_at(place: usize) -> Ballot {
+fn ballot_with(place: usize) -> Ballot {
     match place {
         8 => Ballot::of(0x1fe0_0000_0000_0001, 0),
         9 => Ballot::of(0x001f_e000_0000_0001, 0),
@@ -347,7 +398,7 @@ fn ballot_at(place: usize) -> Ballot {
     }
 }
 
-fn slot_at(place: usize) -> u64 {
+fn slot_with(place: usize) -> u64 {
     match place {
         16 => 0xff00_0000_0000_0000,
         17 => 0x00ff_0000_0000_0000,
@@ -360,7 +411,7 @@ fn slot_at(place: usize) -> u64 {
     }
 }
 
-fn minute_at(place: usize) -> i64 {
+fn minute_with(place: usize) -> i64 {
     match place {
         0 => -72_057_594_009_397_156,
         1 => 0x00ff_0000_01b3_585c,
