@@ -1,3 +1,4 @@
 pub mod LedgerLemmas
 pub mod NameLemmas
 pub mod StampLemmas
+pub mod HeldLemmas

@@ -1,5 +1,7 @@
 -- What a scheduler holds: under each name the first row that was created there.
-use Rattle.std.specs.Prelude.{◌≡◌, ◌≢◌, ◌⊎◌, List, [], ◌∷◌, ◌++◌, All, AllPairs, Option, None, Some}
+use Rattle.std.specs.Prelude.{◌≡◌, ◌≢◌, ◌⊎◌, List, [], ◌∷◌, ◌++◌, All, AllPairs, Option, None, Some, Result, Err}
+use Rattle.cluster_sched.specs.declared.fault.CallFault.{CallFault}
+use Rattle.cluster_sched.specs.declared.fault.CallFault.TheVariants.{Failed}
 use Rattle.cluster_sched.specs.declared.row.Name.{Name}
 use Rattle.cluster_sched.specs.declared.row.SchedRow.{SchedRow}
 
@@ -35,6 +37,17 @@ IsLookedUp held name (Some row) = IsFirstUnder held name row
 -- after a call the rows are the same, or the call's row is the last of them, whose name was new
 abbrev pub Follows : List SchedRow → SchedRow → List SchedRow → Type 0
 Follows old row new = (new ≡ old) ⊎ (NoneUnder old row.name × (new ≡ old ++ row ∷ []))
+
+-- A call goes late: nothing is held under its row's name, what is held stays, and the row joins the late rows at their
+-- end, whatever else is late.
+pub record GoesLate (held held' late late' : List SchedRow) (row : SchedRow) : Type 0 where
+  pub none : NoneUnder held row.name
+  pub stays : held' ≡ held
+  pub joins : late' ≡ late ++ row ∷ []
+
+-- after a call the late rows are the same, or the call failed and goes late
+abbrev pub MayGoLate : List SchedRow → List SchedRow → List SchedRow → List SchedRow → SchedRow → Result SchedRow CallFault → Type 0
+MayGoLate held held' late late' row result = (late' ≡ late) ⊎ ((result ≡ Err Failed) × GoesLate held held' late late' row)
 
 -- A call is answered by the first row under its name, whether it was held before, and nothing changed, or is the row of
 -- the call itself.

@@ -1,6 +1,6 @@
 ghost use Rattle.std.specs.Prelude.{◌≡◌, ◌≤◌, IfOk, IsErrOf};
 ghost use Rattle.cron_io.specs.Faults.{Rose};
-ghost use Rattle.cluster_sched.specs.Held.{Answers, Follows};
+ghost use Rattle.cluster_sched.specs.Held.{Answers, Follows, MayGoLate, NoneUnder};
 
 use crate::fault::CallFault;
 use crate::row::SchedRow;
@@ -15,8 +15,13 @@ use crate::scheduler::Scheduler;
 pub fn call_by_name<C: Scheduler>(sched: &mut C, row: SchedRow) -> Result<SchedRow, CallFault>
     ensures first { IfOk result (λ first. Answers (C.held sched.old) row first (C.held sched.new)) }
     ensures held { Follows (C.held sched.old) row (C.held sched.new) }
-    ensures late { Follows (C.late sched.old) row (C.late sched.new) }
-    ensures memory { IsErrOf result CallFault.OutOfMemory → C.held sched.new ≡ C.held sched.old }
+    ensures late { MayGoLate (C.held sched.old) (C.held sched.new) (C.late sched.old) (C.late sched.new) row result }
+    // Where a row is held under the name, whatever the answer is, nothing changed and nothing was created.
+    ensures known { ¬ NoneUnder (C.held sched.old) row.name
+        → (C.held sched.new ≡ C.held sched.old) × (C.late sched.new ≡ C.late sched.old)
+        × (C.creates sched.new ≡ C.creates sched.old) }
+    ensures memory { IsErrOf result CallFault.OutOfMemory
+        → (C.held sched.new ≡ C.held sched.old) × (C.late sched.new ≡ C.late sched.old) }
     ensures later { C.faults sched.old ≤ C.faults sched.new }
     ensures failed { IsErrOf result CallFault.Failed → Rose (C.faults sched.old) (C.faults sched.new) }
 {

@@ -1,8 +1,9 @@
 //! Laws of names and of held rows. Each is the contract of a function that does nothing.
-ghost use Rattle.std.specs.Prelude.{◌≡◌, ◌++◌, List};
+ghost use Rattle.std.specs.Prelude.{◌≡◌, ◌⊎◌, ◌++◌, ℕ, List, Option, Some, Result, Ok, slice_get};
 ghost use Rattle.due_set.specs.Table.{Table, IsSound};
-ghost use Rattle.cluster_sched.specs.Held.{AreNamedOnce, Follows, IsFirstUnder};
+ghost use Rattle.cluster_sched.specs.Held.{Answers, AreNamedOnce, Follows, IsFirstUnder, IsLookedUp, MayGoLate};
 ghost use Rattle.cluster_sched.specs.Names.{IsNameIn, name_text};
+ghost use Rattle.cluster_sched.specs.declared.fault.CallFault.{CallFault};
 ghost use Rattle.cluster_sched.specs.declared.row.Name.{Name};
 ghost use Rattle.cluster_sched.specs.declared.row.SchedRow.{SchedRow};
 
@@ -20,4 +21,37 @@ pub fn held_rows_stay()
         → IsFirstUnder old name first → IsFirstUnder new name first }
     ensures once { (old new : List SchedRow) (row : SchedRow) → Follows old row new
         → AreNamedOnce old → AreNamedOnce new }
+{}
+
+/// A look has one answer: of the rows under a name the first.
+pub fn a_look_has_one_answer()
+    ensures { (held : List SchedRow) (name : Name) (one other : Option SchedRow)
+        → IsLookedUp held name one → IsLookedUp held name other → one ≡ other }
+{}
+
+/// What a call answers is the first row under its name afterwards.
+pub fn answers_stay()
+    ensures first { (old new : List SchedRow) (row first : SchedRow) → Answers old row first new
+        → IsFirstUnder new row.name first }
+    ensures held { (old new : List SchedRow) (row first : SchedRow) → Answers old row first new
+        → Follows old row new }
+{}
+
+/// Of rows of which no two are under one name, each is the first under its name.
+pub fn rows_named_once_are_first()
+    ensures { (held : List SchedRow) (place : ℕ) (row : SchedRow) → AreNamedOnce held
+        → slice_get held place ≡ Some row → IsFirstUnder held row.name row }
+{}
+
+/// A late row stays, in its place; a call that is answered, or whose name is held, does not go late, and one that does
+/// leaves what is held.
+pub fn late_rows_stay()
+    ensures place { (held held' late late' : List SchedRow) (row : SchedRow) (result : Result SchedRow CallFault)
+        → MayGoLate held held' late late' row result → (rest : List SchedRow) × (late' ≡ late ++ rest) }
+    ensures answered { (held held' late late' : List SchedRow) (row first : SchedRow)
+        → MayGoLate held held' late late' row (Ok first) → late' ≡ late }
+    ensures known { (held held' late late' : List SchedRow) (row first : SchedRow) (result : Result SchedRow CallFault)
+        → MayGoLate held held' late late' row result → IsFirstUnder held row.name first → late' ≡ late }
+    ensures held { (held held' late late' : List SchedRow) (row : SchedRow) (result : Result SchedRow CallFault)
+        → MayGoLate held held' late late' row result → (late' ≡ late) ⊎ (held' ≡ held) }
 {}

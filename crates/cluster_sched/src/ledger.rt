@@ -78,6 +78,8 @@ impl Scheduler for Ledger {
 
     ghost late = { λ _. [] };
 
+    ghost creates = { λ _. 0 };
+
     ghost faults = { λ _. 0 };
 
     fn look(&mut self, name: Name) -> Result<Option<SchedRow>, CallFault> {

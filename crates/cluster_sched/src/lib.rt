@@ -3,6 +3,8 @@
 
 mod call;
 mod fault;
+#[cfg(test)]
+mod flaky;
 mod laws;
 mod ledger;
 mod name;
@@ -13,7 +15,10 @@ mod tests;
 
 pub use call::call_by_name;
 pub use fault::CallFault;
-pub use laws::{held_rows_stay, names_differ_in_their_texts};
+pub use laws::{
+    a_look_has_one_answer, answers_stay, held_rows_stay, late_rows_stay,
+    names_differ_in_their_texts, rows_named_once_are_first,
+};
 pub use ledger::{Fate, Ledger};
 pub use name::{read_name, write_name};
 pub use row::{Name, SchedRow};

@@ -1,6 +1,6 @@
 ghost use Rattle.std.specs.Prelude.{◌≡◌, ◌≤◌, ℕ, List, IfOk, IsErrOf};
 ghost use Rattle.cron_io.specs.Faults.{Rose};
-ghost use Rattle.cluster_sched.specs.Held.{Answers, Follows, IsLookedUp};
+ghost use Rattle.cluster_sched.specs.Held.{Answers, Follows, IsLookedUp, MayGoLate};
 ghost use Rattle.cluster_sched.specs.declared.row.SchedRow.{SchedRow};
 
 use crate::fault::CallFault;
@@ -15,6 +15,10 @@ pub trait Scheduler {
     /// The calls that are still on their way to it, in order.
     ghost late: { Self → List SchedRow };
 
+    /// A count that only `create` may change, as of how often it was called: by it a contract says that nothing was
+    /// created. A scheduler that doesn't count may have 0 here at all times.
+    ghost creates: { Self → ℕ };
+
     /// How often a call has failed: a count that doesn't fall, and stands still at the last value of a `u64`.
     ghost faults: { Self → ℕ };
 
@@ -27,6 +31,7 @@ pub trait Scheduler {
         ensures found { IfOk result (λ found. IsLookedUp (held self.old) name found) }
         ensures held { held self.new ≡ held self.old }
         ensures late { late self.new ≡ late self.old }
+        ensures creates { creates self.new ≡ creates self.old }
         ensures later { faults self.old ≤ faults self.new }
         ensures failed { IsErrOf result CallFault.Failed → Rose (faults self.old) (faults self.new) };
 
@@ -34,13 +39,14 @@ pub trait Scheduler {
     ///
     /// # Errors
     ///
-    /// `Failed` only where the count of faults rose: the row may be held then, or come late. `OutOfMemory`, where nothing
-    /// changed.
+    /// `Failed` only where the count of faults rose: the row may be held then, or come late, behind what is late already.
+    /// `OutOfMemory`, where nothing changed.
     fn create(&mut self, row: SchedRow) -> Result<SchedRow, CallFault>
         ensures first { IfOk result (λ first. Answers (held self.old) row first (held self.new)) }
         ensures held { Follows (held self.old) row (held self.new) }
-        ensures late { Follows (late self.old) row (late self.new) }
-        ensures memory { IsErrOf result CallFault.OutOfMemory → held self.new ≡ held self.old }
+        ensures late { MayGoLate (held self.old) (held self.new) (late self.old) (late self.new) row result }
+        ensures memory { IsErrOf result CallFault.OutOfMemory
+            → (held self.new ≡ held self.old) × (late self.new ≡ late self.old) }
         ensures later { faults self.old ≤ faults self.new }
         ensures failed { IsErrOf result CallFault.Failed → Rose (faults self.old) (faults self.new) };
 }
