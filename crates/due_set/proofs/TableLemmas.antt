@@ -5,17 +5,14 @@ use Rattle.std.proofs.lemmas.Bool.{cases_lt}
 use Rattle.std.proofs.lemmas.Int.{ints}
 use Rattle.std.proofs.lemmas.List.{length-map, get_or-map}
 use Rattle.std.proofs.lemmas.Option.{slice_get_within, get_or_from_slice_get}
-use Rattle.jiff.specs.Types.{TimeZone}
 use Rattle.cron_fields.specs.declared.field.Fields.{Fields}
 use Rattle.zone_minutes.specs.Window.{IsInWindow}
 use Rattle.zone_minutes.specs.Zone.{Zone, Source, IsReadAs}
 use Rattle.zone_minutes.specs.declared.minute.Minute.{Minute}
 use Rattle.zone_minutes.specs.declared.minute.Window.{Window}
 use Rattle.due_set.specs.Due.{IsDue, IsDueIn, IsFirstDue, IsNotDueIn}
-use Rattle.due_set.specs.Calls.{HasCome}
-use Rattle.due_set.specs.Table.{IsAnacron, IsJobDueList, Job, Table, job_of, AreZonesBelow, IsAfter, IsJobDue, IsJobIn, IsNextDue}
-use Rattle.due_set.specs.declared.job.JobKind.{JobKind}
-use Rattle.due_set.specs.declared.job.JobKind.TheVariants.{Crontab, Anacron, Never}
+use Rattle.due_set.specs.Table.{IsJobDueList, Job, Table, job_of, AreZonesBelow, IsAfter, IsJobDue, IsNextDue}
+use Rattle.due_set.specs.declared.job.JobKind.TheVariants.{Crontab}
 use Rattle.due_set.specs.declared.job.JobSpec.{JobSpec}
 use Rattle.due_set.proofs.Rising.{IsRising-same}
 
@@ -154,17 +151,6 @@ nothing_next table number job fields source window before first result known win
     (λ not t. none_next table number job fields source before first t known
     (subst (λ (w : Window). (u : ℤ) → IsInWindow w u → (IsAfter before u ↔ first ≤ℤ u)) window_is tells)
     (subst (λ (w : Window). IsNotDueIn fields source.source first w.until.0) window_is not))
-
--- a call's test, of a job that is no anacron job
-come_by_kind : (kind : JobKind) (zone : TimeZone) (at now : ℤ) (result : Bool) → (IsAnacron kind → ⊥) → (IsTrue result ↔ (at ≤ℤ now)) → (IsTrue result ↔ HasCome kind zone at now)
-come_by_kind (Crontab fields) zone at now result plain tells = tells
-come_by_kind (Anacron period first last) zone at now result plain tells = absurd (plain tt)
-come_by_kind Never zone at now result plain tells = tells
-
-pub HasCome-plain : (table : Table) (number : ℕ) (at now : ℤ) (result : Bool) → All (λ job. IsAnacron job.kind → ⊥) table.jobs
-    → (IsTrue result ↔ (at ≤ℤ now)) → (job : Job) (zone : TimeZone) → IsJobIn table number job zone → (IsTrue result ↔ HasCome job.kind zone at now)
-HasCome-plain table number at now result plain tells job zone is_in =
-    come_by_kind job.kind zone at now result (All-slice_get (λ j. IsAnacron j.kind → ⊥) table.jobs number job plain is_in.is_job) tells
 
 -- a job has one list of due instants
 pub IsJobDueList-same : (table : Table) (number : ℕ) (a b : List ℤ) → IsJobDueList table number a → IsJobDueList table number b → a ≡ b

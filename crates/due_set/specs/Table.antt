@@ -64,6 +64,10 @@ pub record IsJobIn (table : Table) (number : ℕ) (job : Job) (zone : TimeZone) 
   pub is_zone : slice_get table.zones job.zone ≡ Some source
   pub read : IsReadAs source.source zone
 
+-- `jiff` reads the zone of the table's job
+abbrev pub IsJobRead : Table → ℕ → Type 0
+IsJobRead table number = (job : Job) × (zone : TimeZone) × IsJobIn table number job zone
+
 -- the job is an entry of a crontab, and is due at the instant, which is in the window
 pub record IsJobDue (table : Table) (number : ℕ) (instant : ℤ) : Type 0 where
   pub job : Job

@@ -1,9 +1,8 @@
 ghost use Rattle.std.specs.Prelude.{◌≡◌, ◌<◌, ◌≤◌, ◌↔◌, ℤ, List, length, map, All, IsTrue, IsSomeAnd, IfSome, IfNone, slice_get, Some};
 ghost use Rattle.jiff.specs.Types.{TimeZone};
 ghost use Rattle.zone_minutes.specs.Window.{IsInWindow, IsWithinLimits};
-ghost use Rattle.zone_minutes.specs.Zone.{local_of};
 ghost use Rattle.due_set.specs.Calls.{HasCome, IsOnTime};
-ghost use Rattle.due_set.specs.Table.{Job, Table, job_of, instant_of, IsAfter, IsAnacron, IsBuiltFor, IsJobDue, IsJobDueList, IsJobIn, IsNextDue, AreNamesDistinct, AreZonesBelow};
+ghost use Rattle.due_set.specs.Table.{Job, Table, job_of, instant_of, IsAfter, IsAnacron, IsBuiltFor, IsJobDue, IsJobDueList, IsJobIn, IsJobRead, IsNextDue, IsSound, AreNamesDistinct, AreZonesBelow};
 
 use crate::call::{Kind2, has_come, is_on_time};
 use crate::job::{JobKind, JobSpec};
@@ -60,8 +59,9 @@ impl JobTable {
         requires few { length jobs.items ≤ 1000 }
         requires distinct { AreNamesDistinct (map job_of jobs.items) }
         requires plain { All (λ job. IsAnacron job.kind → ⊥) (map job_of jobs.items) }
-        ensures { result
+        ensures table { result
             ≡ record { window = window; grace = grace; zones = zones.items; jobs = map job_of jobs.items } }
+        ensures sound { IsSound result }
     {
         JobTable {
             window,
@@ -75,6 +75,7 @@ impl JobTable {
     pub fn jobs(&self) -> u32
         ensures count { result ≡ length self.now.jobs }
         ensures few { result ≤ 1000 }
+        ensures sound { IsSound self.now }
     {
         self.jobs.len() as u32
     }
@@ -82,7 +83,8 @@ impl JobTable {
     /// The job's name.
     pub fn name(&self, job: u32) -> &str
         requires { job < length self.now.jobs }
-        ensures { IsSomeAnd (slice_get self.now.jobs job) (λ j. result.now ≡ j.name) }
+        ensures name { IsSomeAnd (slice_get self.now.jobs job) (λ j. result.now ≡ j.name) }
+        ensures sound { IsSound self.now }
     {
         self.spec(job).name.as_str()
     }
@@ -90,7 +92,8 @@ impl JobTable {
     /// When the job runs.
     pub fn kind(&self, job: u32) -> &JobKind
         requires { job < length self.now.jobs }
-        ensures { IsSomeAnd (slice_get self.now.jobs job) (λ j. result.now ≡ j.kind) }
+        ensures kind { IsSomeAnd (slice_get self.now.jobs job) (λ j. result.now ≡ j.kind) }
+        ensures sound { IsSound self.now }
     {
         &self.spec(job).kind
     }
@@ -99,6 +102,7 @@ impl JobTable {
     pub fn window(&self) -> Window
         ensures window { result ≡ self.now.window }
         ensures limits { IsWithinLimits result }
+        ensures sound { IsSound self.now }
     {
         self.window
     }
@@ -133,7 +137,8 @@ impl JobTable {
     pub fn is_due(&self, job: u32, t: Minute) -> bool
         requires job { job < length self.now.jobs }
         requires inside { IsInWindow self.now.window t.0 }
-        ensures { IsTrue result ↔ IsJobDue self.now job t.0 }
+        ensures due { IsTrue result ↔ IsJobDue self.now job t.0 }
+        ensures sound { IsSound self.now }
     {
         let spec = self.spec(job);
         match spec.kind {
@@ -147,6 +152,7 @@ impl JobTable {
         requires { job < length self.now.jobs }
         ensures found { IfSome result (λ t. IsNextDue self.now job (instant_of after) t.0) }
         ensures none { IfNone result ((t : ℤ) → IsJobDue self.now job t → IsAfter (instant_of after) t → ⊥) }
+        ensures sound { IsSound self.now }
     {
         let spec = self.spec(job);
         match spec.kind {
@@ -164,9 +170,8 @@ impl JobTable {
         requires { job < length self.now.jobs }
         ensures count { (instants : List ℤ) → IsJobDueList self.now job instants → result ≡ length instants }
         ensures list { (instants : List ℤ) × IsJobDueList self.now job instants × (result ≡ length instants) }
+        ensures sound { IsSound self.now }
     {
-        // The window's limits bound the count.
-        let _ = &self.window;
         let mut count = 0;
         let mut last = None;
         while let Some(t) = self.next_due(job, last) {
@@ -176,43 +181,34 @@ impl JobTable {
         count
     }
 
-    /// Whether the job's launch of the instant has come.
+    /// Whether the job's launch of the instant has come; of an anacron job, whether its date has.
     pub fn may_call(&self, job: u32, at: i64, now: Minute) -> bool
         requires job { job < length self.now.jobs }
         requires inside { IsInWindow self.now.window now.0 }
         ensures come { (j : Job) (zone : TimeZone) → IsJobIn self.now job j zone
             → (IsTrue result ↔ HasCome j.kind zone at now.0) }
-        // `jiff` reads the job's zone.
-        ensures read { (j : Job) × (zone : TimeZone) × IsJobIn self.now job j zone }
+        ensures read { IsJobRead self.now job }
+        ensures sound { IsSound self.now }
     {
-        // No job is an anacron job, whose launches wait for a local date.
-        let _ = &self.jobs;
-        let _ = self.local(job, now);
-        has_come(at, now)
+        let spec = self.spec(job);
+        has_come(&spec.kind, self.zone(spec.zone), at, now)
     }
 
     /// What comes of the job's launch of the instant, if it is called now.
     pub fn call_kind(&self, job: u32, at: i64, now: Minute) -> Kind2
         requires job { job < length self.now.jobs }
         requires inside { IsInWindow self.now.window now.0 }
-        ensures { (j : Job) (zone : TimeZone) → IsJobIn self.now job j zone
+        ensures kind { (j : Job) (zone : TimeZone) → IsJobIn self.now job j zone
             → ((result ≡ Kind2.OnTime) ↔ IsOnTime j.kind zone self.now.grace at now.0) }
+        ensures read { IsJobRead self.now job }
+        ensures sound { IsSound self.now }
     {
-        if is_on_time(at, self.grace, now) {
+        let spec = self.spec(job);
+        if is_on_time(&spec.kind, self.zone(spec.zone), self.grace, at, now) {
             Kind2::OnTime
         } else {
             Kind2::Late
         }
-    }
-
-    // The job's local time at an instant of the window.
-    fn local(&self, job: u32, t: Minute) -> i64
-        requires job { job < length self.now.jobs }
-        requires inside { IsInWindow self.now.window t.0 }
-        ensures { (j : Job) × (zone : TimeZone) × IsJobIn self.now job j zone
-            × (result ≡ local_of zone t.0) }
-    {
-        self.zone(self.spec(job).zone).local(t)
     }
 
     // The job of a number.
@@ -220,6 +216,7 @@ impl JobTable {
         requires { job < length self.now.jobs }
         ensures spec { slice_get self.now.jobs job ≡ Some (job_of result.now) }
         ensures zone { result.now.zone < length self.now.zones }
+        ensures sound { IsSound self.now }
     {
         &self.jobs[job as usize]
     }

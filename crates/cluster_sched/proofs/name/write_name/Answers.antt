@@ -14,7 +14,7 @@ write_basic_stamp-requires c =
 
 pub returns-in_err-reserve-clause-full : goal.returns-in_err-reserve-clause-full
 returns-in_err-reserve-clause-full c =
-    let long = length-name_text c.args.table.now c.args.name c.name-job.result.now c.name-job.ensures in
+    let long = length-name_text c.args.table.now c.args.name c.name-job.result.now c.name-job.ensures.name in
     let full : string_capacity c.args.into.now < string_len c.args.into.now + length (name_text c.args.table.now c.args.name) = rw long c.in_err-reserve.ensures.full in
     OnErr-always c.from_residual.result full
   where
