@@ -1,5 +1,5 @@
 -- Which civil times the five fields match (crontab(5)).
-use Rattle.std.specs.Prelude.{ℕ, ◌||◌, ◌⊎◌, MatchBool}
+use Rattle.std.specs.Prelude.{ℕ, ◌||◌, ◌⊎◌, Bool, MatchBool}
 use Rattle.cron_fields.specs.FieldSet.{Has}
 use Rattle.cron_fields.specs.declared.field.Fields.{Fields}
 
@@ -19,3 +19,7 @@ pub record MatchesDate (fields : Fields) (month month_day week_day : ℕ) : Type
 pub record MatchesTime (fields : Fields) (hour minute : ℕ) : Type 0 where
   pub hour_in : Has fields.hour hour
   pub minute_in : Has fields.minute minute
+
+-- the minute or the hour begins with `*`
+abbrev pub is_frequent : Fields → Bool
+is_frequent fields = fields.minute.star || fields.hour.star

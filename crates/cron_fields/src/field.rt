@@ -48,7 +48,7 @@ pub struct Fields {
 }
 
 impl Fields {
-    ghost use Rattle.cron_fields.specs.Match.{MatchesDate, MatchesDay, MatchesTime};
+    ghost use Rattle.cron_fields.specs.Match.{MatchesDate, MatchesDay, MatchesTime, is_frequent};
 
     /// The fields match a date: its month (1 to 12), its day of the month (1 to 31) and its weekday, with Sunday
     /// as 0. crontab(5): if either day field begins with `*`, both day fields have to match, and otherwise one of
@@ -73,7 +73,7 @@ impl Fields {
 
     /// The minute or the hour begins with `*`. cron(8) of cronie treats such a job otherwise when the clock changes.
     pub fn is_frequent(&self) -> bool
-        ensures { result ≡ (self.now.minute.star || self.now.hour.star) }
+        ensures { result ≡ is_frequent self.now }
     {
         self.minute.star || self.hour.star
     }

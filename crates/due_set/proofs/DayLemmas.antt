@@ -4,12 +4,12 @@ use Rattle.std.specs.Prelude.{MatchBool}
 use Rattle.std.proofs.lemmas.Int.{ints}
 use Rattle.jiff.specs.Types.{TimeZone}
 use Rattle.cron_fields.specs.declared.field.Fields.{Fields}
-use Rattle.cron_fields.specs.Match.{MatchesDate}
+use Rattle.cron_fields.specs.Match.{MatchesDate, is_frequent}
 use Rattle.zone_minutes.specs.Civil.{day_number, weekday_of}
 use Rattle.zone_minutes.specs.Calendar.{date_of_day}
 use Rattle.zone_minutes.specs.Zone.{Source, FixedOffset, IsLocal, IsReadAs, local_of}
 use Rattle.zone_minutes.proofs.ZoneLemmas.{local_of-fixed}
-use Rattle.due_set.specs.Due.{AreOfOneDay, IsDue, IsDueOnce, IsNotDueIn, IsSkipped, Matches, MatchesDateAt, is_frequent}
+use Rattle.due_set.specs.Due.{AreOfOneDay, IsDue, IsDueOnce, IsNotDueIn, IsSkipped, Matches, MatchesDateAt}
 use Rattle.due_set.proofs.DueLemmas.{IsLocal-is}
 
 -- at a fixed offset the clock never skips a minute

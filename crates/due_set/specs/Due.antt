@@ -1,28 +1,22 @@
 -- When a crontab entry is due. The form at clock changes is this project's own reading of cron(8) of cronie.
-use Rattle.std.specs.Prelude.{◌≡◌, ◌≢◌, ◌⊎◌, ◌↔◌, ◌||◌, Bool, List, [], ◌∷◌, ℤ, pos, ◌-ℤ◌, ◌<ℤ◌, ◌≤ℤ◌, MatchBool, Contains, ⊤}
+use Rattle.std.specs.Prelude.{◌≡◌, ◌≢◌, ◌⊎◌, List, [], ◌∷◌, ℤ, pos, ◌-ℤ◌, ◌<ℤ◌, ◌≤ℤ◌, MatchBool, ⊤}
 use Rattle.std.specs.Int.{int_div_euclid}
 use Rattle.std.specs.List.{AllByRecursion}
 use Rattle.jiff.specs.Types.{TimeZone}
-use Rattle.cron_fields.specs.Match.{MatchesDate, MatchesTime}
+use Rattle.cron_fields.specs.Match.{MatchesDate, MatchesTime, is_frequent}
 use Rattle.cron_fields.specs.declared.field.Fields.{Fields}
 use Rattle.zone_minutes.specs.Civil.{civil_at, day_number, weekday_of}
-use Rattle.zone_minutes.specs.Window.{IsInWindow}
 use Rattle.zone_minutes.specs.Zone.{Source, IsReadAs, local_of}
-use Rattle.zone_minutes.specs.declared.minute.Window.{Window}
-
--- the fields match a civil minute: its date and its time of day
-pub record Matches (fields : Fields) (minute : ℤ) : Type 0 where
-  pub date : MatchesDate fields (civil_at minute).month (civil_at minute).day (weekday_of (day_number minute))
-  pub time : MatchesTime fields (civil_at minute).hour (civil_at minute).minute
 
 -- the fields match a civil minute's date
 abbrev pub MatchesDateAt : Fields → ℤ → Type 0
 MatchesDateAt fields minute =
     MatchesDate fields (civil_at minute).month (civil_at minute).day (weekday_of (day_number minute))
 
--- an entry whose minute or hour field begins with `*` follows the clock as it shows
-abbrev pub is_frequent : Fields → Bool
-is_frequent fields = fields.minute.star || fields.hour.star
+-- the fields match a civil minute: its date and its time of day
+pub record Matches (fields : Fields) (minute : ℤ) : Type 0 where
+  pub date : MatchesDateAt fields minute
+  pub time : MatchesTime fields (civil_at minute).hour (civil_at minute).minute
 
 -- the zone's clock showed this local time at no other of the instants from 179 minutes before
 abbrev pub IsFirstShown : TimeZone → ℤ → Type 0
@@ -42,7 +36,7 @@ IsDueOnce fields zone instant =
     (Matches fields (local_of zone instant) × IsFirstShown zone instant)
     ⊎ ((minute : ℤ) × IsSkipped zone instant minute × Matches fields minute)
 
--- the entry is due at the instant
+-- the entry is due at the instant; one whose minute or hour field begins with `*` follows the clock as it shows
 abbrev pub IsDue : Fields → TimeZone → ℤ → Type 0
 IsDue fields zone instant =
     MatchBool (is_frequent fields) (Matches fields (local_of zone instant)) (IsDueOnce fields zone instant)
@@ -82,8 +76,3 @@ pub record IsFirstDue (fields : Fields) (source : Source) (from instant : ℤ) :
 abbrev pub IsRising : List ℤ → Type 0
 IsRising [] = ⊤
 IsRising (instant ∷ instants) = AllByRecursion (λ later. instant <ℤ later) instants × IsRising instants
-
--- the due instants of a window, in order
-pub record IsDueList (fields : Fields) (zone : TimeZone) (window : Window) (instants : List ℤ) : Type 0 where
-  pub rising : IsRising instants
-  pub members : (instant : ℤ) → Contains instants instant ↔ (IsInWindow window instant × IsDue fields zone instant)
