@@ -4,3 +4,4 @@ pub mod TableLemmas
 pub mod DayLemmas
 pub mod HourLemmas
 pub mod CountLemmas
+pub mod SoundLemmas

@@ -1,9 +1,9 @@
 -- What a table says of its jobs.
-use Rattle.std.specs.Prelude.{◌≡◌, ℕ, ◌≢◌, ◌<◌, ◌≤◌, List, length, All, AllPairs, Option, None, Some, ℤ, ◌<ℤ◌, ◌≤ℤ◌, slice_get, Contains, ⊤}
+use Rattle.std.specs.Prelude.{◌≡◌, ℕ, ◌≢◌, ◌<◌, ◌≤◌, List, length, All, AllPairs, Option, None, Some, ℤ, pos, ◌<ℤ◌, ◌≤ℤ◌, slice_get, Contains, ⊤}
 use Rattle.jiff.specs.Types.{TimeZone}
 use Rattle.cron_fields.specs.declared.field.Fields.{Fields}
 use Rattle.zone_minutes.specs.Window.{IsInWindow, IsWithinLimits}
-use Rattle.zone_minutes.specs.Zone.{Zone, IsReadable, IsReadAs}
+use Rattle.zone_minutes.specs.Zone.{Zone, FixedOffset, IsReadable, IsReadAs}
 use Rattle.zone_minutes.specs.declared.minute.Minute.{Minute}
 use Rattle.zone_minutes.specs.declared.minute.Window.{Window}
 use Rattle.due_set.specs.Due.{IsDue, IsRising}
@@ -38,6 +38,10 @@ pub record IsBuiltFor (window : Window) (zone : Zone) : Type 0 where
   pub from : zone.from ≡ window.from.0
   pub until : zone.until ≡ window.until.0
   pub read : IsReadable zone.source
+
+-- UTC, over the window
+abbrev pub utc_over : Window → Zone
+utc_over window = record { source = FixedOffset (pos 0); from = window.from.0; until = window.until.0 }
 
 -- no two jobs have one name
 abbrev pub AreNamesDistinct : List Job → Type 0

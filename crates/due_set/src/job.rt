@@ -72,3 +72,15 @@ pub struct JobSpec {
     pub zone: u16,
     pub kind: JobKind,
 }
+
+impl JobSpec {
+    /// The job of a name, a zone's number and a time to run.
+    pub fn new(alloc: Global, name: &str, zone: u16, kind: JobKind) -> Result<JobSpec, OutOfMemory>
+        ensures name { IfOk result (λ job. job.name ≡ name.now) }
+        ensures zone { IfOk result (λ job. job.zone ≡ zone) }
+        ensures kind { IfOk result (λ job. job.kind ≡ kind) }
+    {
+        let name = JobName::new(alloc, name)?;
+        Ok(JobSpec { name, zone, kind })
+    }
+}

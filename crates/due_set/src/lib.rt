@@ -6,11 +6,13 @@ mod due;
 mod job;
 mod laws;
 mod scan;
+mod sound;
 mod table;
 
 pub use call::Kind2;
 pub use job::{JobKind, JobName, JobSpec, Period};
 pub use laws::{a_job_has_one_due_list, a_job_has_one_next_instant};
+pub use sound::{a_name_says_one_job, each_job_has_a_zone, launches_come_at_their_instants};
 pub use table::JobTable;
 
 #[cfg(test)]

@@ -1,14 +1,28 @@
-ghost use Rattle.std.specs.Prelude.{◌≡◌, ◌<◌, ◌≤◌, ◌↔◌, ℤ, List, length, map, All, IsTrue, IsSomeAnd, IfSome, IfNone, slice_get, Some};
+ghost use Rattle.std.specs.Prelude.{◌≡◌, ◌<◌, ◌≤◌, ◌↔◌, ℤ, List, [], ◌∷◌, length, map, All, IsTrue, IsSomeAnd, IfSome, IfNone, IfOk, slice_get, Some};
 ghost use Rattle.jiff.specs.Types.{TimeZone};
 ghost use Rattle.zone_minutes.specs.Window.{IsInWindow, IsWithinLimits};
 ghost use Rattle.due_set.specs.Calls.{HasCome, IsOnTime};
-ghost use Rattle.due_set.specs.Table.{Job, Table, job_of, instant_of, IsAfter, IsAnacron, IsBuiltFor, IsJobDue, IsJobDueList, IsJobIn, IsJobRead, IsNextDue, IsSound, AreNamesDistinct, AreZonesBelow};
+ghost use Rattle.due_set.specs.Table.{Job, Table, job_of, instant_of, IsAfter, IsAnacron, IsBuiltFor, IsJobDue, IsJobDueList, IsJobIn, IsJobRead, IsNextDue, IsSound, AreNamesDistinct, AreZonesBelow, utc_over};
 
 use crate::call::{Kind2, has_come, is_on_time};
 use crate::job::{JobKind, JobSpec};
 use crate::{due, scan};
+use cron_io::OutOfMemory;
+use std::alloc::Global;
 use std::marker::Model;
-use zone_minutes::{Minute, Window, ZoneRuns};
+use zone_minutes::{Minute, Window, ZoneFault, ZoneRuns, ZoneSource};
+
+// UTC, over the window.
+fn build_utc(alloc: Global, window: Window) -> Result<ZoneRuns, OutOfMemory>
+    requires { IsWithinLimits window }
+    ensures zone { IfOk result (λ zone. zone ≡ utc_over window) }
+    ensures built { IfOk result (IsBuiltFor window) }
+{
+    match ZoneRuns::build(alloc, &ZoneSource::Fixed { minutes: 0 }, window) {
+        Ok(zone) => Ok(zone),
+        Err(ZoneFault::OutOfMemory) => Err(OutOfMemory),
+    }
+}
 
 // A table doesn't change during a run.
 const VERSIONS: u32 = 1;
@@ -69,6 +83,32 @@ impl JobTable {
             zones,
             jobs,
         }
+    }
+
+    /// The table of a window, minutes of grace, and jobs that all run by UTC. Only memory can be wanting.
+    pub fn in_utc(
+        alloc: Global,
+        window: Window,
+        grace: u32,
+        jobs: Vec<JobSpec>,
+    ) -> Result<JobTable, OutOfMemory>
+        requires limits { IsWithinLimits window }
+        requires grace { grace ≤ 525_600 }
+        requires zone_numbers { AreZonesBelow 1 (map job_of jobs.items) }
+        requires few { length jobs.items ≤ 1000 }
+        requires distinct { AreNamesDistinct (map job_of jobs.items) }
+        requires plain { All (λ job. IsAnacron job.kind → ⊥) (map job_of jobs.items) }
+        ensures table { IfOk result (λ table. table ≡ record {
+          window = window;
+          grace = grace;
+          zones = utc_over window ∷ [];
+          jobs = map job_of jobs.items;
+        }) }
+        ensures sound { IfOk result IsSound }
+    {
+        let mut zones = Vec::new(alloc);
+        zones.push(build_utc(alloc, window)?)?;
+        Ok(JobTable::assemble(window, grace, zones, jobs))
     }
 
     /// How many jobs the table has.

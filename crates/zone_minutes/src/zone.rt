@@ -1,4 +1,4 @@
-ghost use Rattle.std.specs.Prelude.{◌≡◌, ℤ, codes, Some, pos, ◌+ℤ◌, ◌-ℤ◌, ◌≤ℤ◌, ◌<ℤ◌, IfOk, OnOk};
+ghost use Rattle.std.specs.Prelude.{◌≡◌, ◌↔◌, IsTrue, ℤ, codes, Some, pos, ◌+ℤ◌, ◌-ℤ◌, ◌≤ℤ◌, ◌<ℤ◌, IfOk, OnOk};
 ghost use Rattle.jiff.specs.Types.{TimeZone, UTC};
 ghost use Rattle.zone_minutes.specs.Civil.{IsCalendarMinute};
 ghost use Rattle.zone_minutes.specs.Window.{IsWithinLimits};
@@ -15,6 +15,20 @@ use std::marker::Model;
 pub enum ZoneSource {
     /// One offset at every instant: minutes east of UTC, from -720 to 840.
     Fixed { minutes: i16 },
+}
+
+// -12:00 and +14:00, in minutes.
+const WESTERNMOST: i16 = -720;
+const EASTERNMOST: i16 = 840;
+
+impl ZoneSource {
+    /// Whether a fixed offset is from -12:00 to +14:00.
+    pub fn is_in_range(&self) -> bool
+        ensures { IsTrue result ↔ IsOffsetInRange self.now }
+    {
+        let ZoneSource::Fixed { minutes } = *self;
+        WESTERNMOST <= minutes && minutes <= EASTERNMOST
+    }
 }
 
 /// Why a zone was not built.
