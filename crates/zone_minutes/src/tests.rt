@@ -1,6 +1,7 @@
 use crate::{
-    Minute, Window, ZoneRuns, ZoneSource, civil_of, day_of, read_stamp, weekday_of,
-    write_basic_stamp, write_stamp,
+    Minute, Window, ZoneRuns, ZoneSource, civil_of, day_of, fixed_offset_is_added, read_stamp,
+    stamps_differ, stamps_have_one_length, utc_is_its_own_local_time, weekday_of,
+    write_basic_stamp, write_stamp, zones_read_alike,
 };
 use std::test::Fail;
 
@@ -80,23 +81,100 @@ fn dates(rt: HostRuntime) {
     assert_eq!(rt; day_of(1_439), 0);
 }
 
+/// Windows, and whether they are from 1971 on, up to 2200, not empty and of at most 400 days.
+const WINDOWS: [(&str, &str, bool); 9] = [
+    ("1971-01-01T00:00Z", "1971-01-01T00:01Z", true),
+    ("1970-12-31T23:59Z", "1971-01-01T00:01Z", false),
+    ("2199-12-31T23:59Z", "2200-01-01T00:00Z", true),
+    ("2199-12-31T23:59Z", "2200-01-01T00:01Z", false),
+    ("2024-01-01T00:00Z", "2025-02-04T00:00Z", true),
+    ("2024-01-01T00:00Z", "2025-02-04T00:01Z", false),
+    ("2024-03-31T01:00Z", "2024-03-31T01:00Z", false),
+    ("2024-03-31T01:01Z", "2024-03-31T01:00Z", false),
+    ("0000-01-01T00:00Z", "9999-12-31T23:59Z", false),
+];
+
 #[test]
-fn fixed_offsets(rt: HostRuntime) -> Result<(), Fail> {
-    let at = Minute(28_530_750);
-    let window = Window {
-        from: at,
-        until: Minute(28_530_780),
-    };
-    let cases: [(i16, i64); 4] = [
-        (330, 28_531_080),
-        (-720, 28_530_030),
-        (840, 28_531_590),
-        (0, 28_530_750),
-    ];
-    for (minutes, local) in cases {
-        assert!(rt; minutes >= -720 && minutes <= 840);
-        let zone = ZoneRuns::build(rt.alloc(), &ZoneSource::Fixed { minutes }, window)?;
-        assert_eq!(rt; zone.local(at), local, "{minutes}");
+fn limits_of_a_window(rt: HostRuntime) -> Result<(), Fail> {
+    for (from, until, within) in WINDOWS {
+        let from = read_stamp(from).ok_or("no stamp")?;
+        let until = read_stamp(until).ok_or("no stamp")?;
+        let window = Window { from, until };
+        assert_eq!(rt; window.is_within_limits(), within, "{from:?} {until:?}");
     }
     Ok(())
+}
+
+#[test]
+fn a_window_has_its_begin_and_not_its_end(rt: HostRuntime) {
+    let window = Window {
+        from: Minute(28_530_750),
+        until: Minute(28_530_780),
+    };
+    assert!(rt; !window.contains(Minute(28_530_749)));
+    assert!(rt; window.contains(Minute(28_530_750)));
+    assert!(rt; window.contains(Minute(28_530_779)));
+    assert!(rt; !window.contains(Minute(28_530_780)));
+}
+
+/// A day of March 2024, an hour and a minute.
+type Shown = (u8, u8, u8);
+
+/// Minutes east of UTC, and what clocks show there at 21:30Z on March 30, and at 00:30Z and 00:59Z on March 31.
+const OFFSETS: [(i16, [Shown; 3]); 6] = [
+    (0, [(30, 21, 30), (31, 0, 30), (31, 0, 59)]),
+    (330, [(31, 3, 0), (31, 6, 0), (31, 6, 29)]),
+    // Newfoundland, Nepal
+    (-210, [(30, 18, 0), (30, 21, 0), (30, 21, 29)]),
+    (345, [(31, 3, 15), (31, 6, 15), (31, 6, 44)]),
+    // the westernmost and the easternmost
+    (-720, [(30, 9, 30), (30, 12, 30), (30, 12, 59)]),
+    (840, [(31, 11, 30), (31, 14, 30), (31, 14, 59)]),
+];
+
+#[test]
+fn fixed_offsets(rt: HostRuntime) -> Result<(), Fail> {
+    let window = Window {
+        from: Minute(28_530_750),
+        until: Minute(28_530_780),
+    };
+    for (minutes, shown) in OFFSETS {
+        let source = ZoneSource::Fixed { minutes };
+        if !source.is_in_range() {
+            return Err(Fail::from("no offset"));
+        }
+        let zone = ZoneRuns::build(rt.alloc(), &source, window)?;
+        // The first is 180 minutes before the window, and the last is its last minute.
+        let instants = [28_530_570, 28_530_750, 28_530_779];
+        for (at, (day, hour, minute)) in instants.into_iter().zip(shown) {
+            let civil = civil_of(zone.local(Minute(at)));
+            assert_eq!(rt; (civil.year, civil.month), (2024, 3), "{minutes} {at}");
+            assert_eq!(rt;
+                (civil.day, civil.hour, civil.minute),
+                (day, hour, minute),
+                "{minutes} {at}"
+            );
+        }
+    }
+    Ok(())
+}
+
+#[test]
+fn offsets_beyond_the_range(rt: HostRuntime) {
+    for (minutes, in_range) in [(-721, false), (-720, true), (840, true), (841, false)] {
+        assert_eq!(rt;
+            ZoneSource::Fixed { minutes }.is_in_range(),
+            in_range,
+            "{minutes}"
+        );
+    }
+}
+
+#[test]
+fn laws(_rt: HostRuntime) {
+    stamps_differ();
+    stamps_have_one_length();
+    zones_read_alike();
+    fixed_offset_is_added();
+    utc_is_its_own_local_time();
 }

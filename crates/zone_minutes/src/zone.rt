@@ -19,6 +19,7 @@ pub enum ZoneSource {
 
 // -12:00 and +14:00, in minutes.
 const WESTERNMOST: i16 = -720;
+
 const EASTERNMOST: i16 = 840;
 
 impl ZoneSource {
