@@ -1,24 +1,27 @@
 ghost use Rattle.std.specs.Prelude.{◌≡◌, ◌<◌, length, IfOk, IfSome};
 ghost use Rattle.zone_minutes.specs.Window.{IsInWindow, IsWithinLimits};
-ghost use Rattle.zone_minutes.specs.Zone.{IsOffsetInRange};
-ghost use Rattle.zone_minutes.specs.declared.zone.ZoneSource.TheVariants.{Fixed};
 ghost use Rattle.due_set.specs.Table.{IsAnacron};
 
-use crate::{JobKind, JobName, JobSpec, JobTable, Kind2};
+use crate::call::{has_come, is_on_time};
+use crate::{
+    JobKind, JobSpec, JobTable, Kind2, Period, a_job_has_one_due_list, a_job_has_one_next_instant,
+    a_name_says_one_job, each_job_has_a_zone, launches_come_at_their_instants,
+};
 use cron_fields::{FieldKind, Fields, read_plain_field};
 use std::alloc::Global;
 use std::test::Fail;
 use zone_minutes::{Minute, Window, ZoneRuns, ZoneSource, read_stamp};
 
-// The window of two stamps, if it is from 1971 on, up to 2200, and of at most 400 days.
+// The window of two stamps, if it is within the limits.
 fn window_of(from: &str, until: &str) -> Option<Window>
     ensures { IfSome result IsWithinLimits }
 {
-    let from = read_stamp(from)?;
-    let until = read_stamp(until)?;
-    let within_years = 525_600 <= from.0 && until.0 <= 120_968_640;
-    if within_years && from.0 < until.0 && until.0 - from.0 <= 576_000 {
-        Some(Window { from, until })
+    let window = Window {
+        from: read_stamp(from)?,
+        until: read_stamp(until)?,
+    };
+    if window.is_within_limits() {
+        Some(window)
     } else {
         None
     }
@@ -35,22 +38,20 @@ fn fields_of(entry: [&str; 5]) -> Option<Fields> {
     })
 }
 
-// A table of one job, at a grace of five minutes. An anacron job is none.
-fn table_of(alloc: Global, window: Window, offset: i16, kind: JobKind) -> Result<JobTable, Fail>
+// A table of one job, at a grace of five minutes, with clocks so many minutes ahead of UTC. An anacron job is none.
+fn table_of(alloc: Global, window: Window, minutes: i16, kind: JobKind) -> Result<JobTable, Fail>
     requires limits { IsWithinLimits window }
-    requires offset { IsOffsetInRange (Fixed offset) }
     requires plain { IsAnacron kind → ⊥ }
     ensures { IfOk result (λ table. (table.window ≡ window) × (length table.jobs ≡ 1)) }
 {
+    let source = ZoneSource::Fixed { minutes };
+    if !source.is_in_range() {
+        return Err(Fail::from("no offset"));
+    }
     let mut zones = Vec::new(alloc);
-    zones.push(ZoneRuns::build(alloc, &ZoneSource::Fixed { minutes: offset }, window)?)?;
+    zones.push(ZoneRuns::build(alloc, &source, window)?)?;
     let mut jobs = Vec::new(alloc);
-    let name = JobName::new(alloc, "alice:1")?;
-    jobs.push(JobSpec {
-        name,
-        zone: 0,
-        kind,
-    })?;
+    jobs.push(JobSpec::new(alloc, "alice:1", 0, kind)?)?;
     Ok(JobTable::assemble(window, 5, zones, jobs))
 }
 
@@ -73,9 +74,9 @@ fn is_due_in_turn(table: &JobTable, stamps: &[&str]) -> bool
 fn instant_in(table: &JobTable, number: i64) -> Option<Minute>
     ensures { IfSome result (λ t. IsInWindow table.now.window t.0) }
 {
-    let window = table.window();
-    if window.from.0 <= number && number < window.until.0 {
-        Some(Minute(number))
+    let instant = Minute(number);
+    if table.window().contains(instant) {
+        Some(instant)
     } else {
         None
     }
@@ -101,7 +102,7 @@ fn finds_each_due_minute(table: &JobTable) -> bool
 }
 
 // Windows, minutes east of UTC, entries, and the job's due instants, by the calendar: October 13, 2024 was a Sunday.
-const DUE: [(&str, &str, i16, [&str; 5], &[&str]); 5] = [
+const DUE: [(&str, &str, i16, [&str; 5], &[&str]); 9] = [
     (
         "2024-03-31T00:00Z",
         "2024-03-31T01:00Z",
@@ -148,14 +149,43 @@ const DUE: [(&str, &str, i16, [&str; 5], &[&str]); 5] = [
         ["0", "6", "*", "*", "*"],
         &["2024-03-31T00:30Z"],
     ),
+    // 22:00 on March 30 at -03:30
+    (
+        "2024-03-31T00:00Z",
+        "2024-03-31T04:00Z",
+        -210,
+        ["0", "22", "30", "3", "*"],
+        &["2024-03-31T01:30Z"],
+    ),
+    // the first minute of April at +05:45
+    (
+        "2024-03-31T17:00Z",
+        "2024-03-31T19:00Z",
+        345,
+        ["0", "0", "1", "4", "*"],
+        &["2024-03-31T18:15Z"],
+    ),
+    // the last minute of a Saturday at -12:00
+    (
+        "2024-03-31T00:00Z",
+        "2024-03-31T12:30Z",
+        -720,
+        ["59", "23", "*", "*", "6"],
+        &["2024-03-31T11:59Z"],
+    ),
+    // half past each hour of a Monday at +14:00
+    (
+        "2024-03-31T09:00Z",
+        "2024-03-31T12:00Z",
+        840,
+        ["30", "*", "*", "*", "1"],
+        &["2024-03-31T10:30Z", "2024-03-31T11:30Z"],
+    ),
 ];
 
 #[test]
 fn finds_the_due_instants_in_turn(rt: HostRuntime) -> Result<(), Fail> {
     for (from, until, offset, entry, stamps) in DUE {
-        if !(-720..=840).contains(&offset) {
-            return Err(Fail::from("no offset"));
-        }
         let window = window_of(from, until).ok_or("no window")?;
         let fields = fields_of(entry).ok_or("no fields")?;
         let table = table_of(rt.alloc(), window, offset, JobKind::Crontab { fields })?;
@@ -203,6 +233,75 @@ fn tells_what_a_table_has(rt: HostRuntime) -> Result<(), Fail> {
 }
 
 #[test]
+fn counts_each_due_instant(rt: HostRuntime) -> Result<(), Fail> {
+    let window = window_of("2024-02-28T12:00Z", "2024-03-02T12:00Z").ok_or("no window")?;
+    for (entry, count) in [
+        (["*", "*", "*", "*", "*"], 4_320),
+        (["0", "*", "29", "2", "*"], 24),
+        (["59", "23", "*", "*", "*"], 3),
+        (["0", "12", "*", "*", "*"], 3),
+        (["0", "0", "30", "2", "*"], 0),
+    ] {
+        let fields = fields_of(entry).ok_or("no fields")?;
+        let table = table_of(rt.alloc(), window, 0, JobKind::Crontab { fields })?;
+        assert_eq!(rt; table.count_due(0), count);
+    }
+    Ok(())
+}
+
+#[test]
+fn tells_two_jobs_apart(rt: HostRuntime) -> Result<(), Fail> {
+    let window = window_of("2024-03-31T00:00Z", "2024-03-31T01:00Z").ok_or("no window")?;
+    let fields = fields_of(["30", "0", "*", "*", "*"]).ok_or("no fields")?;
+    let alloc = rt.alloc();
+    let mut jobs = Vec::new(alloc);
+    jobs.push(JobSpec::new(alloc, "alice:1", 0, JobKind::Never)?)?;
+    jobs.push(JobSpec::new(alloc, "bob:2", 0, JobKind::Crontab { fields })?)?;
+    let table = JobTable::in_utc(alloc, window, 0, jobs)?;
+    assert_eq!(rt; table.jobs(), 2);
+    assert_eq!(rt; (table.name(0), table.name(1)), ("alice:1", "bob:2"));
+    assert_eq!(rt; *table.kind(1), JobKind::Crontab { fields });
+    assert_eq!(rt; table.next_due(0, None), None);
+    assert_eq!(rt; table.next_due(1, None), read_stamp("2024-03-31T00:30Z"));
+    Ok(())
+}
+
+#[test]
+fn calls_an_anacron_job_on_its_local_date(rt: HostRuntime) -> Result<(), Fail> {
+    // From 2024-03-31T18:00Z on, for an hour.
+    let window = Window {
+        from: Minute(28_531_800),
+        until: Minute(28_531_860),
+    };
+    let zone = ZoneRuns::build(rt.alloc(), &ZoneSource::Fixed { minutes: 345 }, window)?;
+    let kind = JobKind::Anacron {
+        period: Period::Days(1),
+        first_minute: 0,
+        last_minute: 1440,
+    };
+    // April 1, 2024, which begins at 18:15Z at +05:45.
+    let at = 19_814;
+    let before = Minute(28_531_814);
+    let since = Minute(28_531_815);
+    assert!(rt; !has_come(&kind, &zone, at, before));
+    assert!(rt; has_come(&kind, &zone, at, since));
+    assert!(rt; has_come(&kind, &zone, at - 1, since));
+    assert!(rt; is_on_time(&kind, &zone, 0, at - 1, before));
+    assert!(rt; is_on_time(&kind, &zone, 0, at, since));
+    assert!(rt; !is_on_time(&kind, &zone, 0, at - 1, since));
+    Ok(())
+}
+
+#[test]
+fn laws(_rt: HostRuntime) {
+    a_job_has_one_next_instant();
+    a_job_has_one_due_list();
+    a_name_says_one_job();
+    each_job_has_a_zone();
+    launches_come_at_their_instants();
+}
+
+#[test]
 fn calls_a_launch_from_its_instant_on(rt: HostRuntime) -> Result<(), Fail> {
     let window = window_of("2024-03-31T00:00Z", "2024-03-31T01:00Z").ok_or("no window")?;
     let fields = fields_of(["*", "*", "*", "*", "*"]).ok_or("no fields")?;
@@ -225,9 +324,6 @@ fn calls_a_launch_from_its_instant_on(rt: HostRuntime) -> Result<(), Fail> {
 #[test]
 fn finds_what_the_definition_says_minute_by_minute(rt: HostRuntime) -> Result<(), Fail> {
     for (from, until, offset, entry, _) in DUE {
-        if !(-720..=840).contains(&offset) {
-            return Err(Fail::from("no offset"));
-        }
         let window = window_of(from, until).ok_or("no window")?;
         let fields = fields_of(entry).ok_or("no fields")?;
         let table = table_of(rt.alloc(), window, offset, JobKind::Crontab { fields })?;
