@@ -1,7 +1,10 @@
-pub mod DueLemmas
-pub mod Rising
-pub mod TableLemmas
-pub mod DayLemmas
-pub mod HourLemmas
 pub mod CountLemmas
+pub mod DayLemmas
+pub mod DecideLemmas
+pub mod DueLemmas
+pub mod ExistLemmas
+pub mod FrontLemmas
+pub mod HourLemmas
+pub mod Rising
 pub mod SoundLemmas
+pub mod TableLemmas

@@ -49,7 +49,7 @@ same_first x y xs ys (above_x, _) (above_y, _) in_ys in_xs =
     not_both a b = omega (arith, ints)
 
 -- a member of one tail is a member of the other
-same_tail : (x y : ℤ) (xs ys : List ℤ) → x ≡ y → IsRising (x ∷ xs) → ((t : ℤ) → Contains (x ∷ xs) t → Contains (y ∷ ys) t) → (t : ℤ) → Contains xs t → Contains ys t
+pub same_tail : (x y : ℤ) (xs ys : List ℤ) → x ≡ y → IsRising (x ∷ xs) → ((t : ℤ) → Contains (x ∷ xs) t → Contains (y ∷ ys) t) → (t : ℤ) → Contains xs t → Contains ys t
 same_tail x y xs ys e (above_x, _) all t h =
     elim (Contains-cases y ys t (all t (Contains-tail x xs t h))) [
       | inl first ↦ absurd (not_itself (later_than_first x xs t above_x h) (e ∙ first))
