@@ -1,15 +1,16 @@
 -- The starts and the ends of a job along a list of entries.
 use Rattle.std.proofs.Common.{◌≡◌, ◌≢◌, ℕ, zero, suc, ◌+◌, inl, inr, List, [], ◌∷◌, ◌++◌, length, get_or, Option, None, Some, ℤ, ◌≤ℤ◌, ◌<ℤ◌, refl, sym, ap, ◌∙◌, subst, arith}
 use Rattle.std.specs.Prelude.{Contains, map, slice_get}
-use Rattle.std.specs.List.{range_with_len}
-use Rattle.std.proofs.lemmas.Int.{ints}
+use Rattle.std.specs.List.{AllByRecursion, range_with_len}
+use Rattle.std.proofs.lemmas.Int.{ints, by_lt_z}
 use Rattle.std.proofs.lemmas.Option.{get_or_from_slice_get}
 use Rattle.paxos_base.specs.declared.entry.Entry.{Entry}
 use Rattle.paxos_base.specs.declared.entry.Entry.TheVariants.{Noop, Start, End}
 use Rattle.paxos_base.specs.declared.entry.Kind.{Kind}
 use Rattle.paxos_base.specs.declared.rows.JobRow.{JobRow}
 use Rattle.due_set.specs.Due.{IsRising}
-use Rattle.due_set.specs.Table.{Table, IsAfter, IsJobDue, IsJobDueList, IsNextDue}
+use Rattle.due_set.specs.Table.{Table, IsAfter, IsDueFront, IsJobDue, IsJobDueList, IsNextDue}
+use Rattle.due_set.proofs.FrontLemmas.{front_prefix}
 use Rattle.due_set.proofs.Rising.{Contains-head, Contains-tail, Contains-cases, Contains-none, later_than_first}
 use Rattle.launch_machine.specs.Clerk.{Applies, TakesStart, TakesEnd, fresh_row, fresh_rows, opened_row, closed_row, with_row}
 use Rattle.launch_machine.specs.Starts.{StartsFrom, StartsOf, StartsJob}
@@ -20,49 +21,53 @@ abbrev pub IsChain : Table → ℕ → Option ℤ → List ℤ → Type 0
 IsChain table job cursor [] = Unit {0}
 IsChain table job cursor (at ∷ later) = IsNextDue table job cursor at × IsChain table job (Some at) later
 
--- the due instants after an instant, in order
-pub record IsRest (table : Table) (job : ℕ) (cursor : Option ℤ) (dues : List ℤ) : Type 0 where
-  pub rising : IsRising dues
-  pub sound : (t : ℤ) → Contains dues t → IsJobDue table job t × IsAfter cursor t
-  pub complete : (t : ℤ) → IsJobDue table job t → IsAfter cursor t → Contains dues t
+-- the first due instants after an instant, in order
+record IsRestFront (table : Table) (job : ℕ) (cursor : Option ℤ) (instants : List ℤ) : Type 0 where
+  pub rising : IsRising instants
+  pub sound : (t : ℤ) → Contains instants t → IsJobDue table job t × IsAfter cursor t
+  pub complete : (t last : ℤ) → Contains instants last → IsJobDue table job t → IsAfter cursor t → t ≤ℤ last → Contains instants t
 
 after_later : (cursor : Option ℤ) (at t : ℤ) → IsAfter cursor at → at <ℤ t → IsAfter cursor t
 after_later None at t after lt = tt
 after_later (Some before) at t after lt = omega (arith, ints)
 
--- the next due instant is the first of the rest
-next_first : (table : Table) (job : ℕ) (cursor : Option ℤ) (at d : ℤ) (ds : List ℤ) → IsRest table job cursor (d ∷ ds) → IsNextDue table job cursor at → d ≡ at
-next_first table job cursor at d ds rest next =
-    let head = rest.sound d (Contains-head d ds) in
-    let le : at ≤ℤ d = next.least d head.0 head.1 in
-    elim (Contains-cases d ds at (rest.complete at next.due next.later)) [
-      | inl e ↦ e
-      | inr behind ↦ let lt : d <ℤ at = later_than_first d ds at rest.rising.0 behind in absurd (omega (arith, ints))
-    ]
+before_each : (at : ℤ) (instants : List ℤ) → ((t : ℤ) → Contains instants t → at <ℤ t) → AllByRecursion (λ later. at <ℤ later) instants
+before_each at [] known = tt
+before_each at (first ∷ instants) known =
+    (known first (Contains-head first instants), before_each at instants (λ t h. known t (Contains-tail first instants t h)))
 
-rest_after : (table : Table) (job : ℕ) (cursor : Option ℤ) (at d : ℤ) (ds : List ℤ) → IsRest table job cursor (d ∷ ds) → IsNextDue table job cursor at → d ≡ at → IsRest table job (Some at) ds
-rest_after table job cursor at d ds rest next d_is = record {
-  rising = rest.rising.1;
-  sound = λ t h. ((rest.sound t (Contains-tail d ds t h)).0, subst (λ (x : ℤ). x <ℤ t) d_is (later_than_first d ds t rest.rising.0 h));
-  complete = λ t due lt. elim (Contains-cases d ds t (rest.complete t due (after_later cursor at t next.later lt))) [
-    | inl e ↦ absurd (not_itself t lt (sym d_is ∙ e))
-    | inr h ↦ h
+-- the next due instant goes before the first due ones after it
+front_next : (table : Table) (job : ℕ) (cursor : Option ℤ) (at : ℤ) (later : List ℤ) → IsNextDue table job cursor at → IsRestFront table job (Some at) later
+    → IsRestFront table job cursor (at ∷ later)
+front_next table job cursor at later next rest = record {
+  rising = (before_each at later (λ t h. (rest.sound t h).1), rest.rising);
+  sound = λ t h. elim (Contains-cases at later t h) [
+    | inl e ↦ subst (λ (u : ℤ). IsJobDue table job u × IsAfter cursor u) e (next.due, next.later)
+    | inr behind ↦ let known = rest.sound t behind in (known.0, after_later cursor at t next.later known.1)
   ];
+  complete = λ t last h due after le. by_lt_z at t
+      (λ lt. elim (Contains-cases at later last h) [
+        | inl e ↦ absurd (too_late t last lt e le)
+        | inr behind ↦ Contains-tail at later t (rest.complete t last behind due lt le)
+      ])
+      (λ ge. subst (Contains (at ∷ later)) (same t ge (next.least t due after)) (Contains-head at later));
 }
   where
-    not_itself : (t : ℤ) → at <ℤ t → at ≡ t → ⊥
-    not_itself t lt same = omega (arith, ints)
+    too_late : (t last : ℤ) → at <ℤ t → at ≡ last → t ≤ℤ last → ⊥
+    too_late t last lt e le = omega (arith, ints)
 
--- a chain is a prefix of the due instants
-pub chain_prefix : (table : Table) (job : ℕ) (cursor : Option ℤ) (instants dues : List ℤ) → IsRest table job cursor dues → IsChain table job cursor instants
-    → (rest : List ℤ) × (dues ≡ instants ++ rest)
-chain_prefix table job cursor [] dues rest chain = (dues, refl)
-chain_prefix table job cursor (at ∷ later) [] rest (next, chain) = absurd (Contains-none at (rest.complete at next.due next.later))
-chain_prefix table job cursor (at ∷ later) (d ∷ ds) rest (next, chain) =
-    let first : d ≡ at = next_first table job cursor at d ds rest next in
-    let more = chain_prefix table job (Some at) later ds (rest_after table job cursor at d ds rest next first) chain in
-    let tails : ds ≡ later ++ more.0 = more.1 in
-    (more.0, cc)
+    same : (t : ℤ) → t ≤ℤ at → at ≤ℤ t → at ≡ t
+    same t le ge = omega (arith, ints)
+
+-- a chain is the first of the due instants
+chain_front : (table : Table) (job : ℕ) (cursor : Option ℤ) (instants : List ℤ) → IsChain table job cursor instants → IsRestFront table job cursor instants
+chain_front table job cursor [] chain = record {
+  rising = tt;
+  sound = λ t h. absurd (Contains-none t h);
+  complete = λ t last h due after le. absurd (Contains-none last h);
+}
+chain_front table job cursor (at ∷ later) (next, chain) =
+    front_next table job cursor at later next (chain_front table job (Some at) later chain)
 
 -- what is said of the job's row, where there is one
 abbrev pub HasAt : {X : Type 0} → (JobRow → X) → List JobRow → ℕ → X → Type 0
@@ -142,12 +147,19 @@ fresh_cursor a (suc n) zero row e = let row_is : fresh_row a ≡ row = cc in ap 
 fresh_cursor a (suc n) (suc k) row e = fresh_cursor (a + 1) n k row e
 
 -- the starts of a job are the first of its due instants
+pub starts_front : (table : Table) (entries : List Entry) (job : ℕ) (instants : List ℤ) → StartsOf table entries job instants → IsDueFront table job instants
+starts_front table entries job instants starts =
+    let front = chain_front table job None instants (starts_chain table (fresh_rows table) entries job None instants (fresh_cursor 0 (length table.jobs) job) starts) in
+    record {
+      rising = front.rising;
+      sound = λ t h. (front.sound t h).0;
+      complete = λ t last h due le. front.complete t last h due tt le;
+    }
+
+-- and so a beginning of the list of all of them
 pub starts_prefix : (table : Table) (entries : List Entry) (job : ℕ) (instants dues : List ℤ) → StartsOf table entries job instants → IsJobDueList table job dues
     → (rest : List ℤ) × (dues ≡ instants ++ rest)
-starts_prefix table entries job instants dues starts list =
-    chain_prefix table job None instants dues
-    (record { rising = list.rising; sound = λ t h. (list.sound t h, tt); complete = λ t due after. list.complete t due })
-    (starts_chain table (fresh_rows table) entries job None instants (fresh_cursor 0 (length table.jobs) job) starts)
+starts_prefix table entries job instants dues starts list = front_prefix table job instants dues (starts_front table entries job instants starts) list
 
 pub cursor_rises : (table : Table) (rows : List JobRow) (job : ℕ) (at now : ℤ) (old new : JobRow) → TakesStart table rows job at now
     → slice_get rows job ≡ Some old → slice_get (with_row (opened_row at now) rows job) job ≡ Some new → (new.cursor ≡ Some at) × IsAfter old.cursor at

@@ -2,7 +2,7 @@
 ghost use Rattle.std.specs.Prelude.{◌≡◌, ◌↔◌, ◌+◌, ℕ, ℤ, List, [], ◌∷◌, ◌++◌, Some, slice_get};
 ghost use Rattle.paxos_base.specs.declared.entry.Entry.{Entry};
 ghost use Rattle.paxos_base.specs.declared.rows.JobRow.{JobRow};
-ghost use Rattle.due_set.specs.Table.{Table, IsAfter, IsJobDueList};
+ghost use Rattle.due_set.specs.Table.{Table, IsAfter, IsDueFront, IsJobDueList};
 ghost use Rattle.launch_machine.specs.Clerk.{Applies, IsClerkOf, TakesStart, rows_after};
 ghost use Rattle.launch_machine.specs.Starts.{StartsOf, EndsOf};
 
@@ -38,7 +38,9 @@ pub fn ends_are_counted()
 
 /// The instants of a job's starts that take effect are the first of its due instants, none left out.
 pub fn starts_are_a_prefix()
-    ensures { (table : Table) (entries : List Entry) (job : ℕ) (instants dues : List ℤ)
+    ensures front { (table : Table) (entries : List Entry) (job : ℕ) (instants : List ℤ)
+        → StartsOf table entries job instants → IsDueFront table job instants }
+    ensures prefix { (table : Table) (entries : List Entry) (job : ℕ) (instants dues : List ℤ)
         → StartsOf table entries job instants → IsJobDueList table job dues
         → (rest : List ℤ) × (dues ≡ instants ++ rest) }
 {}
