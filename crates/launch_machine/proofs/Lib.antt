@@ -3,3 +3,4 @@ pub mod EndLemmas
 pub mod MachineLemmas
 pub mod NextLemmas
 pub mod StartLemmas
+pub mod ExistLemmas

@@ -173,7 +173,7 @@ nexts_end table rows nexts job old new known is_old same = record {
         subst (λ (o : Option ℤ). IsNext table k o n) cursors (known.each k old n at_old at_next)
 
 -- a job's place says its row
-same_row : (rows : List JobRow) (job : ℕ) (a b : JobRow) → slice_get rows job ≡ Some a → slice_get rows job ≡ Some b → a ≡ b
+pub same_row : (rows : List JobRow) (job : ℕ) (a b : JobRow) → slice_get rows job ≡ Some a → slice_get rows job ≡ Some b → a ≡ b
 same_row rows job a b p q = cc
 
 -- a launch whose instant hasn't come may not be called

@@ -1,5 +1,5 @@
 -- The starts and the ends of a job along a list of entries.
-use Rattle.std.proofs.Common.{◌≡◌, ◌≢◌, ℕ, zero, suc, ◌+◌, inl, inr, List, [], ◌∷◌, ◌++◌, length, get_or, Option, None, Some, ℤ, ◌≤ℤ◌, ◌<ℤ◌, refl, sym, ap, ◌∙◌, subst, arith}
+use Rattle.std.proofs.Common.{◌≡◌, ◌≢◌, ℕ, zero, suc, ◌+◌, inl, inr, List, [], ◌∷◌, ◌++◌, length, get_or, Option, None, Some, ℤ, ◌≤ℤ◌, ◌<ℤ◌, sym, ap, ◌∙◌, subst, arith}
 use Rattle.std.specs.Prelude.{Contains, map, slice_get}
 use Rattle.std.specs.List.{AllByRecursion, range_with_len}
 use Rattle.std.proofs.lemmas.Int.{ints, by_lt_z}
@@ -11,7 +11,7 @@ use Rattle.paxos_base.specs.declared.rows.JobRow.{JobRow}
 use Rattle.due_set.specs.Due.{IsRising}
 use Rattle.due_set.specs.Table.{Table, IsAfter, IsDueFront, IsJobDue, IsJobDueList, IsNextDue}
 use Rattle.due_set.proofs.FrontLemmas.{front_prefix}
-use Rattle.due_set.proofs.Rising.{Contains-head, Contains-tail, Contains-cases, Contains-none, later_than_first}
+use Rattle.due_set.proofs.Rising.{Contains-head, Contains-tail, Contains-cases, Contains-none}
 use Rattle.launch_machine.specs.Clerk.{Applies, TakesStart, TakesEnd, fresh_row, fresh_rows, opened_row, closed_row, with_row}
 use Rattle.launch_machine.specs.Starts.{StartsFrom, StartsOf, StartsJob}
 use Rattle.launch_machine.proofs.MachineLemmas.{same_or_not, set_here, set_there, closed_cursor}

@@ -13,10 +13,9 @@ pub record StartsJob (table : Table) (rows : List JobRow) (entry : Entry) (job :
   pub is : entry ≡ Start job at now
   pub takes : TakesStart table rows job at now
 
--- the entry is an end of the job that takes effect
-pub record EndsJob (rows : List JobRow) (entry : Entry) (job : ℕ) : Type 0 where
+-- the entry is an end of the job that takes effect, and says this kind
+pub record EndsJob (rows : List JobRow) (entry : Entry) (job : ℕ) (kind : Kind) : Type 0 where
   pub at : ℤ
-  pub kind : Kind
   pub is : entry ≡ End job at kind
   pub takes : TakesEnd rows job at
 
@@ -37,17 +36,18 @@ StartsFrom table rows (entry ∷ entries) job instants =
 abbrev pub StartsOf : Table → List Entry → ℕ → List ℤ → Type 0
 StartsOf table entries job instants = StartsFrom table (fresh_rows table) entries job instants
 
--- an end of the job that takes effect is one more
-abbrev pub AddsEnd : List JobRow → Entry → ℕ → ℕ → ℕ → Type 0
-AddsEnd rows entry job later count = (EndsJob rows entry job × (count ≡ later + 1)) ⊎ ((EndsJob rows entry job → ⊥) × (count ≡ later))
+-- an end of the job with the kind that takes effect is one more
+abbrev pub AddsEnd : List JobRow → Entry → ℕ → Kind → ℕ → ℕ → Type 0
+AddsEnd rows entry job kind later count =
+    (EndsJob rows entry job kind × (count ≡ later + 1)) ⊎ ((EndsJob rows entry job kind → ⊥) × (count ≡ later))
 
--- how many of the job's ends take effect, of entries that are applied to the rows
-abbrev pub EndsFrom : Table → List JobRow → List Entry → ℕ → ℕ → Type 0
-EndsFrom table rows [] job count = count ≡ 0
-EndsFrom table rows (entry ∷ entries) job count =
-    (middle : List JobRow) × (later : ℕ) × Applies table rows entry middle × AddsEnd rows entry job later count
-    × EndsFrom table middle entries job later
+-- how many of the job's ends with the kind take effect, of entries that are applied to the rows
+abbrev pub EndsFrom : Table → List JobRow → List Entry → ℕ → Kind → ℕ → Type 0
+EndsFrom table rows [] job kind count = count ≡ 0
+EndsFrom table rows (entry ∷ entries) job kind count =
+    (middle : List JobRow) × (later : ℕ) × Applies table rows entry middle × AddsEnd rows entry job kind later count
+    × EndsFrom table middle entries job kind later
 
--- how many of the job's ends take effect
-abbrev pub EndsOf : Table → List Entry → ℕ → ℕ → Type 0
-EndsOf table entries job count = EndsFrom table (fresh_rows table) entries job count
+-- how many of the job's ends with the kind take effect
+abbrev pub EndsOf : Table → List Entry → ℕ → Kind → ℕ → Type 0
+EndsOf table entries job kind count = EndsFrom table (fresh_rows table) entries job kind count

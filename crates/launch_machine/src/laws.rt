@@ -1,8 +1,9 @@
 //! Laws of the launch table. Each is the contract of a function that does nothing.
 ghost use Rattle.std.specs.Prelude.{◌≡◌, ◌↔◌, ◌+◌, ℕ, ℤ, List, [], ◌∷◌, ◌++◌, Some, slice_get};
 ghost use Rattle.paxos_base.specs.declared.entry.Entry.{Entry};
+ghost use Rattle.paxos_base.specs.declared.entry.Kind.{Kind};
 ghost use Rattle.paxos_base.specs.declared.rows.JobRow.{JobRow};
-ghost use Rattle.due_set.specs.Table.{Table, IsAfter, IsDueFront, IsJobDueList};
+ghost use Rattle.due_set.specs.Table.{Table, IsAfter, IsDueFront, IsJobDueList, IsSound};
 ghost use Rattle.launch_machine.specs.Clerk.{Applies, IsClerkOf, TakesStart, rows_after};
 ghost use Rattle.launch_machine.specs.Starts.{StartsOf, EndsOf};
 
@@ -15,6 +16,8 @@ pub fn one_entry_is_one_step()
 
 /// Entries leave one launch table.
 pub fn entries_leave_one_table()
+    ensures some { (table : Table) → IsSound table → (entries : List Entry)
+        → (rows : List JobRow) × IsClerkOf table entries rows }
     ensures one { (table : Table) (old : List JobRow) (entry : Entry) (a b : List JobRow)
         → Applies table old entry a → Applies table old entry b → a ≡ b }
     ensures all { (table : Table) (entries : List Entry) (a b : List JobRow)
@@ -29,11 +32,30 @@ pub fn cursors_rise()
         → (new.cursor ≡ Some at) × IsAfter old.cursor at }
 {}
 
-/// Each end that takes effect is counted, and nothing else is.
+/// Each end that takes effect is counted, a launch as a launch and a void as a void, and nothing else is.
 pub fn ends_are_counted()
-    ensures { (table : Table) (entries : List Entry) (rows : List JobRow) (job count : ℕ) (row : JobRow)
-        → IsClerkOf table entries rows → EndsOf table entries job count → slice_get rows job ≡ Some row
-        → row.launched + row.voided ≡ count }
+    ensures launched { (table : Table) (entries : List Entry) (rows : List JobRow) (job count : ℕ) (row : JobRow)
+        → IsClerkOf table entries rows → EndsOf table entries job Kind.Launch count
+        → slice_get rows job ≡ Some row → row.launched ≡ count }
+    ensures voided { (table : Table) (entries : List Entry) (rows : List JobRow) (job count : ℕ) (row : JobRow)
+        → IsClerkOf table entries rows → EndsOf table entries job Kind.Void count
+        → slice_get rows job ≡ Some row → row.voided ≡ count }
+{}
+
+/// A job has one list of starts that take effect.
+pub fn a_job_has_one_list_of_starts()
+    ensures some { (table : Table) → IsSound table → (entries : List Entry) (job : ℕ)
+        → (instants : List ℤ) × StartsOf table entries job instants }
+    ensures one { (table : Table) (entries : List Entry) (job : ℕ) (a b : List ℤ)
+        → StartsOf table entries job a → StartsOf table entries job b → a ≡ b }
+{}
+
+/// A job has one count of ends of a kind that take effect.
+pub fn a_job_has_one_count_of_ends()
+    ensures some { (table : Table) → IsSound table → (entries : List Entry) (job : ℕ) (kind : Kind)
+        → (count : ℕ) × EndsOf table entries job kind count }
+    ensures one { (table : Table) (entries : List Entry) (job : ℕ) (kind : Kind) (a b : ℕ)
+        → EndsOf table entries job kind a → EndsOf table entries job kind b → a ≡ b }
 {}
 
 /// The instants of a job's starts that take effect are the first of its due instants, none left out.

@@ -10,7 +10,7 @@ mod row;
 mod tests;
 
 pub use laws::{
-    cursors_rise, ends_are_counted, entries_leave_one_table, one_entry_is_one_step,
-    starts_are_a_prefix,
+    a_job_has_one_count_of_ends, a_job_has_one_list_of_starts, cursors_rise, ends_are_counted,
+    entries_leave_one_table, one_entry_is_one_step, starts_are_a_prefix,
 };
 pub use machine::{Effect, Intent, Machine};

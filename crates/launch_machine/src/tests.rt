@@ -4,8 +4,9 @@ ghost use Rattle.due_set.specs.Table.{IsAnacron};
 ghost use Rattle.launch_machine.specs.Machine.{CanCount, StandsFor};
 
 use crate::{
-    Effect, Intent, Machine, cursors_rise, ends_are_counted, entries_leave_one_table,
-    one_entry_is_one_step, starts_are_a_prefix,
+    Effect, Intent, Machine, a_job_has_one_count_of_ends, a_job_has_one_list_of_starts,
+    cursors_rise, ends_are_counted, entries_leave_one_table, one_entry_is_one_step,
+    starts_are_a_prefix,
 };
 use cron_fields::{FieldKind, Fields, read_plain_field};
 use due_set::{JobKind, JobName, JobSpec, JobTable};
@@ -339,5 +340,7 @@ fn laws_hold(_rt: HostRuntime) {
     entries_leave_one_table();
     cursors_rise();
     ends_are_counted();
+    a_job_has_one_list_of_starts();
+    a_job_has_one_count_of_ends();
     starts_are_a_prefix();
 }

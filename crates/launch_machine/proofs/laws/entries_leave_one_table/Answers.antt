@@ -1,6 +1,10 @@
 use Rattle.launch_machine.specs.Clerk.{fresh_rows}
 use Rattle.launch_machine.proofs.ClerkLemmas.{Applies-same, AppliesAll-same}
+use Rattle.launch_machine.proofs.ExistLemmas.{clerk_exists}
 use Rattle.launch_machine.proofs.laws.entries_leave_one_table.Goals as goal
+
+pub returns-clause-some : goal.returns-clause-some
+returns-clause-some c = clerk_exists
 
 pub returns-clause-one : goal.returns-clause-one
 returns-clause-one c = Applies-same
