@@ -4,7 +4,6 @@ pub mod DueCountLemmas
 pub mod EntryLemmas
 pub mod JobLemmas
 pub mod JobTableLemmas
-pub mod LimitLemmas
 pub mod LineLemmas
 pub mod ListLemmas
 pub mod NumberLemmas

@@ -1,16 +1,10 @@
 -- The table of a run's jobs, and which runs the program takes.
-use Rattle.std.specs.Prelude.{◌≡◌, ℕ, ◌≤◌, List, [], ◌∷◌, length, map, sum_by, ℤ, pos, Some, slice_get, IsUtf8}
-use Rattle.zone_minutes.specs.Zone.{Zone, FixedOffset}
-use Rattle.zone_minutes.specs.declared.minute.Window.{Window}
-use Rattle.due_set.specs.Table.{Job, Table, IsJobDueList}
+use Rattle.std.specs.Prelude.{◌≡◌, ℕ, ◌≤◌, List, [], ◌∷◌, length, map, sum_by, ℤ, Some, slice_get, IsUtf8}
+use Rattle.due_set.specs.Table.{Job, Table, IsJobDueList, utc_over}
 use Rattle.due_set.specs.declared.job.JobKind.TheVariants.{Crontab}
 use Rattle.cron_serve.specs.Grammar.{IsRunFile}
 use Rattle.cron_serve.specs.Lines.{Lacks}
 use Rattle.cron_serve.specs.Run.{Run, NamedEntry, jobs_of}
-
--- UTC, over the window
-abbrev pub utc : Window → Zone
-utc window = record { source = FixedOffset (pos 0); from = window.from.0; until = window.until.0 }
 
 -- the job of the table that an entry of a crontab is
 abbrev pub table_job : NamedEntry → Job
@@ -18,7 +12,7 @@ table_job job = record { name = job.name; zone = 0; kind = Crontab job.fields }
 
 -- the table of a run's jobs
 abbrev pub table_of : Run → Table
-table_of run = record { window = run.window; grace = run.grace; zones = utc run.window ∷ []; jobs = map table_job (jobs_of run) }
+table_of run = record { window = run.window; grace = run.grace; zones = utc_over run.window ∷ []; jobs = map table_job (jobs_of run) }
 
 -- how many due instants the jobs of a table have in all
 pub record IsDueCount (table : Table) (count : ℕ) : Type 0 where

@@ -1,5 +1,4 @@
 ghost use Rattle.std.specs.Prelude.{◌≡◌, ◌↔◌, ℕ, List, [], map, codes, IsTrue, IfSome, IfNone, IfOk, IsErrOf};
-ghost use Rattle.zone_minutes.specs.Window.{IsWithinLimits};
 ghost use Rattle.zone_minutes.specs.declared.minute.Window.{Window};
 ghost use Rattle.cron_serve.specs.Grammar.{IsRunFile};
 ghost use Rattle.cron_serve.specs.Lines.{BeginsWithLine};
@@ -13,16 +12,7 @@ use crate::run::{EntryText, RunFile, SectionText};
 use crate::words::{is_label, read_number};
 use cron_io::OutOfMemory;
 use std::alloc::{AllocError, AllocFailed, Global};
-use zone_minutes::{Window, ZoneFault, read_stamp};
-
-// 1971-01-01T00:00Z, in minutes.
-const EARLIEST: i64 = 525_600;
-
-// 2200-01-01T00:00Z, in minutes.
-const LATEST: i64 = 120_968_640;
-
-// 400 days, in minutes.
-const LONGEST: i64 = 576_000;
+use zone_minutes::{Window, read_stamp};
 
 // 365 days, in minutes.
 const MOST_GRACE: u32 = 525_600;
@@ -64,17 +54,6 @@ impl From<OutOfMemory> for RunFault {
     ghost from_gives = { λ _ e. e ≡ OutOfMemory };
 
     fn from(_error: OutOfMemory) -> RunFault {
-        RunFault::OutOfMemory
-    }
-}
-
-impl From<ZoneFault> for RunFault {
-    ghost use Rattle.cron_serve.specs.declared.read.RunFault.TheVariants.{OutOfMemory};
-
-    ghost from_gives = { λ _ e. e ≡ OutOfMemory };
-
-    fn from(error: ZoneFault) -> RunFault {
-        let ZoneFault::OutOfMemory = error;
         RunFault::OutOfMemory
     }
 }
@@ -127,18 +106,10 @@ fn read_window(line: &str) -> Option<Window>
     let from = read_stamp(from)?;
     let until = read_stamp(until)?;
     let window = Window { from, until };
-    if !is_within_limits(window) {
+    if !window.is_within_limits() {
         return None;
     }
     Some(window)
-}
-
-// Whether a window is from 1971 on, up to 2200, not empty and of at most 400 days.
-fn is_within_limits(window: Window) -> bool
-    ensures { IsTrue result ↔ IsWithinLimits window }
-{
-    let (from, until) = (window.from.0, window.until.0);
-    EARLIEST <= from && until <= LATEST && from < until && until - from <= LONGEST
 }
 
 // grace G

@@ -9,17 +9,14 @@ ghost use Rattle.cron_serve.specs.Table.{table_job, table_of, IsDueCount, IsTabl
 use crate::read::{RunFault, read_run};
 use crate::run::{RunFile, SectionText};
 use cron_io::OutOfMemory;
-use due_set::{JobKind, JobName, JobSpec, JobTable};
+use due_set::{JobKind, JobSpec, JobTable};
 use std::alloc::Global;
-use zone_minutes::{ZoneRuns, ZoneSource};
 
 /// The most jobs of a run.
 const MAX_JOBS: usize = 1000;
 
 /// The most due instants of a run.
 const MAX_DUE: u32 = 20_000;
-
-const UTC: ZoneSource = ZoneSource::Fixed { minutes: 0 };
 
 /// The text of an input: UTF-8 without a zero byte.
 pub fn as_text(bytes: &[u8]) -> Option<&str>
@@ -45,14 +42,10 @@ fn push_jobs(
 {
     for (place, entry) in section.entries.iter().enumerate() {
         let name = format!(in alloc; "{}:{}", section.label, place + 1)?;
-        let job = JobSpec {
-            name: JobName::new(alloc, name.as_str())?,
-            zone: 0,
-            kind: JobKind::Crontab {
-                fields: entry.fields,
-            },
+        let kind = JobKind::Crontab {
+            fields: entry.fields,
         };
-        jobs.push(job)?;
+        jobs.push(JobSpec::new(alloc, name.as_str(), 0, kind)?)?;
     }
     Ok(())
 }
@@ -81,9 +74,8 @@ fn assemble(alloc: Global, run: &RunFile<'_>) -> Result<JobTable, RunFault>
     if jobs.len() > MAX_JOBS {
         return Err(RunFault::NotARun);
     }
-    let mut zones = Vec::new(alloc);
-    zones.push(ZoneRuns::build(alloc, &UTC, run.window)?)?;
-    Ok(JobTable::assemble(run.window, run.grace, zones, jobs))
+    let table = JobTable::in_utc(alloc, run.window, run.grace, jobs)?;
+    Ok(table)
 }
 
 // How many due instants the table's jobs have in all; `None` for more than 20,000.

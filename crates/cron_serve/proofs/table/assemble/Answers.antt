@@ -1,6 +1,5 @@
 use Rattle.std.proofs.Common.{◌≡◌, ◌≤◌, ◌∙◌, List, length, map, sym, ap, subst, arith}
 use Rattle.std.specs.Prelude.{All}
-use Rattle.std.proofs.lemmas.Grind.{common_steps}
 use Rattle.std.proofs.lemmas.List.{length-map}
 use Rattle.due_set.specs.Table.{Job, job_of, IsAnacron, AreNamesDistinct, AreZonesBelow}
 use Rattle.cron_serve.specs.Run.{jobs_of}
@@ -9,14 +8,12 @@ use Rattle.cron_serve.specs.Table.{table_job}
 use Rattle.cron_serve.proofs.JobTableLemmas.{zones_below, none_anacron, section_distinct}
 use Rattle.cron_serve.proofs.table.assemble.Goals as goal
 
-pub assemble-requires-clause-zone_numbers : goal.assemble-requires-clause-zone_numbers
-assemble-requires-clause-zone_numbers c =
-    let one : length c.push.new.self.items ≡ 1 = grind (arith, common_steps, c.in_ok-push.ensures.items, c.new-zones.ensures.items) in
-    subst (λ (jobs : List Job). AreZonesBelow (length c.push.new.self.items) jobs) (sym c.in_ok-jobs.ensures)
-    (rw one (zones_below (jobs_of (run_of c.args.run.now))))
+pub in_utc-requires-clause-zone_numbers : goal.in_utc-requires-clause-zone_numbers
+in_utc-requires-clause-zone_numbers c =
+    subst (λ (jobs : List Job). AreZonesBelow 1 jobs) (sym c.in_ok-jobs.ensures) (zones_below (jobs_of (run_of c.args.run.now)))
 
-pub assemble-requires-clause-distinct : goal.assemble-requires-clause-distinct
-assemble-requires-clause-distinct c =
+pub in_utc-requires-clause-distinct : goal.in_utc-requires-clause-distinct
+in_utc-requires-clause-distinct c =
     let one : length (map section_of c.args.run.now.sections.items) ≤ 1 = omega (arith, length-map c.args.run.now.sections.items section_of, c.requires.few_sections) in
     let listed : length (jobs_of (run_of c.args.run.now)) ≡ length c.in_ok-jobs.jobs.items =
     sym (length-map (jobs_of (run_of c.args.run.now)) table_job) ∙ ap length (sym c.in_ok-jobs.ensures) ∙ length-map c.in_ok-jobs.jobs.items job_of in
@@ -25,6 +22,6 @@ assemble-requires-clause-distinct c =
     subst AreNamesDistinct (sym c.in_ok-jobs.ensures)
     (section_distinct (map section_of c.args.run.now.sections.items) one (omega (arith, listed, items, counted)))
 
-pub assemble-requires-clause-plain : goal.assemble-requires-clause-plain
-assemble-requires-clause-plain c =
+pub in_utc-requires-clause-plain : goal.in_utc-requires-clause-plain
+in_utc-requires-clause-plain c =
     subst (All (λ (job : Job). IsAnacron job.kind → ⊥)) (sym c.in_ok-jobs.ensures) (none_anacron (jobs_of (run_of c.args.run.now)))
