@@ -1,4 +1,4 @@
-//! The due instants of an entry, looked for from one minute to the next.
+//! The due instants of an entry, looked for minute by minute in the days and hours that match, with all others passed over.
 ghost use Rattle.std.specs.Prelude.{◌≡◌, ◌<◌, ◌≤◌, ℕ, ℤ, pos, ◌+ℤ◌, ◌≤ℤ◌, ◌<ℤ◌, IfSome, IfNone, ◌↔◌};
 ghost use Rattle.zone_minutes.specs.Civil.{day_number};
 ghost use Rattle.zone_minutes.specs.Window.{IsInWindow, IsWithinLimits};

@@ -86,7 +86,7 @@ impl Fields {
         matches!(self.kind, PROMISE | OLD_VOTE | NACK | SNAP | SNAP_ROW)
     }
 
-    // The same of the three fields of minutes.
+    // Each of the three fields of minutes is 0 where the packet has no use for it.
     fn keeps_minutes(&self) -> bool
         ensures { result ≡ list_all (keeps_zero self.now) (AtField ∷ NowField ∷ LastField ∷ []) }
     {
