@@ -20,6 +20,10 @@ pub use serve::cron_cluster;
 pub use stop::Stop;
 
 #[cfg(test)]
+mod bytewise;
+#[cfg(test)]
+mod limit_tests;
+#[cfg(test)]
 mod over_memory;
 #[cfg(test)]
 mod tests;

@@ -6,7 +6,7 @@ use std::alloc::Global;
 use std::test::Fail;
 use zone_minutes::Minute;
 
-const THREE_LAUNCHES: &str = "cronrun 1
+pub const THREE_LAUNCHES: &str = "cronrun 1
 replicas 1
 window 2024-03-31T00:00Z 2024-03-31T01:00Z
 grace 0
@@ -16,7 +16,7 @@ script
 end
 ";
 
-const THREE_LAUNCHES_REPORT: &str = "cron report 1
+pub const THREE_LAUNCHES_REPORT: &str = "cron report 1
 window 2024-03-31T00:00Z 2024-03-31T01:00Z
 replicas 1
 jobs 1
@@ -110,21 +110,21 @@ script
 end
 ";
 
-const NOT_YET: &str = "cron_cluster: line 0: cause 35 at 0\n";
+pub const NOT_YET: &str = "cron_cluster: line 0: cause 35 at 0\n";
 
-const TOO_LARGE: &str = "cron_cluster: line 0: cause 33 at 0\n";
+pub const TOO_LARGE: &str = "cron_cluster: line 0: cause 33 at 0\n";
 
 const USAGE: &str = "cron_cluster: usage: cron_cluster [--journal] [--lanes N] [--make SEED]\n";
 
 // The numbers of the reads and writes that fail.
 #[derive(Clone, Copy)]
-struct Faults<'a> {
-    reads: &'a [u64],
-    writes: &'a [u64],
-    notes: &'a [u64],
+pub struct Faults<'a> {
+    pub reads: &'a [u64],
+    pub writes: &'a [u64],
+    pub notes: &'a [u64],
 }
 
-const NO_FAULTS: Faults<'static> = Faults {
+pub const NO_FAULTS: Faults<'static> = Faults {
     reads: &[],
     writes: &[],
     notes: &[],
@@ -132,13 +132,13 @@ const NO_FAULTS: Faults<'static> = Faults {
 
 // What a run leaves: its end, the report and the note.
 #[derive(Drop)]
-struct Left {
-    end: RunEnd,
-    report: MemSink,
-    notes: MemSink,
+pub struct Left {
+    pub end: RunEnd,
+    pub report: MemSink,
+    pub notes: MemSink,
 }
 
-fn run(alloc: Global, input: &[u8], words: &[&str], faults: &Faults<'_>) -> Result<Left, Fail> {
+pub fn run(alloc: Global, input: &[u8], words: &[&str], faults: &Faults<'_>) -> Result<Left, Fail> {
     let mut texts = Vec::new(alloc);
     for word in words {
         texts.push(String::from_str(alloc, word)?)?;

@@ -234,3 +234,29 @@ fn takes_a_command_of_at_most_1000_bytes(rt: HostRuntime) -> Result<(), Fail> {
     assert!(rt; read_entry(line.as_str()).is_none());
     Ok(())
 }
+
+#[test]
+fn reads_at_most_65535_lines(rt: HostRuntime) -> Result<(), Fail> {
+    for (lines, is_run) in [(65_535, true), (65_536, false)] {
+        let mut text = format!(in rt.alloc(); "{HEAD}crontab alice UTC {lines}\n")?;
+        for _ in 0..lines {
+            text.push_str("* * * * * x\n")?;
+        }
+        text.push_str(END)?;
+        match read_run(rt.alloc(), text.as_str()) {
+            Ok(run) => {
+                assert!(rt; is_run);
+                assert!(rt;
+                    run.sections
+                        .iter()
+                        .all(|section| section.entries.len() == 65_535)
+                );
+            }
+            Err(fault) => {
+                assert!(rt; !is_run);
+                assert_eq!(rt; fault, RunFault::NotARun);
+            }
+        }
+    }
+    Ok(())
+}
