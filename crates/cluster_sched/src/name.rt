@@ -23,8 +23,6 @@ pub fn write_name(table: &JobTable, name: Name, into: &mut String) -> Result<(),
     into.reserve(job.len() + 15)?;
     into.push_str(job)?;
     into.push('@')?;
-    // The window's limits say that its instants have stamps.
-    let _ = table.window();
     write_basic_stamp(Minute(name.at), into)?;
     Ok(())
 }

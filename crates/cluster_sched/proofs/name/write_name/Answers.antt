@@ -1,16 +1,15 @@
 use Rattle.std.proofs.Common.{◌<◌, ◌+◌, length, OnErr, string_len, string_capacity, Result, Ok, Err, ap, arith, w64, FitsSigned}
-use Rattle.std.proofs.lemmas.Int.{ints}
+use Rattle.std.proofs.lemmas.Int.{to_z-of_z}
 use Rattle.cluster_sched.specs.Names.{name_text}
-use Rattle.cluster_sched.proofs.NameLemmas.{length-name_text}
+use Rattle.cluster_sched.proofs.NameLemmas.{IsCalendarMinute-inside, length-name_text}
 use Rattle.cluster_sched.proofs.name.write_name.Goals as goal
 
 pub write_basic_stamp-requires : goal.write_basic_stamp-requires
 write_basic_stamp-requires c =
-    let limits = c.window.ensures.limits in
-    let since = ap (λ w. w.from.0) c.window.ensures.window in
-    let until = ap (λ w. w.until.0) c.window.ensures.window in
-    let fits : FitsSigned w64 c.args.name.at = omega (arith, ints) in
-    omega (arith, ints)
+    let table = c.args.table.now in
+    let calendar = IsCalendarMinute-inside table.window c.args.name.at c.name-job.ensures.sound.limits c.requires.inside in
+    let fits : FitsSigned w64 c.args.name.at = c.ranges.name.at in
+    rw (to_z-of_z w64 c.args.name.at fits) calendar
 
 pub returns-in_err-reserve-clause-full : goal.returns-in_err-reserve-clause-full
 returns-in_err-reserve-clause-full c =
