@@ -14,12 +14,12 @@ use Rattle.launch_machine.specs.Clerk.{IsClerkOf, TakesEnd, fresh_rows}
 use Rattle.launch_machine.specs.Intent.{NoCall}
 use Rattle.launch_machine.specs.Machine.{HasRoom, Launches, IsNext, StandsFor}
 use Rattle.launch_machine.specs.Next.{NoNext}
+use Rattle.launch_machine.proofs.ExistLemmas.{starts_exist}
 use Rattle.launch_machine.proofs.MachineLemmas.{is_some_below}
-use Rattle.launch_machine.proofs.StartLemmas.{starts_prefix}
+use Rattle.launch_machine.proofs.StartLemmas.{starts_front}
 use Rattle.launch_law.specs.Fits.{Fits, IsHeld, StartsInOrder}
 use Rattle.launch_law.specs.Launched.{LaunchesEachDue}
 use Rattle.launch_law.specs.Settled.{IsSettled}
-use Rattle.launch_law.proofs.EffectLemmas.{starts_exist}
 use Rattle.launch_clerk.specs.Walk.{Agrees, AreIdle, IsAtMinute, IsCounted, IsOpenNow}
 
 -- a minute at which no launch may be called leaves none open
@@ -83,7 +83,7 @@ in_order table log rows job clerk =
     record {
       instants = found.0;
       starts = found.1;
-      first = λ dues list. starts_prefix table log job found.0 dues found.1 list;
+      first = starts_front table log job found.0 found.1;
     }
 
 pub fits : (table : Table) (log : List Entry) (rows : List JobRow) (held : List SchedRow) → Agrees table log rows held → Fits table log held

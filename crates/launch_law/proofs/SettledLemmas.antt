@@ -1,6 +1,6 @@
 -- What a settled log has started and ended.
-use Rattle.std.proofs.Common.{◌≡◌, ℕ, ◌<◌, ◌⊎◌, inl, inr, List, [], ◌∷◌, length, get_or, Option, None, Some, ℤ, ◌≤ℤ◌, ◌<ℤ◌, refl, sym, ap, ◌∙◌, subst, arith}
-use Rattle.std.specs.Prelude.{Contains, slice_get}
+use Rattle.std.proofs.Common.{◌≡◌, ℕ, ◌<◌, inl, inr, List, [], ◌∷◌, length, get_or, Option, None, Some, ℤ, ◌≤ℤ◌, refl, sym, ap, ◌∙◌, subst, arith}
+use Rattle.std.specs.Prelude.{slice_get}
 use Rattle.std.proofs.Math.ListN.{length-set}
 use Rattle.std.proofs.lemmas.Int.{ints, by_lt_z}
 use Rattle.std.proofs.lemmas.Option.{slice_get_within}
@@ -10,70 +10,14 @@ use Rattle.paxos_base.specs.declared.entry.Entry.TheVariants.{Noop, Start, End}
 use Rattle.paxos_base.specs.declared.entry.Kind.{Kind}
 use Rattle.paxos_base.specs.declared.rows.JobRow.{JobRow}
 use Rattle.due_set.specs.Calls.{HasCome}
-use Rattle.due_set.specs.Due.{IsRising}
-use Rattle.due_set.specs.Table.{Table, IsAfter, IsJobDue, IsJobDueList, IsNextDue}
+use Rattle.due_set.specs.Table.{Table, IsAfter, IsJobDue}
 use Rattle.due_set.specs.declared.job.JobKind.{JobKind}
-use Rattle.due_set.proofs.Rising.{Contains-head, Contains-tail, Contains-cases, Contains-none, later_than_first}
+use Rattle.due_set.proofs.ExistLemmas.{next_up_to}
 use Rattle.launch_machine.specs.Clerk.{Applies, AppliesAll, IsClerkOf, fresh_row, fresh_rows, opened_row, closed_row}
 use Rattle.launch_machine.proofs.MachineLemmas.{is_some_below}
 use Rattle.launch_law.specs.Fits.{HasStart, HasEnd}
 use Rattle.launch_law.specs.Settled.{IsSettled}
 use Rattle.launch_law.proofs.CoverLemmas.{IsCovered, IsOver, clerk_covers}
-
--- the first instant of a list that is after another
-record IsFirstAfter (dues : List ℤ) (cursor : Option ℤ) (first : ℤ) : Type 0 where
-  pub among : Contains dues first
-  pub later : IsAfter cursor first
-  pub least : (t : ℤ) → Contains dues t → IsAfter cursor t → first ≤ℤ t
-
-after_or_not : (cursor : Option ℤ) (t : ℤ) → IsAfter cursor t ⊎ (IsAfter cursor t → ⊥)
-after_or_not None t = inl tt
-after_or_not (Some c) t = by_lt_z c t (λ lt. inl lt) (λ le. inr (λ lt. absurd (omega (arith, ints))))
-
-first_after : (dues : List ℤ) (cursor : Option ℤ) (at : ℤ) → IsRising dues → Contains dues at → IsAfter cursor at
-    → (first : ℤ) × IsFirstAfter dues cursor first
-first_after [] cursor at rising h after = absurd (Contains-none at h)
-first_after (d ∷ ds) cursor at (above, rising) h after = elim (after_or_not cursor d) [
-  | inl here ↦ (
-    d,
-    record {
-      among = Contains-head d ds;
-      later = here;
-      least = λ t in_list late. elim (Contains-cases d ds t in_list) [
-        | inl e ↦ omega (arith, ints)
-        | inr behind ↦ let lt : d <ℤ t = later_than_first d ds t above behind in omega (arith, ints)
-      ];
-    },
-  )
-  | inr not ↦
-      let behind : (t : ℤ) → Contains (d ∷ ds) t → IsAfter cursor t → Contains ds t =
-      λ t in_list late. elim (Contains-cases d ds t in_list) [
-        | inl e ↦ absurd (not (subst (IsAfter cursor) (sym e) late))
-        | inr more ↦ more
-      ] in
-      let found = first_after ds cursor at rising (behind at h after) after in (
-        found.0,
-        record {
-          among = Contains-tail d ds found.0 found.1.among;
-          later = found.1.later;
-          least = λ t in_list late. found.1.least t (behind t in_list late) late;
-        },
-      )
-]
-
--- a due instant after the cursor has a next due one up to it
-next_up_to : (table : Table) (job : ℕ) (dues : List ℤ) (cursor : Option ℤ) (at : ℤ) → IsJobDueList table job dues → IsJobDue table job at → IsAfter cursor at
-    → (first : ℤ) × IsNextDue table job cursor first × (first ≤ℤ at)
-next_up_to table job dues cursor at list due after =
-    let found = first_after dues cursor at list.rising (list.complete at due) after in (
-      found.0,
-      record {
-        due = list.sound found.0 found.1.among;
-        later = found.1.later;
-        least = λ t is_due late. found.1.least t (list.complete t is_due) late;
-      },
-      found.1.least at (list.complete at due) after,
-    )
 
 -- an entry leaves as many rows
 Applies-length : (table : Table) (old : List JobRow) (entry : Entry) (new : List JobRow) → Applies table old entry new → length new ≡ length old
@@ -97,12 +41,12 @@ row_of table log rows job clerk lt =
     AppliesAll-length table (fresh_rows table) log rows clerk ∙ length-map-range_with_len fresh_row 0 (length table.jobs) in
     is_some_below rows job (subst (λ (n : ℕ). job < n) (sym count) lt)
 
-module _ (table : Table) (log : List Entry) (now : ℤ) (job : ℕ) (at : ℤ) (dues : List ℤ) (settled : IsSettled table log now)
-    (list : IsJobDueList table job dues) (due : IsJobDue table job at) (come : at ≤ℤ now) where
+module _ (table : Table) (log : List Entry) (now : ℤ) (job : ℕ) (at : ℤ) (settled : IsSettled table log now)
+    (due : IsJobDue table job at) (come : at ≤ℤ now) where
   -- no due instant that has come is after an idle row's cursor
   none_missed : (row : JobRow) → slice_get settled.rows job ≡ Some row → row.open_now ≡ None → IsAfter row.cursor at → ⊥
   none_missed row is_row idle after =
-      let found = next_up_to table job dues row.cursor at list due after in
+      let found = next_up_to table job row.cursor at due after in
       let le : found.0 ≤ℤ at = found.2 in
       settled.no_start job found.0 (record {
         row = row;

@@ -6,21 +6,23 @@ use Rattle.paxos_base.specs.declared.entry.Entry.TheVariants.{Start, End}
 use Rattle.paxos_base.specs.declared.entry.Kind.{Kind}
 use Rattle.paxos_base.specs.declared.rows.JobRow.{JobRow}
 use Rattle.due_set.specs.Calls.{HasCome}
-use Rattle.due_set.specs.Table.{Job, Table, IsJobIn, IsJobDueList}
+use Rattle.due_set.specs.Table.{Job, Table, IsDueFront, IsJobIn}
 use Rattle.cluster_sched.specs.Held.{AreNamedOnce}
 use Rattle.cluster_sched.specs.declared.row.SchedRow.{SchedRow}
 use Rattle.launch_machine.specs.Answers.{IsCallKind}
 use Rattle.launch_machine.specs.Clerk.{IsClerkOf, TakesEffect}
 use Rattle.launch_machine.specs.Starts.{StartsOf}
 
+-- entries leave a launch table, and the next takes effect on it
+abbrev pub TakesEffectAfter : Table → List Entry → Entry → Type 0
+TakesEffectAfter table before entry = (rows : List JobRow) × IsClerkOf table before rows × TakesEffect table rows entry
+
 -- an entry of the log that takes effect on what those before it left
 pub record IsEffective (table : Table) (log : List Entry) (entry : Entry) : Type 0 where
   pub before : List Entry
   pub after : List Entry
   pub parts : log ≡ before ++ entry ∷ after
-  pub rows : List JobRow
-  pub clerk : IsClerkOf table before rows
-  pub takes : TakesEffect table rows entry
+  pub takes : TakesEffectAfter table before entry
 
 -- a start of the job's launch takes effect
 abbrev pub HasStart : Table → List Entry → ℕ → ℤ → Type 0
@@ -30,11 +32,10 @@ HasStart table log job at = (now : ℤ) × IsEffective table log (Start job at n
 abbrev pub HasEnd : Table → List Entry → ℕ → ℤ → Kind → Type 0
 HasEnd table log job at kind = IsEffective table log (End job at kind)
 
--- each entry of the log takes effect
+-- each entry of the log takes effect on what those before it left
 abbrev pub AreAllEffective : Table → List Entry → Type 0
 AreAllEffective table log =
-    (before after : List Entry) (entry : Entry) (rows : List JobRow)
-    → log ≡ before ++ entry ∷ after → IsClerkOf table before rows → TakesEffect table rows entry
+    (before after : List Entry) (entry : Entry) → log ≡ before ++ entry ∷ after → TakesEffectAfter table before entry
 
 -- Only after its start was in the log was the launch called, at a clock at which it may be called, and the kind goes by
 -- that clock.
@@ -58,7 +59,7 @@ pub record IsHeld (held : List SchedRow) (job : ℕ) (at : ℤ) (kind : Kind) : 
 pub record StartsInOrder (table : Table) (log : List Entry) (job : ℕ) : Type 0 where
   pub instants : List ℤ
   pub starts : StartsOf table log job instants
-  pub first : (dues : List ℤ) → IsJobDueList table job dues → (rest : List ℤ) × (dues ≡ instants ++ rest)
+  pub first : IsDueFront table job instants
 
 -- No launch is held twice, and each that is held was started before; an end that takes effect says what is held; and no due
 -- instant is passed over.
