@@ -1,9 +1,9 @@
 -- A machine's rows and next instants, and what a change of one place leaves.
-use Rattle.std.proofs.Common.{◌≡◌, ◌≢◌, ℕ, zero, suc, ◌+◌, ◌<◌, ◌≤◌, ◌⊎◌, inl, inr, ◌↔◌, List, [], ◌∷◌, ◌++◌, length, get_or, Option, None, Some, ℤ, ◌≤ℤ◌, Bool, IsTrue, false, refl, sym, ap, ◌∙◌, subst, arith, length-append}
+use Rattle.std.proofs.Common.{◌≡◌, ◌≢◌, ℕ, zero, suc, ◌+◌, ◌<◌, ◌≤◌, ◌⊎◌, inl, inr, ◌↔◌, List, [], ◌∷◌, ◌++◌, length, get_or, Option, None, Some, ℤ, ◌≤ℤ◌, Bool, IsTrue, true, false, refl, sym, ap, ◌∙◌, subst, arith, length-append}
 use Rattle.std.specs.Prelude.{map, IsSome, slice_get, slice_set}
 use Rattle.std.proofs.Math.ListN.{set, length-set}
 use Rattle.std.proofs.lemmas.Int.{ints}
-use Rattle.std.proofs.lemmas.Option.{slice_get_within, get_or_from_slice_get}
+use Rattle.std.proofs.lemmas.Option.{slice_get_within, get_or_from_slice_get, slice_get-get_or}
 use Rattle.std.specs.List.{range_with_len}
 use Rattle.std.proofs.lemmas.List.Elements.{All-map}
 use Rattle.std.proofs.lemmas.List.FromFn.{length-map-range_with_len}
@@ -15,7 +15,7 @@ use Rattle.paxos_base.specs.declared.entry.Kind.{Kind}
 use Rattle.paxos_base.specs.declared.entry.Kind.TheVariants.{Launch, Void}
 use Rattle.jiff.specs.Types.{TimeZone}
 use Rattle.due_set.specs.Calls.{HasCome}
-use Rattle.due_set.specs.Table.{Job, Table, IsJobIn, IsNextDue}
+use Rattle.due_set.specs.Table.{Job, Table, IsJobIn, IsNextDue, IsJobRead}
 use Rattle.launch_machine.specs.Clerk.{TakesStart, TakesEnd, TakesEffect, Applies, fresh_row, opened_row, closed_row}
 use Rattle.launch_machine.specs.Intent.{MayCall, NoCall, NoStart}
 use Rattle.launch_machine.specs.Machine.{Launches, IsNext, AreNexts, StandsFor, IsReady}
@@ -186,6 +186,23 @@ no_call table rows job at now d result lt cursor tells not other may =
     let at_is : other ≡ at = cc in
     let yes : IsTrue result = (tells may.spec may.zone may.is_in).1 (subst (λ (t : ℤ). HasCome may.spec.kind may.zone t now) at_is may.come) in
     absurd (cc (yes, not))
+
+-- a launch that is open and whose instant has come may be called
+pub one_call : (table : Table) (rows : List JobRow) (job : ℕ) (at since now : ℤ) (d : JobRow) (result : Bool) → job < length rows
+    → (get_or rows job d).open_now ≡ Some since → (get_or rows job d).cursor ≡ Some at → IsJobRead table job
+    → ((j : Job) (zone : TimeZone) → IsJobIn table job j zone → (IsTrue result ↔ HasCome j.kind zone at now)) → result ≡ true
+    → MayCall table rows job at now
+one_call table rows job at since now d result lt opened cursor read tells holds = record {
+  row = get_or rows job d;
+  is_row = slice_get-get_or rows job d lt;
+  since = since;
+  is_open = opened;
+  cursor = cursor;
+  spec = read.0;
+  zone = read.1;
+  is_in = read.2;
+  come = (tells read.0 read.1 read.2).0 holds;
+}
 
 -- one more place of which a fact holds
 pub below_next : (P : ℕ → ℤ → Type 0) (n : ℕ) → ((k : ℕ) (t : ℤ) → k < n → P k t → ⊥) → ((t : ℤ) → P n t → ⊥) → (k : ℕ) (t : ℤ) → k < n + 1 → P k t → ⊥
