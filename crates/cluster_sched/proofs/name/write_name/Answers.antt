@@ -1,5 +1,6 @@
 use Rattle.std.proofs.Common.{◌<◌, ◌+◌, length, OnErr, string_len, string_capacity, Result, Ok, Err, ap, arith, w64, FitsSigned}
-use Rattle.std.proofs.lemmas.Int.{to_z-of_z}
+use Rattle.std.proofs.lemmas.Int.{ints, to_z-of_z}
+use Rattle.zone_minutes.specs.Civil.{IsCalendarMinute}
 use Rattle.cluster_sched.specs.Names.{name_text}
 use Rattle.cluster_sched.proofs.NameLemmas.{IsCalendarMinute-inside, length-name_text}
 use Rattle.cluster_sched.proofs.name.write_name.Goals as goal
@@ -7,8 +8,8 @@ use Rattle.cluster_sched.proofs.name.write_name.Goals as goal
 pub write_basic_stamp-requires : goal.write_basic_stamp-requires
 write_basic_stamp-requires c =
     let table = c.args.table.now in
-    let calendar = IsCalendarMinute-inside table.window c.args.name.at c.name-job.ensures.sound.limits c.requires.inside in
-    let fits : FitsSigned w64 c.args.name.at = c.ranges.name.at in
+    let calendar : IsCalendarMinute c.args.name.at = IsCalendarMinute-inside table.window c.args.name.at c.name-job.ensures.sound.limits c.requires.inside in
+    let fits : FitsSigned w64 c.args.name.at = omega (arith, ints) in
     rw (to_z-of_z w64 c.args.name.at fits) calendar
 
 pub returns-in_err-reserve-clause-full : goal.returns-in_err-reserve-clause-full
