@@ -87,3 +87,10 @@ fn readers_and_writers_of_std(rt: HostRuntime) -> Result<(), Fail> {
     assert_eq!(rt; buffer, *b"abc");
     Ok(())
 }
+
+#[test]
+fn laws_hold(_rt: HostRuntime) {
+    a_count_that_stays_has_not_risen();
+    what_a_source_gave();
+    what_a_sink_gained();
+}

@@ -18,7 +18,7 @@ use Rattle.cron_serve.specs.declared.stop.Stop.{Stop}
 use Rattle.cron_serve.specs.declared.stop.Stop.TheVariants.{Usage, Refused, ReadFault, OutOfMemory}
 
 -- no more is taken from a source than it has
-consumed : (old new : Option (List ℕ)) (bytes taken : List ℕ) → old ≡ Some bytes → Consumes old new taken → length taken ≤ length bytes
+pub consumed : (old new : Option (List ℕ)) (bytes taken : List ℕ) → old ≡ Some bytes → Consumes old new taken → length taken ≤ length bytes
 consumed None new bytes taken told h = absurd (cc)
 consumed (Some xs) None bytes taken told h = absurd h
 consumed (Some xs) (Some ys) bytes taken told h =

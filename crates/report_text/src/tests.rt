@@ -1,15 +1,17 @@
-ghost use Rattle.std.specs.Prelude.{◌≡◌, ◌↔◌, All, IfOk, IsTrue};
+ghost use Rattle.std.specs.Prelude.{◌↔◌, All, IsTrue};
 ghost use Rattle.cluster_sched.specs.Names.{IsNameIn};
-ghost use Rattle.due_set.specs.Table.{IsAnacron};
 
-use crate::{ReportFault, a_report_says_one_text, write_report};
+use crate::{
+    ReportFault, a_report_counts_what_it_lists, a_report_lists_each_due_instant,
+    a_report_says_one_text, write_report,
+};
 use cluster_sched::{Name, SchedRow};
 use cron_io::MemSink;
-use due_set::{JobKind, JobName, JobSpec, JobTable};
+use due_set::{JobKind, JobSpec, JobTable};
 use paxos_base::Kind;
 use std::alloc::Global;
 use std::test::Fail;
-use zone_minutes::{Minute, Window, ZoneRuns, ZoneSource};
+use zone_minutes::{Minute, Window};
 
 // 2024-03-31T00:00Z.
 const FROM: i64 = 28_530_720;
@@ -51,34 +53,21 @@ launch bob:2@20240331T0030Z
 end
 ";
 
-fn job_of(alloc: Global, name: &str) -> Result<JobSpec, Fail>
-    ensures name { IfOk result (λ job. job.name ≡ name.now) }
-    ensures zone { IfOk result (λ job. job.zone ≡ 0) }
-    ensures plain { IfOk result (λ job. IsAnacron job.kind → ⊥) }
-{
-    Ok(JobSpec {
-        name: JobName::new(alloc, name)?,
-        zone: 0,
-        kind: JobKind::Never,
-    })
-}
-
-// A table of an hour and of the first so many of two jobs.
+// A table of an hour and of the first so many of two jobs that never run.
 fn table_of(alloc: Global, count: u8) -> Result<JobTable, Fail> {
     let window = Window {
         from: Minute(FROM),
         until: Minute(FROM + 60),
     };
-    let mut zones = Vec::new(alloc);
-    zones.push(ZoneRuns::build(alloc, &ZoneSource::Fixed { minutes: 0 }, window)?)?;
     let mut jobs = Vec::new(alloc);
     if count > 0 {
-        jobs.push(job_of(alloc, "alice:1")?)?;
+        jobs.push(JobSpec::new(alloc, "alice:1", 0, JobKind::Never)?)?;
     }
     if count > 1 {
-        jobs.push(job_of(alloc, "bob:2")?)?;
+        jobs.push(JobSpec::new(alloc, "bob:2", 0, JobKind::Never)?)?;
     }
-    Ok(JobTable::assemble(window, 0, zones, jobs))
+    let table = JobTable::in_utc(alloc, window, 0, jobs)?;
+    Ok(table)
 }
 
 // A row of the job, at a minute of the hour.
@@ -167,4 +156,6 @@ fn a_write_fault_is_told(rt: HostRuntime) -> Result<(), Fail> {
 #[test]
 fn laws_hold(_rt: HostRuntime) {
     a_report_says_one_text();
+    a_report_lists_each_due_instant();
+    a_report_counts_what_it_lists();
 }
