@@ -1,3 +1,4 @@
 pub mod CoverLemmas
 pub mod EffectLemmas
+pub mod FitLemmas
 pub mod SettledLemmas

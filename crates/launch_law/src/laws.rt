@@ -1,9 +1,14 @@
-//! Laws of a log. Each is the contract of a function that does nothing.
-ghost use Rattle.std.specs.Prelude.{◌++◌, ℕ, List, ℤ, ◌≤ℤ◌};
+//! Laws of a log, and of what is held beside it. Each is the contract of a function that does nothing.
+ghost use Rattle.std.specs.Prelude.{◌≡◌, ◌↔◌, ◌∷◌, ◌++◌, ℕ, List, ℤ, ◌≤ℤ◌, Contains};
+ghost use Rattle.jiff.specs.Types.{TimeZone};
 ghost use Rattle.paxos_base.specs.declared.entry.Entry.{Entry};
 ghost use Rattle.paxos_base.specs.declared.entry.Kind.{Kind};
-ghost use Rattle.due_set.specs.Table.{Table, IsJobDue};
-ghost use Rattle.launch_law.specs.Fits.{HasStart, HasEnd, IsEffective};
+ghost use Rattle.due_set.specs.Calls.{HasCome, IsOnTime};
+ghost use Rattle.due_set.specs.Table.{Job, Table, IsDueFront, IsJobDue, IsJobIn};
+ghost use Rattle.cluster_sched.specs.declared.row.SchedRow.{SchedRow};
+ghost use Rattle.launch_machine.specs.Starts.{StartsOf};
+ghost use Rattle.launch_law.specs.Fits.{AreAllEffective, Fits, HasStart, HasEnd, IsEffective};
+ghost use Rattle.launch_law.specs.Launched.{LaunchesEachDue};
 ghost use Rattle.launch_law.specs.Settled.{IsSettled};
 
 /// An entry that takes effect does so in each longer log.
@@ -12,9 +17,74 @@ pub fn what_is_effective_stays()
         → IsEffective table log entry → IsEffective table (log ++ more) entry }
 {}
 
+/// Where each entry of a log takes effect, each that is in it is one that does.
+pub fn what_is_in_the_log_is_effective()
+    ensures { (table : Table) (log : List Entry) (entry : Entry)
+        → AreAllEffective table log → Contains log entry → IsEffective table log entry }
+{}
+
+/// An end that takes effect stands behind a start of its launch that does.
+pub fn a_start_stands_before_its_end()
+    ensures { (table : Table) (log : List Entry) (job : ℕ) (at : ℤ) (kind : Kind)
+        → HasEnd table log job at kind
+        → (before : List Entry) × (after : List Entry)
+        × (log ≡ before ++ Entry.End job at kind ∷ after) × HasStart table before job at }
+{}
+
 /// Each due instant up to the one at which a log is settled was started and ended.
 pub fn a_settled_log_has_each_due_instant()
     ensures { (table : Table) (log : List Entry) (now : ℤ) (job : ℕ) (at : ℤ)
         → IsSettled table log now → IsJobDue table job at → at ≤ℤ now
         → HasStart table log job at × (kind : Kind) × HasEnd table log job at kind }
+{}
+
+/// Where the log and what is held fit, a launch is held once.
+pub fn a_launch_is_held_once()
+    ensures { (table : Table) (log : List Entry) (held : List SchedRow) (a b : SchedRow)
+        → Fits table log held → Contains held a → Contains held b
+        → a.name.job ≡ b.name.job → a.name.at ≡ b.name.at → a ≡ b }
+{}
+
+/// Where they fit, a launch that is held was started.
+pub fn a_held_launch_was_started()
+    ensures { (table : Table) (log : List Entry) (held : List SchedRow) (row : SchedRow)
+        → Fits table log held → Contains held row → HasStart table log row.name.job row.name.at }
+{}
+
+/// Where they fit, a launch that is held was called when its instant had come, and its kind goes by the clock of the call.
+pub fn a_held_launch_had_come()
+    ensures { (table : Table) (log : List Entry) (held : List SchedRow) (row : SchedRow)
+        → Fits table log held → Contains held row
+        → (job : Job) × (zone : TimeZone) × IsJobIn table row.name.job job zone
+        × HasCome job.kind zone row.name.at row.now.0
+        × ((row.kind ≡ Kind.Launch) ↔ IsOnTime job.kind zone table.grace row.name.at row.now.0) }
+{}
+
+/// Where they fit, an end that takes effect says what is held: a row of its launch, and each such row, is of its kind.
+pub fn an_end_says_what_is_held()
+    ensures held { (table : Table) (log : List Entry) (held : List SchedRow) (job : ℕ) (at : ℤ) (kind : Kind)
+        → Fits table log held → HasEnd table log job at kind
+        → (row : SchedRow) × Contains held row
+        × (row.name.job ≡ job) × (row.name.at ≡ at) × (row.kind ≡ kind) }
+    ensures kind { (table : Table) (log : List Entry) (held : List SchedRow) (row : SchedRow) (kind : Kind)
+        → Fits table log held → Contains held row
+        → HasEnd table log row.name.job row.name.at kind → row.kind ≡ kind }
+{}
+
+/// Where they fit, a job's starts are the first of its due instants, none left out.
+pub fn no_due_instant_is_passed_over()
+    ensures { (table : Table) (log : List Entry) (held : List SchedRow) (job : ℕ)
+        → Fits table log held
+        → (instants : List ℤ) × StartsOf table log job instants × IsDueFront table job instants }
+{}
+
+/// Where each due instant is launched, a launch is held for each, and what is held is a launch at a due instant.
+pub fn each_due_instant_is_launched()
+    ensures each { (table : Table) (held : List SchedRow) (job : ℕ) (at : ℤ)
+        → LaunchesEachDue table held → IsJobDue table job at
+        → (row : SchedRow) × Contains held row
+        × (row.name.job ≡ job) × (row.name.at ≡ at) × (row.kind ≡ Kind.Launch) }
+    ensures no_other { (table : Table) (held : List SchedRow) (row : SchedRow)
+        → LaunchesEachDue table held → Contains held row
+        → IsJobDue table row.name.job row.name.at × (row.kind ≡ Kind.Launch) }
 {}
