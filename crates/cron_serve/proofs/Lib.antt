@@ -9,10 +9,12 @@ pub mod ListLemmas
 pub mod NumberLemmas
 pub mod OverMemoryLemmas
 pub mod PhraseLemmas
+pub mod RefusalLemmas
 pub mod RunLemmas
 pub mod SectionLemmas
 pub mod ServeLemmas
 pub mod TableLemmas
 pub mod TakenLemmas
 pub mod VariantLemmas
+pub mod WholeLemmas
 pub mod WindowLemmas

@@ -36,7 +36,7 @@ pub record IsRefused (old new : SourceView) (refusal : Refusal) : Type 0 where
 
 -- The log and the rows that the ledger holds are those of a run of these jobs, up to the last minute of the window.
 pub record IsWholeRun (table : Table) (log : List Entry) (held : List SchedRow) : Type 0 where
-  -- no launch is held twice, each was started before, and the log's ends say what is held
+  -- no launch is held twice, each was started, and the log's ends say what is held
   pub fits : Fits table log held
   -- nothing in the log is ignored
   pub effective : AreAllEffective table log

@@ -2,6 +2,7 @@
 #![tactic(auto)]
 
 mod entry;
+mod laws;
 mod lines;
 mod note;
 mod read;
@@ -12,6 +13,7 @@ mod stop;
 mod table;
 mod words;
 
+pub use laws::{a_refusal_has_one_of_two_notes, a_whole_run_makes_each_launch};
 pub use note::write_note;
 pub use read::{RunFault, a_text_says_one_run, read_run};
 pub use run::RunFile;

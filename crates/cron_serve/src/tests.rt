@@ -1,5 +1,7 @@
 //! Whole runs, from the bytes of a run file to the report and the note.
-use crate::{RunEnd, cron_cluster};
+use crate::{
+    RunEnd, a_refusal_has_one_of_two_notes, a_text_says_one_run, a_whole_run_makes_each_launch, cron_cluster,
+};
 use cron_io::{MemSink, MemSource};
 use paxos_base::{Entry, Kind};
 use std::alloc::Global;
@@ -334,4 +336,11 @@ fn a_note_that_fails_changes_no_status(rt: HostRuntime) -> Result<(), Fail> {
     assert_eq!(rt; left.end.status, 2);
     assert!(rt; left.notes.bytes().is_empty());
     Ok(())
+}
+
+#[test]
+fn laws_hold(_rt: HostRuntime) {
+    a_text_says_one_run();
+    a_refusal_has_one_of_two_notes();
+    a_whole_run_makes_each_launch();
 }

@@ -37,8 +37,8 @@ abbrev pub AreAllEffective : Table → List Entry → Type 0
 AreAllEffective table log =
     (before after : List Entry) (entry : Entry) → log ≡ before ++ entry ∷ after → TakesEffectAfter table before entry
 
--- Only after its start was in the log was the launch called, at a clock at which it may be called, and the kind goes by
--- that clock.
+-- A start of the launch takes effect in the log, the clock of the call is one at which it may be called, and the kind goes
+-- by that clock.
 pub record IsBacked (table : Table) (log : List Entry) (row : SchedRow) : Type 0 where
   pub start : HasStart table log row.name.job row.name.at
   pub spec : Job
@@ -61,8 +61,8 @@ pub record StartsInOrder (table : Table) (log : List Entry) (job : ℕ) : Type 0
   pub starts : StartsOf table log job instants
   pub first : IsDueFront table job instants
 
--- No launch is held twice, and each that is held was started before; an end that takes effect says what is held; and no due
--- instant is passed over.
+-- No launch is held twice, and each that is held was started; an end that takes effect says what is held; and no due instant
+-- is passed over.
 pub record Fits (table : Table) (log : List Entry) (held : List SchedRow) : Type 0 where
   pub once : AreNamedOnce held
   pub backed : All (IsBacked table log) held
