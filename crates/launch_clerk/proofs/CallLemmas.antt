@@ -6,6 +6,7 @@ use Rattle.std.proofs.lemmas.List.Elements.{All-contains, All-push, Contains-app
 use Rattle.std.proofs.lemmas.List.Quantifiers.{all_pairs_push}
 use Rattle.zone_minutes.specs.declared.minute.Minute.{Minute}
 use Rattle.paxos_base.specs.declared.entry.Entry.{Entry}
+use Rattle.paxos_base.specs.declared.entry.Entry.TheVariants.{Start}
 use Rattle.paxos_base.specs.declared.entry.Kind.{Kind}
 use Rattle.paxos_base.specs.declared.entry.Kind.TheVariants.{Launch}
 use Rattle.paxos_base.specs.declared.rows.JobRow.{JobRow}
@@ -18,8 +19,10 @@ use Rattle.cluster_sched.specs.declared.row.Name.{Name}
 use Rattle.cluster_sched.specs.declared.row.SchedRow.{SchedRow}
 use Rattle.launch_machine.specs.Answers.{IsCallKind}
 use Rattle.launch_machine.specs.Intent.{MayCall}
-use Rattle.launch_law.specs.Fits.{HasStart, IsBacked, IsHeld}
-use Rattle.launch_clerk.specs.Walk.{Agrees, IsAtMinute, IsOpenNow}
+use Rattle.launch_machine.specs.Machine.{Launches}
+use Rattle.launch_law.specs.Fits.{HasStart, IsBacked, IsEffective, IsHeld}
+use Rattle.launch_clerk.specs.Book.{IsStarted}
+use Rattle.launch_clerk.specs.Walk.{Agrees, IsAtMinute, IsAtWork, IsOpenNow}
 
 IsHeld-more : (held more : List SchedRow) (job : ℕ) (at : ℤ) (kind : Kind) → IsHeld held job at kind → IsHeld (held ++ more) job at kind
 IsHeld-more held more job at kind known = record {
@@ -73,6 +76,20 @@ call_is_now table log rows job at minute here may =
     let cursor : may.row.cursor ≡ Some minute = known.cursor in
     cc (cursor, may.cursor)
 
+-- an entry that takes effect is in the log
+effective_among : (table : Table) (log : List Entry) (entry : Entry) → IsEffective table log entry → Contains log entry
+effective_among table log entry known =
+    subst (λ (l : List Entry). Contains l entry) (sym known.parts) (Contains-append_right known.before (entry ∷ known.after) entry (Contains-head entry known.after))
+
+-- a launch that may be called was started
+pub call_started : (table : Table) (log : List Entry) (machine : Launches) (held : List SchedRow) (job : ℕ) (at : ℤ) (kind : Kind) (now : Minute) → IsAtWork table log machine held now.0
+    → MayCall table machine.rows job at now.0 → IsStarted log (call_row job at kind now).name
+call_started table log machine held job at kind now works may =
+    let same : now.0 ≡ at = call_is_now table log machine.rows job at now.0 works.here may in
+    let known : IsOpenNow table log job may.row now.0 = works.here.opens job may.row may.since may.is_row may.is_open in
+    let start : HasStart table log job at = subst (HasStart table log job) same known.start in
+    (start.0, effective_among table log (Start job at start.0) start.1)
+
 -- a row that a call adds
 added : (table : Table) (log : List Entry) (rows : List JobRow) (held : List SchedRow) (job : ℕ) (at : ℤ) (now : Minute) (kind : Kind) → Agrees table log rows held
     → now.0 ≡ at → IsJobDue table job at → HasStart table log job at
@@ -101,6 +118,10 @@ added table log rows held job at now kind agrees same due start is_kind none =
           | inl open_at ↦ inl open_at
           | inr held_at ↦ inr (IsHeld-more held (row ∷ []) k t Launch held_at)
         ];
+        in_time = record {
+          starts = agrees.in_time.starts;
+          calls = All-push (λ (r : SchedRow). (r.now.0 ≡ r.name.at) × (r.by ≡ 0)) held row agrees.in_time.calls (same, refl);
+        };
         counted = agrees.counted;
       };
       called = record {

@@ -2,7 +2,7 @@
 use Rattle.std.proofs.Common.{◌≡◌, ◌≢◌, ℕ, ◌+◌, ◌⊎◌, inl, inr, List, [], ◌∷◌, ◌++◌, Option, None, Some, ℤ, ◌<ℤ◌, ◌≤ℤ◌, refl, sym, ap, ◌∙◌, subst, arith}
 use Rattle.std.specs.Prelude.{slice_get}
 use Rattle.std.proofs.lemmas.Int.{ints}
-use Rattle.std.proofs.lemmas.List.Elements.{All-nil, All-weaker}
+use Rattle.std.proofs.lemmas.List.Elements.{All-nil, All-weaker, Contains-push_cases}
 use Rattle.zone_minutes.specs.Window.{IsWithinLimits}
 use Rattle.paxos_base.specs.declared.entry.Entry.{Entry}
 use Rattle.paxos_base.specs.declared.entry.Entry.TheVariants.{Start, End}
@@ -10,6 +10,7 @@ use Rattle.paxos_base.specs.declared.entry.Kind.{Kind}
 use Rattle.paxos_base.specs.declared.entry.Kind.TheVariants.{Launch}
 use Rattle.paxos_base.specs.declared.rows.JobRow.{JobRow}
 use Rattle.due_set.specs.Table.{Table, IsAfter, IsJobDue, IsNextDue}
+use Rattle.due_set.proofs.Rising.{Contains-none}
 use Rattle.cluster_sched.specs.declared.row.SchedRow.{SchedRow}
 use Rattle.launch_machine.specs.Clerk.{Applies, TakesStart, TakesEnd, fresh_rows, opened_row, closed_row, with_row}
 use Rattle.launch_machine.specs.Next.{IsDueNext}
@@ -37,6 +38,10 @@ begun table limits = record {
   ended = λ job at kind known. absurd (no_end table (End job at kind) known);
   due = All-nil (λ (row : SchedRow). IsJobDue table row.name.job row.name.at × (row.kind ≡ Launch));
   passed = λ job row at is_row due not. absurd (not (subst (λ (o : Option ℤ). IsAfter o at) (sym (ap (λ (r : JobRow). r.cursor) (fresh_at table job row is_row))) tt));
+  in_time = record {
+    starts = λ job at now among. absurd (Contains-none (Start job at now) among);
+    calls = All-nil (λ (row : SchedRow). (row.now.0 ≡ row.name.at) × (row.by ≡ 0));
+  };
   counted = λ job row is_row. subst (λ (r : JobRow). IsCounted table.window.from.0 (r.launched + r.voided) r.cursor r.open_now) (sym (fresh_at table job row is_row)) refl;
 }
 
@@ -74,6 +79,13 @@ passed_start table rows held job at minute new takes passed new_is t due not =
         | inr held_at ↦ inr held_at
       ]
     ]
+
+-- a start whose clock is its own minute
+started_now : (job k : ℕ) (at t minute other : ℤ) → at ≡ minute → Start job at minute ≡ Start k t other → other ≡ t
+started_now job k at t minute other now is =
+    let instants : at ≡ t = cc in
+    let clocks : minute ≡ other = cc in
+    sym clocks ∙ sym now ∙ instants
 
 -- a launch that is open stays so
 still_open : (table : Table) (log more : List Entry) (job : ℕ) (row : JobRow) (minute : ℤ) → IsOpenNow table log job row minute → IsOpenNow table (log ++ more) job row minute
@@ -113,6 +125,13 @@ started table log rows next held job at minute agrees here takes applies =
               (subst (λ (i : ℕ). IsJobDue table i t) same due) not)
           | inr (ne, old) ↦ agrees.passed k new t old due not
         ];
+        in_time = record {
+          starts = λ k t other among. elim (Contains-push_cases log entry (Start k t other) among) [
+            | inl old ↦ agrees.in_time.starts k t other old
+            | inr is ↦ started_now job k at t minute other now is
+          ];
+          calls = agrees.in_time.calls;
+        };
         counted = λ k new e. elim (split k new e) [
           | inl (same, is) ↦
               subst (λ (r : JobRow). IsCounted table.window.from.0 (r.launched + r.voided) r.cursor r.open_now) (sym is)
@@ -190,6 +209,13 @@ ended table log rows next held job at minute agrees here takes called applies =
               inr (subst (λ (i : ℕ). IsHeld held i t Launch) (sym same) held_at)
           | inr (ne, old) ↦ agrees.passed k new t old due not
         ];
+        in_time = record {
+          starts = λ k t other among. elim (Contains-push_cases log entry (Start k t other) among) [
+            | inl old ↦ agrees.in_time.starts k t other old
+            | inr is ↦ absurd cc
+          ];
+          calls = agrees.in_time.calls;
+        };
         counted = λ k new e. elim (split k new e) [
           | inl (same, is) ↦ counted_closed new is
           | inr (ne, old) ↦ agrees.counted k new old

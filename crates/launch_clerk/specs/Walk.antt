@@ -12,6 +12,7 @@ use Rattle.cluster_sched.specs.declared.row.SchedRow.{SchedRow}
 use Rattle.launch_machine.specs.Clerk.{IsClerkOf}
 use Rattle.launch_machine.specs.Machine.{Launches, StandsFor}
 use Rattle.launch_machine.specs.Next.{IsDueNext}
+use Rattle.launch_clerk.specs.Book.{AreInTheirMinutes}
 use Rattle.launch_law.specs.Fits.{AreAllEffective, HasStart, HasEnd, IsBacked, IsHeld}
 
 -- the row's launch of the instant is open
@@ -42,6 +43,7 @@ pub record Agrees (table : Table) (log : List Entry) (rows : List JobRow) (held 
   pub due : All (λ row. IsJobDue table row.name.job row.name.at × (row.kind ≡ Launch)) held
   pub passed : (job : ℕ) (row : JobRow) (at : ℤ) → slice_get rows job ≡ Some row → IsJobDue table job at → (IsAfter row.cursor at → ⊥)
       → IsOpenAt row at ⊎ IsHeld held job at Launch
+  pub in_time : AreInTheirMinutes log held
   pub counted : (job : ℕ) (row : JobRow) → slice_get rows job ≡ Some row
       → IsCounted table.window.from.0 (row.launched + row.voided) row.cursor row.open_now
 

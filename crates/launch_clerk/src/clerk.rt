@@ -1,5 +1,4 @@
 ghost use Rattle.std.specs.Prelude.{◌≡◌, ◌<◌, [], ◌∷◌, ◌++◌, IfOk, IfSome, IfNone, OnOk};
-ghost use Rattle.cluster_sched.specs.Held.{Answers};
 ghost use Rattle.launch_machine.specs.Answers.{IsCallKind};
 ghost use Rattle.launch_machine.specs.Clerk.{Applies, TakesStart};
 ghost use Rattle.launch_machine.specs.Intent.{MayCall};
@@ -7,65 +6,49 @@ ghost use Rattle.launch_machine.specs.Machine.{CanCount, StandsFor};
 ghost use Rattle.launch_machine.specs.Next.{IsLeastNext, NoNext};
 ghost use Rattle.launch_clerk.specs.Walk.{IsAtWork, IsResting, steps_left};
 
-use cluster_sched::{CallFault, Ledger, Name, SchedRow, call_by_name};
+use crate::book::LaunchBook;
+use cluster_sched::{Name, SchedRow};
 use cron_io::OutOfMemory;
 use due_set::JobTable;
 use launch_machine::{Intent, Machine};
-use paxos_base::{Entry, EntryList, Kind};
+use paxos_base::{Entry, Kind};
 use std::alloc::Global;
 use zone_minutes::Minute;
 
-/// The clerk's launch table, his log, and the scheduler that he calls.
+/// The clerk's launch table, and his log beside the scheduler that he calls.
 #[derive(Debug, Drop)]
 pub struct Clerk {
     pub machine: Machine,
-    pub log: EntryList,
-    pub ledger: Ledger,
+    pub book: LaunchBook,
 }
 
 impl Clerk {
     /// A clerk who has done nothing.
     pub fn new(alloc: Global, table: &JobTable) -> Result<Clerk, OutOfMemory>
-        ensures { IfOk result (λ clerk. IsResting table.now clerk.log clerk.machine clerk.ledger.held) }
+        ensures { IfOk result (λ clerk. IsResting table.now clerk.book.log clerk.machine clerk.book.held) }
     {
-        // The window's limits bound the launches that are counted.
-        let _ = table.window();
         let machine = Machine::new(alloc, table)?;
-        Ok(Clerk {
-            machine,
-            log: EntryList {
-                items: Vec::new(alloc),
-            },
-            ledger: Ledger::new(alloc),
-        })
+        let book = LaunchBook::new(alloc);
+        Ok(Clerk { machine, book })
     }
 
     /// Goes from one minute at which a job is due to the next, until no job is due any more.
     pub fn walk(&mut self, table: &JobTable) -> Result<(), OutOfMemory>
-        requires { IsResting table.now self.old.log self.old.machine self.old.ledger.held }
-        ensures rests { OnOk result (IsResting table.now self.new.log self.new.machine self.new.ledger.held) }
+        requires { IsResting table.now self.old.book.log self.old.machine self.old.book.held }
+        ensures rests { OnOk result (IsResting table.now self.new.book.log self.new.machine self.new.book.held) }
         ensures done { OnOk result (NoNext table.now self.new.machine.rows) }
     {
-        while let Some(now) = self.next_minute(table) {
+        while let Some(now) = self.machine.next_start() {
             self.settle(table, now)?;
         }
         Ok(())
     }
 
-    // The next minute at which a job is due.
-    fn next_minute(&self, _table: &JobTable) -> Option<Minute>
-        requires { StandsFor _table.now self.now.machine }
-        ensures found { IfSome result (λ now. IsLeastNext _table.now self.now.machine.rows now.0) }
-        ensures none { IfNone result (NoNext _table.now self.now.machine.rows) }
-    {
-        self.machine.next_start()
-    }
-
     // Does all that is to be done at the minute at which a job is due next.
     fn settle(&mut self, table: &JobTable, now: Minute) -> Result<(), OutOfMemory>
-        requires rests { IsResting table.now self.old.log self.old.machine self.old.ledger.held }
+        requires rests { IsResting table.now self.old.book.log self.old.machine self.old.book.held }
         requires next { IsLeastNext table.now self.old.machine.rows now.0 }
-        ensures rests { OnOk result (IsResting table.now self.new.log self.new.machine self.new.ledger.held) }
+        ensures rests { OnOk result (IsResting table.now self.new.book.log self.new.machine self.new.book.held) }
         // What is left to do grows less.
         ensures falls { OnOk result (steps_left table.now.window self.new.machine.rows
             < steps_left table.now.window self.old.machine.rows) }
@@ -81,9 +64,9 @@ impl Clerk {
 
     // Starts a launch.
     fn start(&mut self, table: &JobTable, job: u32, at: i64, now: Minute) -> Result<(), OutOfMemory>
-        requires works { IsAtWork table.now self.old.log self.old.machine self.old.ledger.held now.0 }
+        requires works { IsAtWork table.now self.old.book.log self.old.machine self.old.book.held now.0 }
         requires takes { TakesStart table.now self.old.machine.rows job at now.0 }
-        ensures works { OnOk result (IsAtWork table.now self.new.log self.new.machine self.new.ledger.held now.0) }
+        ensures works { OnOk result (IsAtWork table.now self.new.book.log self.new.machine self.new.book.held now.0) }
         ensures falls { OnOk result (steps_left table.now.window self.new.machine.rows
             < steps_left table.now.window self.old.machine.rows) }
     {
@@ -106,23 +89,20 @@ impl Clerk {
         kind: Kind,
         now: Minute,
     ) -> Result<(), OutOfMemory>
-        requires works { IsAtWork table.now self.old.log self.old.machine self.old.ledger.held now.0 }
+        requires works { IsAtWork table.now self.old.book.log self.old.machine self.old.book.held now.0 }
         requires may { MayCall table.now self.old.machine.rows job at now.0 }
         requires kind { IsCallKind table.now job at now.0 kind }
-        ensures works { OnOk result (IsAtWork table.now self.new.log self.new.machine self.new.ledger.held now.0) }
+        ensures works { OnOk result (IsAtWork table.now self.new.book.log self.new.machine self.new.book.held now.0) }
         ensures falls { OnOk result (steps_left table.now.window self.new.machine.rows
             < steps_left table.now.window self.old.machine.rows) }
     {
         let name = Name { job, at };
-        let first = call_ledger(
-            &mut self.ledger,
-            SchedRow {
-                name,
-                kind,
-                now,
-                by: 0,
-            },
-        )?;
+        let first = self.book.call(SchedRow {
+            name,
+            kind,
+            now,
+            by: 0,
+        })?;
         self.append(
             table,
             Entry::End {
@@ -137,24 +117,13 @@ impl Clerk {
     fn append(&mut self, table: &JobTable, entry: Entry) -> Result<(), OutOfMemory>
         requires stands { StandsFor table.now self.old.machine }
         requires room { CanCount self.old.machine.rows entry }
-        ensures log { OnOk result (self.new.log ≡ self.old.log ++ entry ∷ []) }
+        ensures log { OnOk result (self.new.book.log ≡ self.old.book.log ++ entry ∷ []) }
         ensures applies { OnOk result (Applies table.now self.old.machine.rows entry self.new.machine.rows) }
         ensures stands { OnOk result (StandsFor table.now self.new.machine) }
-        ensures held { self.new.ledger.held ≡ self.old.ledger.held }
+        ensures held { self.new.book.held ≡ self.old.book.held }
     {
-        self.log.items.push(entry)?;
+        self.book.append(entry)?;
         self.machine.apply(table, entry);
         Ok(())
-    }
-}
-
-// Calls the ledger, whose calls don't fail but for want of memory.
-fn call_ledger(ledger: &mut Ledger, row: SchedRow) -> Result<SchedRow, OutOfMemory>
-    ensures { IfOk result (λ first. Answers ledger.old.held row first ledger.new.held) }
-{
-    match call_by_name(ledger, row) {
-        Ok(first) => Ok(first),
-        Err(CallFault::OutOfMemory) => Err(OutOfMemory),
-        Err(CallFault::Failed) => unreachable!(),
     }
 }

@@ -1,0 +1,24 @@
+-- The clerk's log beside what is held for the launches that he called.
+use Rattle.std.specs.Prelude.{ℕ, List, ℤ, All, Contains, ◌≡◌}
+use Rattle.paxos_base.specs.declared.entry.Entry.{Entry}
+use Rattle.paxos_base.specs.declared.entry.Entry.TheVariants.{Start}
+use Rattle.cluster_sched.specs.declared.row.Name.{Name}
+use Rattle.cluster_sched.specs.declared.row.SchedRow.{SchedRow}
+
+-- a log, and the rows that the scheduler holds
+pub record Book : Type 0 where
+  pub log : List Entry
+  pub held : List SchedRow
+
+-- a start of the launch is in the log
+abbrev pub IsStarted : List Entry → Name → Type 0
+IsStarted log name = (now : ℤ) × Contains log (Start name.job name.at now)
+
+-- each launch that is held has a start in the log
+abbrev pub AreStarted : List Entry → List SchedRow → Type 0
+AreStarted log held = All (λ row. IsStarted log row.name) held
+
+-- each launch is started and called in the minute at which it is due, by the one clerk, whose number is 0
+pub record AreInTheirMinutes (log : List Entry) (held : List SchedRow) : Type 0 where
+  pub starts : (job : ℕ) (at now : ℤ) → Contains log (Start job at now) → now ≡ at
+  pub calls : All (λ row. (row.now.0 ≡ row.name.at) × (row.by ≡ 0)) held
