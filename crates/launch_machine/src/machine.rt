@@ -1,7 +1,7 @@
 ghost use Rattle.std.specs.Prelude.{◌≡◌, ◌<◌, length, IfOk, IfSome, IfNone, Some, slice_get};
 ghost use Rattle.zone_minutes.specs.Window.{IsInWindow};
 ghost use Rattle.paxos_base.specs.Rows.{RowsStand};
-ghost use Rattle.due_set.specs.Table.{Table};
+ghost use Rattle.due_set.specs.Table.{Table, IsSound};
 ghost use Rattle.launch_machine.specs.Answers.{IsEffect, IsIntent};
 ghost use Rattle.launch_machine.specs.Clerk.{Applies, fresh_rows};
 ghost use Rattle.launch_machine.specs.Machine.{CanCount, HasRoom, StandsFor};
@@ -63,6 +63,7 @@ impl Machine {
     pub fn new(alloc: Global, table: &JobTable) -> Result<Machine, OutOfMemory>
         ensures rows { IfOk result (λ machine. machine.rows ≡ fresh_rows table.now) }
         ensures stands { IfOk result (λ machine. StandsFor table.now machine) }
+        ensures sound { IsSound table.now }
     {
         let rows = row::fresh_rows(alloc, table.jobs())?;
         let nexts = nexts_of(alloc, table, &rows)?;
