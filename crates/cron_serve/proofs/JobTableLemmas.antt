@@ -45,16 +45,15 @@ same_table_job a b names zones kinds =
     ∙ ap (λ (kind : JobKind). let job : Job = record { name = b.name; zone = b.zone; kind = kind } in job) kinds
 
 -- the job of the next entry stands behind those of the entries before it
-pub pushed_entry : (label name : List ℕ) (items entries : List EntryText) (i : ℕ) (d : EntryText) (start old new : List JobSpec)
+pub pushed_entry : (label name : List ℕ) (items entries : List EntryText) (i : ℕ) (d : EntryText) (spec : JobSpec) (start old new : List JobSpec)
     → i < length items → items ≡ entries → name ≡ label ++ (58 ∷ decimal (i + 1))
-    → new ≡ old ++ record { name = name; zone = 0; kind = Crontab (get_or items i d).fields } ∷ []
+    → spec.name ≡ name → spec.zone ≡ 0 → spec.kind ≡ Crontab (get_or items i d).fields → new ≡ old ++ spec ∷ []
     → map job_of old ≡ map job_of start ++ first_jobs label entries i
     → map job_of new ≡ map job_of start ++ first_jobs label entries (i + 1)
-pushed_entry label name items entries i d start old new lt same name_is new_is known =
-    let spec : JobSpec = record { name = name; zone = 0; kind = Crontab (get_or items i d).fields } in
+pushed_entry label name items entries i d spec start old new lt same name_is named zone kind new_is known =
     let lt' : i < length entries = subst (λ (l : List EntryText). i < length l) same lt in
     let job : job_of spec ≡ table_job (numbered_job label (i + 1, entry_of (get_or entries i d))) =
-    same_table_job _ _ name_is refl (ap (λ (l : List EntryText). Crontab (get_or l i d).fields) same) in
+    same_table_job _ _ (named ∙ name_is) zone (kind ∙ ap (λ (l : List EntryText). Crontab (get_or l i d).fields) same) in
     ap (map job_of) new_is ∙ map-append job_of old (spec ∷ [])
     ∙ ap (λ (l : List Job). l ++ job_of spec ∷ []) known
     ∙ ap (λ (j : Job). (map job_of start ++ first_jobs label entries i) ++ j ∷ []) job

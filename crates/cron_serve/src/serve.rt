@@ -14,7 +14,7 @@ use crate::stop::Stop;
 use crate::table::take_table;
 use cron_io::{Sink, Source, read_all};
 use due_set::JobTable;
-use launch_clerk::{ClerkRun, run_clerk};
+use launch_clerk::{LaunchBook, run_clerk};
 use report_text::{ReportFault, write_report};
 use std::alloc::Global;
 
@@ -24,17 +24,17 @@ const MAX_INPUT: u32 = 1_048_576;
 /// There is one replica so far.
 const REPLICAS: u8 = 1;
 
-// A run that was read, with the table of its jobs, and what the clerk left.
+// The table of the jobs of a run that was read, and the book that the clerk left.
 #[derive(Debug, Drop)]
 struct Walked {
     table: JobTable,
-    run: ClerkRun,
+    book: LaunchBook,
 }
 
 // Reads a run, and lets the clerk walk through it.
 fn walk<S: Source>(alloc: Global, source: &mut S) -> Result<Walked, Stop>
     ensures run { IfOk result (λ walked. IsRunOfInput (S.seen source.old) (S.seen source.new)
-        walked.table walked.run.log walked.run.ledger.held) }
+        walked.table walked.book.log walked.book.held) }
     ensures stop { IfErr result (StopsFor (S.seen source.old) (S.seen source.new)) }
     ensures read_on { HasReadOn (S.seen source.old) (S.seen source.new) }
     ensures no_read_fault { S.reliable source.old → IsErrOf result Stop.ReadFault → ⊥ }
@@ -43,37 +43,32 @@ fn walk<S: Source>(alloc: Global, source: &mut S) -> Result<Walked, Stop>
 {
     let bytes = read_all(alloc, source, MAX_INPUT)?;
     let table = take_table(alloc, &bytes)?;
-    let run = run_clerk(alloc, &table)?;
-    Ok(Walked { table, run })
+    let book = run_clerk(alloc, &table)?;
+    Ok(Walked { table, book })
 }
 
 // Writes the report of a run.
 fn report<K: Sink>(alloc: Global, sink: &mut K, walked: Walked) -> RunEnd
-    requires { All (λ row. IsNameIn walked.table row.name) walked.run.ledger.held }
-    ensures text { (text : List ℕ) × IsReport walked.table 1 walked.run.ledger.held text
+    requires { All (λ row. IsNameIn walked.table row.name) walked.book.held }
+    ensures text { (text : List ℕ) × IsReport walked.table 1 walked.book.held text
         × WritesAtStatus (K.seen sink.old) (K.seen sink.new) result.status text }
-    ensures log { result.status ≢ 5 → result.log ≡ walked.run.log }
-    ensures held { result.status ≢ 5 → result.ledger.held ≡ walked.run.ledger.held }
+    ensures log { result.status ≢ 5 → result.log ≡ walked.book.log }
+    ensures held { result.status ≢ 5 → result.ledger.held ≡ walked.book.held }
     ensures no_run { result.status ≡ 5 → LeavesNoRun result.log result.ledger.held }
     ensures refusal { result.refusal ≡ None }
     ensures statuses { (result.status ≡ 0) ⊎ (result.status ≡ 4) ⊎ (result.status ≡ 5) }
 {
-    let status = match write_report(
-        alloc,
-        sink,
-        &walked.table,
-        REPLICAS,
-        walked.run.ledger.held(),
-    ) {
+    let status = match write_report(alloc, sink, &walked.table, REPLICAS, walked.book.held()) {
         Ok(()) => 0,
         Err(ReportFault::WriteFault) => 4,
         Err(ReportFault::OutOfMemory) => return RunEnd::stopped(alloc, Stop::OutOfMemory),
     };
+    let (log, ledger) = walked.book.into_parts();
     RunEnd {
         status,
         refusal: None,
-        log: walked.run.log,
-        ledger: walked.run.ledger,
+        log,
+        ledger,
     }
 }
 

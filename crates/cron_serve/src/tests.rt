@@ -1,6 +1,7 @@
 //! Whole runs, from the bytes of a run file to the report and the note.
 use crate::{
-    RunEnd, a_refusal_has_one_of_two_notes, a_text_says_one_run, a_whole_run_makes_each_launch, cron_cluster,
+    RunEnd, a_refusal_has_one_of_two_notes, a_text_says_one_run, a_whole_run_makes_each_launch,
+    cron_cluster,
 };
 use cron_io::{MemSink, MemSource};
 use paxos_base::{Entry, Kind};

@@ -1,4 +1,4 @@
--- When every launch is made in time.
+-- When each due instant is launched.
 use Rattle.std.specs.Prelude.{◌≡◌, ℕ, List, ℤ, All}
 use Rattle.paxos_base.specs.declared.entry.Kind.TheVariants.{Launch}
 use Rattle.due_set.specs.Table.{Table, IsJobDue}

@@ -8,7 +8,7 @@ report-requires g c = names_of_run _ _ _ _ _ c.in-Ok.ensures.run
 pub returns-in-Ok-clause-ends : goal.returns-in-Ok-clause-ends
 returns-in-Ok-clause-ends g c =
     let text = c.report.ensures.text in
-    ends_report _ _ _ _ c.in-Ok.walked.table c.in-Ok.walked.run.log c.in-Ok.walked.run.ledger.held c.report.result text.0 c.in-Ok.ensures.run c.walk.ensures.read_on
+    ends_report _ _ _ _ c.in-Ok.walked.table c.in-Ok.walked.book.log c.in-Ok.walked.book.held c.report.result text.0 c.in-Ok.ensures.run c.walk.ensures.read_on
     (record {
       report = text.1;
       written = text.2;
@@ -21,7 +21,7 @@ returns-in-Ok-clause-ends g c =
 
 pub returns-in-Ok-clause-complete : goal.returns-in-Ok-clause-complete
 returns-in-Ok-clause-complete g c =
-    completes_report _ _ _ _ c.in-Ok.walked.table c.in-Ok.walked.run.log c.in-Ok.walked.run.ledger.held c.report.result.status c.in-Ok.ensures.run
+    completes_report _ _ _ _ c.in-Ok.walked.table c.in-Ok.walked.book.log c.in-Ok.walked.book.held c.report.result.status c.in-Ok.ensures.run
     c.report.ensures.text.2.fault c.report.ensures.statuses
 
 pub returns-in-Err-clause-ends : goal.returns-in-Err-clause-ends
