@@ -1,9 +1,9 @@
 -- Rows that are held, and rows that are late.
-use Rattle.std.proofs.Common.{◌≡◌, ◌≢◌, ◌<◌, ℕ, zero, suc, List, [], ◌∷◌, ◌++◌, length, get_or, Option, None, Some, Result, Ok, Err, refl, sym, ap, ◌∙◌, inl, inr, arith}
+use Rattle.std.proofs.Common.{◌≡◌, ◌≢◌, ◌<◌, ℕ, zero, suc, List, [], ◌∷◌, ◌++◌, length, get_or, Option, None, Some, Result, refl, sym, ap, ◌∙◌, inl, inr, arith}
 use Rattle.std.specs.Prelude.{slice_get, unwrap_or}
 use Rattle.std.proofs.lemmas.List.Elements.{All-nil, All-cons, All-head, All-tail}
 use Rattle.std.proofs.lemmas.Option.{slice_get_within, unwrap_or-slice_get}
-use Rattle.cluster_sched.specs.Held.{NoneUnder, IsFirstUnder, AreNamedOnce, IsLookedUp, Follows, Answers, GoesLate, MayGoLate}
+use Rattle.cluster_sched.specs.Held.{NoneUnder, IsFirstUnder, AreNamedOnce, IsLookedUp, Answers, MayGoLate}
 use Rattle.cluster_sched.specs.declared.fault.CallFault.{CallFault}
 use Rattle.cluster_sched.specs.declared.row.Name.{Name}
 use Rattle.cluster_sched.specs.declared.row.SchedRow.{SchedRow}
@@ -52,10 +52,6 @@ Answers-first old new row first (inr created) = record {
   named = ap (λ (r : SchedRow). r.name) created.2;
   first = created.0;
 }
-
-pub Answers-Follows : (old new : List SchedRow) (row first : SchedRow) → Answers old row first new → Follows old row new
-Answers-Follows old new row first (inl known) = inl known.1
-Answers-Follows old new row first (inr created) = inr (created.0, created.1)
 
 -- ---- rows of which no two are under one name
 

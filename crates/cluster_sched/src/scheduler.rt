@@ -15,8 +15,8 @@ pub trait Scheduler {
     /// The calls that are still on their way to it, in order.
     ghost late: { Self → List SchedRow };
 
-    /// A count that only `create` may change, as of how often it was called: by it a contract says that nothing was
-    /// created. A scheduler that doesn't count may have 0 here at all times.
+    /// How often `create` was called, where the scheduler counts that, and else 0. Nothing but `create` changes it, so by
+    /// it a contract says that nothing was created.
     ghost creates: { Self → ℕ };
 
     /// How often a call has failed: a count that doesn't fall, and stands still at the last value of a `u64`.

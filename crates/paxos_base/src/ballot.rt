@@ -36,7 +36,7 @@ impl Ballot {
         Ballot(8 * round + u64::from(member))
     }
 
-    /// Whether there is a ballot with this number that belongs to one of that many replicas, which are numbered from 0.
+    /// Whether the number is a ballot's: of a round from 1 on, and of one of that many replicas, which are numbered from 0.
     pub fn is_number_of(members: u8, number: u64) -> bool
         ensures { result ≡ is_ballot_of members number }
     {
