@@ -38,11 +38,3 @@ pub front_prefix : (table : Table) (job : ℕ) (instants dues : List ℤ) → Is
 front_prefix table job instants dues front list =
     rising_prefix instants dues front.rising list.rising (λ t h. list.complete t (front.sound t h))
     (λ t last h in_dues le. front.complete t last h (list.sound t in_dues) le)
-
--- all of them are a beginning too
-pub list_front : (table : Table) (job : ℕ) (dues : List ℤ) → IsJobDueList table job dues → IsDueFront table job dues
-list_front table job dues list = record {
-  rising = list.rising;
-  sound = list.sound;
-  complete = λ t last h due le. list.complete t due;
-}

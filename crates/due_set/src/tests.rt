@@ -4,8 +4,10 @@ ghost use Rattle.due_set.specs.Table.{IsAnacron};
 
 use crate::call::{has_come, is_on_time};
 use crate::{
-    JobKind, JobSpec, JobTable, Kind2, Period, a_job_has_one_due_list, a_job_has_one_next_instant,
-    a_name_says_one_job, each_job_has_a_zone, launches_come_at_their_instants,
+    JobKind, JobSpec, JobTable, Kind2, Period, a_due_front_is_a_prefix,
+    a_job_has_a_next_instant_or_none, a_job_has_one_due_list, a_job_has_one_next_instant,
+    a_job_is_due_or_not, a_name_says_one_job, each_job_has_a_due_list, each_job_has_a_zone,
+    launches_come_at_their_instants,
 };
 use cron_fields::{FieldKind, Fields, read_plain_field};
 use std::alloc::Global;
@@ -295,7 +297,11 @@ fn calls_an_anacron_job_on_its_local_date(rt: HostRuntime) -> Result<(), Fail> {
 #[test]
 fn laws(_rt: HostRuntime) {
     a_job_has_one_next_instant();
+    a_job_has_a_next_instant_or_none();
+    a_job_is_due_or_not();
     a_job_has_one_due_list();
+    each_job_has_a_due_list();
+    a_due_front_is_a_prefix();
     a_name_says_one_job();
     each_job_has_a_zone();
     launches_come_at_their_instants();
