@@ -1,6 +1,5 @@
 //! Calls of a ledger, and of a scheduler that fails, and names.
-ghost use Rattle.std.specs.Prelude.{◌≡◌, IfOk};
-ghost use Rattle.due_set.specs.declared.job.JobKind.TheVariants.{Never};
+ghost use Rattle.std.specs.Prelude.{IfOk};
 ghost use Rattle.cluster_sched.specs.Names.{IsNameIn};
 
 use crate::flaky::{Course, Flaky};
@@ -9,29 +8,17 @@ use crate::{
     call_by_name, held_rows_stay, late_rows_stay, names_differ_in_their_texts, read_name,
     rows_named_once_are_first, write_name,
 };
-use due_set::{JobKind, JobName, JobSpec, JobTable};
+use due_set::{JobKind, JobSpec, JobTable};
 use paxos_base::Kind;
 use std::alloc::Global;
 use std::test::Fail;
-use zone_minutes::{Minute, Window, ZoneRuns, ZoneSource};
+use zone_minutes::{Minute, Window};
 
 // 2024-03-31T01:00Z.
 const LAUNCH: Name = Name {
     job: 0,
     at: 28_530_780,
 };
-
-fn idle_job(alloc: Global, name: &str) -> Result<JobSpec, Fail>
-    ensures name { IfOk result (λ job. job.name ≡ name.now) }
-    ensures zone { IfOk result (λ job. job.zone ≡ 0) }
-    ensures kind { IfOk result (λ job. job.kind ≡ Never) }
-{
-    Ok(JobSpec {
-        name: JobName::new(alloc, name)?,
-        zone: 0,
-        kind: JobKind::Never,
-    })
-}
 
 // A table of two jobs and of two hours, from 2024-03-31T00:00Z on.
 fn two_jobs(alloc: Global) -> Result<JobTable, Fail>
@@ -41,12 +28,10 @@ fn two_jobs(alloc: Global) -> Result<JobTable, Fail>
         from: Minute(28_530_720),
         until: Minute(28_530_840),
     };
-    let mut zones = Vec::new(alloc);
-    zones.push(ZoneRuns::build(alloc, &ZoneSource::Fixed { minutes: 0 }, window)?)?;
     let mut jobs = Vec::new(alloc);
-    jobs.push(idle_job(alloc, "alice:1")?)?;
-    jobs.push(idle_job(alloc, "bob@home:2")?)?;
-    Ok(JobTable::assemble(window, 0, zones, jobs))
+    jobs.push(JobSpec::new(alloc, "alice:1", 0, JobKind::Never)?)?;
+    jobs.push(JobSpec::new(alloc, "bob@home:2", 0, JobKind::Never)?)?;
+    Ok(JobTable::in_utc(alloc, window, 0, jobs)?)
 }
 
 // Texts, and the launches that have them as their names.

@@ -1,23 +1,25 @@
 -- What a refusal says of the input, and its note.
-use Rattle.std.proofs.Common.{◌≡◌, ◌⊎◌, inl, inr, ℕ, ◌<◌, ◌≤◌, List, [], ◌∷◌, ◌++◌, length, Some, refl, sym, ap, ◌∙◌, subst, arith}
-use Rattle.std.specs.Prelude.{codes, decimal}
+use Rattle.std.proofs.Common.{◌≡◌, ◌⊎◌, inl, inr, ℕ, ◌<◌, ◌≤◌, List, length, Some, ap, ◌∙◌, subst, arith}
 use Rattle.cron_io.specs.Views.{SourceView}
 use Rattle.cron_serve.specs.Serve.{IsRefused, note_text, refusal_note}
 use Rattle.cron_serve.specs.Table.{TakesNoRun}
 use Rattle.cron_serve.specs.declared.run_end.Refusal.{Refusal}
 use Rattle.cron_serve.proofs.CompleteLemmas.{consumed, read_whole}
 
--- the note of a refusal of which no line is to blame
-noted : (refusal : Refusal) (cause : ℕ) → refusal.line ≡ 0 → refusal.cause ≡ cause → refusal.place ≡ 0
-    → refusal_note refusal ≡ codes "cron_cluster: line 0: cause " ++ decimal cause ++ codes " at 0" ++ 10 ∷ []
-noted refusal cause line is place = rw (line, is, place) refl
+-- a refusal of which no line is to blame
+of_no_line : (refusal : Refusal) (cause : ℕ) → refusal.line ≡ 0 → refusal.cause ≡ cause → refusal.place ≡ 0
+    → refusal ≡ record { line = 0; cause = cause; place = 0 }
+of_no_line refusal cause line is place =
+    ap (λ (n : ℕ). let r : Refusal = record { line = n; cause = refusal.cause; place = refusal.place } in r) line
+    ∙ ap (λ (n : ℕ). let r : Refusal = record { line = 0; cause = n; place = refusal.place } in r) is
+    ∙ ap (λ (n : ℕ). let r : Refusal = record { line = 0; cause = cause; place = n } in r) place
 
 pub one_of_two : (old new : SourceView) (refusal : Refusal) → IsRefused old new refusal
-    → (note_text 2 (Some refusal) ≡ codes "cron_cluster: line 0: cause 33 at 0" ++ 10 ∷ [])
-    ⊎ (note_text 2 (Some refusal) ≡ codes "cron_cluster: line 0: cause 35 at 0" ++ 10 ∷ [])
+    → (note_text 2 (Some refusal) ≡ refusal_note (record { line = 0; cause = 33; place = 0 }))
+    ⊎ (note_text 2 (Some refusal) ≡ refusal_note (record { line = 0; cause = 35; place = 0 }))
 one_of_two old new refusal refused = elim refused.why [
-  | inl large ↦ inl (noted refusal 33 refused.line large.cause refused.place)
-  | inr other ↦ inr (noted refusal 35 refused.line other.cause refused.place)
+  | inl large ↦ inl (ap refusal_note (of_no_line refusal 33 refused.line large.cause refused.place))
+  | inr other ↦ inr (ap refusal_note (of_no_line refusal 35 refused.line other.cause refused.place))
 ]
 
 pub large_at_33 : (old new : SourceView) (refusal : Refusal) (bytes : List ℕ) → IsRefused old new refusal

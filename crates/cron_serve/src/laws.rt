@@ -1,12 +1,12 @@
 //! Laws of the program's ends. Each is the contract of a function that does nothing.
-ghost use Rattle.std.specs.Prelude.{◌≡◌, ◌⊎◌, ◌++◌, ◌∷◌, ◌<◌, ◌≤◌, ℕ, ℤ, List, [], Some, Contains, length, codes};
+ghost use Rattle.std.specs.Prelude.{◌≡◌, ◌⊎◌, ◌<◌, ◌≤◌, ℕ, ℤ, List, Some, Contains, length};
 ghost use Rattle.cron_io.specs.Views.{SourceView};
 ghost use Rattle.paxos_base.specs.declared.entry.Entry.{Entry};
 ghost use Rattle.paxos_base.specs.declared.entry.Kind.TheVariants.{Launch};
 ghost use Rattle.due_set.specs.Table.{Table, IsJobDue};
 ghost use Rattle.cluster_sched.specs.declared.row.SchedRow.{SchedRow};
 ghost use Rattle.launch_law.specs.Fits.{HasStart, HasEnd, IsEffective, IsHeld};
-ghost use Rattle.cron_serve.specs.Serve.{IsRefused, IsWholeRun, note_text};
+ghost use Rattle.cron_serve.specs.Serve.{IsRefused, IsWholeRun, note_text, refusal_note};
 ghost use Rattle.cron_serve.specs.Table.{TakesNoRun};
 ghost use Rattle.cron_serve.specs.declared.run_end.Refusal.{Refusal};
 
@@ -14,8 +14,8 @@ ghost use Rattle.cron_serve.specs.declared.run_end.Refusal.{Refusal};
 /// cause 33, and otherwise no more, of which no run that is taken is made.
 pub fn a_refusal_has_one_of_two_notes()
     ensures note { (old new : SourceView) (refusal : Refusal) → IsRefused old new refusal
-        → (note_text 2 (Some refusal) ≡ codes "cron_cluster: line 0: cause 33 at 0" ++ 10 ∷ [])
-        ⊎ (note_text 2 (Some refusal) ≡ codes "cron_cluster: line 0: cause 35 at 0" ++ 10 ∷ []) }
+        → (note_text 2 (Some refusal) ≡ refusal_note (record { line = 0; cause = 33; place = 0 }))
+        ⊎ (note_text 2 (Some refusal) ≡ refusal_note (record { line = 0; cause = 35; place = 0 })) }
     ensures large { (old new : SourceView) (refusal : Refusal) (bytes : List ℕ) → IsRefused old new refusal
         → old.left ≡ Some bytes → refusal.cause ≡ 33 → 1_048_576 < length bytes }
     ensures not_yet { (old new : SourceView) (refusal : Refusal) (bytes : List ℕ) → IsRefused old new refusal

@@ -9,14 +9,19 @@ use crate::{
     starts_are_a_prefix,
 };
 use cron_fields::{FieldKind, Fields, read_plain_field};
-use due_set::{JobKind, JobName, JobSpec, JobTable};
+use due_set::{JobKind, JobSpec, JobTable};
 use paxos_base::{Entry, JobRow, Kind, RowList};
 use std::alloc::Global;
 use std::test::Fail;
-use zone_minutes::{Minute, Window, ZoneRuns, ZoneSource};
+use zone_minutes::{Minute, Window};
 
 // 2024-03-31T00:00Z.
 const FROM: i64 = 28_530_720;
+
+const HOUR: Window = Window {
+    from: Minute(FROM),
+    until: Minute(FROM + 60),
+};
 
 fn fields_of(minutes: &str) -> Option<Fields> {
     Some(Fields {
@@ -35,38 +40,22 @@ fn crontab_job(alloc: Global, name: &str, minutes: &str) -> Result<JobSpec, Fail
     ensures plain { IfOk result (λ job. IsAnacron job.kind → ⊥) }
 {
     let fields = fields_of(minutes).ok_or("no fields")?;
-    Ok(JobSpec {
-        name: JobName::new(alloc, name)?,
-        zone: 0,
-        kind: JobKind::Crontab { fields },
-    })
+    Ok(JobSpec::new(alloc, name, 0, JobKind::Crontab { fields })?)
 }
 
 // A table of an hour, at no grace, with a job at minutes 0, 20 and 40.
 fn one_job(alloc: Global) -> Result<JobTable, Fail> {
-    let window = Window {
-        from: Minute(FROM),
-        until: Minute(FROM + 60),
-    };
-    let mut zones = Vec::new(alloc);
-    zones.push(ZoneRuns::build(alloc, &ZoneSource::Fixed { minutes: 0 }, window)?)?;
     let mut jobs = Vec::new(alloc);
     jobs.push(crontab_job(alloc, "alice:1", "0,20,40")?)?;
-    Ok(JobTable::assemble(window, 0, zones, jobs))
+    Ok(JobTable::in_utc(alloc, HOUR, 0, jobs)?)
 }
 
 // A table of an hour, at no grace, with a job at minutes 0, 20 and 40 and a job at minute 0.
 fn two_jobs(alloc: Global) -> Result<JobTable, Fail> {
-    let window = Window {
-        from: Minute(FROM),
-        until: Minute(FROM + 60),
-    };
-    let mut zones = Vec::new(alloc);
-    zones.push(ZoneRuns::build(alloc, &ZoneSource::Fixed { minutes: 0 }, window)?)?;
     let mut jobs = Vec::new(alloc);
     jobs.push(crontab_job(alloc, "alice:1", "0,20,40")?)?;
     jobs.push(crontab_job(alloc, "bob:2", "0")?)?;
-    Ok(JobTable::assemble(window, 0, zones, jobs))
+    Ok(JobTable::in_utc(alloc, HOUR, 0, jobs)?)
 }
 
 fn has_room(row: JobRow) -> bool
