@@ -1,5 +1,5 @@
 use crate::FieldKind::{Hour, Minute, Month, MonthDay, WeekDay};
-use crate::{FieldSet, Fields, read_plain_field};
+use crate::{FieldSet, Fields, a_plain_field_has_no_blank, a_text_has_one_set, read_plain_field};
 
 const EVERY: FieldSet = FieldSet {
     bits: u64::MAX,
@@ -160,4 +160,10 @@ fn matches_times(rt: HostRuntime) {
         );
         assert_eq!(rt; fields.is_frequent(), frequent, "{minute} {hour}");
     }
+}
+
+#[test]
+fn laws_hold(_rt: HostRuntime) {
+    a_text_has_one_set();
+    a_plain_field_has_no_blank();
 }
