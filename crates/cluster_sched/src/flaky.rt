@@ -1,5 +1,5 @@
 //! A scheduler of the tests, which fails as it is told to and counts its calls.
-ghost use Rattle.std.specs.Prelude.{◌≡◌, ◌≤◌, IsErrOf};
+ghost use Rattle.std.specs.Prelude.{◌≡◌, ◌≤◌};
 ghost use Rattle.cron_io.specs.Faults.{next_count, Rose};
 
 use crate::{CallFault, Ledger, Name, SchedRow, Scheduler};

@@ -1,4 +1,4 @@
-ghost use Rattle.std.specs.Prelude.{◌≡◌, ◌^◌, ◌<◌, ◌||◌, ◌↔◌, IsTrue};
+ghost use Rattle.std.specs.Prelude.{◌≡◌, ◌<◌, ◌||◌, ◌↔◌, IsTrue};
 
 /// Which of the five fields of a crontab line, with the numbers that crontab(5) gives it.
 #[derive(Clone, Copy, Debug, PartialEq, Eq)]

@@ -1,6 +1,5 @@
 -- Writes one after the other.
 use Rattle.std.proofs.Common.{◌≡◌, ℕ, ◌-◌, ◌<◌, ◌≤◌, List, [], ◌++◌, length, Some, IsSome, IsErr, Result, Ok, Err, take, drop, refl, sym, ap, subst, ◌∙◌, ◌+◌, append_assoc, take-append-drop, length-append, length-drop, arith}
-use Rattle.std.specs.Io.KnownBytes.{Appends}
 use Rattle.std.proofs.KnownBytes.{Appends-trans}
 use Rattle.cron_io.specs.Views.{SinkView}
 use Rattle.cron_io.specs.Writing.{HasGained, HasTakenAll, TakesByRoom}

@@ -1,4 +1,4 @@
-ghost use Rattle.std.specs.Prelude.{◌≡◌, ℕ, ◌<◌, List, length, slice_index, IfSome, IfNone};
+ghost use Rattle.std.specs.Prelude.{ℕ, ◌<◌, List, IfSome, IfNone};
 ghost use Rattle.cron_fields.specs.declared.field.FieldSet.{FieldSet};
 ghost use Rattle.cron_serve.specs.Grammar.{IsBlank, IsEntryLine};
 ghost use Rattle.cron_serve.specs.Reading.{LacksAny, IsFirstIndex, IsCutAtBlank, SkipsBlanks, BeginsWithField};

@@ -1,4 +1,4 @@
-ghost use Rattle.std.specs.Prelude.{◌≡◌, ◌<◌, ◌≤◌, ◌++◌, ℕ, length, map, IsUtf8, IfSome, IfNone, IfOk, OnOk, OnErr, IsErrOf};
+ghost use Rattle.std.specs.Prelude.{◌≡◌, ◌<◌, ◌≤◌, ◌++◌, ℕ, length, map, IsUtf8, IfSome, IfNone, IfOk, OnOk, IsErrOf};
 ghost use Rattle.zone_minutes.specs.Window.{IsWithinLimits};
 ghost use Rattle.due_set.specs.Table.{job_of};
 ghost use Rattle.cron_serve.specs.Lines.{Lacks};

@@ -1,5 +1,5 @@
-ghost use Rattle.std.specs.Prelude.{◌≡◌, ◌≢◌, ◌≤◌, ◌<◌, ◌↔◌, ◌⊎◌, ℕ, length, IsTrue, IfSome, IfNone, decimal, slice_index};
-ghost use Rattle.cron_serve.specs.Grammar.{IsLabelStart, IsLabelByte, IsLabel, IsBlank, BeginsWithoutBlank, IsCommand};
+ghost use Rattle.std.specs.Prelude.{◌≡◌, ◌≢◌, ◌≤◌, ◌<◌, ◌↔◌, ℕ, IsTrue, IfSome, IfNone, decimal};
+ghost use Rattle.cron_serve.specs.Grammar.{IsLabelStart, IsLabelByte, IsLabel, IsBlank, IsCommand};
 ghost use Rattle.cron_serve.specs.Reading.{MayBeginNumber};
 
 // `parse` also takes a sign and leading zeros.

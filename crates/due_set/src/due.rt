@@ -4,7 +4,7 @@ ghost use Rattle.jiff.specs.Types.{TimeZone};
 ghost use Rattle.cron_fields.specs.FieldSet.{Has};
 ghost use Rattle.zone_minutes.specs.Civil.{IsCalendarMinute, civil_at};
 ghost use Rattle.zone_minutes.specs.Zone.{IsReadAs, IsReadable, local_of};
-ghost use Rattle.due_set.specs.Due.{Matches, MatchesDateAt, IsFirstShown, IsSkipped, IsDueOnce, IsDue, IsDueIn};
+ghost use Rattle.due_set.specs.Due.{Matches, MatchesDateAt, IsFirstShown, IsSkipped, IsDueOnce, IsDueIn};
 
 use cron_fields::Fields;
 use zone_minutes::{Minute, ZoneRuns, civil_of, day_of, weekday_of};

@@ -1,4 +1,4 @@
-ghost use Rattle.std.specs.Prelude.{◌≡◌, ◌<◌, [], ◌∷◌, ◌++◌, IfOk, IfSome, IfNone, OnOk};
+ghost use Rattle.std.specs.Prelude.{◌≡◌, ◌<◌, [], ◌∷◌, ◌++◌, IfOk, OnOk};
 ghost use Rattle.launch_machine.specs.Answers.{IsCallKind};
 ghost use Rattle.launch_machine.specs.Clerk.{Applies, TakesStart};
 ghost use Rattle.launch_machine.specs.Intent.{MayCall};

@@ -1,5 +1,5 @@
-ghost use Rattle.std.specs.Prelude.{◌≡◌, ◌<◌, ◌+◌, ◌^◌, ◌↔◌, length, IfOk, IfSome, IsSome, IsTrue};
-ghost use Rattle.zone_minutes.specs.Window.{IsInWindow, IsWithinLimits};
+ghost use Rattle.std.specs.Prelude.{◌≡◌, ◌<◌, ◌+◌, ◌^◌, ◌↔◌, IfOk, IfSome, IsSome, IsTrue};
+ghost use Rattle.zone_minutes.specs.Window.{IsInWindow};
 ghost use Rattle.due_set.specs.Table.{IsAnacron};
 ghost use Rattle.launch_machine.specs.Machine.{CanCount, StandsFor};
 

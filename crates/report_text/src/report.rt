@@ -1,4 +1,4 @@
-ghost use Rattle.std.specs.Prelude.{◌≡◌, ℕ, List, length, map, All, IfOk};
+ghost use Rattle.std.specs.Prelude.{◌≡◌, ℕ, List, length, map, All};
 ghost use Rattle.std.specs.List.{range_with_len};
 ghost use Rattle.cluster_sched.specs.Names.{IsNameIn};
 ghost use Rattle.cluster_sched.specs.declared.row.SchedRow.{SchedRow};

@@ -1,4 +1,4 @@
-ghost use Rattle.std.specs.Prelude.{◌≡◌, ◌≢◌, ◌↔◌, ◌+◌, ◌<◌, ℕ, ℤ, ◌++◌, [], ◌∷◌, length, IsTrue, IfSome, IfNone, OnOk, OnErr, string_bytes, string_len, string_capacity};
+ghost use Rattle.std.specs.Prelude.{◌≡◌, ◌≢◌, ◌↔◌, ◌+◌, ◌<◌, ℕ, ℤ, ◌++◌, length, IsTrue, IfSome, IfNone, OnOk, OnErr, string_bytes, string_len, string_capacity};
 ghost use Rattle.std.specs.Str.{IsAscii};
 ghost use Rattle.zone_minutes.specs.Civil.{IsCalendarMinute};
 ghost use Rattle.zone_minutes.specs.Stamp.{two_digits, extended_text, basic_text, stamp_text, basic_stamp_text, IsStampable, HasTwoDigits, HasMarks};

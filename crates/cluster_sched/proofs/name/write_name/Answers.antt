@@ -1,4 +1,4 @@
-use Rattle.std.proofs.Common.{◌<◌, ◌+◌, length, OnErr, string_len, string_capacity, Result, Ok, Err, ap, arith, w64, FitsSigned}
+use Rattle.std.proofs.Common.{◌<◌, ◌+◌, length, OnErr, string_len, string_capacity, Result, Ok, Err, arith, w64, FitsSigned}
 use Rattle.std.proofs.lemmas.Int.{ints, to_z-of_z}
 use Rattle.zone_minutes.specs.Civil.{IsCalendarMinute}
 use Rattle.cluster_sched.specs.Names.{name_text}
