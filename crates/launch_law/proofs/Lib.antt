@@ -2,3 +2,4 @@ pub mod CoverLemmas
 pub mod EffectLemmas
 pub mod FitLemmas
 pub mod SettledLemmas
+pub mod VoidLemmas

@@ -1,11 +1,12 @@
 //! Laws of a log, and of what is held beside it. Each is the contract of a function that does nothing.
-ghost use Rattle.std.specs.Prelude.{◌≡◌, ◌↔◌, ◌∷◌, ◌++◌, ℕ, List, ℤ, ◌≤ℤ◌, Contains};
+ghost use Rattle.std.specs.Prelude.{◌≡◌, ◌↔◌, [], ◌∷◌, ◌++◌, ℕ, List, None, ℤ, ◌≤ℤ◌, Contains};
 ghost use Rattle.jiff.specs.Types.{TimeZone};
 ghost use Rattle.paxos_base.specs.declared.entry.Entry.{Entry};
 ghost use Rattle.paxos_base.specs.declared.entry.Kind.{Kind};
 ghost use Rattle.due_set.specs.Calls.{HasCome, IsOnTime};
-ghost use Rattle.due_set.specs.Table.{Job, Table, IsDueFront, IsJobDue, IsJobIn};
+ghost use Rattle.due_set.specs.Table.{Job, Table, IsDueFront, IsJobDue, IsJobIn, IsNextDue, IsSound};
 ghost use Rattle.cluster_sched.specs.declared.row.SchedRow.{SchedRow};
+ghost use Rattle.launch_machine.specs.Answers.{IsCallKind};
 ghost use Rattle.launch_machine.specs.Starts.{StartsOf};
 ghost use Rattle.launch_law.specs.Fits.{AreAllEffective, Fits, HasStart, HasEnd, IsEffective};
 ghost use Rattle.launch_law.specs.Launched.{LaunchesEachDue};
@@ -87,4 +88,13 @@ pub fn each_due_instant_is_launched()
     ensures no_other { (table : Table) (held : List SchedRow) (row : SchedRow)
         → LaunchesEachDue table held → Contains held row
         → IsJobDue table row.name.job row.name.at × (row.kind ≡ Kind.Launch) }
+{}
+
+/// A launch that is called so late that it is a void is held as one and ends as one: its log and its row fit.
+pub fn a_void_fits_its_log()
+    ensures { (table : Table) (job : ℕ) (at started called : ℤ) (by : ℕ) (spec : Job) (zone : TimeZone) → IsSound table
+        → IsNextDue table job None at → at ≤ℤ started → IsJobIn table job spec zone
+        → HasCome spec.kind zone at called → IsCallKind table job at called Kind.Void
+        → Fits table (Entry.Start job at started ∷ Entry.End job at Kind.Void ∷ [])
+        (record { name = record { job = job; at = at }; kind = Kind.Void; now = record { 0 = called }; by = by } ∷ []) }
 {}
