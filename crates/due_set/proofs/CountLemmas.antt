@@ -47,7 +47,8 @@ passed_more : (window : Window) (last : Option Minute) (t : ℤ) → IsInWindow 
 passed_more window None t inside after = let since : window.from.0 ≤ℤ t = inside.since in omega (arith, ints)
 passed_more window (Some last) t inside after = let later : last.0 <ℤ t = after in omega (arith, ints)
 
-abs_below : (a b : ℤ) → pos 0 ≤ℤ a → a <ℤ b → unsigned_abs a < unsigned_abs b
+-- a smaller number that is not negative has a smaller size
+pub abs_below : (a b : ℤ) → pos 0 ≤ℤ a → a <ℤ b → unsigned_abs a < unsigned_abs b
 abs_below (pos a) (pos b) nonneg lt = omega (arith, ints)
 abs_below (pos a) (negsuc b) nonneg lt = absurd (omega (arith, ints))
 abs_below (negsuc a) b nonneg lt = absurd (omega (arith, ints))

@@ -11,6 +11,7 @@ use Rattle.paxos_base.specs.declared.entry.Kind.{Kind}
 use Rattle.paxos_base.specs.declared.entry.Kind.TheVariants.{Launch, Void}
 use Rattle.paxos_base.specs.declared.rows.JobRow.{JobRow}
 use Rattle.due_set.specs.Table.{Table, IsAfter}
+use Rattle.due_set.proofs.CountLemmas.{abs_below}
 use Rattle.due_set.proofs.TableLemmas.{cases_ltℤ}
 use Rattle.launch_machine.specs.Clerk.{Applies, TakesStart, TakesEnd, fresh_row, fresh_rows, opened_row, closed_row, with_row}
 use Rattle.launch_machine.proofs.MachineLemmas.{same_or_not, set_there}
@@ -94,11 +95,6 @@ steps_changed window change rows job old is_old lt =
     let fresh : get_or rows job (fresh_row job) ≡ old = get_or_from_slice_get rows job old (fresh_row job) is_old in
     steps_set window rows job old (change (get_or rows job (fresh_row job))) is_old
     (subst (λ (r : JobRow). steps_of window (change r) < steps_of window old) (sym fresh) lt)
-
-abs_below : (a b : ℤ) → pos 0 ≤ℤ a → a <ℤ b → unsigned_abs a < unsigned_abs b
-abs_below (pos a) (pos b) nonneg lt = omega (arith, ints)
-abs_below (pos a) (negsuc b) nonneg lt = absurd (omega (arith, ints))
-abs_below (negsuc a) b nonneg lt = absurd (omega (arith, ints))
 
 abs_most : (a b : ℤ) → pos 0 ≤ℤ a → a ≤ℤ b → unsigned_abs a ≤ unsigned_abs b
 abs_most (pos a) (pos b) nonneg le = omega (arith, ints)
