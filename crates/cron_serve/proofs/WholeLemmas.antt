@@ -2,7 +2,9 @@
 use Rattle.std.proofs.Common.{◌≡◌, ℕ, List, sym, ◌∙◌, subst, arith, ℤ, pos, ◌-ℤ◌, ◌≤ℤ◌}
 use Rattle.std.specs.Prelude.{Contains}
 use Rattle.std.proofs.lemmas.Int.{ints}
+use Rattle.std.proofs.lemmas.List.Elements.{All-contains}
 use Rattle.paxos_base.specs.declared.entry.Entry.{Entry}
+use Rattle.paxos_base.specs.declared.entry.Entry.TheVariants.{Start}
 use Rattle.paxos_base.specs.declared.entry.Kind.{Kind}
 use Rattle.paxos_base.specs.declared.entry.Kind.TheVariants.{Launch}
 use Rattle.due_set.specs.Table.{Table, IsJobDue}
@@ -26,6 +28,15 @@ made_each table log held job at whole due =
 pub made_once : (table : Table) (log : List Entry) (held : List SchedRow) (a b : SchedRow) → IsWholeRun table log held → Contains held a → Contains held b
     → a.name.job ≡ b.name.job → a.name.at ≡ b.name.at → a ≡ b
 made_once table log held a b whole in_a in_b jobs ats = held_once table log held a b whole.fits in_a in_b jobs ats
+
+pub made_in_time : (table : Table) (log : List Entry) (held : List SchedRow) (job : ℕ) (at now : ℤ) → IsWholeRun table log held
+    → Contains log (Start job at now) → now ≡ at
+made_in_time table log held job at now whole among = whole.in_time.starts job at now among
+
+pub called_in_time : (table : Table) (log : List Entry) (held : List SchedRow) (row : SchedRow) → IsWholeRun table log held → Contains held row
+    → row.now.0 ≡ row.name.at
+called_in_time table log held row whole among =
+    (All-contains (λ (r : SchedRow). (r.now.0 ≡ r.name.at) × (r.by ≡ 0)) held row whole.in_time.calls among).0
 
 pub made_effective : (table : Table) (log : List Entry) (held : List SchedRow) (entry : Entry) → IsWholeRun table log held → Contains log entry
     → IsEffective table log entry

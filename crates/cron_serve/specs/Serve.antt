@@ -7,6 +7,7 @@ use Rattle.cron_io.specs.Writing.{HasGained, HasGainedPrefix}
 use Rattle.paxos_base.specs.declared.entry.Entry.{Entry}
 use Rattle.due_set.specs.Table.{Table}
 use Rattle.cluster_sched.specs.declared.row.SchedRow.{SchedRow}
+use Rattle.launch_clerk.specs.Book.{AreInTheirMinutes}
 use Rattle.launch_law.specs.Fits.{Fits, AreAllEffective}
 use Rattle.launch_law.specs.Launched.{LaunchesEachDue}
 use Rattle.launch_law.specs.Settled.{IsSettled}
@@ -44,6 +45,8 @@ pub record IsWholeRun (table : Table) (log : List Entry) (held : List SchedRow) 
   pub settled : IsSettled table log (table.window.until.0 -ℤ pos 1)
   -- each due instant is launched, and nothing else
   pub launched : LaunchesEachDue table held
+  -- each start and each call is made in the minute at which the launch is due
+  pub in_time : AreInTheirMinutes log held
 
 -- the input was read to its end and is a run that is taken, of these jobs, with this log and these rows
 pub record IsRunOfInput (old new : SourceView) (table : Table) (log : List Entry) (held : List SchedRow) : Type 0 where

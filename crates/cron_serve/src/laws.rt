@@ -2,6 +2,7 @@
 ghost use Rattle.std.specs.Prelude.{◌≡◌, ◌⊎◌, ◌<◌, ◌≤◌, ℕ, ℤ, List, Some, Contains, length};
 ghost use Rattle.cron_io.specs.Views.{SourceView};
 ghost use Rattle.paxos_base.specs.declared.entry.Entry.{Entry};
+ghost use Rattle.paxos_base.specs.declared.entry.Entry.TheVariants.{Start};
 ghost use Rattle.paxos_base.specs.declared.entry.Kind.TheVariants.{Launch};
 ghost use Rattle.due_set.specs.Table.{Table, IsJobDue};
 ghost use Rattle.cluster_sched.specs.declared.row.SchedRow.{SchedRow};
@@ -23,12 +24,16 @@ pub fn a_refusal_has_one_of_two_notes()
 {}
 
 /// Of a whole run each due instant of each job was started, was ended as a launch, and is held as one; no launch is held twice;
-/// and each entry of the log takes effect.
+/// each was started and called in the minute at which it is due; and each entry of the log takes effect.
 pub fn a_whole_run_makes_each_launch()
     ensures made { (table : Table) (log : List Entry) (held : List SchedRow) (job : ℕ) (at : ℤ) → IsWholeRun table log held
         → IsJobDue table job at → HasStart table log job at × HasEnd table log job at Launch × IsHeld held job at Launch }
     ensures once { (table : Table) (log : List Entry) (held : List SchedRow) (a b : SchedRow) → IsWholeRun table log held
         → Contains held a → Contains held b → a.name.job ≡ b.name.job → a.name.at ≡ b.name.at → a ≡ b }
+    ensures in_time { (table : Table) (log : List Entry) (held : List SchedRow) (job : ℕ) (at now : ℤ) → IsWholeRun table log held
+        → Contains log (Start job at now) → now ≡ at }
+    ensures called { (table : Table) (log : List Entry) (held : List SchedRow) (row : SchedRow) → IsWholeRun table log held
+        → Contains held row → row.now.0 ≡ row.name.at }
     ensures effective { (table : Table) (log : List Entry) (held : List SchedRow) (entry : Entry) → IsWholeRun table log held
         → Contains log entry → IsEffective table log entry }
 {}
