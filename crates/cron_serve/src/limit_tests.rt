@@ -51,14 +51,13 @@ fn twenty_thousand_due_instants_are_taken(rt: HostRuntime) -> Result<(), Fail> {
 // The blanks behind a field fill the input.
 #[test]
 fn a_run_of_a_mebibyte_is_taken(rt: HostRuntime) -> Result<(), Fail> {
-    for (length, status, note) in [(1_048_576, 0, ""), (1_048_577, 2, TOO_LARGE)] {
-        let input = run_of(rt.alloc(), "2024-03-02T00:00Z", 1, "0 0 31 2 * never")?;
-        let mut bytes = input.as_bytes().to_vec(rt.alloc())?;
-        let blanks = vec![in rt.alloc(); b' '; length - bytes.len()]?;
-        let place = bytes.len() - "0 31 2 * never\nscript\nend\n".len();
-        bytes.splice(place..place, blanks)?;
-        assert_eq!(rt; bytes.len(), length);
-        let left = run(rt.alloc(), &bytes, &[], &NO_FAULTS)?;
+    for (length, status, note) in [(1_048_576_usize, 0, ""), (1_048_577, 2, TOO_LARGE)] {
+        let short = run_of(rt.alloc(), "2024-03-02T00:00Z", 1, "0 0 31 2 * never")?;
+        let blanks = " ".repeat(rt.alloc(), length.saturating_sub(short.len()))?;
+        let line = format!(in rt.alloc(); "0{blanks} 0 31 2 * never")?;
+        let input = run_of(rt.alloc(), "2024-03-02T00:00Z", 1, &line)?;
+        assert_eq!(rt; input.len(), length);
+        let left = run(rt.alloc(), input.as_bytes(), &[], &NO_FAULTS)?;
         assert_eq!(rt; left.end.status, status, "of {length} bytes");
         assert_eq!(rt; left.notes.bytes(), note.as_bytes(), "of {length} bytes");
     }
