@@ -2,6 +2,7 @@
 use Rattle.std.proofs.Common.{◌≡◌, ◌≢◌, ℕ, zero, suc, ◌+◌, ◌<◌, ◌≤◌, ◌⊎◌, inl, inr, ◌↔◌, List, [], ◌∷◌, ◌++◌, length, get_or, Option, None, Some, ℤ, ◌≤ℤ◌, Bool, IsTrue, true, false, refl, sym, ap, ◌∙◌, subst, arith, length-append}
 use Rattle.std.specs.Prelude.{map, IsSome, slice_get, slice_set}
 use Rattle.std.proofs.Math.ListN.{set, length-set}
+use Rattle.std.proofs.lemmas.Bool.Decides.{leb_tells}
 use Rattle.std.proofs.lemmas.Int.{ints}
 use Rattle.std.proofs.lemmas.Option.{slice_get_within, get_or_from_slice_get, slice_get-get_or}
 use Rattle.std.specs.List.{range_with_len}
@@ -17,7 +18,7 @@ use Rattle.jiff.specs.Types.{TimeZone}
 use Rattle.due_set.specs.Calls.{HasCome}
 use Rattle.due_set.specs.Table.{Job, Table, IsJobIn, IsNextDue, IsJobRead}
 use Rattle.launch_machine.specs.Clerk.{TakesStart, TakesEnd, TakesEffect, Applies, fresh_row, opened_row, closed_row}
-use Rattle.launch_machine.specs.Intent.{MayCall, NoCall, NoStart}
+use Rattle.launch_machine.specs.Intent.{MayCall, NoCall, NoStart, AreClosed, IsFirstOpen}
 use Rattle.launch_machine.specs.Machine.{Launches, IsNext, AreNexts, StandsFor, IsReady}
 
 pub same_or_not : (a b : ℕ) → (a ≡ b) ⊎ (a ≢ b)
@@ -211,6 +212,22 @@ below_next P n below here k t lt p =
       | inl e ↦ here t (subst (λ (i : ℕ). P i t) e p)
       | inr ne ↦ below k t (omega arith) p
     ]
+
+-- no launch may be called before a job, where none is open there from the one on that was looked at last
+pub no_call_before : (table : Table) (rows : List JobRow) (now : ℤ) (from job : ℕ)
+    → ((before : ℕ) (other : ℤ) → before < from → MayCall table rows before other now → ⊥) → AreClosed rows from job
+    → (before : ℕ) (other : ℤ) → before < job → MayCall table rows before other now → ⊥
+no_call_before table rows now from job none closed before other lt may =
+    elim (leb_tells from before) [
+      | inl is ↦
+          let since = is.1 in
+          closed before since lt (record { row = may.row; is_row = may.is_row; since = may.since; is_open = may.is_open })
+      | inr is ↦ none before other is.1 may
+    ]
+
+-- a job that is open is one of the table
+pub open_within : (rows : List JobRow) (from job : ℕ) → IsFirstOpen rows from job → job < length rows
+open_within rows from job first = slice_get_within rows job first.here.row first.here.is_row
 
 -- a job outside the table has no launch
 pub no_call_from : (table : Table) (rows : List JobRow) (now : ℤ) (count : ℕ) → length rows ≤ count

@@ -2,7 +2,7 @@
 ghost use Rattle.std.specs.Prelude.{◌≡◌, ◌<◌, ℤ, length, IfSome, IfNone};
 ghost use Rattle.zone_minutes.specs.Window.{IsInWindow};
 ghost use Rattle.launch_machine.specs.Answers.{IsCallKind};
-ghost use Rattle.launch_machine.specs.Intent.{MayCall, NoCall, NoStart, IsFirstCall, IsFirstStart};
+ghost use Rattle.launch_machine.specs.Intent.{MayCall, NoCall, NoStart, IsFirstCall, IsFirstStart, AreClosed, IsFirstOpen};
 ghost use Rattle.launch_machine.specs.Machine.{StandsFor};
 
 use crate::next::ready_at;
@@ -28,6 +28,20 @@ fn call_at(rows: &[JobRow], table: &JobTable, job: u32, now: Minute) -> Option<i
     }
 }
 
+// The first job from this one on whose launch is open.
+fn first_open(rows: &[JobRow], jobs: u32, from: u32) -> Option<u32>
+    requires { length rows.now ≡ jobs }
+    ensures found { IfSome result (IsFirstOpen rows.now from) }
+    ensures none { IfNone result (AreClosed rows.now from jobs) }
+{
+    for job in from..jobs {
+        if rows[job as usize].open_now.is_some() {
+            return Some(job);
+        }
+    }
+    None
+}
+
 /// The first job whose launch may be called, and the launch's instant.
 pub fn first_call(rows: &[JobRow], table: &JobTable, now: Minute) -> Option<(u32, i64)>
     requires count { length rows.now ≡ length table.now.jobs }
@@ -35,10 +49,13 @@ pub fn first_call(rows: &[JobRow], table: &JobTable, now: Minute) -> Option<(u32
     ensures found { IfSome result (λ first. IsFirstCall table.now rows.now now.0 first.0 first.1) }
     ensures none { IfNone result (NoCall table.now rows.now now.0) }
 {
-    for job in 0..table.jobs() {
+    let jobs = table.jobs();
+    let mut from = 0;
+    'open: while let Some(job) = first_open(rows, jobs, from) {
         if let Some(at) = call_at(rows, table, job, now) {
             return Some((job, at));
         }
+        from = job + 1;
     }
     None
 }
