@@ -1,4 +1,6 @@
 pub mod EntryLemmas
 pub mod PacketLemmas
 pub mod MemberLemmas
+pub mod PlaceLemmas
+pub mod PutLemmas
 pub mod VoteLemmas

@@ -1,4 +1,5 @@
 pub mod Ballot
+pub mod Durable
 pub mod EntryFields
 pub mod Members
 pub mod Packet

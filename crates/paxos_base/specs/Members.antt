@@ -1,5 +1,5 @@
 -- Sets of replicas.
-use Rattle.std.specs.Prelude.{◌≡◌, ℕ, ◌+◌, ◌/◌, ◌<◌, ◌==◌, Bool, List, [], ◌∷◌, count_by}
+use Rattle.std.specs.Prelude.{◌≡◌, ℕ, ◌+◌, ◌*◌, ◌/◌, ◌%◌, ◌^◌, ◌<◌, ◌==◌, nat_le, Bool, List, [], ◌∷◌, bit_or, count_by}
 use Rattle.std.specs.Int.{bit_at}
 
 -- The test of whether a replica is in the set of a number: the number's bit at the replica's place is 1.
@@ -9,6 +9,18 @@ has_member set member = bit_at set member == 1
 -- the replica is in the set
 abbrev pub HasMember : ℕ → ℕ → Type 0
 HasMember set member = bit_at set member ≡ 1
+
+-- the set that no replica is in
+abbrev pub no_members : ℕ
+no_members = 0
+
+-- the set with a replica put in, whose bit becomes 1
+unfoldable pub with_member : ℕ → ℕ → ℕ
+with_member member set = bit_or set (1 * 2 ^ member % 2 ^ 8)
+
+-- the set of one replica
+abbrev pub only_member : ℕ → ℕ
+only_member member = with_member member no_members
 
 -- all that may be in a set
 abbrev pub all_members : List ℕ
@@ -25,6 +37,10 @@ AllBelow members set = (member : ℕ) → HasMember set member → member < memb
 -- the least number of replicas that is more than half of them
 abbrev pub majority_of : ℕ → ℕ
 majority_of members = members / 2 + 1
+
+-- at least a majority of the replicas is in the set
+abbrev pub has_majority : ℕ → ℕ → Bool
+has_majority members set = nat_le (majority_of members) (member_count set)
 
 -- two sets share a replica
 pub record Meet (one other : ℕ) : Type 0 where

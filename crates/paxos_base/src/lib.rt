@@ -11,13 +11,18 @@ mod members;
 mod rows;
 #[cfg(test)]
 mod tests;
+mod votes;
 mod wire;
 
 pub use ballot::Ballot;
 pub use durable::{Delta, Durable};
 pub use entry::{Entry, EntryList, Kind, Vote, VoteList};
-pub use laws::{majorities_meet, slots_have_one_vote};
+pub use laws::{
+    a_change_brings_what_it_names, a_vote_takes_its_slot, majorities_meet, slots_have_one_vote,
+    votes_stay_from_a_slot_on,
+};
 pub use layout::PACKET_BYTES;
 pub use members::{Members, majority};
 pub use rows::{JobRow, RowList, rows_stand};
+pub use votes::{place_of, put_vote, vote_at};
 pub use wire::{EntryFault, entry_of, get_entry, numbers_of, put_entry};

@@ -1,5 +1,5 @@
 ghost use Rattle.std.specs.Prelude.{◌≡◌, ℕ, ◌<◌, ◌≤◌, ◌↔◌, ◌⊎◌, IsTrue};
-ghost use Rattle.paxos_base.specs.Members.{HasMember, member_count, majority_of};
+ghost use Rattle.paxos_base.specs.Members.{HasMember, no_members, with_member, member_count, majority_of};
 
 use std::marker::Model;
 
@@ -20,7 +20,8 @@ impl Model for Members {
 impl Members {
     /// The empty set.
     pub fn none() -> Members
-        ensures { (k : ℕ) → ¬ HasMember result k }
+        ensures value { result ≡ no_members }
+        ensures empty { (k : ℕ) → ¬ HasMember result k }
     {
         Members(0)
     }
@@ -28,7 +29,8 @@ impl Members {
     /// The set with a replica put in, which may be there already.
     pub fn with(self, member: u8) -> Members
         requires { member < 8 }
-        ensures { (k : ℕ) → HasMember result k ↔ ((k ≡ member) ⊎ HasMember self k) }
+        ensures value { result ≡ with_member member self }
+        ensures members { (k : ℕ) → HasMember result k ↔ ((k ≡ member) ⊎ HasMember self k) }
     {
         Members(self.0 | 1 << member)
     }

@@ -236,23 +236,47 @@ fn rows(rt: HostRuntime) -> Result<(), Fail> {
     Ok(())
 }
 
+fn vote_of(slot: u64, ballot: Ballot) -> Vote
+    ensures { (result.slot ≡ slot) × (result.ballot ≡ ballot) }
+{
+    Vote {
+        slot,
+        ballot,
+        entry: Entry::Noop,
+    }
+}
+
 #[test]
 fn votes(rt: HostRuntime) -> Result<(), Fail> {
-    let mut votes = VoteList {
-        items: Vec::new(rt.alloc()),
-    };
-    let ballot = Ballot::of(1, 0);
-    votes.items.push(Vote {
-        slot: 4,
-        ballot,
-        entry: Entry::Noop,
-    })?;
-    votes.items.push(Vote {
-        slot: 9,
-        ballot,
-        entry: Entry::Noop,
-    })?;
     slots_have_one_vote();
-    assert_eq!(rt; votes.items.len(), 2);
+    a_vote_takes_its_slot();
+    votes_stay_from_a_slot_on();
+    a_change_brings_what_it_names();
+    let mut votes = Vec::with_capacity(rt.alloc(), 5)?;
+    put_vote(&mut votes, vote_of(9, Ballot::of(1, 0)));
+    put_vote(&mut votes, vote_of(4, Ballot::of(1, 1)));
+    put_vote(&mut votes, vote_of(12, Ballot::of(2, 0)));
+    put_vote(&mut votes, vote_of(9, Ballot::of(2, 2)));
+    put_vote(&mut votes, vote_of(7, Ballot::of(3, 1)));
+    for (slot, place, ballot) in [
+        (0, 0, None),
+        (4, 0, Some(Ballot::of(1, 1))),
+        (5, 1, None),
+        (7, 1, Some(Ballot::of(3, 1))),
+        (9, 2, Some(Ballot::of(2, 2))),
+        (10, 3, None),
+        (12, 3, Some(Ballot::of(2, 0))),
+        (13, 4, None),
+        (u64::MAX, 4, None),
+    ] {
+        let at = vote_at(&votes, slot).map(|vote| vote.ballot);
+        assert_eq!(rt; place_of(&votes, slot), place, "at {slot}");
+        assert_eq!(rt; at, ballot, "at {slot}");
+    }
+    let list = VoteList { items: votes };
+    assert_eq!(rt; list.items.len(), 4);
+    let none = Vec::new(rt.alloc());
+    assert_eq!(rt; place_of(&none, 7), 0);
+    assert!(rt; vote_at(&none, 7).is_none());
     Ok(())
 }
