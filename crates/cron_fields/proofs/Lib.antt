@@ -1,3 +1,12 @@
+pub mod AtomLemmas
+pub mod AtomReading
 pub mod BitLemmas
+pub mod Choice
+pub mod FaultLemmas
+pub mod FieldReading
+pub mod FieldText
+pub mod ItemReading
+pub mod JoinLemmas
+pub mod ListLemmas
 pub mod PieceLemmas
 pub mod PlainFieldLemmas

@@ -1,3 +1,11 @@
+pub mod Atom
+pub mod Base
+pub mod Cause
+pub mod Field
 pub mod FieldSet
+pub mod Hash
+pub mod Item
+pub mod ItemFault
 pub mod Match
 pub mod PlainField
+pub mod Seed
