@@ -1,0 +1,14 @@
+pub mod AssignmentLemmas
+pub mod BlankLemmas
+pub mod EntryLemmas
+pub mod LineLemmas
+pub mod ListLemmas
+pub mod NicknameLemmas
+pub mod PercentLemmas
+pub mod ReaderLemmas
+pub mod VariantLemmas
+pub mod Choice
+pub mod TotalLemmas
+pub mod UniqueLemmas
+pub mod AnswerLemmas
+pub mod PieceLemmas

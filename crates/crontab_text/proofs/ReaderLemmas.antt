@@ -1,0 +1,89 @@
+-- A reader that goes on by a line.
+use Rattle.std.proofs.Common.{◌≡◌, ℕ, ◌+◌, ◌-◌, ◌<◌, ◌≤◌, List, [], ◌∷◌, length, drop, refl, ap, ◌∙◌, sym, subst, arith, length-append, Result, Ok, Err, IfOk, IfErr}
+use Rattle.std.proofs.lemmas.List.{drop-drop, drop_at}
+use Rattle.crontab_text.specs.Answers.{LineAnswer, IsLineOf, AreAnswers}
+use Rattle.crontab_text.specs.LineBody.{body_of}
+use Rattle.crontab_text.specs.LineBreak.{IsLineBreak}
+use Rattle.crontab_text.specs.Lines.{BeginsWithLine}
+use Rattle.crontab_text.specs.Reader.{GoesOn, ReadsLine, answer_of}
+use Rattle.crontab_text.specs.TableReader.{TableReader, rest_of}
+use Rattle.crontab_text.specs.declared.answer.Body.{Body}
+use Rattle.crontab_text.specs.declared.answer.Line.{Line}
+use Rattle.crontab_text.specs.declared.answer.LineFault.{LineFault}
+use Rattle.crontab_text.specs.declared.answer.Style.{Style}
+use Rattle.crontab_text.specs.declared.fault.Fault.{Fault}
+use Rattle.crontab_text.proofs.EntryLemmas.{break_within}
+use Rattle.crontab_text.proofs.LineLemmas.{line_size}
+
+-- what is left of a text, behind another line
+pub record IsLeft (text rest : List ℕ) : Type 0 where
+  pub within : length rest ≤ length text
+  pub back : drop (length text - length rest) text ≡ rest
+
+pub behind_line : (text rest line after : List ℕ) → IsLeft text rest → BeginsWithLine rest line after → IsLeft text after × (length after < length rest)
+behind_line text rest line after is begins =
+    let (front, parts, some) = line_size rest line after begins in
+    let size : length rest ≡ length front + length after = ap length parts ∙ length-append front after in
+    let within = is.within in
+    let place : length text - length after ≡ (length text - length rest) + length front = omega arith in (
+      record {
+        within = omega arith;
+        back = ap (λ n. drop n text) place ∙ (sym (drop-drop (length front) (length text - length rest) text)
+            ∙ (ap (λ t. drop (length front) t) (is.back ∙ parts) ∙ drop_at front after (length front) refl));
+      },
+      omega arith,
+    )
+
+-- what a reader does with its next line
+pub reads_line : (text owner rest line after : List ℕ) (style : Style) (passed : ℕ) (answer : Result Body Fault) (handed : Result Line LineFault) → IsLeft text rest → BeginsWithLine rest line after
+    → IfOk answer (λ body. IsLineOf style owner line (body_of body)) → IfErr answer (λ fault. IsLineBreak style line fault.cause fault.left)
+    → IfOk answer (λ body. handed ≡ Ok (record { number = passed + 1; span = record { from = length text - length rest; until = length text - length rest + length line }; body = body }))
+    → IfErr answer (λ fault. handed ≡ Err (record { line = passed + 1; place = length line - fault.left; cause = fault.cause }))
+    → ReadsLine (record { text = text; style = style; owner = owner; place = length text - length rest; passed = passed }) (record { text = text; style = style; owner = owner; place = length text - length after; passed = passed + 1 }) handed
+reads_line text owner rest line after style passed answer handed is begins read fault as_ok as_err =
+    by_answer answer read fault as_ok as_err
+  where
+    goes_on : GoesOn (record { text = text; style = style; owner = owner; place = length text - length rest; passed = passed }) (record { text = text; style = style; owner = owner; place = length text - length after; passed = passed + 1 }) line
+    goes_on = record {
+      begins = subst (λ t. BeginsWithLine t line (drop (length text - length after) text)) (sym is.back)
+          (subst (BeginsWithLine rest line) (sym (behind_line text rest line after is begins).0.back) begins);
+      within = omega arith;
+      new_is = refl;
+    }
+
+    by_answer : (answer : Result Body Fault) → IfOk answer (λ body. IsLineOf style owner line (body_of body)) → IfErr answer (λ fault. IsLineBreak style line fault.cause fault.left)
+        → IfOk answer (λ body. handed ≡ Ok (record { number = passed + 1; span = record { from = length text - length rest; until = length text - length rest + length line }; body = body }))
+        → IfErr answer (λ fault. handed ≡ Err (record { line = passed + 1; place = length line - fault.left; cause = fault.cause }))
+        → ReadsLine (record { text = text; style = style; owner = owner; place = length text - length rest; passed = passed }) (record { text = text; style = style; owner = owner; place = length text - length after; passed = passed + 1 }) handed
+    by_answer (Ok body) read fault as_ok as_err = rw as_ok (record {
+      line = line;
+      goes_on = goes_on;
+      number = refl;
+      span = record { from_is = refl; until_is = refl };
+      answer = read;
+    })
+    by_answer (Err e) read fault as_ok as_err = rw as_err (record {
+      line = line;
+      goes_on = goes_on;
+      number = refl;
+      span = tt;
+      answer = record {
+        text = fault.text;
+        left = e.left;
+        skips = fault.skips;
+        breaks = fault.breaks;
+        place_is = omega (arith, break_within style line e.cause e.left fault);
+      };
+    })
+
+-- the answer to the next line stands before the answers to the rest
+pub answers_before : (old new : TableReader) (handed : Result Line LineFault) (answers : List LineAnswer) → ReadsLine old new handed → AreAnswers old.style old.owner (rest_of new) answers → AreAnswers old.style old.owner (rest_of old) (answer_of handed ∷ answers)
+answers_before old new handed answers reads are = record {
+  lines = reads.line ∷ are.lines;
+  lines_are = (rest_of new, reads.goes_on.begins, are.lines_are);
+  each = (reads.answer, are.each);
+}
+
+-- and at the end of the text there is none
+pub no_answers : (style : Style) (owner : List ℕ) → AreAnswers style owner [] []
+no_answers style owner = record { lines = []; lines_are = refl; each = tt }

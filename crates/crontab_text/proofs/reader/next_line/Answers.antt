@@ -1,0 +1,15 @@
+use Rattle.std.proofs.Common.{Some, None, ◌<◌, length, arith}
+use Rattle.std.proofs.lemmas.Bool.Decides.{nat_tests}
+use Rattle.std.proofs.lemmas.Str.Pattern.{split_parts}
+use Rattle.crontab_text.proofs.LineLemmas.{line_before_newline, whole_line}
+use Rattle.crontab_text.proofs.reader.next_line.Goals as goal
+
+pub returns-in-Some-clause-line : goal.returns-in-Some-clause-line
+returns-in-Some-clause-line c =
+    let (is, lacks) = split_parts 10 c.args.text.now (Some c.in-Some.parts) c.in-Some.ensures.cases (omega arith) in
+    line_before_newline c.args.text.now _ _ is lacks
+
+pub returns-in-None-2-clause-line : goal.returns-in-None-2-clause-line
+returns-in-None-2-clause-line c =
+    let some : 0 < length c.args.text.now = grind (arith, nat_tests) in
+    whole_line c.args.text.now some (split_parts 10 c.args.text.now None c.in-None.ensures.cases (omega arith))

@@ -1,0 +1,15 @@
+pub mod Answers
+pub mod Assignment
+pub mod Blanks
+pub mod Entry
+pub mod EntryBody
+pub mod LineBody
+pub mod LineBreak
+pub mod Lines
+pub mod Nickname
+pub mod NicknameView
+pub mod Percent
+pub mod Reader
+pub mod TableReader
+pub mod Tail
+pub mod TailParts

@@ -1,0 +1,25 @@
+//! Crontab lines, read as slices of their text (crontab(5)): what each line says, or the first rule that it breaks and
+//! where, and what a command says with its percent signs. No call takes memory.
+#![tactic(auto)]
+
+mod answer;
+mod assignment;
+mod blank;
+mod entry;
+mod fault;
+mod law;
+mod nickname;
+mod percent;
+mod reader;
+mod tail;
+
+pub use answer::{Body, Line, LineFault, Span, Style};
+pub use law::{
+    a_command_has_one_list_of_pieces, a_line_has_one_reading, a_table_has_one_list_of_answers,
+    a_text_has_one_list_of_lines, answers_come_in_order, pieces_say_what_the_command_says,
+};
+pub use percent::{Piece, Pieces, split_percent};
+pub use reader::Lines;
+
+#[cfg(test)]
+mod tests;
