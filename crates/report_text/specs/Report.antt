@@ -2,8 +2,7 @@
 use Rattle.std.specs.Prelude.{◌≡◌, ◌⊎◌, ℕ, ◌<◌, ◌==◌, ◌&&◌, Bool, true, false, List, [], ◌∷◌, ◌++◌, ◌≤ℤ◌, length, map, count_by, codes, decimal, AllPairs}
 use Rattle.std.specs.List.{range_with_len}
 use Rattle.std.specs.List.Sorted.{IsPermutation}
-use Rattle.zone_minutes.specs.Stamp.{stamp_text}
-use Rattle.zone_minutes.specs.declared.minute.Window.{Window}
+use Rattle.zone_minutes.specs.Window.{window_line}
 use Rattle.due_set.specs.Table.{Table}
 use Rattle.paxos_base.specs.declared.entry.Kind.{Kind}
 use Rattle.paxos_base.specs.declared.entry.Kind.TheVariants.{Launch, Void}
@@ -11,10 +10,6 @@ use Rattle.cluster_sched.specs.Names.{job_name, name_text}
 use Rattle.cluster_sched.specs.declared.row.Name.{Name}
 use Rattle.cluster_sched.specs.declared.row.SchedRow.{SchedRow}
 use Rattle.report_text.specs.Lines.{text_of_lines}
-
--- window STAMP STAMP
-abbrev pub window_line : Window → List ℕ
-window_line window = codes "window " ++ stamp_text window.from.0 ++ 32 ∷ stamp_text window.until.0
 
 -- what stands before the jobs
 abbrev pub head_lines : Table → ℕ → List (List ℕ)

@@ -2,7 +2,8 @@
 ghost use Rattle.std.specs.Prelude.{◌≡◌, ◌++◌, ◌∷◌, [], ◌<◌, length, codes, decimal, string_bytes, OnOk};
 ghost use Rattle.zone_minutes.specs.Civil.{IsCalendarMinute};
 ghost use Rattle.cluster_sched.specs.Names.{IsNameIn, job_name};
-ghost use Rattle.report_text.specs.Report.{job_line, row_line, window_line};
+ghost use Rattle.report_text.specs.Report.{job_line, row_line};
+ghost use Rattle.zone_minutes.specs.Window.{window_line};
 ghost use Rattle.report_text.specs.Writes.{Writes};
 
 use crate::count::Counts;

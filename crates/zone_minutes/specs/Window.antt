@@ -1,5 +1,6 @@
 -- Windows of instants, and their limits.
-use Rattle.std.specs.Prelude.{ℤ, pos, ◌+ℤ◌, ◌≤ℤ◌, ◌<ℤ◌}
+use Rattle.std.specs.Prelude.{ℕ, List, ◌∷◌, ◌++◌, ℤ, pos, ◌+ℤ◌, ◌≤ℤ◌, ◌<ℤ◌, codes}
+use Rattle.zone_minutes.specs.Stamp.{stamp_text}
 use Rattle.zone_minutes.specs.declared.minute.Window.{Window}
 
 -- an instant of the window: its end is outside
@@ -13,3 +14,7 @@ pub record IsWithinLimits (window : Window) : Type 0 where
   pub until : window.until.0 ≤ℤ pos 120_968_640
   pub ordered : window.from.0 <ℤ window.until.0
   pub short : window.until.0 ≤ℤ (window.from.0 +ℤ pos 576_000)
+
+-- the line of a window, in run files and reports: window STAMP STAMP
+abbrev pub window_line : Window → List ℕ
+window_line window = codes "window " ++ stamp_text window.from.0 ++ 32 ∷ stamp_text window.until.0
