@@ -1,0 +1,191 @@
+-- The lines of a table, passed one after another.
+use Rattle.std.proofs.Common.{◌≡◌, ℕ, zero, suc, ◌+◌, ◌-◌, ◌<◌, ◌≤◌, List, [], ◌∷◌, ◌++◌, length, take, Option, None, Some, Result, Ok, Err, refl, ap, ◌∙◌, sym, subst, arith, append_assoc, length-append}
+use Rattle.std.specs.List.{AllByRecursion}
+use Rattle.crontab_text.specs.Answers.{IsLineOf, IsLineFault, LineAnswer, Said, Broken, IsAnswer}
+use Rattle.crontab_text.specs.LineBody.{LineBody, body_of}
+use Rattle.crontab_text.specs.Lines.{BeginsWithLine, BeginsWithLines}
+use Rattle.crontab_text.specs.Reader.{ReadsLine, answer_of, number_of}
+use Rattle.crontab_text.specs.TableReader.{TableReader, table_reader, rest_of}
+use Rattle.crontab_text.specs.declared.answer.Line.{Line}
+use Rattle.crontab_text.specs.declared.answer.LineFault.{LineFault}
+use Rattle.crontab_text.specs.declared.answer.Style.{Style}
+use Rattle.crontab_text.proofs.LineLemmas.{BeginsWithLines-append, BeginsWithLines-split}
+use Rattle.std.proofs.lemmas.List.{append-nil}
+use Rattle.run_text.specs.Follow.{Sections, Table, inside, style_of}
+use Rattle.run_text.specs.Run.{Run, Section, section_of, opened, with_line, with_lines, with_section}
+use Rattle.run_text.specs.Steps.{Place, place_of, at_table, LeadsTo, RefusedFrom, PassesTable}
+use Rattle.run_text.specs.declared.opening.Opening.{Opening}
+use Rattle.run_text.specs.declared.reader.Reader.{Reader}
+use Rattle.run_text.specs.declared.run.Section.{Section as SectionText}
+use Rattle.run_text.specs.declared.refusal.Refusal.{Refusal}
+use Rattle.run_text.specs.Lines.{lines_of}
+use Rattle.run_text.proofs.LineLemmas.{lines_of-begins, lines_of-count, lines_short, front_of, front_part}
+use Rattle.run_text.proofs.StepLemmas.{stays, goes_on, one_line, wrong_line}
+use Rattle.run_text.specs.Table.{Says, IsFirstFault, IsFault, Passes, PassesAll, PassesFewer, earlier_fault}
+
+-- one line more that says something, or of which the fault was found before
+all_append : (P : List ℕ → Type 0) (xs : List (List ℕ)) (x : List ℕ) → AllByRecursion P xs → P x → AllByRecursion P (xs ++ x ∷ [])
+all_append P [] x all px = (px, tt)
+all_append P (y ∷ ys) x all px = (all.0, all_append P ys x all.1 px)
+
+fault_append : (style : Style) (owner : List ℕ) (lines : List (List ℕ)) (line : List ℕ) (fault : LineFault) → IsFirstFault style owner lines fault → IsFirstFault style owner (lines ++ line ∷ []) fault
+fault_append style owner lines line fault first = record {
+  front = first.front;
+  line = first.line;
+  back = first.back ++ line ∷ [];
+  parts = ap (λ l. l ++ line ∷ []) first.parts ∙ append_assoc first.front (first.line ∷ first.back) (line ∷ []);
+  before = first.before;
+  here = first.here;
+  number = first.number;
+}
+
+next_fault : (style : Style) (owner : List ℕ) (lines : List (List ℕ)) (line : List ℕ) (fault : Option LineFault) (read : Result Line LineFault)
+    → IsFault style owner lines fault → IsAnswer style owner line (answer_of read) → number_of read ≡ length lines + 1
+    → IsFault style owner (lines ++ line ∷ []) (earlier_fault fault read)
+next_fault style owner lines line (Some fault) read so_far answer number = fault_append style owner lines line fault so_far
+next_fault style owner lines line None (Ok read) so_far answer number = all_append (Says style owner) lines line so_far (body_of read.body, answer)
+next_fault style owner lines line None (Err fault) so_far answer number = record {
+  front = lines;
+  line = line;
+  back = [];
+  parts = refl;
+  before = so_far;
+  here = answer;
+  number = number;
+}
+
+-- nothing is passed at first
+pub passes_none : (old : TableReader) → PassesAll old old 0 None
+passes_none old = record {
+  lines = [];
+  passes = record { begins = refl; passed = omega arith; style = refl; owner = refl };
+  count_is = refl;
+  fault_is = tt;
+}
+
+-- one line more
+pub passes_next : (old now new : TableReader) (count : ℕ) (fault : Option LineFault) (read : Result Line LineFault) → old.passed ≡ 0
+    → PassesAll old now count fault → ReadsLine now new read → PassesAll old new (count + 1) (earlier_fault fault read)
+passes_next old now new count fault read fresh so_far reads =
+    let passes = so_far.passes in
+    let line = reads.line in
+    let new_is = reads.goes_on.new_is in
+    let passed : new.passed ≡ now.passed + 1 = ap (λ (r : TableReader). r.passed) new_is in
+    let style : new.style ≡ now.style = ap (λ (r : TableReader). r.style) new_is in
+    let owner : new.owner ≡ now.owner = ap (λ (r : TableReader). r.owner) new_is in
+    let answer : IsAnswer old.style old.owner line (answer_of read) =
+    subst (λ s. IsAnswer s old.owner line (answer_of read)) passes.style (subst (λ o. IsAnswer now.style o line (answer_of read)) passes.owner reads.answer) in
+    let number : number_of read ≡ length so_far.lines + 1 = reads.number ∙ omega (arith, passes.passed, fresh) in
+    record {
+      lines = so_far.lines ++ line ∷ [];
+      passes = record {
+        begins = BeginsWithLines-append so_far.lines (line ∷ []) (rest_of old) (rest_of now) (rest_of new) passes.begins (rest_of new, reads.goes_on.begins, refl);
+        passed = rw length-append (omega (arith, passed, passes.passed));
+        style = style ∙ passes.style;
+        owner = owner ∙ passes.owner;
+      };
+      count_is = rw length-append (omega (arith, so_far.count_is));
+      fault_is = next_fault old.style old.owner so_far.lines line fault read so_far.fault_is answer number;
+    }
+
+pub same_lines : (section : Section) (a b : List (List ℕ)) → a ≡ b → ◌≡◌ {A = Section} (record section { lines = a }) (record section { lines = b })
+same_lines section a b is = rw is refl
+
+-- a place in a section, whose lines so far and whose lines to come are counted
+abbrev in_section : ℕ → Run → Section → ℕ → List ℕ → Place
+in_section number run section left rest = record { number = number; above = inside run section left; rest = rest }
+
+-- from a section's first line to one of its lines, or to what is behind its last
+pub front_leads : (front : List (List ℕ)) (left total number last : ℕ) (run : Run) (section : Section) (text rest : List ℕ)
+    → total ≡ length front + left → last ≡ number + length front
+    → BeginsWithLines front text rest → AllByRecursion (Says (style_of section.kind) section.label) front
+    → LeadsTo (in_section number run section total text) (in_section last run (with_lines section front) left rest)
+front_leads [] left total number last run section text rest total_is last_is begins all =
+    let total_left : total ≡ left = omega (arith, total_is) in
+    let last_number : last ≡ number = omega (arith, last_is) in
+    let section_same : with_lines section [] ≡ section = same_lines section (section.lines ++ []) section.lines (append-nil section.lines) in
+    rw (total_left, last_number, section_same, begins) (stays _)
+front_leads (line ∷ lines) left total number last run section text rest total_is last_is (middle, begins, more) all =
+    let total_next : total ≡ suc (length lines + left) = omega (arith, total_is) in
+    let first = one_line number (Table run section (length lines + left)) (inside run (with_line section line) (length lines + left)) text line middle
+    (lines_of-begins text line middle begins) (all.0.0, all.0.1, refl) in
+    let others = front_leads lines left (length lines + left) (number + 1) last run (with_line section line) middle rest refl (omega (arith, last_is)) more all.1 in
+    let joined : with_lines (with_line section line) lines ≡ with_lines section (line ∷ lines) =
+    same_lines section ((section.lines ++ line ∷ []) ++ lines) (section.lines ++ line ∷ lines) (append_assoc section.lines (line ∷ []) lines) in
+    subst (λ t. LeadsTo (in_section number run section t text) (in_section last run (with_lines section (line ∷ lines)) left rest)) (sym total_next)
+    (subst (λ s. LeadsTo (in_section number run section (suc (length lines + left)) text) (in_section last run s left rest)) joined (goes_on _ _ _ first others))
+
+-- the first line of a section that says nothing
+pub table_refused : (lines : List (List ℕ)) (number : ℕ) (run : Run) (section : Section) (text rest : List ℕ) (fault : LineFault) (refusal : Refusal)
+    → BeginsWithLines lines text rest → IsFirstFault (style_of section.kind) section.label lines fault
+    → refusal.line ≡ number + fault.line → refusal.cause ≡ fault.cause → refusal.place ≡ fault.place
+    → RefusedFrom (record { number = number + 1; above = inside run section (length lines); rest = text }) refusal
+table_refused lines number run section text rest fault refusal begins first line_is cause_is place_is =
+    let cut = BeginsWithLines-split first.front (first.line ∷ first.back) text rest (subst (λ l. BeginsWithLines l text rest) first.parts begins) in
+    let behind = cut.2 in
+    let count : length lines ≡ length first.front + suc (length first.back) = ap length first.parts ∙ length-append first.front (first.line ∷ first.back) in
+    let way = front_leads first.front (suc (length first.back)) (length lines) (number + 1) (number + 1 + length first.front) run section text cut.0 count refl cut.1 first.before in
+    let here = wrong_line (number + 1 + length first.front) (Table run (with_lines section first.front) (length first.back)) cut.0 first.line behind.0
+    (record { cause = fault.cause; place = fault.place }) refusal (lines_of-begins cut.0 first.line behind.0 behind.1) first.here
+    (line_is ∙ omega (arith, first.number)) cause_is place_is in
+    way.refuses refusal here
+
+-- so many lines that a text begins with, and what is at fault in them
+pub record PassedText (text rest : List ℕ) (style : Style) (owner : List ℕ) (count : ℕ) (fault : Option LineFault) : Type 0 where
+  pub lines : List (List ℕ)
+  pub begins : BeginsWithLines lines text rest
+  pub count_is : length lines ≡ count
+  pub fault_is : IsFault style owner lines fault
+
+pub passed_text : (text owner : List ℕ) (style : Style) (reader new : TableReader) (count : ℕ) (fault : Option LineFault) → reader ≡ table_reader text style owner
+    → PassesAll reader new count fault → PassedText text (rest_of new) style owner count fault
+passed_text text owner style reader new count fault fresh passes =
+    let all = subst (λ r. PassesAll r new count fault) fresh passes in
+    record { lines = all.lines; begins = all.passes.begins; count_is = all.count_is; fault_is = all.fault_is }
+
+-- all the lines of a text are fewer
+pub fewer_lines : (text owner : List ℕ) (style : Style) (reader new : TableReader) (count : ℕ) → reader ≡ table_reader text style owner
+    → PassesFewer reader new count → length (lines_of text) < count
+unfolding lines_of
+fewer_lines text owner style reader new count fresh passes =
+    let all = subst (λ r. PassesFewer r new count) fresh passes in
+    let begins = subst (λ t. BeginsWithLines all.lines text t) all.end all.passes.begins in
+    omega (arith, lines_of-count all.lines text [] begins, all.fewer)
+
+-- a fault is of one of the lines
+pub fault_line_within : (style : Style) (owner : List ℕ) (lines : List (List ℕ)) (fault : LineFault) → IsFirstFault style owner lines fault → fault.line ≤ length lines
+fault_line_within style owner lines fault first =
+    let count : length lines ≡ length first.front + suc (length first.back) = ap length first.parts ∙ length-append first.front (first.line ∷ first.back) in
+    omega (arith, first.number)
+
+-- the text of lines that were passed, cut off by its length
+pub front_is : (lines : List (List ℕ)) (text rest part : List ℕ) (size : ℕ) → BeginsWithLines lines text rest → size ≡ length text - length rest → part ≡ take size text → lines_of part ≡ lines
+front_is lines text rest part size begins size_is part_is =
+    let front = front_of lines text rest begins in
+    ap lines_of (part_is ∙ front_part text front.front rest size size_is front.parts) ∙ front.are
+
+pub table_refused_at : (lines : List (List ℕ)) (count number : ℕ) (run : Run) (section : Section) (text rest : List ℕ) (fault : LineFault) (refusal : Refusal)
+    → BeginsWithLines lines text rest → length lines ≡ count → IsFirstFault (style_of section.kind) section.label lines fault
+    → refusal.line ≡ number + fault.line → refusal.cause ≡ fault.cause → refusal.place ≡ fault.place
+    → RefusedFrom (in_section (number + 1) run section count text) refusal
+table_refused_at lines count number run section text rest fault refusal begins count_is first line_is cause_is place_is =
+    subst (λ n. RefusedFrom (in_section (number + 1) run section n text) refusal) count_is
+    (table_refused lines number run section text rest fault refusal begins first line_is cause_is place_is)
+
+-- a refusal by its parts
+pub is_refusal : (refusal : Refusal) (line cause : ℕ) → refusal.line ≡ line → refusal.cause ≡ cause → refusal.place ≡ 0 → refusal ≡ record { line = line; cause = cause; place = 0 }
+is_refusal refusal line cause line_is cause_is place_is = rw (sym line_is, sym cause_is, sym place_is) refl
+
+-- the lines of a section, as the reader passes them
+pub passed_table : (old new : Reader) (opening : Opening) (section : SectionText) (lines : List (List ℕ))
+    → BeginsWithLines lines old.rest.now new.rest.now → length lines ≡ opening.count
+    → AllByRecursion (Says (style_of opening.kind) opening.label.now) lines → new.number ≡ old.number + opening.count
+    → section_of section ≡ record { line = old.number; kind = opening.kind; label = opening.label.now; zone = opening.zone.now; lines = lines }
+    → PassesTable old new opening section
+passed_table old new opening section lines begins count_is all number_is section_is = record {
+  whole = omega (arith, lines_of-count lines old.rest.now new.rest.now begins, count_is);
+  leads = λ run.
+      subst (λ s. LeadsTo (place_of old (at_table old opening run)) (place_of new (Sections (with_section run s)))) (sym section_is)
+      (front_leads lines 0 opening.count (old.number + 1) (new.number + 1) run (opened old.number opening.kind opening.label.now opening.zone.now) old.rest.now new.rest.now
+      (omega (arith, count_is)) (omega (arith, number_is, count_is)) begins all);
+}

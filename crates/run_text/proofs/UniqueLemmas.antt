@@ -1,0 +1,192 @@
+-- A line may stand where it stands, or it may not: never both, and in one way.
+use Rattle.std.proofs.Common.{◌≡◌, ℕ, ◌+◌, ◌≤◌, List, [], ◌∷◌, length, get_or, refl, ap, ◌∙◌, sym, subst, inl, inr, arith, codes}
+use Rattle.crontab_text.specs.Answers.{IsLineOf, IsLineFault, LineAnswer, Said, Broken}
+use Rattle.crontab_text.specs.LineBody.{LineBody}
+use Rattle.crontab_text.specs.declared.answer.Style.{Style}
+use Rattle.crontab_text.proofs.AnswerLemmas.{same_answer}
+use Rattle.zone_minutes.specs.declared.minute.Window.{Window}
+use Rattle.run_text.specs.Follow.{Above, Nothing, Version, Replicas, Times, Sections, Table, Script, End, inside, style_of, MayFollow, StartsSection, Fault, whole, Refuses, RefusesReplicas, RefusesBeforeScript, RefusesInScript, Misses}
+use Rattle.run_text.specs.Grammar.{replicas_line, first_word, HasSectionWord, HasLaterWord, IsCommandWord, round, campaign, stop, break, restart, cut, heal, drop, repeat, reverse, again, skew, fate, arrive, settle, walk, free}
+use Rattle.run_text.specs.Reading.{ReadsFrom, RefusesFrom}
+use Rattle.run_text.specs.Run.{Run, run_with, opened}
+use Rattle.run_text.specs.declared.refusal.Refusal.{Refusal}
+use Rattle.run_text.specs.declared.run.SectionKind.{SectionKind}
+use Rattle.run_text.proofs.PhraseLemmas.{one_replicas_line, one_grace_line, one_opening, opening_word}
+use Rattle.run_text.proofs.WindowLemmas.{one_window_line}
+
+-- two texts with another byte at a place
+at_differs : {a b : List ℕ} (place : ℕ) → a ≡ b → (get_or a place 0 ≡ get_or b place 0 → ⊥) → ⊥
+at_differs place is differs = differs (ap (λ l. get_or l place 0) is)
+
+-- the words tell the lines apart
+script_no_section : HasSectionWord (codes "script") → ⊥
+script_no_section (inl is) = at_differs 0 is (λ e. omega arith)
+script_no_section (inr is) = at_differs 1 is (λ e. omega arith)
+
+script_no_later : HasLaterWord (codes "script") → ⊥
+script_no_later (inl is) = at_differs 0 is (λ e. omega arith)
+script_no_later (inr is) = at_differs 0 is (λ e. omega arith)
+
+section_no_later : (line : List ℕ) → HasSectionWord line → HasLaterWord line → ⊥
+section_no_later line (inl is) (inl other) = at_differs 0 (sym is ∙ other) (λ e. omega arith)
+section_no_later line (inl is) (inr other) = at_differs 0 (sym is ∙ other) (λ e. omega arith)
+section_no_later line (inr is) (inl other) = at_differs 0 (sym is ∙ other) (λ e. omega arith)
+section_no_later line (inr is) (inr other) = at_differs 0 (sym is ∙ other) (λ e. omega arith)
+
+end_no_command : IsCommandWord (first_word (codes "end")) → ⊥
+end_no_command (round is) = at_differs 0 is (λ e. omega arith)
+end_no_command (campaign is) = at_differs 0 is (λ e. omega arith)
+end_no_command (stop is) = at_differs 0 is (λ e. omega arith)
+end_no_command (break is) = at_differs 0 is (λ e. omega arith)
+end_no_command (restart is) = at_differs 0 is (λ e. omega arith)
+end_no_command (cut is) = at_differs 0 is (λ e. omega arith)
+end_no_command (heal is) = at_differs 0 is (λ e. omega arith)
+end_no_command (drop is) = at_differs 0 is (λ e. omega arith)
+end_no_command (repeat is) = at_differs 0 is (λ e. omega arith)
+end_no_command (reverse is) = at_differs 0 is (λ e. omega arith)
+end_no_command (again is) = at_differs 0 is (λ e. omega arith)
+end_no_command (skew is) = at_differs 0 is (λ e. omega arith)
+end_no_command (fate is) = at_differs 0 is (λ e. omega arith)
+end_no_command (arrive is) = at_differs 0 is (λ e. omega arith)
+end_no_command (settle is) = at_differs 0 is (λ e. omega arith)
+end_no_command (walk is) = at_differs 0 is (λ e. omega arith)
+end_no_command (free is) = at_differs 0 is (λ e. omega arith)
+
+-- what stands above the next line
+next_of_start : (number behind : ℕ) (run : Run) (line : List ℕ) (x y : Above) → StartsSection number behind run line x → StartsSection number behind run line y → x ≡ y
+next_of_start number behind run line x y first second =
+    let same = one_opening line first.kind second.kind first.label second.label first.zone second.zone first.count second.count first.opens.is second.opens.is in
+    first.next_is ∙ rw (same.kind, same.label, same.zone, same.count) (sym second.next_is)
+
+script_no_start : (number behind : ℕ) (run : Run) (line : List ℕ) (x : Above) → line ≡ codes "script" → StartsSection number behind run line x → ⊥
+script_no_start number behind run line x is start =
+    script_no_section (subst HasSectionWord is (opening_word line start.kind start.label start.zone start.count start.opens.is))
+
+pub one_next : (number behind : ℕ) (above : Above) (line : List ℕ) (x y : Above) → MayFollow number behind above line x → MayFollow number behind above line y → x ≡ y
+one_next number behind Nothing line x y p q = p.1 ∙ sym q.1
+one_next number behind Version line x y p q = p.1 ∙ sym q.1
+one_next number behind (Replicas members) line x y (a, is, next) (b, other, same) = next ∙ rw (one_window_line line a b is other) (sym same)
+one_next number behind (Times members window) line x y (a, is, next) (b, other, same) = next ∙ rw (one_grace_line line a b is other) (sym same)
+one_next number behind (Sections run) line x y (inl p) (inl q) = p.1 ∙ sym q.1
+one_next number behind (Sections run) line x y (inl p) (inr q) = absurd (script_no_start number behind run line y p.0 q)
+one_next number behind (Sections run) line x y (inr p) (inl q) = absurd (script_no_start number behind run line x q.0 p)
+one_next number behind (Sections run) line x y (inr p) (inr q) = next_of_start number behind run line x y p q
+one_next number behind (Table run section left) line x y p q = p.2 ∙ sym q.2
+one_next number behind (Script run) line x y p q = p.1 ∙ sym q.1
+one_next number behind (End run) line x y p q = absurd p
+
+-- a line of a table
+said_or_broken : (style : Style) (owner line : List ℕ) (body : LineBody) (cause place : ℕ) → IsLineOf style owner line body → IsLineFault style line cause place → ⊥
+said_or_broken style owner line body cause place says breaks =
+    let same : ◌≡◌ {A = LineAnswer} (Said body) (Broken cause place) = same_answer style owner line (Said body) (Broken cause place) says breaks in cc
+
+one_break : (style : Style) (owner line : List ℕ) (f g : Fault) → IsLineFault style line f.cause f.place → IsLineFault style line g.cause g.place → f ≡ g
+one_break style owner line f g first second =
+    let same : ◌≡◌ {A = LineAnswer} (Broken f.cause f.place) (Broken g.cause g.place) = same_answer style owner line (Broken f.cause f.place) (Broken g.cause g.place) first second in
+    let cause : f.cause ≡ g.cause = cc in
+    let place : f.place ≡ g.place = cc in
+    rw (cause, place) refl
+
+-- a line that may stand there isn't refused
+not_refused_before_script : (number behind : ℕ) (run : Run) (line : List ℕ) (next : Above) (fault : Fault) → MayFollow number behind (Sections run) line next → RefusesBeforeScript behind line fault → ⊥
+not_refused_before_script number behind run line next fault (inl p) (inl refused) = script_no_section (subst HasSectionWord p.0 refused.0)
+not_refused_before_script number behind run line next fault (inl p) (inr (inl refused)) = script_no_later (subst HasLaterWord p.0 refused.0)
+not_refused_before_script number behind run line next fault (inl p) (inr (inr refused)) = refused.2 p.0
+not_refused_before_script number behind run line next fault (inr p) (inl refused) = refused.1 p.kind p.label p.zone p.count p.opens
+not_refused_before_script number behind run line next fault (inr p) (inr (inl refused)) =
+    section_no_later line (opening_word line p.kind p.label p.zone p.count p.opens.is) refused.0
+not_refused_before_script number behind run line next fault (inr p) (inr (inr refused)) =
+    refused.0 (opening_word line p.kind p.label p.zone p.count p.opens.is)
+
+not_refused_replicas : (line : List ℕ) (fault : Fault) → line ≡ replicas_line 1 → RefusesReplicas line fault → ⊥
+not_refused_replicas line fault is (inl refused) = refused.0 1 (omega arith) (omega arith) is
+not_refused_replicas line fault is (inr (members, some, few, other, refused)) =
+    let same = one_replicas_line 1 members (omega arith) few (sym is ∙ other) in omega arith
+
+not_refused_in_script : (line : List ℕ) (fault : Fault) → line ≡ codes "end" → RefusesInScript line fault → ⊥
+not_refused_in_script line fault is (inl refused) = end_no_command (subst (λ l. IsCommandWord (first_word l)) is refused.0)
+not_refused_in_script line fault is (inr refused) = refused.1 is
+
+pub not_refused : (number behind : ℕ) (above : Above) (line : List ℕ) (next : Above) (fault : Fault) → MayFollow number behind above line next → Refuses number behind above line fault → ⊥
+not_refused number behind Nothing line next fault p refused = refused.0 p.0
+not_refused number behind Version line next fault p refused = not_refused_replicas line fault p.0 refused
+not_refused number behind (Replicas members) line next fault p refused = refused.0 p.0 p.1
+not_refused number behind (Times members window) line next fault p refused = refused.0 p.0 p.1
+not_refused number behind (Sections run) line next fault p refused = not_refused_before_script number behind run line next fault p refused
+not_refused number behind (Table run section left) line next fault p refused = said_or_broken (style_of section.kind) section.label line p.0 fault.cause fault.place p.1 refused
+not_refused number behind (Script run) line next fault p refused = not_refused_in_script line fault p.0 refused
+not_refused number behind (End run) line next fault p refused = absurd p
+
+-- what a refused line is refused for
+one_replicas_fault : (line : List ℕ) (f g : Fault) → RefusesReplicas line f → RefusesReplicas line g → f ≡ g
+one_replicas_fault line f g (inl first) (inl second) = first.1 ∙ sym second.1
+one_replicas_fault line f g (inl first) (inr (members, some, few, is, fault)) = absurd (first.0 members (omega arith) few is)
+one_replicas_fault line f g (inr (members, some, few, is, fault)) (inl second) = absurd (second.0 members (omega arith) few is)
+one_replicas_fault line f g (inr first) (inr second) = first.4 ∙ sym second.4
+
+one_fault_before_script : (behind : ℕ) (line : List ℕ) (f g : Fault) → RefusesBeforeScript behind line f → RefusesBeforeScript behind line g → f ≡ g
+one_fault_before_script behind line f g (inl p) (inl q) = p.2 ∙ sym q.2
+one_fault_before_script behind line f g (inl p) (inr (inl q)) = absurd (section_no_later line p.0 q.0)
+one_fault_before_script behind line f g (inl p) (inr (inr q)) = absurd (q.0 p.0)
+one_fault_before_script behind line f g (inr (inl p)) (inl q) = absurd (section_no_later line q.0 p.0)
+one_fault_before_script behind line f g (inr (inl p)) (inr (inl q)) = p.1 ∙ sym q.1
+one_fault_before_script behind line f g (inr (inl p)) (inr (inr q)) = absurd (q.1 p.0)
+one_fault_before_script behind line f g (inr (inr p)) (inl q) = absurd (p.0 q.0)
+one_fault_before_script behind line f g (inr (inr p)) (inr (inl q)) = absurd (p.1 q.0)
+one_fault_before_script behind line f g (inr (inr p)) (inr (inr q)) = p.3 ∙ sym q.3
+
+one_fault_in_script : (line : List ℕ) (f g : Fault) → RefusesInScript line f → RefusesInScript line g → f ≡ g
+one_fault_in_script line f g (inl p) (inl q) = p.1 ∙ sym q.1
+one_fault_in_script line f g (inl p) (inr q) = absurd (q.0 p.0)
+one_fault_in_script line f g (inr p) (inl q) = absurd (p.0 q.0)
+one_fault_in_script line f g (inr p) (inr q) = p.2 ∙ sym q.2
+
+pub one_fault : (number behind : ℕ) (above : Above) (line : List ℕ) (f g : Fault) → Refuses number behind above line f → Refuses number behind above line g → f ≡ g
+one_fault number behind Nothing line f g p q = p.1 ∙ sym q.1
+one_fault number behind Version line f g p q = one_replicas_fault line f g p q
+one_fault number behind (Replicas members) line f g p q = p.1 ∙ sym q.1
+one_fault number behind (Times members window) line f g p q = p.1 ∙ sym q.1
+one_fault number behind (Sections run) line f g p q = one_fault_before_script behind line f g p q
+one_fault number behind (Table run section left) line f g p q = one_break (style_of section.kind) section.label line f g p q
+one_fault number behind (Script run) line f g p q = one_fault_in_script line f g p q
+one_fault number behind (End run) line f g p q = p ∙ sym q
+
+-- the cause of a line that is missing
+one_miss : (above : Above) (c d : ℕ) → Misses above c → Misses above d → c ≡ d
+one_miss Nothing c d p q = p ∙ sym q
+one_miss Version c d p q = p ∙ sym q
+one_miss (Replicas members) c d p q = p ∙ sym q
+one_miss (Times members window) c d p q = p ∙ sym q
+one_miss (Sections run) c d p q = p ∙ sym q
+one_miss (Table run section left) c d p q = absurd p
+one_miss (Script run) c d p q = p ∙ sym q
+one_miss (End run) c d p q = absurd p
+
+same_refusal : (a b : Refusal) → a.line ≡ b.line → a.cause ≡ b.cause → a.place ≡ b.place → a ≡ b
+same_refusal a b line cause place = rw (line, cause, place) refl
+
+end_no_miss : (above : Above) (run : Run) (cause : ℕ) → above ≡ End run → Misses above cause → ⊥
+end_no_miss above run cause is misses = subst (λ a. Misses a cause) is misses
+
+-- some lines say one run, or are refused for one reason, and never both
+pub one_run : (number : ℕ) (above : Above) (lines : List (List ℕ)) (a b : Run) → ReadsFrom number above lines a → ReadsFrom number above lines b → a ≡ b
+one_run number above [] a b p q = let same : End a ≡ End b = sym p ∙ q in cc
+one_run number above (line ∷ lines) a b (x, may, reads) (y, other, more) =
+    one_run (number + 1) y lines a b (subst (λ t. ReadsFrom (number + 1) t lines a) (one_next number (length lines) above line x y may other) reads) more
+
+pub never_both : (number : ℕ) (above : Above) (lines : List (List ℕ)) (run : Run) (refusal : Refusal) → ReadsFrom number above lines run → RefusesFrom number above lines refusal → ⊥
+never_both number above [] run refusal is refused = end_no_miss above run refusal.cause is refused.0
+never_both number above (line ∷ lines) run refusal (x, may, reads) (inl refused) =
+    not_refused number (length lines) above line x (record { cause = refusal.cause; place = refusal.place }) may refused.0
+never_both number above (line ∷ lines) run refusal (x, may, reads) (inr (y, other, refused)) =
+    never_both (number + 1) y lines run refusal (subst (λ t. ReadsFrom (number + 1) t lines run) (one_next number (length lines) above line x y may other) reads) refused
+
+pub one_refusal : (number : ℕ) (above : Above) (lines : List (List ℕ)) (a b : Refusal) → RefusesFrom number above lines a → RefusesFrom number above lines b → a ≡ b
+one_refusal number above [] a b p q = same_refusal a b (p.1 ∙ sym q.1) (one_miss above a.cause b.cause p.0 q.0) (p.2 ∙ sym q.2)
+one_refusal number above (line ∷ lines) a b (inl p) (inl q) =
+    let same = one_fault number (length lines) above line (record { cause = a.cause; place = a.place }) (record { cause = b.cause; place = b.place }) p.0 q.0 in
+    same_refusal a b (p.1 ∙ sym q.1) (ap (λ (f : Fault). f.cause) same) (ap (λ (f : Fault). f.place) same)
+one_refusal number above (line ∷ lines) a b (inl p) (inr (y, may, q)) = absurd (not_refused number (length lines) above line y (record { cause = a.cause; place = a.place }) may p.0)
+one_refusal number above (line ∷ lines) a b (inr (x, may, p)) (inl q) = absurd (not_refused number (length lines) above line x (record { cause = b.cause; place = b.place }) may q.0)
+one_refusal number above (line ∷ lines) a b (inr (x, may, p)) (inr (y, other, q)) =
+    one_refusal (number + 1) y lines a b (subst (λ t. RefusesFrom (number + 1) t lines a) (one_next number (length lines) above line x y may other) p) q

@@ -1,0 +1,31 @@
+-- Clauses on an `Option` or a `Result` whose variant is known.
+use Rattle.std.proofs.Common.{◌≡◌, Option, Some, None, IfNone, IfSome, Result, Ok, Err, IsErrAnd, sym, subst}
+use Rattle.std.specs.Prelude.{IfErr}
+use Rattle.run_text.specs.Steps.{IfRefused}
+use Rattle.run_text.specs.declared.refusal.Refusal.{Refusal}
+use Rattle.run_text.specs.declared.refusal.RunFault.{RunFault}
+use Rattle.run_text.specs.declared.refusal.RunFault.TheVariants.{Refused}
+
+-- a fact that holds anyway holds for `None`
+pub if_none : {T : Type 0} (r : Option T) {P : Type 0} → P → IfNone r P
+if_none None p = p
+if_none (Some x) p = tt
+
+-- a fact of the error that a `?` hands on
+pub handed_on : {T E : Type 0} (r : Result T E) (e : E) (P : E → Type 0) → IsErrAnd r (λ x. x ≡ e) → P e → IfErr r P
+handed_on (Ok x) e P is holds = tt
+handed_on (Err x) e P is holds = subst P (sym is) holds
+
+-- what a clause says where the variant is known
+pub at_some : {T : Type 0} (r : Option T) (P : T → Type 0) (x : T) → r ≡ Some x → IfSome r P → P x
+at_some None P x is p = cc
+at_some (Some y) P x is p = let same : y ≡ x = cc in subst P same p
+
+pub at_none : {T : Type 0} (r : Option T) {P : Type 0} → r ≡ None → IfNone r P → P
+at_none None is p = p
+at_none (Some x) is p = cc
+
+-- a fact of the refusal that a `?` hands on as a fault of a run
+pub refused_on : {T : Type 0} (r : Result T RunFault) (refusal : Refusal) (P : Refusal → Type 0) → IsErrAnd r (λ fault. fault ≡ Refused refusal) → P refusal → IfErr r (λ fault. IfRefused fault P)
+refused_on (Ok x) refusal P is holds = tt
+refused_on (Err fault) refusal P is holds = subst (λ f. IfRefused f P) (sym is) holds

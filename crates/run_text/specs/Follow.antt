@@ -1,0 +1,122 @@
+-- Which line of a run file may follow which, and why another one may not.
+use Rattle.std.specs.Prelude.{◌≡◌, ◌≢◌, ◌⊎◌, ℕ, zero, suc, ◌<◌, ◌≤◌, List, [], codes}
+use Rattle.zone_minutes.specs.declared.minute.Window.{Window}
+use Rattle.crontab_text.specs.Answers.{IsLineOf, IsLineFault}
+use Rattle.crontab_text.specs.LineBody.{LineBody}
+use Rattle.crontab_text.specs.declared.answer.Style.{Style}
+use Rattle.crontab_text.specs.declared.answer.Style.TheVariants as style
+use Rattle.run_text.specs.Grammar.{replicas_line, IsWindowLine, IsGraceLine, IsSectionLine, first_word, HasSectionWord, HasLaterWord, IsCommandWord}
+use Rattle.run_text.specs.Run.{Section, Run, run_with, opened, with_line, with_section}
+use Rattle.run_text.specs.declared.run.SectionKind.{SectionKind}
+use Rattle.run_text.specs.declared.run.SectionKind.TheVariants.{User, System}
+
+-- what the lines above a line of a run file were
+pub data Above : Type 0 where
+  -- no line
+  Nothing : Above
+  -- the version
+  Version : Above
+  -- the number of replicas
+  Replicas : (members : ℕ) → Above
+  -- the window
+  Times : (members : ℕ) → (window : Window) → Above
+  -- the head, and whole sections
+  Sections : (run : Run) → Above
+  -- and a section's first lines, of which so many are left behind the next one
+  Table : (run : Run) → (section : Section) → (left : ℕ) → Above
+  -- the line that opens the script
+  Script : (run : Run) → Above
+  -- the last line
+  End : (run : Run) → Above
+
+-- what stands above once a section has so many lines left
+abbrev pub inside : Run → Section → ℕ → Above
+inside run section zero = Sections (with_section run section)
+inside run section (suc left) = Table run section left
+
+-- how the lines of a section are read
+abbrev pub style_of : SectionKind → Style
+style_of User = style.User
+style_of System = style.System
+
+-- The line opens a section of so many lines, which are all there: so many lines are behind it.
+pub record Opens (behind : ℕ) (line : List ℕ) (kind : SectionKind) (label zone : List ℕ) (count : ℕ) : Type 0 where
+  pub is : IsSectionLine line kind label zone count
+  pub whole : count ≤ behind
+
+-- the line opens a section, and what stands above the next line then
+pub record StartsSection (number behind : ℕ) (run : Run) (line : List ℕ) (next : Above) : Type 0 where
+  pub kind : SectionKind
+  pub label : List ℕ
+  pub zone : List ℕ
+  pub count : ℕ
+  pub opens : Opens behind line kind label zone count
+  pub next_is : next ≡ inside run (opened number kind label zone) count
+
+-- the line opens no section
+abbrev pub OpensNone : (behind : ℕ) → List ℕ → Type 0
+OpensNone behind line = (kind : SectionKind) (label zone : List ℕ) (count : ℕ) → Opens behind line kind label zone count → ⊥
+
+-- The line of that number, with so many lines behind it, may stand below these, and what stands above the next one then.
+abbrev pub MayFollow : (number behind : ℕ) → Above → List ℕ → Above → Type 0
+MayFollow number behind Nothing line next = (line ≡ codes "cronrun 1") × (next ≡ Version)
+MayFollow number behind Version line next = (line ≡ replicas_line 1) × (next ≡ Replicas 1)
+MayFollow number behind (Replicas members) line next = (window : Window) × IsWindowLine line window × (next ≡ Times members window)
+MayFollow number behind (Times members window) line next =
+    (grace : ℕ) × IsGraceLine line grace × (next ≡ Sections (run_with members window grace))
+MayFollow number behind (Sections run) line next =
+    ((line ≡ codes "script") × (next ≡ Script run)) ⊎ StartsSection number behind run line next
+MayFollow number behind (Table run section left) line next =
+    (body : LineBody) × IsLineOf (style_of section.kind) section.label line body × (next ≡ inside run (with_line section line) left)
+MayFollow number behind (Script run) line next = (line ≡ codes "end") × (next ≡ End run)
+MayFollow number behind (End run) line next = ⊥
+
+-- the cause for which a line is refused, and the byte in it
+pub record Fault : Type 0 where
+  pub cause : ℕ
+  pub place : ℕ
+
+-- the whole line is at fault
+abbrev pub whole : ℕ → Fault
+whole cause = record { cause = cause; place = 0 }
+
+-- the line doesn't say how many replicas there are, or says more than there can be so far
+abbrev pub RefusesReplicas : List ℕ → Fault → Type 0
+RefusesReplicas line fault =
+    (((members : ℕ) → 1 ≤ members → members ≤ 7 → line ≢ replicas_line members) × (fault ≡ whole 26))
+    ⊎ ((members : ℕ) × (2 ≤ members) × (members ≤ 7) × (line ≡ replicas_line members) × (fault ≡ whole 35))
+
+-- Before the script: the line opens no section, or has no form yet, or is none that may stand there at all.
+abbrev pub RefusesBeforeScript : (behind : ℕ) → List ℕ → Fault → Type 0
+RefusesBeforeScript behind line fault =
+    (HasSectionWord line × OpensNone behind line × (fault ≡ whole 29))
+    ⊎ ((HasLaterWord line × (fault ≡ whole 35))
+    ⊎ ((HasSectionWord line → ⊥) × (HasLaterWord line → ⊥) × (line ≢ codes "script") × (fault ≡ whole 31)))
+
+-- in the script: the line is a command that has no form yet, or none at all
+abbrev pub RefusesInScript : List ℕ → Fault → Type 0
+RefusesInScript line fault =
+    (IsCommandWord (first_word line) × (fault ≡ whole 35))
+    ⊎ ((IsCommandWord (first_word line) → ⊥) × (line ≢ codes "end") × (fault ≡ whole 30))
+
+-- The line of that number, with so many lines behind it, may not stand below these, for this cause.
+abbrev pub Refuses : (number behind : ℕ) → Above → List ℕ → Fault → Type 0
+Refuses number behind Nothing line fault = (line ≢ codes "cronrun 1") × (fault ≡ whole 25)
+Refuses number behind Version line fault = RefusesReplicas line fault
+Refuses number behind (Replicas members) line fault = ((window : Window) → IsWindowLine line window → ⊥) × (fault ≡ whole 27)
+Refuses number behind (Times members window) line fault = ((grace : ℕ) → IsGraceLine line grace → ⊥) × (fault ≡ whole 28)
+Refuses number behind (Sections run) line fault = RefusesBeforeScript behind line fault
+Refuses number behind (Table run section left) line fault = IsLineFault (style_of section.kind) line fault.cause fault.place
+Refuses number behind (Script run) line fault = RefusesInScript line fault
+Refuses number behind (End run) line fault = fault ≡ whole 30
+
+-- the file ends where a line is missing, and for this cause
+abbrev pub Misses : Above → ℕ → Type 0
+Misses Nothing cause = cause ≡ 25
+Misses Version cause = cause ≡ 26
+Misses (Replicas members) cause = cause ≡ 27
+Misses (Times members window) cause = cause ≡ 28
+Misses (Sections run) cause = cause ≡ 31
+Misses (Table run section left) cause = ⊥
+Misses (Script run) cause = cause ≡ 31
+Misses (End run) cause = ⊥

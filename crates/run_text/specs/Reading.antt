@@ -1,0 +1,44 @@
+-- What a run file says, and for what it is refused. Relations on all its lines.
+use Rattle.std.specs.Prelude.{◌≡◌, ◌⊎◌, ℕ, ◌+◌, ◌<◌, ◌≤◌, ◌^◌, List, [], ◌∷◌, length, All}
+use Rattle.run_text.specs.Lines.{lines_of}
+use Rattle.run_text.specs.Follow.{Above, Nothing, End, MayFollow, Refuses, Misses}
+use Rattle.run_text.specs.Run.{Run, run_of}
+use Rattle.run_text.specs.declared.refusal.Refusal.{Refusal}
+use Rattle.run_text.specs.declared.run.RunFile.{RunFile}
+use Rattle.run_text.specs.declared.run.Section.{Section}
+
+-- The lines, the first of which has that number, may stand below these, one after another up to the last, and say this run.
+abbrev pub ReadsFrom : ℕ → Above → List (List ℕ) → Run → Type 0
+ReadsFrom number above [] run = above ≡ End run
+ReadsFrom number above (line ∷ lines) run =
+    (next : Above) × MayFollow number (length lines) above line next × ReadsFrom (number + 1) next lines run
+
+-- The first of the lines that may not stand where it stands is refused so, or else the line that is missing.
+abbrev pub RefusesFrom : ℕ → Above → List (List ℕ) → Refusal → Type 0
+RefusesFrom number above [] refusal = Misses above refusal.cause × (refusal.line ≡ number) × (refusal.place ≡ 0)
+RefusesFrom number above (line ∷ lines) refusal =
+    (Refuses number (length lines) above line (record { cause = refusal.cause; place = refusal.place }) × (refusal.line ≡ number))
+    ⊎ ((next : Above) × MayFollow number (length lines) above line next × RefusesFrom (number + 1) next lines refusal)
+
+-- the text is a run file, which says this run
+abbrev pub IsRunText : List ℕ → Run → Type 0
+IsRunText text run = ReadsFrom 1 Nothing (lines_of text) run
+
+-- the text is no run file, and this is what is at fault in it
+abbrev pub IsRefusedText : List ℕ → Refusal → Type 0
+IsRefusedText text refusal = RefusesFrom 1 Nothing (lines_of text) refusal
+
+-- the text is a run file, or it is refused
+abbrev pub HasReading : List ℕ → Type 0
+HasReading text = ((run : Run) × IsRunText text run) ⊎ ((refusal : Refusal) × IsRefusedText text refusal)
+
+-- no section's text is longer than the file's
+abbrev pub ArePartsOf : ℕ → List Section → Type 0
+ArePartsOf size sections = All (λ section. length section.text.now ≤ size) sections
+
+-- the run is one that is read from some text
+pub record IsReadRun (run : RunFile) : Type 0 where
+  pub text : List ℕ
+  pub short : length text < 2 ^ 32
+  pub says : IsRunText text (run_of run)
+  pub parts : ArePartsOf (length text) run.sections.items

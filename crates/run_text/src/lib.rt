@@ -1,0 +1,22 @@
+//! Run files: a head, tables of jobs, and a script.
+#![tactic(auto)]
+
+mod head;
+mod laws;
+mod opening;
+mod read;
+mod reader;
+mod refusal;
+mod run;
+mod script;
+mod sections;
+mod table;
+mod words;
+
+pub use laws::{a_text_has_a_reading, a_text_has_one_reading, each_run_is_sound};
+pub use read::read_run;
+pub use refusal::{Refusal, RunFault};
+pub use run::{RunFile, Section, SectionKind};
+
+#[cfg(test)]
+mod tests;

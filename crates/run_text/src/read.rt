@@ -1,0 +1,46 @@
+ghost use Rattle.std.specs.Prelude.{◌<◌, ◌^◌, length, IfOk, IfErr, OnOk};
+ghost use Rattle.run_text.specs.Reading.{IsRunText, IsRefusedText, ArePartsOf};
+ghost use Rattle.run_text.specs.Run.{Run, run_of};
+ghost use Rattle.run_text.specs.Steps.{IfRefused};
+
+use crate::head::read_head;
+use crate::refusal::{Refusal, RunFault};
+use crate::run::RunFile;
+use crate::script::read_script;
+use crate::sections::{pass_sections, read_sections};
+use std::alloc::Global;
+
+/// Reads a run file: a head of four lines, tables of jobs, and a script, which has no command so far. The texts of the run
+/// are parts of the file's text.
+///
+/// # Errors
+///
+/// The first line that may not stand where it stands, or that is missing; or want of memory.
+pub fn read_run(alloc: Global, text: &str) -> Result<RunFile<'_>, RunFault>
+    requires { length text.now < 2 ^ 32 }
+    ensures read { IfOk result (λ run. IsRunText text.now (run_of run)) }
+    ensures parts { IfOk result (λ run. ArePartsOf (length text.now) run.sections.items) }
+    ensures refused { IfErr result (λ fault. IfRefused fault (IsRefusedText text.now)) }
+{
+    let (head, mut reader) = read_head(text)?;
+    let sections = read_sections(alloc, &mut reader)?;
+    read_script(&mut reader)?;
+    Ok(RunFile {
+        members: head.members,
+        window: head.window,
+        grace: head.grace,
+        sections,
+    })
+}
+
+/// Reads a run file to its end, and keeps nothing of it.
+pub fn pass_run(text: &str) -> Result<(), Refusal>
+    requires { length text.now < 2 ^ 32 }
+    ensures read { OnOk result ((run : Run) × IsRunText text.now run) }
+    ensures refused { IfErr result (IsRefusedText text.now) }
+{
+    let (_, mut reader) = read_head(text)?;
+    pass_sections(&mut reader)?;
+    read_script(&mut reader)?;
+    Ok(())
+}

@@ -1,0 +1,82 @@
+use cron_io::OutOfMemory;
+use std::alloc::{AllocError, AllocFailed};
+
+/// Why a run file is refused.
+#[derive(Clone, Copy, Debug, PartialEq, Eq)]
+pub struct Refusal {
+    /// The run file's line, from 1, or 0 where no line is to blame.
+    pub line: u32,
+    /// The number of the cause.
+    pub cause: u8,
+    /// The byte in the line.
+    pub place: u32,
+}
+
+impl Refusal {
+    ghost use Rattle.std.specs.Prelude.{◌≡◌};
+
+    /// A line is refused as a whole.
+    pub fn of_line(line: u32, cause: u8) -> Refusal
+        ensures line { result.line ≡ line }
+        ensures cause { result.cause ≡ cause }
+        ensures place { result.place ≡ 0 }
+    {
+        Refusal {
+            line,
+            cause,
+            place: 0,
+        }
+    }
+}
+
+/// Why no run was read.
+#[derive(Clone, Copy, Debug, PartialEq, Eq)]
+pub enum RunFault {
+    /// The text is no run file.
+    Refused(Refusal),
+    OutOfMemory,
+}
+
+impl From<Refusal> for RunFault {
+    ghost use Rattle.std.specs.Prelude.{◌≡◌};
+    ghost use Rattle.run_text.specs.declared.refusal.RunFault.TheVariants.{Refused};
+
+    ghost from_gives = { λ refusal fault. fault ≡ Refused refusal };
+
+    fn from(refusal: Refusal) -> RunFault {
+        RunFault::Refused(refusal)
+    }
+}
+
+impl From<OutOfMemory> for RunFault {
+    ghost use Rattle.std.specs.Prelude.{◌≡◌};
+    ghost use Rattle.run_text.specs.declared.refusal.RunFault.TheVariants.{OutOfMemory};
+
+    ghost from_gives = { λ _ fault. fault ≡ OutOfMemory };
+
+    fn from(_error: OutOfMemory) -> RunFault {
+        RunFault::OutOfMemory
+    }
+}
+
+impl From<AllocError> for RunFault {
+    ghost use Rattle.std.specs.Prelude.{◌≡◌};
+    ghost use Rattle.run_text.specs.declared.refusal.RunFault.TheVariants.{OutOfMemory};
+
+    ghost from_gives = { λ _ fault. fault ≡ OutOfMemory };
+
+    fn from(_error: AllocError) -> RunFault {
+        RunFault::OutOfMemory
+    }
+}
+
+impl<T: Drop> From<AllocFailed<T>> for RunFault {
+    ghost use Rattle.std.specs.Prelude.{◌≡◌};
+    ghost use Rattle.run_text.specs.declared.refusal.RunFault.TheVariants.{OutOfMemory};
+
+    ghost from_gives = { λ _ fault. fault ≡ OutOfMemory };
+
+    fn from(_error: AllocFailed<T>) -> RunFault {
+        RunFault::OutOfMemory
+    }
+}

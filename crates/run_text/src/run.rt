@@ -1,0 +1,50 @@
+use crontab_text::Style;
+use zone_minutes::Window;
+
+/// What the lines of a section are.
+#[derive(Clone, Copy, Debug, PartialEq, Eq)]
+pub enum SectionKind {
+    /// A user's crontab.
+    User,
+    /// A system crontab, whose entries name a user.
+    System,
+}
+
+impl SectionKind {
+    ghost use Rattle.std.specs.Prelude.{◌≡◌};
+    ghost use Rattle.run_text.specs.Follow.{style_of};
+
+    /// How the lines are read.
+    pub fn style(self) -> Style
+        ensures { result ≡ style_of self }
+    {
+        match self {
+            SectionKind::User => Style::User,
+            SectionKind::System => Style::System,
+        }
+    }
+}
+
+/// A table of jobs in a run file.
+#[derive(Clone, Copy, Debug, PartialEq, Eq)]
+pub struct Section<'a> {
+    /// The number of the line that opens it, from 1.
+    pub line: u32,
+    pub kind: SectionKind,
+    pub label: &'a str,
+    /// The name of the zone of its entries.
+    pub zone: &'a str,
+    /// Its lines, each of which has a reading.
+    pub text: &'a str,
+}
+
+/// What a run file says. Its texts are parts of the file's text.
+#[derive(Debug, Drop)]
+pub struct RunFile<'a> {
+    /// How many replicas there are.
+    pub members: u8,
+    pub window: Window,
+    /// Minutes, from 0 to 525,600.
+    pub grace: u32,
+    pub sections: Vec<Section<'a>>,
+}

@@ -1,0 +1,117 @@
+//! The words of the product's own lines.
+ghost use Rattle.std.specs.Prelude.{◌≡◌, ◌≢◌, ◌≤◌, ◌↔◌, ℕ, IsTrue, IfSome, IfNone, decimal};
+ghost use Rattle.run_text.specs.Grammar.{IsLabelStart, IsLabelByte, IsLabel, IsZoneByte, IsZoneName, first_word, HasSectionWord, HasLaterWord, IsCommandWord};
+ghost use Rattle.run_text.specs.Words.{MayBeginNumber};
+
+// `parse` also takes a sign and leading zeros.
+fn may_begin_number(text: &str) -> bool
+    ensures { IsTrue result ↔ MayBeginNumber text.now }
+{
+    !text.starts_with('+') && (text.len() < 2 || !text.starts_with('0'))
+}
+
+/// Decimal digits without a sign or a leading zero, of a number up to `most`.
+pub fn read_number(text: &str, most: u32) -> Option<u32>
+    ensures read { IfSome result (λ n. (n ≤ most) × (text.now ≡ decimal n)) }
+    ensures none { IfNone result ((n : ℕ) → n ≤ most → text.now ≢ decimal n) }
+{
+    if !may_begin_number(text) {
+        return None;
+    }
+    match text.parse::<u32>() {
+        Ok(number) if number <= most => Some(number),
+        _ => None,
+    }
+}
+
+fn is_label_start(byte: u8) -> bool
+    ensures { IsTrue result ↔ IsLabelStart byte }
+{
+    matches!(byte, b'a'..=b'z' | b'_')
+}
+
+fn is_label_byte(byte: u8) -> bool
+    ensures { IsTrue result ↔ IsLabelByte byte }
+{
+    is_label_start(byte) || matches!(byte, b'0'..=b'9' | b'-')
+}
+
+/// Whether a text is a section's label: `[a-z_][a-z0-9_-]{0,31}`.
+pub fn is_label(text: &str) -> bool
+    ensures { IsTrue result ↔ IsLabel text.now }
+{
+    match text.as_bytes().split_first() {
+        Some((first, rest)) => {
+            is_label_start(*first)
+                && rest.len() <= 31
+                && rest.iter().all(|byte| is_label_byte(*byte))
+        }
+        None => false,
+    }
+}
+
+fn is_zone_byte(byte: u8) -> bool
+    ensures { IsTrue result ↔ IsZoneByte byte }
+{
+    matches!(byte, b'A'..=b'Z' | b'a'..=b'z' | b'0'..=b'9' | b'/' | b'_' | b'-' | b'+')
+}
+
+/// Whether a text is a zone's name: 1 to 64 ASCII letters, digits, `/`, `_`, `-` and `+`.
+pub fn is_zone_name(text: &str) -> bool
+    ensures { IsTrue result ↔ IsZoneName text.now }
+{
+    let bytes = text.as_bytes();
+    !bytes.is_empty() && bytes.len() <= 64 && bytes.iter().all(|byte| is_zone_byte(*byte))
+}
+
+// The text up to its first space.
+fn first_word(text: &str) -> &str
+    ensures { result.now ≡ first_word text.now }
+{
+    match text.split_once(' ') {
+        Some((word, _)) => word,
+        None => text,
+    }
+}
+
+/// Whether the line's first word opens a section.
+pub fn has_section_word(line: &str) -> bool
+    ensures { IsTrue result ↔ HasSectionWord line.now }
+{
+    let word = first_word(line);
+    word == "crontab" || word == "system"
+}
+
+/// Whether the line's first word is that of a line before the script that has no form yet.
+pub fn has_later_word(line: &str) -> bool
+    ensures { IsTrue result ↔ HasLaterWord line.now }
+{
+    let word = first_word(line);
+    word == "zone" || word == "anacrontab"
+}
+
+/// Whether the line's first word is that of a command, none of which has a form yet.
+pub fn has_command_word(line: &str) -> bool
+    ensures { IsTrue result ↔ IsCommandWord (first_word line.now) }
+{
+    matches!(
+        first_word(line),
+        "round"
+            | "campaign"
+            | "stop"
+            | "break"
+            | "restart"
+            | "cut"
+            | "heal"
+            | "drop"
+            | "repeat"
+            | "reverse"
+            | "again"
+            | "skew"
+            | "fate"
+            | "arrive"
+            | "settle"
+            | "walk"
+            | "free"
+    )
+}
