@@ -1,0 +1,9 @@
+mod DueCountLemmas
+mod JobLemmas
+mod MarkLemmas
+mod RunLemmas
+mod SectionLemmas
+mod TableLemmas
+pub mod UniqueLemmas
+mod VariantLemmas
+mod VerdictLemmas

@@ -1,0 +1,242 @@
+-- A section's lines, taken over one after another.
+use Rattle.std.proofs.Common.{◌≡◌, ◌⊎◌, ℕ, suc, ◌+◌, ◌<◌, ◌≤◌, Bool, true, false, List, [], ◌∷◌, ◌++◌, length, Result, Ok, Err, refl, ap, ◌∙◌, sym, subst, inl, inr, arith, codes, bytes_eq, append_assoc, length-append}
+use Rattle.std.specs.Prelude.{IsOk, if◌then◌else◌}
+use Rattle.std.specs.List.{AllByRecursion, AllZip}
+use Rattle.std.proofs.lemmas.List.{append-nil}
+use Rattle.crontab_text.specs.Answers.{IsLineOf, IsLineFault, LineAnswer, Said, Broken, IsAnswer}
+use Rattle.crontab_text.specs.LineBody.{LineBody, BlankBody, CommentBody, AssignBody, EntryBody, NickBody, body_of}
+use Rattle.crontab_text.specs.Lines.{BeginsWithLine, BeginsWithLines}
+use Rattle.crontab_text.specs.Reader.{ReadsLine, answer_of, number_of}
+use Rattle.crontab_text.specs.TableReader.{TableReader, table_reader, rest_of}
+use Rattle.crontab_text.specs.declared.answer.Line.{Line}
+use Rattle.crontab_text.specs.declared.answer.LineFault.{LineFault}
+use Rattle.crontab_text.specs.declared.answer.Style.{Style}
+use Rattle.crontab_text.proofs.AnswerLemmas.{same_answer}
+use Rattle.crontab_text.proofs.LineLemmas.{BeginsWithLines-append}
+use Rattle.due_set.specs.Table.{Job}
+use Rattle.run_text.specs.Follow.{style_of}
+use Rattle.run_text.specs.Lines.{lines_of}
+use Rattle.run_text.specs.Run.{Section}
+use Rattle.run_text.specs.Table.{Says}
+use Rattle.run_text.specs.declared.refusal.Refusal.{Refusal}
+use Rattle.run_text.proofs.LineLemmas.{lines_of-begins, lines_of-count, front_of}
+use Rattle.job_table.specs.Collect.{Collected, AddsMarks, RefusesMarks, AddsSection, RefusesSection, line_marks, is_entry, entries_of, entries_in}
+use Rattle.job_table.specs.Marks.{Mark, MarksZone, MarksJob, job_name, kind_of, marks_from, section_marks, AreBodies}
+use Rattle.due_set.specs.declared.job.JobKind.TheVariants.{Crontab}
+use Rattle.job_table.specs.Table.{at_line, HasLineAtFault}
+use Rattle.job_table.proofs.MarkLemmas.{adds_zone, refuses_zone}
+
+-- the marks of some lines, and those of the lines behind them
+marks_append : (label : List ℕ) (line count later next : ℕ) (bodies more : List LineBody) → later ≡ line + length bodies → next ≡ count + entries_in bodies
+    → marks_from label line count (bodies ++ more) ≡ marks_from label line count bodies ++ marks_from label later next more
+marks_append label line count later next [] more later_is next_is =
+    let l : later ≡ line = omega (arith, later_is) in
+    let n : next ≡ count = omega (arith, next_is) in
+    rw (l, n) refl
+marks_append label line count later next (BlankBody ∷ bodies) more later_is next_is = marks_append label (line + 1) count later next bodies more (omega (arith, later_is)) (omega (arith, next_is))
+marks_append label line count later next (CommentBody ∷ bodies) more later_is next_is = marks_append label (line + 1) count later next bodies more (omega (arith, later_is)) (omega (arith, next_is))
+marks_append label line count later next (AssignBody name value ∷ bodies) more later_is next_is =
+    by (bytes_eq name (codes "CRON_TZ")) (marks_append label (line + 1) count later next bodies more (omega (arith, later_is)) (omega (arith, next_is)))
+  where
+    by : (b : Bool) → marks_from label (line + 1) count (bodies ++ more) ≡ marks_from label (line + 1) count bodies ++ marks_from label later next more
+        → (if b then MarksZone line value ∷ marks_from label (line + 1) count (bodies ++ more) else marks_from label (line + 1) count (bodies ++ more))
+        ≡ (if b then MarksZone line value ∷ marks_from label (line + 1) count bodies else marks_from label (line + 1) count bodies) ++ marks_from label later next more
+    by true rest = ap (λ l. MarksZone line value ∷ l) rest
+    by false rest = rest
+marks_append label line count later next (EntryBody fields user command ∷ bodies) more later_is next_is =
+    ap (λ l. MarksJob line (job_name label count) (Crontab fields) ∷ l) (marks_append label (line + 1) (count + 1) later next bodies more (omega (arith, later_is)) (omega (arith, next_is)))
+marks_append label line count later next (NickBody fields user command ∷ bodies) more later_is next_is =
+    ap (λ l. MarksJob line (job_name label count) (kind_of fields) ∷ l) (marks_append label (line + 1) (count + 1) later next bodies more (omega (arith, later_is)) (omega (arith, next_is)))
+
+section_append : (section : Section) (bodies more : List LineBody) (later next : ℕ) → later ≡ section.line + 1 + length bodies → next ≡ 1 + entries_in bodies
+    → section_marks section (bodies ++ more) ≡ section_marks section bodies ++ marks_from section.label later next more
+section_append section bodies more later next later_is next_is =
+    ap (λ l. MarksZone section.line section.zone ∷ l) (marks_append section.label (section.line + 1) 1 later next bodies more later_is next_is)
+
+entries_within : (bodies : List LineBody) → entries_in bodies ≤ length bodies
+entries_within [] = omega arith
+entries_within (BlankBody ∷ bodies) = omega (arith, entries_within bodies)
+entries_within (CommentBody ∷ bodies) = omega (arith, entries_within bodies)
+entries_within (AssignBody name value ∷ bodies) = omega (arith, entries_within bodies)
+entries_within (EntryBody fields user command ∷ bodies) = omega (arith, entries_within bodies)
+entries_within (NickBody fields user command ∷ bodies) = omega (arith, entries_within bodies)
+
+entries_push : (bodies : List LineBody) (body : LineBody) (entries : ℕ) → entries ≡ entries_in bodies → entries + entries_of (is_entry body) ≡ entries_in (bodies ++ body ∷ [])
+entries_push [] body entries is = omega (arith, is)
+entries_push (b ∷ bodies) body entries is =
+    let rest = entries_push bodies body (entries_in bodies) refl in omega (arith, is, rest)
+
+-- what some lines say, each of which says something
+pub what_is_said : (style : Style) (owner : List ℕ) (lines : List (List ℕ)) → AllByRecursion (Says style owner) lines → (bodies : List LineBody) × AllZip (IsLineOf style owner) lines bodies
+what_is_said style owner [] all = ([], tt)
+what_is_said style owner (line ∷ lines) all =
+    let (bodies, said) = what_is_said style owner lines all.1 in
+    (all.0.0 ∷ bodies, (all.0.1, said))
+
+zip_append : (R : List ℕ → LineBody → Type 0) (a : List (List ℕ)) (x b : _) (y : _) → AllZip R a x → AllZip R b y → AllZip R (a ++ b) (x ++ y)
+zip_append R [] [] b y first second = second
+zip_append R [] (q ∷ x) b y first second = absurd first
+zip_append R (p ∷ a) [] b y first second = absurd first
+zip_append R (p ∷ a) (q ∷ x) b y first second = (first.0, zip_append R a x b y first.1 second)
+
+zip_length : (R : List ℕ → LineBody → Type 0) (a : List (List ℕ)) (x : List LineBody) → AllZip R a x → length a ≡ length x
+zip_length R [] [] all = refl
+zip_length R [] (q ∷ x) all = absurd all
+zip_length R (p ∷ a) [] all = absurd all
+zip_length R (p ∷ a) (q ∷ x) all = ap suc (zip_length R a x all.1)
+
+all_at : (P : List ℕ → Type 0) (xs ys : List (List ℕ)) (y : List ℕ) → AllByRecursion P (xs ++ y ∷ ys) → P y
+all_at P [] ys y all = all.0
+all_at P (x ∷ xs) ys y all = all_at P xs ys y all.1
+
+all_behind : (P : List ℕ → Type 0) (xs ys : List (List ℕ)) → AllByRecursion P (xs ++ ys) → AllByRecursion P ys
+all_behind P [] ys all = all
+all_behind P (x ∷ xs) ys all = all_behind P xs ys all.1
+
+lines_behind : (lines : List (List ℕ)) (text rest : List ℕ) → BeginsWithLines lines text rest → lines_of text ≡ lines ++ lines_of rest
+lines_behind [] text rest begins = ap lines_of begins
+lines_behind (line ∷ lines) text rest (middle, begins, more) = lines_of-begins text line middle begins ∙ ap (λ l. line ∷ l) (lines_behind lines middle rest more)
+
+-- one list of marks after another
+adds_both : (old now new : List Job) (a b : List Mark) → AddsMarks old now a → AddsMarks now new b → AddsMarks old new (a ++ b)
+adds_both old now new a b first second marks collected = subst (λ m. Collected m new) (append_assoc marks a b) (second (marks ++ a) (first marks collected))
+
+-- a section so far: the lines that were read, what they say, and the jobs
+pub record Walking (section : Section) (text : List ℕ) (reader : TableReader) (entries : ℕ) (old now : List Job) : Type 0 where
+  pub lines : List (List ℕ)
+  pub bodies : List LineBody
+  pub begins : BeginsWithLines lines text (rest_of reader)
+  pub said : AllZip (IsLineOf (style_of section.kind) section.label) lines bodies
+  pub passed : reader.passed ≡ length lines
+  pub style : reader.style ≡ style_of section.kind
+  pub owner : reader.owner ≡ section.label
+  pub entries_are : entries ≡ entries_in bodies
+  pub adds : AddsMarks old now (section_marks section bodies)
+
+pub walking_first : (section : Section) (text : List ℕ) (reader : TableReader) (jobs : List Job) → section.zone ≡ codes "UTC"
+    → reader ≡ table_reader text (style_of section.kind) section.label → Walking section text reader 0 jobs jobs
+walking_first section text reader jobs zone is = record {
+  lines = [];
+  bodies = [];
+  begins = sym (ap rest_of is);
+  said = tt;
+  passed = ap (λ (r : TableReader). r.passed) is;
+  style = ap (λ (r : TableReader). r.style) is;
+  owner = ap (λ (r : TableReader). r.owner) is;
+  entries_are = refl;
+  adds = adds_zone jobs section.line section.zone zone;
+}
+
+-- the answer to a line that says something is no fault
+pub is_ok : (style : Style) (owner line : List ℕ) (read : Result Line LineFault) → Says style owner line → IsAnswer style owner line (answer_of read) → IsOk read
+is_ok style owner line (Ok l) says answer = refl
+is_ok style owner line (Err fault) (body, says) answer =
+    let same : ◌≡◌ {A = LineAnswer} (Said body) (Broken fault.cause fault.place) = same_answer style owner line (Said body) (Broken fault.cause fault.place) says answer in absurd cc
+
+-- the line that is read next says something
+pub next_says : (section : Section) (text : List ℕ) (now new : TableReader) (entries : ℕ) (old jobs : List Job) (read : Result Line LineFault)
+    → AllByRecursion (Says (style_of section.kind) section.label) (lines_of text) → Walking section text now entries old jobs → ReadsLine now new read → IsOk read
+next_says section text now new entries old jobs read all walk reads =
+    let here : lines_of text ≡ walk.lines ++ reads.line ∷ lines_of (rest_of new) =
+    lines_behind walk.lines text (rest_of now) walk.begins ∙ ap (λ l. walk.lines ++ l) (lines_of-begins (rest_of now) reads.line (rest_of new) reads.goes_on.begins) in
+    let says = all_at (Says (style_of section.kind) section.label) walk.lines (lines_of (rest_of new)) reads.line (subst (AllByRecursion (Says (style_of section.kind) section.label)) here all) in
+    let answer = subst (λ s. IsAnswer s section.label reads.line (answer_of read)) walk.style (subst (λ o. IsAnswer now.style o reads.line (answer_of read)) walk.owner reads.answer) in
+    is_ok (style_of section.kind) section.label reads.line read says answer
+
+-- so many lines were read, and the next one is there
+pub next_within : (section : Section) (text : List ℕ) (now new : TableReader) (entries : ℕ) (old jobs : List Job) (line : Line)
+    → Walking section text now entries old jobs → ReadsLine now new (Ok line) → (line.number ≤ length (lines_of text)) × (entries < length (lines_of text))
+next_within section text now new entries old jobs line walk reads =
+    let count = lines_of-count walk.lines text (rest_of now) walk.begins in
+    let here = ap length (lines_of-begins (rest_of now) reads.line (rest_of new) reads.goes_on.begins) in
+    let same = zip_length (IsLineOf (style_of section.kind) section.label) walk.lines walk.bodies walk.said in
+    (omega (arith, count, here, reads.number, walk.passed), omega (arith, count, here, walk.entries_are, entries_within walk.bodies, same))
+
+-- a line more
+pub walking_next : (section : Section) (text : List ℕ) (now new : TableReader) (entries more at : ℕ) (old jobs next : List Job) (line : Line)
+    → Walking section text now entries old jobs → ReadsLine now new (Ok line) → at ≡ section.line + line.number
+    → more ≡ entries + entries_of (is_entry (body_of line.body))
+    → AddsMarks jobs next (line_marks section.label at (entries + 1) (body_of line.body))
+    → Walking section text new more old next
+walking_next section text now new entries more at old jobs next line walk reads at_is more_is adds =
+    let body = body_of line.body in
+    let same = zip_length (IsLineOf (style_of section.kind) section.label) walk.lines walk.bodies walk.said in
+    let answer = subst (λ s. IsAnswer s section.label reads.line (answer_of (Ok line))) walk.style (subst (λ o. IsAnswer now.style o reads.line (answer_of (Ok line))) walk.owner reads.answer) in
+    let new_is = reads.goes_on.new_is in
+    let place : at ≡ section.line + 1 + length walk.bodies = omega (arith, at_is, reads.number, walk.passed, same) in
+    let number : entries + 1 ≡ 1 + entries_in walk.bodies = omega (arith, walk.entries_are) in
+    record {
+      lines = walk.lines ++ reads.line ∷ [];
+      bodies = walk.bodies ++ body ∷ [];
+      begins = BeginsWithLines-append walk.lines (reads.line ∷ []) text (rest_of now) (rest_of new) walk.begins (rest_of new, reads.goes_on.begins, refl);
+      said = zip_append (IsLineOf (style_of section.kind) section.label) walk.lines walk.bodies (reads.line ∷ []) (body ∷ []) walk.said (answer, tt);
+      passed = ap (λ (r : TableReader). r.passed) new_is ∙ (rw (length-append walk.lines (reads.line ∷ [])) (omega (arith, walk.passed)));
+      style = ap (λ (r : TableReader). r.style) new_is ∙ walk.style;
+      owner = ap (λ (r : TableReader). r.owner) new_is ∙ walk.owner;
+      entries_are = more_is ∙ entries_push walk.bodies body entries walk.entries_are;
+      adds = subst (AddsMarks old next) (sym (section_append section walk.bodies (body ∷ []) at (entries + 1) place number))
+          (adds_both old jobs next (section_marks section walk.bodies) (line_marks section.label at (entries + 1) body) walk.adds adds);
+    }
+
+-- all lines were read
+pub walked : (section : Section) (text : List ℕ) (now : TableReader) (entries : ℕ) (old jobs : List Job)
+    → Walking section text now entries old jobs → rest_of now ≡ [] → section.lines ≡ lines_of text → AddsSection old jobs section
+walked section text now entries old jobs walk end are =
+    let begins = subst (BeginsWithLines walk.lines text) end walk.begins in
+    let front = front_of walk.lines text [] begins in
+    let all : lines_of text ≡ walk.lines = ap lines_of (front.parts ∙ append-nil front.front) ∙ front.are in
+    record {
+      bodies = walk.bodies;
+      are = subst (λ l. AllZip (IsLineOf (style_of section.kind) section.label) l walk.bodies) (sym (are ∙ all)) walk.said;
+      adds = walk.adds;
+    }
+
+-- the zone of the section isn't one of the run's
+pub zone_refused : (section : Section) (old : List Job) (refusal : Refusal) → AllByRecursion (Says (style_of section.kind) section.label) section.lines
+    → (section.zone ≡ codes "UTC" → ⊥) → refusal ≡ at_line section.line 21 → RefusesSection old section refusal
+zone_refused section old refusal all other is =
+    let (bodies, said) = what_is_said (style_of section.kind) section.label section.lines all in
+    record {
+      bodies = bodies;
+      are = said;
+      refuses = λ marks others collected.
+          subst (λ m. HasLineAtFault m refusal)
+          (sym (append_assoc (marks ++ MarksZone section.line section.zone ∷ []) (marks_from section.label (section.line + 1) 1 bodies) others)
+          ∙ ap (λ m. m ++ others) (append_assoc marks (MarksZone section.line section.zone ∷ []) (marks_from section.label (section.line + 1) 1 bodies)))
+          (refuses_zone old section.line section.zone refusal other is marks (marks_from section.label (section.line + 1) 1 bodies ++ others) collected);
+    }
+
+regroup : (a b c d e : List Mark) → ((a ++ b) ++ c) ++ (d ++ e) ≡ (a ++ (b ++ (c ++ d))) ++ e
+regroup a b c d e = simp append_assoc
+
+-- a line at fault, and the lines behind it, each of which says something
+pub line_refused : (section : Section) (text : List ℕ) (now new : TableReader) (entries at : ℕ) (old jobs : List Job) (line : Line) (refusal : Refusal)
+    → AllByRecursion (Says (style_of section.kind) section.label) (lines_of text) → section.lines ≡ lines_of text
+    → Walking section text now entries old jobs → ReadsLine now new (Ok line) → at ≡ section.line + line.number
+    → RefusesMarks jobs (line_marks section.label at (entries + 1) (body_of line.body)) refusal
+    → RefusesSection old section refusal
+line_refused section text now new entries at old jobs line refusal all are walk reads at_is refuses =
+    let body = body_of line.body in
+    let R = IsLineOf (style_of section.kind) section.label in
+    let P = Says (style_of section.kind) section.label in
+    let here : lines_of text ≡ walk.lines ++ reads.line ∷ lines_of (rest_of new) =
+    lines_behind walk.lines text (rest_of now) walk.begins ∙ ap (λ l. walk.lines ++ l) (lines_of-begins (rest_of now) reads.line (rest_of new) reads.goes_on.begins) in
+    let left = all_behind P walk.lines (reads.line ∷ lines_of (rest_of new)) (subst (AllByRecursion P) here all) in
+    let (others_say, others_said) = what_is_said (style_of section.kind) section.label (lines_of (rest_of new)) left.1 in
+    let answer = subst (λ s. IsAnswer s section.label reads.line (answer_of (Ok line))) walk.style (subst (λ o. IsAnswer now.style o reads.line (answer_of (Ok line))) walk.owner reads.answer) in
+    let same = zip_length R walk.lines walk.bodies walk.said in
+    let place : at ≡ section.line + 1 + length walk.bodies = omega (arith, at_is, reads.number, walk.passed, same) in
+    let number : entries + 1 ≡ 1 + entries_in walk.bodies = omega (arith, walk.entries_are) in
+    let more = marks_from section.label (at + 1) (entries + 1 + entries_of (is_entry body)) others_say in
+    let marks_are : section_marks section (walk.bodies ++ body ∷ others_say) ≡ section_marks section walk.bodies ++ (line_marks section.label at (entries + 1) body ++ more) =
+    section_append section walk.bodies (body ∷ others_say) at (entries + 1) place number
+    ∙ ap (λ m. section_marks section walk.bodies ++ m) (marks_append section.label at (entries + 1) (at + 1) (entries + 1 + entries_of (is_entry body)) (body ∷ []) others_say (omega arith) (omega arith)) in
+    record {
+      bodies = walk.bodies ++ body ∷ others_say;
+      are = subst (λ l. AllZip R l (walk.bodies ++ body ∷ others_say)) (sym (are ∙ here))
+          (zip_append R walk.lines walk.bodies (reads.line ∷ lines_of (rest_of new)) (body ∷ others_say) walk.said (answer, others_said));
+      refuses = λ marks others collected.
+          subst (λ m. HasLineAtFault ((marks ++ m) ++ others) refusal) (sym marks_are)
+          (subst (λ m. HasLineAtFault m refusal) (regroup marks (section_marks section walk.bodies) (line_marks section.label at (entries + 1) body) more others)
+          (refuses (marks ++ section_marks section walk.bodies) (more ++ others) (walk.adds marks collected)));
+    }

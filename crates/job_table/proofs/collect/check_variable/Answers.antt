@@ -1,0 +1,9 @@
+use Rattle.std.proofs.Common.{subst, sym, true, bytes_eq, codes, Bool, if◌then◌else◌, ◌∷◌, [], List, ◌∙◌}
+use Rattle.job_table.specs.Collect.{AddsMarks}
+use Rattle.job_table.specs.Marks.{Mark, MarksZone}
+use Rattle.job_table.proofs.MarkLemmas.{adds_zone}
+use Rattle.job_table.proofs.collect.check_variable.Goals as goal
+
+pub returns-then-eq-clause-ok : goal.returns-then-eq-clause-ok
+returns-then-eq-clause-ok c = λ label number jobs. let e = c.eq.ensures in
+    rw (sym c.eq.ensures ∙ c.if-eq.true) (adds_zone jobs c.args.line c.args.value.now c.in_ok-check_zone.ensures.ok)

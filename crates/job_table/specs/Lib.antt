@@ -1,0 +1,4 @@
+pub mod Collect
+pub mod Jobs
+pub mod Marks
+pub mod Table

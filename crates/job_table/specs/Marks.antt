@@ -1,0 +1,83 @@
+-- What the lines of a run's tables come to: zones that are named, and jobs, in the order of the lines.
+use Rattle.std.specs.Prelude.{◌≡◌, ◌⊎◌, ℕ, ◌+◌, List, [], ◌∷◌, ◌++◌, Option, None, Some, if◌then◌else◌, codes, decimal, bytes_eq, Contains}
+use Rattle.std.specs.List.{AllZip}
+use Rattle.cron_fields.specs.declared.field.Fields.{Fields}
+use Rattle.crontab_text.specs.Answers.{IsLineOf}
+use Rattle.crontab_text.specs.LineBody.{LineBody, BlankBody, CommentBody, AssignBody, EntryBody, NickBody}
+use Rattle.due_set.specs.declared.job.JobKind.{JobKind}
+use Rattle.due_set.specs.declared.job.JobKind.TheVariants.{Crontab, Never}
+use Rattle.run_text.specs.Follow.{style_of}
+use Rattle.run_text.specs.Run.{Section}
+
+-- a line that names a zone, or a line that brings a job: by its number in the run file
+pub data Mark : Type 0 where
+  MarksZone : (line : ℕ) → (name : List ℕ) → Mark
+  MarksJob : (line : ℕ) → (name : List ℕ) → (kind : JobKind) → Mark
+
+-- the name of a crontab's job: LABEL:k, with k from 1
+abbrev pub job_name : List ℕ → ℕ → List ℕ
+job_name label count = label ++ (58 ∷ decimal count)
+
+-- when an entry runs: at the instants of its fields, or at no time, as `@reboot` (crontab(5))
+abbrev pub kind_of : Option Fields → JobKind
+kind_of None = Never
+kind_of (Some fields) = Crontab fields
+
+-- The marks of a table's lines, from the line of that number on, where so many entries stand from the first to the next one.
+-- `CRON_TZ` names the zone of the entries below it (crontab(5) of cronie).
+abbrev pub marks_from : (label : List ℕ) → (line count : ℕ) → List LineBody → List Mark
+marks_from label line count [] = []
+marks_from label line count (BlankBody ∷ bodies) = marks_from label (line + 1) count bodies
+marks_from label line count (CommentBody ∷ bodies) = marks_from label (line + 1) count bodies
+marks_from label line count (AssignBody name value ∷ bodies) =
+    if bytes_eq name (codes "CRON_TZ") then MarksZone line value ∷ marks_from label (line + 1) count bodies
+    else marks_from label (line + 1) count bodies
+marks_from label line count (EntryBody fields user command ∷ bodies) =
+    MarksJob line (job_name label count) (Crontab fields) ∷ marks_from label (line + 1) (count + 1) bodies
+marks_from label line count (NickBody fields user command ∷ bodies) =
+    MarksJob line (job_name label count) (kind_of fields) ∷ marks_from label (line + 1) (count + 1) bodies
+
+-- the marks of a section: the line that opens it names the zone of its first entries
+abbrev pub section_marks : Section → List LineBody → List Mark
+section_marks section bodies = MarksZone section.line section.zone ∷ marks_from section.label (section.line + 1) 1 bodies
+
+-- what each line of the section says
+abbrev pub AreBodies : Section → List LineBody → Type 0
+AreBodies section bodies = AllZip (IsLineOf (style_of section.kind) section.label) section.lines bodies
+
+-- the marks of some sections, in the order of the lines
+abbrev pub AreMarks : List Section → List Mark → Type 0
+AreMarks [] marks = marks ≡ []
+AreMarks (section ∷ sections) marks =
+    (bodies : List LineBody) × (others : List Mark) × AreBodies section bodies × AreMarks sections others × (marks ≡ section_marks section bodies ++ others)
+
+-- one of the marks brings a job of the name
+abbrev pub BringsJob : List ℕ → List Mark → Type 0
+BringsJob name [] = ⊥
+BringsJob name (MarksZone line zone ∷ marks) = BringsJob name marks
+BringsJob name (MarksJob line other kind ∷ marks) = (other ≡ name) ⊎ BringsJob name marks
+
+-- a mark is at fault behind some others: its zone isn't one of the run's, of which there is UTC alone so far, or a job of its
+-- name is there already
+abbrev pub IsMarkFault : (before : List Mark) → Mark → (line cause : ℕ) → Type 0
+IsMarkFault before (MarksZone at name) line cause = (name ≡ codes "UTC" → ⊥) × (line ≡ at) × (cause ≡ 21)
+IsMarkFault before (MarksJob at name kind) line cause = BringsJob name before × (line ≡ at) × (cause ≡ 22)
+
+-- none of the marks, which stand behind some others, is at fault
+abbrev pub AreSoundBehind : List Mark → List Mark → Type 0
+AreSoundBehind before [] = Unit {0}
+AreSoundBehind before (mark ∷ marks) =
+    ((line cause : ℕ) → IsMarkFault before mark line cause → ⊥) × AreSoundBehind (before ++ mark ∷ []) marks
+
+-- none of the marks is at fault
+abbrev pub AreSound : List Mark → Type 0
+AreSound marks = AreSoundBehind [] marks
+
+-- the first mark at fault
+pub record IsFirstMarkFault (marks : List Mark) (line cause : ℕ) : Type 0 where
+  pub before : List Mark
+  pub mark : Mark
+  pub after : List Mark
+  pub parts : marks ≡ before ++ mark ∷ after
+  pub sound : AreSound before
+  pub here : IsMarkFault before mark line cause

@@ -1,0 +1,14 @@
+//! The table of a run's jobs.
+#![tactic(auto)]
+
+mod build;
+mod collect;
+mod due;
+mod jobs;
+mod laws;
+
+pub use build::build_table;
+pub use laws::a_run_has_one_verdict;
+
+#[cfg(test)]
+mod tests;
