@@ -1,6 +1,6 @@
 -- How the program ends over a source that is reliable and tells its bytes, and a sink that tells its room.
 use Rattle.std.proofs.Common.{◌≡◌, ◌≢◌, ◌⊎◌, inl, inr, ℕ, zero, suc, ◌≤◌, List, Option, Some, None, refl, ap, ◌∙◌, subst, arith}
-use Rattle.std.specs.Prelude.{IsSomeAnd}
+use Rattle.std.specs.Prelude.{IsSome, IsSomeAnd}
 use Rattle.cron_io.specs.Faults.{Rose}
 use Rattle.cron_io.specs.Views.{SourceView, SinkView}
 use Rattle.paxos_base.specs.declared.entry.Entry.{Entry}
@@ -8,28 +8,27 @@ use Rattle.due_set.specs.Table.{Table}
 use Rattle.cluster_sched.specs.declared.row.SchedRow.{SchedRow}
 use Rattle.report_text.specs.Report.{IsReport}
 use Rattle.cron_serve.specs.Ends.{Ends}
-use Rattle.cron_serve.specs.OverMemory.{IsReportOfRun, FitsRoom, IsBeyondRoom}
-use Rattle.cron_serve.specs.Run.{Run}
+use Rattle.run_text.specs.Run.{Run}
+use Rattle.run_text.specs.declared.refusal.Refusal.{Refusal}
+use Rattle.cron_serve.specs.Input.{IsTaken}
+use Rattle.cron_serve.specs.OverMemory.{IsReportOfJobs, FitsRoom, IsBeyondRoom}
 use Rattle.cron_serve.specs.Serve.{IsRefused, IsReportOfInput, IsWholeRun}
-use Rattle.cron_serve.specs.Table.{IsTakenRun, table_of}
-use Rattle.cron_serve.specs.declared.run_end.Refusal.{Refusal}
 use Rattle.cron_serve.specs.declared.run_end.RunEnd.{RunEnd}
 use Rattle.cron_serve.proofs.CompleteLemmas.{not_refused, read_whole}
-use Rattle.cron_serve.proofs.RunLemmas.{one_run}
+use Rattle.cron_serve.proofs.VerdictLemmas.{one_taken}
 
--- a report of the input is one of its run
-report_is : (source source' : SourceView) (bytes text : List ℕ) (run : Run) (log : List Entry) (held : List SchedRow) → source.left ≡ Some bytes → IsTakenRun bytes run
-    → IsReportOfInput source source' log held text → IsReportOfRun run text
-report_is source source' bytes text run log held told taken report =
+-- a report of the input is one of its jobs
+report_is : (source source' : SourceView) (bytes text : List ℕ) (run : Run) (table : Table) (log : List Entry) (held : List SchedRow) → source.left ≡ Some bytes
+    → IsTaken bytes run table → IsReportOfInput source source' log held text → IsReportOfJobs table text
+report_is source source' bytes text run table log held told taken report =
     let read : report.run.bytes ≡ bytes = read_whole source source' bytes report.run.bytes told report.run.read in
-    let file = subst (λ (bs : List ℕ). IsTakenRun bs report.run.run) read report.run.taken in
-    let same : report.run.run ≡ run = one_run bytes report.run.run run file.file taken.file in
-    let table : report.table ≡ table_of run = report.run.table_is ∙ ap table_of same in
+    let given = subst (λ (bs : List ℕ). IsTaken bs report.run.run report.table) read report.run.taken in
+    let same : report.table ≡ table = (one_taken bytes report.run.run run report.table table given taken).1 in
     record {
       log = log;
       held = held;
-      whole = subst (λ (t : Table). IsWholeRun t log held) table report.run.whole;
-      report = subst (λ (t : Table). IsReport t 1 held text) table report.report;
+      whole = subst (λ (t : Table). IsWholeRun t log held) same report.run.whole;
+      report = subst (λ (t : Table). IsReport t 1 held text) same report.report;
     }
 
 -- a run that is taken isn't refused, and its report is written whole, or a write failed, or memory ran out
@@ -44,10 +43,10 @@ are_left (suc (suc (suc zero))) small a b c = absurd (c (omega arith))
 are_left (suc (suc (suc (suc zero)))) small a b c = inl (inr (omega arith))
 are_left (suc (suc (suc (suc (suc k))))) small a b c = inr (omega arith)
 
-no_refusal : (source source' : SourceView) (bytes : List ℕ) (run : Run) (refusal : Option Refusal) → source.left ≡ Some bytes → IsTakenRun bytes run
+no_refusal : (source source' : SourceView) (bytes : List ℕ) (run : Run) (table : Table) (refusal : Option Refusal) → source.left ≡ Some bytes → IsTaken bytes run table
     → IsSomeAnd refusal (IsRefused source source') → ⊥
-no_refusal source source' bytes run None told taken refused = absurd refused
-no_refusal source source' bytes run (Some refusal) told taken refused = not_refused source source' bytes run refusal told taken refused
+no_refusal source source' bytes run table None told taken refused = absurd refused
+no_refusal source source' bytes run table (Some refusal) told taken refused = not_refused source source' bytes run table refusal told taken refused
 
 -- an end over a source that is reliable and tells its bytes, and a sink that tells its room
 pub record EndsOverMemory (source source' : SourceView) (sink sink' : SinkView) (bytes : List ℕ) (room : ℕ) (end : RunEnd) : Type 0 where
@@ -58,29 +57,29 @@ pub record EndsOverMemory (source source' : SourceView) (sink sink' : SinkView) 
   pub ends : Ends source source' sink sink' end
 
 module _ (source source' : SourceView) (sink sink' : SinkView) (bytes : List ℕ) (room : ℕ) (end : RunEnd)
-    (over : EndsOverMemory source source' sink sink' bytes room end) (run : Run) (taken : IsTakenRun bytes run) where
+    (over : EndsOverMemory source source' sink sink' bytes room end) (run : Run) (table : Table) (taken : IsTaken bytes run table) where
   left_of_run : AreLeft end.status
   left_of_run =
-      are_left end.status over.ends.statuses over.usage (λ e. no_refusal source source' bytes run end.refusal over.has taken (over.ends.refused e)) over.reliable
+      are_left end.status over.ends.statuses over.usage (λ e. no_refusal source source' bytes run table end.refusal over.has taken (over.ends.refused e)) over.reliable
 
   -- a run that is taken ends with its report or for want of memory, where the room is enough
-  pub ends_whole : FitsRoom run room → (end.status ≡ 0) ⊎ (end.status ≡ 5)
+  pub ends_whole : FitsRoom table room → (end.status ≡ 0) ⊎ (end.status ≡ 5)
   ends_whole enough = elim left_of_run [
     | inl (inl whole) ↦ inl whole
     | inl (inr failed) ↦
         (let lacks = over.ends.exceeds failed room over.has_room in
-        let size = enough lacks.text (report_is source source' bytes lacks.text run end.log end.ledger.held over.has taken lacks.report) in
+        let size = enough lacks.text (report_is source source' bytes lacks.text run table end.log end.ledger.held over.has taken lacks.report) in
         let beyond = lacks.beyond in
         absurd (omega arith))
     | inr memory ↦ inr memory
   ]
 
   -- a run that is taken ends by a write fault or for want of memory, where the room is too small
-  pub ends_cut : IsBeyondRoom run room → (end.status ≡ 4) ⊎ (end.status ≡ 5)
+  pub ends_cut : IsBeyondRoom table room → (end.status ≡ 4) ⊎ (end.status ≡ 5)
   ends_cut small = elim left_of_run [
     | inl (inl whole) ↦
         (let has = over.ends.fits whole room over.has_room in
-        let size = small has.text (report_is source source' bytes has.text run end.log end.ledger.held over.has taken has.report) in
+        let size = small has.text (report_is source source' bytes has.text run table end.log end.ledger.held over.has taken has.report) in
         let enough = has.taken.fits in
         absurd (omega arith))
     | inl (inr failed) ↦ inl failed
@@ -91,3 +90,13 @@ module _ (source source' : SourceView) (sink sink' : SinkView) (bytes : List ℕ
 pub not_risen : (before now : ℕ) → now ≡ before → before ≡ 0 → Rose before now → ⊥
 not_risen before now same none (inl lt) = absurd (omega arith)
 not_risen before now same none (inr last) = absurd (omega arith)
+
+-- there is a refusal at status 2 alone
+refused_some : {T : Type 0} (o : Option T) (P : T → Type 0) → IsSomeAnd o P → IsSome o
+refused_some None P some = absurd some
+refused_some (Some x) P some = refl
+
+pub ends_refused : (source source' : SourceView) (sink sink' : SinkView) (end : RunEnd) (P : Refusal → Type 0) → Ends source source' sink sink' end
+    → IsSomeAnd end.refusal P ⊎ (end.status ≡ 5) → (end.status ≡ 2) ⊎ (end.status ≡ 5)
+ends_refused source source' sink sink' end P ends (inl some) = inl (ends.refusal.0 (refused_some end.refusal P some))
+ends_refused source source' sink sink' end P ends (inr five) = inr five

@@ -18,25 +18,25 @@ use Rattle.report_text.specs.declared.fault.ReportFault.{ReportFault}
 use Rattle.report_text.specs.declared.fault.ReportFault.TheVariants as report
 use Rattle.cron_serve.specs.Ends.{Ends}
 use Rattle.cron_serve.specs.Serve.{IsRefused, IsRunOfInput, IsReportOfInput, LeavesNoRun}
+use Rattle.cron_serve.specs.Input.{IsRefusedBytes}
 use Rattle.cron_serve.specs.Stop.{StopsFor, refusal_of, status_of, stop_of_run}
-use Rattle.cron_serve.specs.Table.{TakesNoRun}
 use Rattle.cron_serve.specs.Written.{WritesAtStatus}
-use Rattle.cron_serve.specs.declared.read.RunFault.{RunFault}
-use Rattle.cron_serve.specs.declared.read.RunFault.TheVariants as run
-use Rattle.cron_serve.specs.declared.run_end.Refusal.{Refusal}
+use Rattle.run_text.specs.Steps.{IfRefused}
+use Rattle.run_text.specs.declared.refusal.Refusal.{Refusal}
+use Rattle.run_text.specs.declared.refusal.RunFault.{RunFault}
+use Rattle.run_text.specs.declared.refusal.RunFault.TheVariants as run
 use Rattle.cron_serve.specs.declared.run_end.RunEnd.{RunEnd}
 use Rattle.cron_serve.specs.declared.stop.Stop.{Stop}
 use Rattle.cron_serve.specs.declared.stop.Stop.TheVariants.{Usage, Refused, ReadFault, OutOfMemory}
 
--- the exit of a `?` with a text that is no run, or for want of memory
+-- the exit of a `?` with an input that is refused, or for want of memory
 pub stops_without_table : {T : Type 0} (source source' : SourceView) (bytes : List ℕ) (fault : RunFault) (result : Result T Stop)
     → IsErrAnd result (λ stop. stop ≡ stop_of_run fault) → IsReadToEnd source source' bytes → length bytes ≤ 1_048_576
-    → (fault ≡ run.NotARun → TakesNoRun bytes) → IfErr result (StopsFor source source')
-stops_without_table source source' bytes fault (Ok value) is read short no_run = tt
-stops_without_table source source' bytes run.NotARun (Err stop) is read short no_run =
-    subst (StopsFor source source') (sym is)
-    (record { line = refl; place = refl; why = inr (record { cause = refl; bytes = bytes; read = read; short = short; no_run = no_run refl }) })
-stops_without_table source source' bytes run.OutOfMemory (Err stop) is read short no_run = subst (StopsFor source source') (sym is) tt
+    → IfRefused fault (IsRefusedBytes bytes) → IfErr result (StopsFor source source')
+stops_without_table source source' bytes fault (Ok value) is read short why = tt
+stops_without_table source source' bytes (run.Refused refusal) (Err stop) is read short why =
+    subst (StopsFor source source') (sym is) (inr (record { bytes = bytes; read = read; short = short; refused = why }))
+stops_without_table source source' bytes run.OutOfMemory (Err stop) is read short why = subst (StopsFor source source') (sym is) tt
 
 -- each row is a launch of a job of the table
 name_of_due : (table : Table) (row : SchedRow) → IsJobDue table row.name.job row.name.at → IsNameIn table row.name

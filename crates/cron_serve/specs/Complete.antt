@@ -1,22 +1,28 @@
 -- When the program has to end with its report, and when it has to refuse its input.
-use Rattle.std.specs.Prelude.{◌≡◌, ◌⊎◌, ℕ, ◌<◌, List, length, Some}
+use Rattle.std.specs.Prelude.{◌≡◌, ◌⊎◌, ℕ, ◌<◌, List, length, Some, IsSomeAnd}
 use Rattle.cron_io.specs.Faults.{Rose}
 use Rattle.cron_io.specs.Views.{SourceView, SinkView}
 use Rattle.cron_io.specs.Writing.{HasGained, HasGainedPrefix, HasTakenAll}
 use Rattle.paxos_base.specs.declared.entry.Entry.{Entry}
 use Rattle.cluster_sched.specs.declared.row.SchedRow.{SchedRow}
-use Rattle.cron_serve.specs.Run.{Run}
+use Rattle.due_set.specs.Table.{Table}
+use Rattle.run_text.specs.Run.{Run}
+use Rattle.run_text.specs.declared.refusal.Refusal.{Refusal}
+use Rattle.cron_serve.specs.Input.{IsTaken, TakesNone, IsRefusedInput}
 use Rattle.cron_serve.specs.Serve.{IsReportOfInput}
-use Rattle.cron_serve.specs.Table.{IsTakenRun, TakesNoRun}
+use Rattle.cron_serve.specs.declared.run_end.RunEnd.{RunEnd}
 
--- Where the source told its bytes, the status is decided by them, unless a read or a write failed or memory ran out.
-pub record Completes (source source' : SourceView) (sink sink' : SinkView) (status : ℕ) : Type 0 where
+-- Where the source told its bytes, the end is decided by them, unless a read or a write failed or memory ran out.
+pub record Completes (source source' : SourceView) (sink sink' : SinkView) (end : RunEnd) : Type 0 where
   -- a run that is taken ends with its report
-  pub taken : (bytes : List ℕ) (run : Run) → source.left ≡ Some bytes → IsTakenRun bytes run → ¬ Rose source.faults source'.faults
-      → ¬ Rose sink.faults sink'.faults → (status ≡ 0) ⊎ (status ≡ 5)
-  -- any other input is refused; more than 1,048,576 bytes are no run that is taken
-  pub others : (bytes : List ℕ) → source.left ≡ Some bytes → TakesNoRun bytes → ¬ Rose source.faults source'.faults
-      → (status ≡ 2) ⊎ (status ≡ 5)
+  pub taken : (bytes : List ℕ) (run : Run) (table : Table) → source.left ≡ Some bytes → IsTaken bytes run table
+      → ¬ Rose source.faults source'.faults → ¬ Rose sink.faults sink'.faults → (end.status ≡ 0) ⊎ (end.status ≡ 5)
+  -- an input that is refused ends with its refusal
+  pub refused : (bytes : List ℕ) (refusal : Refusal) → source.left ≡ Some bytes → IsRefusedInput bytes refusal
+      → ¬ Rose source.faults source'.faults → (end.refusal ≡ Some refusal) ⊎ (end.status ≡ 5)
+  -- and each input that is not taken is refused
+  pub others : (bytes : List ℕ) → source.left ≡ Some bytes → TakesNone bytes → ¬ Rose source.faults source'.faults
+      → IsSomeAnd end.refusal (IsRefusedInput bytes) ⊎ (end.status ≡ 5)
 
 -- the report of the input was written, and found room in the sink
 pub record HasRoomForReport (source source' : SourceView) (sink sink' : SinkView) (log : List Entry) (held : List SchedRow) (room : ℕ) : Type 0 where

@@ -12,7 +12,7 @@ pub record Ends (source source' : SourceView) (sink sink' : SinkView) (end : Run
   -- Status 0: the input was read to its end, the log and the ledger are those of its run, each due instant launched once and
   -- nothing left to do, and the sink gained the report of the ledger.
   pub report : end.status ≡ 0 → WritesReport source source' sink sink' end.log end.ledger.held
-  -- Status 2: the input is too large, or was read to its end and is no run that is taken so far.
+  -- Status 2: the input is too large, or was read to its end and is refused, for this.
   pub refused : end.status ≡ 2 → IsSomeAnd end.refusal (IsRefused source source')
   pub refusal : IsSome end.refusal ↔ (end.status ≡ 2)
   -- Status 3 and 4: a read or a write failed. At 4 the log and the ledger are those of the run too.

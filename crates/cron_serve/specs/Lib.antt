@@ -1,9 +1,5 @@
-pub mod Grammar
-pub mod Lines
-pub mod Reading
-pub mod Run
-pub mod RunFile
-pub mod Table
+pub mod Text
+pub mod Input
 pub mod Serve
 pub mod Stop
 pub mod Written

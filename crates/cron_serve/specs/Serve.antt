@@ -12,28 +12,26 @@ use Rattle.launch_law.specs.Fits.{Fits, AreAllEffective}
 use Rattle.launch_law.specs.Launched.{LaunchesEachDue}
 use Rattle.launch_law.specs.Settled.{IsSettled}
 use Rattle.report_text.specs.Report.{IsReport}
-use Rattle.cron_serve.specs.Run.{Run}
-use Rattle.cron_serve.specs.Table.{table_of, IsTakenRun, TakesNoRun}
-use Rattle.cron_serve.specs.declared.run_end.Refusal.{Refusal}
+use Rattle.run_text.specs.Run.{Run}
+use Rattle.run_text.specs.declared.refusal.Refusal.{Refusal}
+use Rattle.job_table.specs.Table.{whole_run}
+use Rattle.cron_serve.specs.Input.{IsTaken, IsRefusedBytes}
 
 -- more than 1,048,576 bytes came
 pub record IsTooLarge (old new : SourceView) (refusal : Refusal) : Type 0 where
-  pub cause : refusal.cause ≡ 33
   pub taken : HasTakenCount old new 1_048_577
+  pub is : refusal ≡ whole_run 33
 
--- the input was read to its end, isn't too large, and is no run that is taken so far
-pub record IsNotYet (old new : SourceView) (refusal : Refusal) : Type 0 where
-  pub cause : refusal.cause ≡ 35
+-- the input was read to its end, isn't too large, and is refused for what it says
+pub record IsReadAndRefused (old new : SourceView) (refusal : Refusal) : Type 0 where
   pub bytes : List ℕ
   pub read : IsReadToEnd old new bytes
   pub short : length bytes ≤ 1_048_576
-  pub no_run : TakesNoRun bytes
+  pub refused : IsRefusedBytes bytes refusal
 
--- why the input was refused: no line is to blame
-pub record IsRefused (old new : SourceView) (refusal : Refusal) : Type 0 where
-  pub line : refusal.line ≡ 0
-  pub place : refusal.place ≡ 0
-  pub why : IsTooLarge old new refusal ⊎ IsNotYet old new refusal
+-- why the input was refused
+abbrev pub IsRefused : (old new : SourceView) → Refusal → Type 0
+IsRefused old new refusal = IsTooLarge old new refusal ⊎ IsReadAndRefused old new refusal
 
 -- The log and the rows that the ledger holds are those of a run of these jobs, up to the last minute of the window.
 pub record IsWholeRun (table : Table) (log : List Entry) (held : List SchedRow) : Type 0 where
@@ -53,8 +51,7 @@ pub record IsRunOfInput (old new : SourceView) (table : Table) (log : List Entry
   pub bytes : List ℕ
   pub read : IsReadToEnd old new bytes
   pub run : Run
-  pub taken : IsTakenRun bytes run
-  pub table_is : table ≡ table_of run
+  pub taken : IsTaken bytes run table
   pub whole : IsWholeRun table log held
 
 -- the input is such a run, and this is the report of its rows: there is one replica

@@ -4,23 +4,21 @@ use Rattle.cron_io.specs.Faults.{Rose}
 use Rattle.cron_io.specs.Views.{SourceView}
 use Rattle.cron_io.specs.declared.source.ReadAllFault.{ReadAllFault}
 use Rattle.cron_io.specs.declared.source.ReadAllFault.TheVariants as reading
+use Rattle.run_text.specs.declared.refusal.Refusal.{Refusal}
+use Rattle.run_text.specs.declared.refusal.RunFault.{RunFault}
+use Rattle.run_text.specs.declared.refusal.RunFault.TheVariants as run
+use Rattle.job_table.specs.Table.{whole_run}
 use Rattle.cron_serve.specs.Serve.{IsRefused}
-use Rattle.cron_serve.specs.declared.read.RunFault.{RunFault}
-use Rattle.cron_serve.specs.declared.read.RunFault.TheVariants as run
-use Rattle.cron_serve.specs.declared.run_end.Refusal.{Refusal}
 use Rattle.cron_serve.specs.declared.stop.Stop.{Stop}
 use Rattle.cron_serve.specs.declared.stop.Stop.TheVariants.{Usage, Refused, ReadFault, OutOfMemory}
 
-abbrev pub refused_for : ℕ → Stop
-refused_for cause = Refused (record { line = 0; cause = cause; place = 0 })
-
 abbrev pub stop_of_read : ReadAllFault → Stop
 stop_of_read reading.ReadFault = ReadFault
-stop_of_read reading.TooLong = refused_for 33
+stop_of_read reading.TooLong = Refused (whole_run 33)
 stop_of_read reading.OutOfMemory = OutOfMemory
 
 abbrev pub stop_of_run : RunFault → Stop
-stop_of_run run.NotARun = refused_for 35
+stop_of_run (run.Refused refusal) = Refused refusal
 stop_of_run run.OutOfMemory = OutOfMemory
 
 -- the status of a stop

@@ -1,5 +1,5 @@
 //! Laws of the program's ends. Each is the contract of a function that does nothing.
-ghost use Rattle.std.specs.Prelude.{◌≡◌, ◌⊎◌, ◌<◌, ◌≤◌, ℕ, ℤ, List, Some, Contains, length};
+ghost use Rattle.std.specs.Prelude.{◌≡◌, ℕ, ℤ, List, Some, Contains};
 ghost use Rattle.cron_io.specs.Views.{SourceView};
 ghost use Rattle.paxos_base.specs.declared.entry.Entry.{Entry};
 ghost use Rattle.paxos_base.specs.declared.entry.Entry.TheVariants.{Start};
@@ -7,20 +7,24 @@ ghost use Rattle.paxos_base.specs.declared.entry.Kind.TheVariants.{Launch};
 ghost use Rattle.due_set.specs.Table.{Table, IsJobDue};
 ghost use Rattle.cluster_sched.specs.declared.row.SchedRow.{SchedRow};
 ghost use Rattle.launch_law.specs.Fits.{HasStart, HasEnd, IsEffective, IsHeld};
-ghost use Rattle.cron_serve.specs.Serve.{IsRefused, IsWholeRun, note_text, refusal_note};
-ghost use Rattle.cron_serve.specs.Table.{TakesNoRun};
-ghost use Rattle.cron_serve.specs.declared.run_end.Refusal.{Refusal};
+ghost use Rattle.run_text.specs.Run.{Run};
+ghost use Rattle.run_text.specs.declared.refusal.Refusal.{Refusal};
+ghost use Rattle.cron_serve.specs.Input.{IsTaken, IsRefusedInput};
+ghost use Rattle.cron_serve.specs.Serve.{IsRefused, IsWholeRun};
 
-/// A refusal has one of two notes. Where the source tells its bytes, the cause says how many there are: more than 1,048,576 at
-/// cause 33, and otherwise no more, of which no run that is taken is made.
-pub fn a_refusal_has_one_of_two_notes()
-    ensures note { (old new : SourceView) (refusal : Refusal) → IsRefused old new refusal
-        → (note_text 2 (Some refusal) ≡ refusal_note (record { line = 0; cause = 33; place = 0 }))
-        ⊎ (note_text 2 (Some refusal) ≡ refusal_note (record { line = 0; cause = 35; place = 0 })) }
-    ensures large { (old new : SourceView) (refusal : Refusal) (bytes : List ℕ) → IsRefused old new refusal
-        → old.left ≡ Some bytes → refusal.cause ≡ 33 → 1_048_576 < length bytes }
-    ensures not_yet { (old new : SourceView) (refusal : Refusal) (bytes : List ℕ) → IsRefused old new refusal
-        → old.left ≡ Some bytes → refusal.cause ≡ 35 → (length bytes ≤ 1_048_576) × TakesNoRun bytes }
+/// An input is taken as one run with one table at most, or is refused for one thing at most, and never both.
+pub fn an_input_has_one_verdict()
+    ensures one_run { (bytes : List ℕ) (run other : Run) (table table' : Table) → IsTaken bytes run table
+        → IsTaken bytes other table' → (run ≡ other) × (table ≡ table') }
+    ensures one_refusal { (bytes : List ℕ) (a b : Refusal) → IsRefusedInput bytes a → IsRefusedInput bytes b → a ≡ b }
+    ensures not_both { (bytes : List ℕ) (run : Run) (table : Table) (refusal : Refusal) → IsTaken bytes run table
+        → IsRefusedInput bytes refusal → ⊥ }
+{}
+
+/// Where the source tells its bytes, a refusal of the input that was read is the one of these bytes.
+pub fn a_refusal_is_that_of_the_bytes()
+    ensures { (old new : SourceView) (refusal : Refusal) (bytes : List ℕ) → IsRefused old new refusal → old.left ≡ Some bytes
+        → IsRefusedInput bytes refusal }
 {}
 
 /// Of a whole run each due instant of each job was started, was ended as a launch, and is held as one; no launch is held twice;

@@ -1,23 +1,20 @@
 //! A run, from its file to its report.
 #![tactic(auto)]
 
-mod entry;
+mod input;
 mod laws;
-mod lines;
 mod note;
-mod read;
-mod run;
 mod run_end;
 mod serve;
 mod stop;
-mod table;
-mod words;
+mod text;
 
-pub use laws::{a_refusal_has_one_of_two_notes, a_whole_run_makes_each_launch};
+pub use laws::{
+    a_refusal_is_that_of_the_bytes, a_whole_run_makes_each_launch, an_input_has_one_verdict,
+};
 pub use note::write_note;
-pub use read::{RunFault, a_text_says_one_run, read_run};
-pub use run::RunFile;
-pub use run_end::{Refusal, RunEnd};
+pub use run_end::RunEnd;
+pub use run_text::Refusal;
 pub use serve::cron_cluster;
 pub use stop::Stop;
 

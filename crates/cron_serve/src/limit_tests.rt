@@ -1,7 +1,7 @@
 //! Runs at the limits, and sources and sinks that move a byte at a time.
 use crate::bytewise::{ByteSink, ByteSource};
 use crate::cron_cluster;
-use crate::tests::{NO_FAULTS, NOT_YET, THREE_LAUNCHES, THREE_LAUNCHES_REPORT, TOO_LARGE, run};
+use crate::tests::{NO_FAULTS, THREE_LAUNCHES, THREE_LAUNCHES_REPORT, TOO_LARGE, run};
 use cron_io::{MemSink, MemSource};
 use std::alloc::Global;
 use std::fmt::Write;
@@ -23,7 +23,10 @@ fn run_of(alloc: Global, until: &str, lines: u32, line: &str) -> Result<String, 
 
 #[test]
 fn a_thousand_jobs_are_taken(rt: HostRuntime) -> Result<(), Fail> {
-    for (jobs, status, note) in [(1000, 0, ""), (1001, 2, NOT_YET)] {
+    for (jobs, status, note) in [
+        (1000, 0, ""),
+        (1001, 2, "cron_cluster: line 0: cause 23 at 0\n"),
+    ] {
         let input = run_of(rt.alloc(), "2024-03-02T00:00Z", jobs, "0 0 31 2 * never")?;
         let left = run(rt.alloc(), input.as_bytes(), &[], &NO_FAULTS)?;
         assert_eq!(rt; left.end.status, status, "of {jobs} jobs");
@@ -35,15 +38,21 @@ fn a_thousand_jobs_are_taken(rt: HostRuntime) -> Result<(), Fail> {
 // A job of each minute has a due instant for each minute of the window: 20,000 up to the 14th at 21:20.
 #[test]
 fn twenty_thousand_due_instants_are_taken(rt: HostRuntime) -> Result<(), Fail> {
-    for (until, status, launches) in [
-        ("2024-03-14T21:20Z", 0, 20_000),
-        ("2024-03-14T21:21Z", 2, 0),
+    for (until, status, launches, note) in [
+        ("2024-03-14T21:20Z", 0, 20_000, ""),
+        (
+            "2024-03-14T21:21Z",
+            2,
+            0,
+            "cron_cluster: line 0: cause 24 at 0\n",
+        ),
     ] {
         let input = run_of(rt.alloc(), until, 1, "* * * * * each minute")?;
         let left = run(rt.alloc(), input.as_bytes(), &[], &NO_FAULTS)?;
         assert_eq!(rt; left.end.status, status, "up to {until}");
         assert_eq!(rt; left.end.ledger.held().len(), launches, "up to {until}");
         assert_eq!(rt; left.end.log.items.len(), 2 * launches, "up to {until}");
+        assert_eq!(rt; left.notes.bytes(), note.as_bytes(), "up to {until}");
     }
     Ok(())
 }
@@ -129,7 +138,7 @@ fn bytes_come_and_go_one_at_a_time(rt: HostRuntime) -> Result<(), Fail> {
             &[20],
             2,
             &[],
-            "cron_cluster: line 0",
+            "cron_cluster: line 1",
         ),
     ] {
         let (left, sink, noted) = run_bytewise(rt.alloc(), input, reads, writes, notes)?;

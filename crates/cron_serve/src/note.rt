@@ -1,10 +1,11 @@
 ghost use Rattle.std.specs.Prelude.{◌≡◌};
 ghost use Rattle.cron_serve.specs.Serve.{refusal_note, status_note, note_text, IsNoted};
 
-use crate::run_end::{Refusal, RunEnd};
+use crate::run_end::RunEnd;
 use arrayvec::ArrayString;
 use cron_io::{Sink, write_all};
 use itoa::Buffer;
+use run_text::Refusal;
 
 // The longest note of a refusal has 55 bytes.
 const NOTE_ROOM: usize = 80;

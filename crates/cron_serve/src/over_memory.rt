@@ -1,8 +1,9 @@
 // A caller over memory, where only want of memory can stand between a run and its report.
 ghost use Rattle.std.specs.Prelude.{◌≡◌, ◌⊎◌, IfOk};
+ghost use Rattle.due_set.specs.Table.{Table};
+ghost use Rattle.run_text.specs.Run.{Run};
 ghost use Rattle.cron_serve.specs.OverMemory.{FitsRoom, IsBeyondRoom};
-ghost use Rattle.cron_serve.specs.Run.{Run};
-ghost use Rattle.cron_serve.specs.Table.{IsTakenRun, TakesNoRun};
+ghost use Rattle.cron_serve.specs.Input.{IsTaken, TakesNone};
 
 use crate::cron_cluster;
 use cron_io::{MemSink, MemSource, OutOfMemory};
@@ -16,11 +17,11 @@ fn status_in_memory(
     room: u32,
     notes: &mut MemSink,
 ) -> Result<u8, OutOfMemory>
-    ensures fits { IfOk result (λ status. (run : Run) → IsTakenRun bytes.items run → FitsRoom run room
+    ensures fits { IfOk result (λ status. (run : Run) (table : Table) → IsTaken bytes.items run table → FitsRoom table room
         → (status ≡ 0) ⊎ (status ≡ 5)) }
-    ensures exceeds { IfOk result (λ status. (run : Run) → IsTakenRun bytes.items run → IsBeyondRoom run room
+    ensures exceeds { IfOk result (λ status. (run : Run) (table : Table) → IsTaken bytes.items run table → IsBeyondRoom table room
         → (status ≡ 4) ⊎ (status ≡ 5)) }
-    ensures refused { IfOk result (λ status. TakesNoRun bytes.items → (status ≡ 2) ⊎ (status ≡ 5)) }
+    ensures refused { IfOk result (λ status. TakesNone bytes.items → (status ≡ 2) ⊎ (status ≡ 5)) }
 {
     let mut source = MemSource::new(bytes, Vec::new(alloc));
     let mut sink = MemSink::new(alloc, room, Vec::new(alloc))?;

@@ -5,18 +5,8 @@ ghost use Rattle.cron_serve.specs.Stop.{refusal_of, status_of};
 use crate::stop::Stop;
 use cluster_sched::Ledger;
 use paxos_base::EntryList;
+use run_text::Refusal;
 use std::alloc::Global;
-
-/// Why an input was refused.
-#[derive(Clone, Copy, Debug, PartialEq, Eq)]
-pub struct Refusal {
-    /// The run file's line, from 1, or 0 where no line is to blame.
-    pub line: u32,
-    /// The number of the cause: 33 for an input that is too large, 35 for a run file of a form that isn't taken yet.
-    pub cause: u8,
-    /// The byte in the line.
-    pub place: u32,
-}
 
 /// How the program ended, and what it leaves.
 #[derive(Debug, Drop)]

@@ -8,10 +8,10 @@ ghost use Rattle.cron_serve.specs.Serve.{IsRunOfInput, LeavesNoRun, note_text, I
 ghost use Rattle.cron_serve.specs.Stop.{StopsFor};
 ghost use Rattle.cron_serve.specs.Written.{WritesAtStatus};
 
+use crate::input::take_table;
 use crate::note::write_note;
 use crate::run_end::RunEnd;
 use crate::stop::Stop;
-use crate::table::take_table;
 use cron_io::{Sink, Source, read_all};
 use due_set::JobTable;
 use launch_clerk::{LaunchBook, run_clerk};
@@ -76,7 +76,7 @@ fn report<K: Sink>(alloc: Global, sink: &mut K, walked: Walked) -> RunEnd
 fn serve<S: Source, K: Sink>(alloc: Global, source: &mut S, sink: &mut K) -> RunEnd
     ensures ends { Ends (S.seen source.old) (S.seen source.new) (K.seen sink.old) (K.seen sink.new) result }
     ensures words { result.status ≢ 1 }
-    ensures complete { Completes (S.seen source.old) (S.seen source.new) (K.seen sink.old) (K.seen sink.new) result.status }
+    ensures complete { Completes (S.seen source.old) (S.seen source.new) (K.seen sink.old) (K.seen sink.new) result }
     ensures no_read_fault { S.reliable source.old → result.status ≢ 3 }
     ensures lasting { S.reliable source.old →
         StaysReliable (S.seen source.old) (S.seen source.new) (S.reliable source.new) }
@@ -107,7 +107,7 @@ pub fn cron_cluster<S: Source, K: Sink, E: Sink>(
 
     // A run that is taken ends with its report, and any other input is refused, where no call failed and memory lasts.
     ensures complete { length words.now ≡ 0 →
-        Completes (S.seen source.old) (S.seen source.new) (K.seen sink.old) (K.seen sink.new) result.status }
+        Completes (S.seen source.old) (S.seen source.new) (K.seen sink.old) (K.seen sink.new) result }
 
     // Over a source that is reliable there is no status 3, and it stays reliable.
     ensures no_read_fault { S.reliable source.old → result.status ≢ 3 }

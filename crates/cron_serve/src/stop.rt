@@ -1,8 +1,7 @@
 ghost use Rattle.std.specs.Prelude.{◌≡◌};
 
-use crate::read::RunFault;
-use crate::run_end::Refusal;
 use cron_io::ReadAllFault;
+use run_text::{Refusal, RunFault};
 
 /// Why the program stops and leaves no run.
 #[derive(Clone, Copy, Debug, PartialEq, Eq)]
@@ -21,13 +20,6 @@ pub enum Stop {
 const TOO_LARGE: Refusal = Refusal {
     line: 0,
     cause: 33,
-    place: 0,
-};
-
-// No line is to blame: the run file is of a form that isn't taken yet.
-const NOT_YET: Refusal = Refusal {
-    line: 0,
-    cause: 35,
     place: 0,
 };
 
@@ -52,7 +44,7 @@ impl From<RunFault> for Stop {
 
     fn from(fault: RunFault) -> Self {
         match fault {
-            RunFault::NotARun => Stop::Refused(NOT_YET),
+            RunFault::Refused(refusal) => Stop::Refused(refusal),
             RunFault::OutOfMemory => Stop::OutOfMemory,
         }
     }

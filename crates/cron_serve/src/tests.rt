@@ -1,7 +1,7 @@
 //! Whole runs, from the bytes of a run file to the report and the note.
 use crate::{
-    RunEnd, a_refusal_has_one_of_two_notes, a_text_says_one_run, a_whole_run_makes_each_launch,
-    cron_cluster,
+    RunEnd, a_refusal_is_that_of_the_bytes, a_whole_run_makes_each_launch,
+    an_input_has_one_verdict, cron_cluster,
 };
 use cron_io::{MemSink, MemSource};
 use paxos_base::{Entry, Kind};
@@ -92,15 +92,87 @@ job alice:1 launched 0 void 0
 end
 ";
 
+// A system table over two days.
+const SYSTEM: &str = "cronrun 1
+replicas 1
+window 2024-03-31T00:00Z 2024-04-02T00:00Z
+grace 0
+system etc UTC 6
+# m h dom mon dow user command
+MAILTO = ops
+@hourly root run-parts /etc/cron.hourly
+0 3 * * * www-data /usr/bin/certbot -q renew
+30 0 1 * * root logrotate
+15 2 1 4 Mon root cat%one%two
+script
+end
+";
+
+const SYSTEM_JOBS: &str = "jobs 4
+job etc:1 launched 48 void 0
+job etc:2 launched 2 void 0
+job etc:3 launched 1 void 0
+job etc:4 launched 1 void 0
+";
+
+// A job whose minute and hour are its own choice.
+const CHOICE: &str = "cronrun 1
+replicas 1
+window 2024-03-31T00:00Z 2024-04-01T00:00Z
+grace 0
+crontab a UTC 1
+? ? * * * b
+script
+end
+";
+
+const CHOICE_JOBS: &str = "jobs 1
+job a:1 launched 1 void 0
+launch a:1@20240331T0546Z
+end
+";
+
+// The line of a zone that isn't named, and one whose form is of a later time.
+const FOREIGN_ZONE: &str = "cronrun 1
+replicas 1
+window 2024-03-31T00:00Z 2024-03-31T01:00Z
+grace 0
+crontab alice UTC 2
+CRON_TZ=Mars/Base
+0,20,40 * * * * echo hi
+script
+end
+";
+
 const ZONE_LINE: &str = "cronrun 1
 replicas 1
 window 2024-03-31T00:00Z 2024-03-31T01:00Z
 grace 0
 zone I fixed +05:30
+script
+end
+";
+
+// Two sections under one label.
+const ONE_LABEL: &str = "cronrun 1
+replicas 1
+window 2024-03-31T00:00Z 2024-03-31T01:00Z
+grace 0
+crontab alice UTC 1
+0 0 * * * echo one
+crontab alice UTC 1
+0 0 * * * echo two
+script
+end
+";
+
+const CUT: &str = "cronrun 1
+replicas 1
+window 2024-03-31T00:00Z 2024-03-31T01:00Z
+grace 0
 crontab alice UTC 1
 0,20,40 * * * * echo hi
 script
-end
 ";
 
 const ZERO_BYTE: &str = "cronrun 1
@@ -112,8 +184,6 @@ crontab alice UTC 1
 script
 end
 ";
-
-pub const NOT_YET: &str = "cron_cluster: line 0: cause 35 at 0\n";
 
 pub const TOO_LARGE: &str = "cron_cluster: line 0: cause 33 at 0\n";
 
@@ -155,19 +225,37 @@ pub fn run(alloc: Global, input: &[u8], words: &[&str], faults: &Faults<'_>) -> 
 
 #[test]
 fn runs_have_their_reports(rt: HostRuntime) -> Result<(), Fail> {
-    for (input, status, report, note) in [
-        (THREE_LAUNCHES, 0, THREE_LAUNCHES_REPORT, ""),
-        (NO_SECTION, 0, NO_SECTION_REPORT, ""),
-        (DAY_RULE, 0, DAY_RULE_REPORT, ""),
-        (NEVER, 0, NEVER_REPORT, ""),
-        (ZONE_LINE, 2, "", NOT_YET),
-        (ZERO_BYTE, 2, "", NOT_YET),
-        ("", 2, "", NOT_YET),
+    for (input, report) in [
+        (THREE_LAUNCHES, THREE_LAUNCHES_REPORT),
+        (NO_SECTION, NO_SECTION_REPORT),
+        (DAY_RULE, DAY_RULE_REPORT),
+        (NEVER, NEVER_REPORT),
+        (SYSTEM, SYSTEM_JOBS),
+        (CHOICE, CHOICE_JOBS),
     ] {
         let left = run(rt.alloc(), input.as_bytes(), &[], &NO_FAULTS)?;
-        assert_eq!(rt; left.end.status, status, "of {input}");
-        assert_eq!(rt; left.report.bytes(), report.as_bytes(), "of {input}");
+        assert_eq!(rt; left.end.status, 0, "of {input}");
+        let text = std::str::from_utf8(left.report.bytes())?;
+        assert!(rt; text.contains(report), "of {input}");
+        assert!(rt; left.notes.bytes().is_empty(), "of {input}");
+    }
+    Ok(())
+}
+
+#[test]
+fn refusals_have_their_notes(rt: HostRuntime) -> Result<(), Fail> {
+    for (input, note) in [
+        (ZONE_LINE, "cron_cluster: line 5: cause 35 at 0\n"),
+        (FOREIGN_ZONE, "cron_cluster: line 6: cause 21 at 0\n"),
+        (ONE_LABEL, "cron_cluster: line 8: cause 22 at 0\n"),
+        (CUT, "cron_cluster: line 8: cause 31 at 0\n"),
+        ("", "cron_cluster: line 1: cause 25 at 0\n"),
+        (ZERO_BYTE, "cron_cluster: line 6: cause 15 at 0\n"),
+    ] {
+        let left = run(rt.alloc(), input.as_bytes(), &[], &NO_FAULTS)?;
+        assert_eq!(rt; left.end.status, 2, "of {input}");
         assert_eq!(rt; left.notes.bytes(), note.as_bytes(), "of {input}");
+        assert!(rt; left.report.bytes().is_empty(), "of {input}");
     }
     Ok(())
 }
@@ -178,14 +266,20 @@ fn an_input_that_is_not_text_is_refused(rt: HostRuntime) -> Result<(), Fail> {
     input.insert(input.len() - 12, 0xff)?;
     let left = run(rt.alloc(), &input, &[], &NO_FAULTS)?;
     assert_eq!(rt; left.end.status, 2);
-    assert_eq!(rt; left.notes.bytes(), NOT_YET.as_bytes());
+    assert_eq!(rt;
+        left.notes.bytes(),
+        b"cron_cluster: line 6: cause 15 at 0\n".as_slice()
+    );
     Ok(())
 }
 
-// A run of exactly 1,048,576 bytes is read, and one byte more is too large, whatever it says.
+// An input of exactly 1,048,576 bytes is read, and one byte more is too large, whatever it says.
 #[test]
 fn an_input_may_have_a_mebibyte(rt: HostRuntime) -> Result<(), Fail> {
-    for (length, note) in [(1_048_576, NOT_YET), (1_048_577, TOO_LARGE)] {
+    for (length, note) in [
+        (1_048_576, "cron_cluster: line 1: cause 25 at 0\n"),
+        (1_048_577, TOO_LARGE),
+    ] {
         let input = vec![in rt.alloc(); b'\n'; length]?;
         let left = run(rt.alloc(), &input, &[], &NO_FAULTS)?;
         assert_eq!(rt; left.end.status, 2);
@@ -341,7 +435,7 @@ fn a_note_that_fails_changes_no_status(rt: HostRuntime) -> Result<(), Fail> {
 
 #[test]
 fn laws_hold(_rt: HostRuntime) {
-    a_text_says_one_run();
-    a_refusal_has_one_of_two_notes();
+    an_input_has_one_verdict();
+    a_refusal_is_that_of_the_bytes();
     a_whole_run_makes_each_launch();
 }

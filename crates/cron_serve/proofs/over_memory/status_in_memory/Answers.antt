@@ -1,6 +1,7 @@
 use Rattle.std.proofs.Common.{ap, ◌∙◌, arith, Some}
 use Rattle.cron_io.specs.Memory.{room_unless}
-use Rattle.cron_serve.proofs.OverMemoryLemmas.{EndsOverMemory, ends_whole, ends_cut, not_risen}
+use Rattle.cron_serve.specs.Input.{IsRefusedInput}
+use Rattle.cron_serve.proofs.OverMemoryLemmas.{EndsOverMemory, ends_whole, ends_cut, ends_refused, not_risen}
 use Rattle.cron_serve.proofs.over_memory.status_in_memory.Goals as goal
 
 pub returns : goal.returns
@@ -18,7 +19,9 @@ returns c =
       ends = end.ends;
     } in
     record {
-      fits = λ run taken. ends_whole _ _ _ _ _ _ _ over_memory run taken;
-      exceeds = λ run taken. ends_cut _ _ _ _ _ _ _ over_memory run taken;
-      refused = λ no_run. (end.complete (omega arith)).others _ (ap Some source.left) no_run (not_risen _ _ (end.lasting sure).quiet source.faults);
+      fits = λ run table taken. ends_whole _ _ _ _ _ _ _ over_memory run table taken;
+      exceeds = λ run table taken. ends_cut _ _ _ _ _ _ _ over_memory run table taken;
+      refused = λ none.
+          ends_refused _ _ _ _ c.cron_cluster-end.result (IsRefusedInput c.args.bytes.items) end.ends
+          ((end.complete (omega arith)).others _ (ap Some source.left) none (not_risen _ _ (end.lasting sure).quiet source.faults));
     }

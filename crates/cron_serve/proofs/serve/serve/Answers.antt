@@ -21,7 +21,7 @@ returns-in-Ok-clause-ends g c =
 
 pub returns-in-Ok-clause-complete : goal.returns-in-Ok-clause-complete
 returns-in-Ok-clause-complete g c =
-    completes_report _ _ _ _ c.in-Ok.walked.table c.in-Ok.walked.book.log c.in-Ok.walked.book.held c.report.result.status c.in-Ok.ensures.run
+    completes_report _ _ _ _ c.in-Ok.walked.table c.in-Ok.walked.book.log c.in-Ok.walked.book.held c.report.result c.in-Ok.ensures.run
     c.report.ensures.text.2.fault c.report.ensures.statuses
 
 pub returns-in-Err-clause-ends : goal.returns-in-Err-clause-ends
@@ -31,4 +31,4 @@ returns-in-Err-clause-ends g c =
     c.walk.ensures.read_on c.in-Err.ensures.stop
 
 pub returns-in-Err-clause-complete : goal.returns-in-Err-clause-complete
-returns-in-Err-clause-complete g c = completes_stopped _ _ _ c.in-Err.stop c.stopped.result.status c.stopped.ensures.status c.in-Err.ensures.stop
+returns-in-Err-clause-complete g c = completes_stopped _ _ _ c.in-Err.stop c.stopped.result c.stopped.ensures.status c.stopped.ensures.refusal c.in-Err.ensures.stop

@@ -1,6 +1,0 @@
-use Rattle.std.proofs.Common.{◌≤◌}
-use Rattle.cron_serve.proofs.DueCountLemmas.{CountsFirst}
-use Rattle.cron_serve.proofs.table.count_due.Given as goal
-
-abbrev pub invariant-loop-job : goal.invariant-loop-job
-invariant-loop-job l = record { counted : CountsFirst l.table l.job l.total; few : l.total ≤ 20_000 }
