@@ -1,10 +1,13 @@
 #!/usr/bin/env python3
-"""Measures the built program on four run files, beside `cat` of the same report.
+"""Measures the built program: on four run files, beside `cat` of the same report, and on a fifth that it reads and
+refuses at its last line, beside `wc -l` of the same file.
 
 Usage: bench/bench.py [PROGRAM]
 
 PROGRAM is the built binary, crates/cron_cluster/out/cron_cluster by default. Each line has the run, the best time of
-five of the program, its report's lines in a second, and how often `cat` of the report fits into that time.
+five of the program, its report's lines in a second, and how often `cat` of the report fits into that time. The last line
+has the best time of forty, the program's time for an empty input, which is the start of its process, and how often `wc -l`
+fits into the first; the start of the process is in that of `wc -l` too.
 """
 import os
 import subprocess
@@ -15,6 +18,8 @@ import time
 ROOT = os.path.dirname(os.path.dirname(os.path.abspath(__file__)))
 PROGRAM = os.path.join(ROOT, "crates", "cron_cluster", "out", "cron_cluster")
 TRIES = 5
+READING_TRIES = 40
+READING_BYTES = 1_048_000
 
 
 def run_file(start, end, entries):
@@ -38,15 +43,68 @@ def runs():
     yield "10 days, 1,000 jobs that are never due", run_file(*ten_days, never)
 
 
-def best_time(command, source, sink):
-    """The least time of some tries, in seconds."""
+def entry(number):
+    """An entry with lists, ranges, steps and names."""
+    minute = f"{number % 60},{(number + 7) % 60},{number % 30}-{number % 30 + 29}/10"
+    hour = f"{number % 12}-{number % 12 + 11}/4"
+    day = f"1-15/2,{number % 13 + 16}"
+    month = ("jan-jun,sep", "Feb,MAY,dec", "*/3", "1-4,oct-dec/2")[number % 4]
+    weekday = ("mon-fri", "sun,wed", "*", "0-7/2,thu")[number % 4]
+    return f"{minute} {hour} {day} {month} {weekday} job {number}"
+
+
+def long_file():
+    """A run file of four sections with 1,000 entries in all, 30,000 comments and 30,000 empty lines. It is whole but for a
+    line behind its `end`, at which it is refused: so it is read, and nothing else is done."""
+    lines = ["cronrun 1", "replicas 1", "window 2024-01-01T00:00Z 2024-01-02T00:00Z", "grace 0"]
+    comments = []
+    for section in range(4):
+        lines.append(f"crontab bench{section} UTC {250 * 61}")
+        for number in range(250):
+            for _ in range(30):
+                comments.append(len(lines))
+                lines += ["#", ""]
+            lines.append(entry(250 * section + number))
+    lines += ["script", "end", "# a line too many"]
+    each, more = divmod(READING_BYTES - sum(len(line) + 1 for line in lines), len(comments))
+    for place, line in enumerate(comments):
+        lines[line] += "." * (each + (place < more))
+    return "\n".join([*lines, ""])
+
+
+def best_time(command, source, sink, tries=TRIES, status=0):
+    """The least time of some tries, in seconds. Each has to end with the status."""
     times = []
-    for _ in range(TRIES):
+    for _ in range(tries):
         with open(source, "rb") as stdin, open(sink, "wb") as stdout:
             start = time.perf_counter()
-            subprocess.run(command, stdin=stdin, stdout=stdout, check=True)
+            ended = subprocess.run(command, stdin=stdin, stdout=stdout, stderr=subprocess.DEVNULL, check=False)
             times.append(time.perf_counter() - start)
+        if ended.returncode != status:
+            sys.exit(f"{command[0]} ended with status {ended.returncode} instead of {status}")
     return min(times)
+
+
+def check_note(program, source, note):
+    """The program has to refuse the run file so."""
+    with open(source, "rb") as stdin:
+        ended = subprocess.run([program], stdin=stdin, stdout=subprocess.DEVNULL, stderr=subprocess.PIPE, check=False)
+    if ended.stderr.decode() != note:
+        sys.exit(f"expected {note!r}, got {ended.stderr.decode()!r}")
+
+
+def measure_reading(program, source, sink):
+    """The program's time for a long file that it refuses at its last line, beside that of `wc -l`."""
+    text = long_file()
+    with open(source, "w", encoding="utf-8") as file:
+        file.write(text)
+    lines = text.count("\n")
+    check_note(program, source, f"cron_cluster: line {lines}: cause 30 at 0\n")
+    seconds = best_time([program], source, sink, READING_TRIES, 2)
+    empty = best_time([program], os.devnull, sink, READING_TRIES, 2)
+    count = best_time(["wc", "-l"], source, sink, READING_TRIES)
+    told = f"{len(text):,} bytes, {lines:,} lines"
+    print(f"reading alone, {told}: {seconds * 1000:.1f} ms, of nothing {empty * 1000:.1f}, {seconds / count:.1f} times wc -l")
 
 
 def main():
@@ -61,6 +119,7 @@ def main():
             with open(report, "rb") as file:
                 lines = file.read().count(b"\n")
             print(f"{name}: {seconds * 1000:.1f} ms, {lines / seconds:,.0f} lines a second, {seconds / cat:.1f} times cat")
+        measure_reading(program, source, report)
 
 
 if __name__ == "__main__":
