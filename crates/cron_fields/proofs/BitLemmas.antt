@@ -25,20 +25,6 @@ set_from_at n k one =
 pub unset_from_at : (n k : ℕ) → bit_at n k ≡ 0 → IsBitSet n k → ⊥
 unset_from_at n k none set = let one = at_from_set n k set in omega arith
 
--- the bits of a mask
-pub IsBitSet-mask : (low high value : ℕ) → IsBitSet (2 ^ high - 2 ^ low) value ↔ ((low ≤ value) × (value < high))
-IsBitSet-mask low high value = (
-  λ set.
-      ⊎_elim
-      (λ below. absurd (unset_from_at (2 ^ high - 2 ^ low) value (bit_at_mask_below low high value below) set))
-      (λ least. ⊎_elim
-      (λ less. (least, less))
-      (λ above. absurd (unset_from_at (2 ^ high - 2 ^ low) value (bit_at_mask_above low high value above) set))
-      (cases_lt value high))
-      (cases_lt value low),
-  λ (least, less). set_from_at (2 ^ high - 2 ^ low) value (bit_at_mask_inside low high value least less),
-)
-
 -- numbers with the same bits are equal
 pub same_from_sets : (a b : ℕ) → ((value : ℕ) → IsBitSet a value ↔ IsBitSet b value) → a ≡ b
 same_from_sets a b same = same_from_bits a b at
@@ -56,22 +42,3 @@ same_from_sets a b same = same_from_bits a b at
 -- 0 has no bits
 pub IsBitSet-zero : (value : ℕ) → IsBitSet 0 value → ⊥
 IsBitSet-zero value = unset_from_at 0 value (bit_at-zero value)
-
--- the bits of a list of values, with one more value
-pub bits_push : (bits : ℕ) (values : List ℕ) (value : ℕ) → value < 64 → ((v : ℕ) → IsBitSet bits v ↔ Contains values v) → (v : ℕ) → IsBitSet (bit_or bits (1 * 2 ^ value % 2 ^ 64)) v ↔ Contains (values ++ value ∷ []) v
-bits_push bits values value small are v = ⊎_elim at other (cases_eq v value)
-  where
-    now : ℕ
-    now = bit_or bits (1 * 2 ^ value % 2 ^ 64)
-
-    at : v ≡ value → IsBitSet now v ↔ Contains (values ++ value ∷ []) v
-    at is = rw is (λ _. Contains-push values value, λ _. set_from_at now value (bit_at_set_same w64 bits value small))
-
-    other : (v ≡ value → ⊥) → IsBitSet now v ↔ Contains (values ++ value ∷ []) v
-    other is_not = let kept = bit_at_set_other w64 bits value small v is_not in (
-      λ set. Contains-append_left values (value ∷ []) v ((are v).0 (set_from_at bits v (sym kept ∙ at_from_set now v set))),
-      λ has. ⊎_elim
-          (λ old. set_from_at now v (kept ∙ at_from_set bits v ((are v).1 old)))
-          (λ same. absurd (is_not (sym same)))
-          (Contains-push_cases values value v has),
-    )

@@ -8,5 +8,3 @@ pub mod FieldText
 pub mod ItemReading
 pub mod JoinLemmas
 pub mod ListLemmas
-pub mod PieceLemmas
-pub mod PlainFieldLemmas

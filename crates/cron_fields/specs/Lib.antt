@@ -7,5 +7,4 @@ pub mod Hash
 pub mod Item
 pub mod ItemFault
 pub mod Match
-pub mod PlainField
 pub mod Seed

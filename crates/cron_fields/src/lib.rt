@@ -7,7 +7,6 @@ mod field;
 mod hash;
 mod item;
 mod law;
-mod plain;
 mod read;
 
 pub use fault::FieldFault;
@@ -17,7 +16,6 @@ pub use law::{
     a_fault_lies_in_its_text, a_field_has_no_blank, a_field_has_one_reading,
     a_field_has_values_of_its_kind,
 };
-pub use plain::{a_plain_field_has_no_blank, a_text_has_one_set, read_plain_field};
 pub use read::read_field;
 
 #[cfg(test)]

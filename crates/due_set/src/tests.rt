@@ -9,7 +9,7 @@ use crate::{
     a_job_is_due_or_not, a_name_says_one_job, each_job_has_a_due_list, each_job_has_a_zone,
     launches_come_at_their_instants,
 };
-use cron_fields::{FieldKind, Fields, read_plain_field};
+use cron_fields::{FieldKind, FieldSet, Fields, HashSeed, read_field};
 use std::alloc::Global;
 use std::test::Fail;
 use zone_minutes::{Minute, Window, ZoneRuns, ZoneSource, read_stamp};
@@ -29,14 +29,27 @@ fn window_of(from: &str, until: &str) -> Option<Window>
     }
 }
 
+// A field of at most 99 bytes.
+fn field_of(kind: FieldKind, text: &str) -> Option<FieldSet> {
+    let seed = HashSeed {
+        owner: "alice",
+        command: "true",
+    };
+    if text.len() < 100 {
+        read_field(kind, text, seed).ok()
+    } else {
+        None
+    }
+}
+
 fn fields_of(entry: [&str; 5]) -> Option<Fields> {
     let [minute, hour, month_day, month, week_day] = entry;
     Some(Fields {
-        minute: read_plain_field(FieldKind::Minute, minute)?,
-        hour: read_plain_field(FieldKind::Hour, hour)?,
-        month_day: read_plain_field(FieldKind::MonthDay, month_day)?,
-        month: read_plain_field(FieldKind::Month, month)?,
-        week_day: read_plain_field(FieldKind::WeekDay, week_day)?,
+        minute: field_of(FieldKind::Minute, minute)?,
+        hour: field_of(FieldKind::Hour, hour)?,
+        month_day: field_of(FieldKind::MonthDay, month_day)?,
+        month: field_of(FieldKind::Month, month)?,
+        week_day: field_of(FieldKind::WeekDay, week_day)?,
     })
 }
 

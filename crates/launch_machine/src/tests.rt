@@ -8,7 +8,7 @@ use crate::{
     cursors_rise, ends_are_counted, entries_leave_one_table, one_entry_is_one_step,
     starts_are_a_prefix,
 };
-use cron_fields::{FieldKind, Fields, read_plain_field};
+use cron_fields::{FieldKind, FieldSet, Fields, HashSeed, read_field};
 use due_set::{JobKind, JobSpec, JobTable};
 use paxos_base::{Entry, JobRow, Kind, RowList};
 use std::alloc::Global;
@@ -23,13 +23,26 @@ const HOUR: Window = Window {
     until: Minute(FROM + 60),
 };
 
+// A field of at most 99 bytes.
+fn field_of(kind: FieldKind, text: &str) -> Option<FieldSet> {
+    let seed = HashSeed {
+        owner: "alice",
+        command: "true",
+    };
+    if text.len() < 100 {
+        read_field(kind, text, seed).ok()
+    } else {
+        None
+    }
+}
+
 fn fields_of(minutes: &str) -> Option<Fields> {
     Some(Fields {
-        minute: read_plain_field(FieldKind::Minute, minutes)?,
-        hour: read_plain_field(FieldKind::Hour, "*")?,
-        month_day: read_plain_field(FieldKind::MonthDay, "*")?,
-        month: read_plain_field(FieldKind::Month, "*")?,
-        week_day: read_plain_field(FieldKind::WeekDay, "*")?,
+        minute: field_of(FieldKind::Minute, minutes)?,
+        hour: field_of(FieldKind::Hour, "*")?,
+        month_day: field_of(FieldKind::MonthDay, "*")?,
+        month: field_of(FieldKind::Month, "*")?,
+        week_day: field_of(FieldKind::WeekDay, "*")?,
     })
 }
 
