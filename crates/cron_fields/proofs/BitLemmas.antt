@@ -1,9 +1,8 @@
 -- A number as the set of its bits.
-use Rattle.std.proofs.Common.{◌≡◌, ◌≢◌, ◌↔◌, ℕ, ◌-◌, ◌*◌, ◌%◌, ◌^◌, ◌<◌, ◌≤◌, zero, suc, List, [], ◌∷◌, ◌++◌, Contains, IsBitSet, bit_and, bit_or, sym, refl, ap, ◌∙◌, ⊎_elim, arith, pow_pos, w64}
+use Rattle.std.proofs.Common.{◌≡◌, ◌≢◌, ◌↔◌, ℕ, ◌*◌, ◌^◌, ◌<◌, zero, suc, IsBitSet, bit_and, sym, refl, ap, ◌∙◌, ⊎_elim, arith, pow_pos}
 use Rattle.std.specs.Int.{bit_at}
-use Rattle.std.proofs.lemmas.Bool.{cases_eq, cases_lt}
-use Rattle.std.proofs.lemmas.Nat.Bits.{and_pow, bit_at-lt, bit_at-zero, bit_at_set_same, bit_at_set_other, bit_at_mask_inside, bit_at_mask_below, bit_at_mask_above, same_from_bits}
-use Rattle.std.proofs.lemmas.List.Elements.{Contains-append_left, Contains-push, Contains-push_cases}
+use Rattle.std.proofs.lemmas.Bool.{cases_eq}
+use Rattle.std.proofs.lemmas.Nat.Bits.{and_pow, bit_at-lt, bit_at-zero, same_from_bits}
 
 one_from_product : (b p q : ℕ) → b < 2 → q ≡ b * p → q ≢ 0 → b ≡ 1
 one_from_product zero p q small is some = absurd (some (omega arith))
