@@ -1,8 +1,8 @@
 -- A number as the set of its bits.
-use Rattle.std.proofs.Common.{◌≡◌, ◌≢◌, ◌↔◌, ℕ, ◌*◌, ◌^◌, ◌<◌, zero, suc, IsBitSet, bit_and, sym, refl, ap, ◌∙◌, ⊎_elim, arith, pow_pos}
+use Rattle.std.proofs.Common.{◌≡◌, ◌≢◌, ◌↔◌, ℕ, ◌-◌, ◌*◌, ◌^◌, ◌<◌, ◌≤◌, zero, suc, IsBitSet, bit_and, sym, refl, ap, ◌∙◌, ⊎_elim, arith, pow_pos}
 use Rattle.std.specs.Int.{bit_at}
-use Rattle.std.proofs.lemmas.Bool.{cases_eq}
-use Rattle.std.proofs.lemmas.Nat.Bits.{and_pow, bit_at-lt, bit_at-zero, same_from_bits}
+use Rattle.std.proofs.lemmas.Bool.{cases_eq, cases_lt}
+use Rattle.std.proofs.lemmas.Nat.Bits.{and_pow, bit_at-lt, bit_at-zero, bit_at_mask_inside, bit_at_mask_below, bit_at_mask_above, same_from_bits}
 
 one_from_product : (b p q : ℕ) → b < 2 → q ≡ b * p → q ≢ 0 → b ≡ 1
 one_from_product zero p q small is some = absurd (some (omega arith))
@@ -23,6 +23,20 @@ set_from_at n k one =
 -- a bit that is 0 is not set
 pub unset_from_at : (n k : ℕ) → bit_at n k ≡ 0 → IsBitSet n k → ⊥
 unset_from_at n k none set = let one = at_from_set n k set in omega arith
+
+-- the bits of a mask
+pub IsBitSet-mask : (low high value : ℕ) → IsBitSet (2 ^ high - 2 ^ low) value ↔ ((low ≤ value) × (value < high))
+IsBitSet-mask low high value = (
+  λ set.
+      ⊎_elim
+      (λ below. absurd (unset_from_at (2 ^ high - 2 ^ low) value (bit_at_mask_below low high value below) set))
+      (λ least. ⊎_elim
+      (λ less. (least, less))
+      (λ above. absurd (unset_from_at (2 ^ high - 2 ^ low) value (bit_at_mask_above low high value above) set))
+      (cases_lt value high))
+      (cases_lt value low),
+  λ (least, less). set_from_at (2 ^ high - 2 ^ low) value (bit_at_mask_inside low high value least less),
+)
 
 -- numbers with the same bits are equal
 pub same_from_sets : (a b : ℕ) → ((value : ℕ) → IsBitSet a value ↔ IsBitSet b value) → a ≡ b
