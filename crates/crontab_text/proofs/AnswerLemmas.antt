@@ -8,13 +8,13 @@ use Rattle.crontab_text.specs.Answers.{BeginsWithByte, IsOther, Says, Breaks, Li
 use Rattle.crontab_text.specs.Assignment.{IsNameStart, IsAssignment}
 use Rattle.crontab_text.specs.Entry.{five_kinds, entry_seed, BeginsWithFields, IsEntry, IsEntryFault}
 use Rattle.crontab_text.specs.LineBody.{LineBody, BlankBody, CommentBody, AssignBody, EntryBody, NickBody}
+use Rattle.crontab_text.specs.Lines.{lines_of}
 use Rattle.crontab_text.specs.Nickname.{meaning_of, IsNick, IsNickFault}
 use Rattle.crontab_text.specs.Tail.{IsTail}
 use Rattle.crontab_text.specs.declared.answer.Style.{Style}
 use Rattle.crontab_text.proofs.AssignmentLemmas.{same_assignment}
 use Rattle.crontab_text.proofs.BlankLemmas.{same_skip}
 use Rattle.crontab_text.proofs.EntryLemmas.{break_within}
-use Rattle.crontab_text.proofs.LineLemmas.{same_all_lines, some_lines}
 use Rattle.crontab_text.proofs.ListLemmas.{eq_dec}
 use Rattle.crontab_text.proofs.NicknameLemmas.{nickname_or_not, some_fields_of, known_meaning}
 use Rattle.crontab_text.proofs.TotalLemmas.{some_skip, some_word, assignment_or_not, some_tail, some_fields}
@@ -248,10 +248,7 @@ some_each style owner (line ∷ lines) =
     (answer ∷ answers, (is, each))
 
 pub some_answers : (style : Style) (owner text : List ℕ) → (answers : List LineAnswer) × AreAnswers style owner text answers
-some_answers style owner text =
-    let (lines, are) = some_lines text in
-    let (answers, each) = some_each style owner lines in
-    (answers, record { lines = lines; lines_are = are; each = each })
+some_answers style owner text = some_each style owner (lines_of text)
 
 same_each : (style : Style) (owner : List ℕ) (lines : List (List ℕ)) (as' bs : List LineAnswer) → AllZip (IsAnswer style owner) lines as' → AllZip (IsAnswer style owner) lines bs → as' ≡ bs
 same_each style owner [] [] [] first second = refl
@@ -265,6 +262,4 @@ same_each style owner (line ∷ lines) (a ∷ as') (b ∷ bs) first second =
     cc
 
 pub same_answers : (style : Style) (owner text : List ℕ) (a b : List LineAnswer) → AreAnswers style owner text a → AreAnswers style owner text b → a ≡ b
-same_answers style owner text a b first second =
-    let lines = same_all_lines first.lines second.lines text first.lines_are second.lines_are in
-    same_each style owner second.lines a b (subst (λ ls. AllZip (IsAnswer style owner) ls a) lines first.each) second.each
+same_answers style owner text a b first second = same_each style owner (lines_of text) a b first second

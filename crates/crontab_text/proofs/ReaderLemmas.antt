@@ -13,7 +13,7 @@ use Rattle.crontab_text.specs.declared.answer.LineFault.{LineFault}
 use Rattle.crontab_text.specs.declared.answer.Style.{Style}
 use Rattle.crontab_text.specs.declared.fault.Fault.{Fault}
 use Rattle.crontab_text.proofs.EntryLemmas.{break_within}
-use Rattle.crontab_text.proofs.LineLemmas.{line_size}
+use Rattle.crontab_text.proofs.LineLemmas.{line_size, lines_of-none, lines_of-begins}
 
 -- what is left of a text, behind another line
 pub record IsLeft (text rest : List ℕ) : Type 0 where
@@ -78,12 +78,9 @@ reads_line text owner rest line after style passed answer handed is begins read 
 
 -- the answer to the next line stands before the answers to the rest
 pub answers_before : (old new : TableReader) (handed : Result Line LineFault) (answers : List LineAnswer) → ReadsLine old new handed → AreAnswers old.style old.owner (rest_of new) answers → AreAnswers old.style old.owner (rest_of old) (answer_of handed ∷ answers)
-answers_before old new handed answers reads are = record {
-  lines = reads.line ∷ are.lines;
-  lines_are = (rest_of new, reads.goes_on.begins, are.lines_are);
-  each = (reads.answer, are.each);
-}
+answers_before old new handed answers reads are =
+    rw (lines_of-begins (rest_of old) reads.line (rest_of new) reads.goes_on.begins) (reads.answer, are)
 
 -- and at the end of the text there is none
 pub no_answers : (style : Style) (owner : List ℕ) → AreAnswers style owner [] []
-no_answers style owner = record { lines = []; lines_are = refl; each = tt }
+no_answers style owner = rw lines_of-none tt

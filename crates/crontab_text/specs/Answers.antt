@@ -6,7 +6,7 @@ use Rattle.crontab_text.specs.Assignment.{IsAssignment}
 use Rattle.crontab_text.specs.Blanks.{SkipsBlanks}
 use Rattle.crontab_text.specs.Entry.{IsEntry, IsEntryFault}
 use Rattle.crontab_text.specs.LineBody.{LineBody, BlankBody, CommentBody, AssignBody, EntryBody, NickBody}
-use Rattle.crontab_text.specs.Lines.{AreLines}
+use Rattle.crontab_text.specs.Lines.{lines_of}
 use Rattle.crontab_text.specs.Nickname.{IsNick, IsNickFault}
 use Rattle.crontab_text.specs.declared.answer.Style.{Style}
 
@@ -60,7 +60,5 @@ IsAnswer style owner line (Said body) = IsLineOf style owner line body
 IsAnswer style owner line (Broken cause place) = IsLineFault style line cause place
 
 -- the answers to all lines of a table, in order
-pub record AreAnswers (style : Style) (owner text : List ℕ) (answers : List LineAnswer) : Type 0 where
-  pub lines : List (List ℕ)
-  pub lines_are : AreLines lines text
-  pub each : AllZip (IsAnswer style owner) lines answers
+abbrev pub AreAnswers : Style → (owner text : List ℕ) → List LineAnswer → Type 0
+AreAnswers style owner text answers = AllZip (IsAnswer style owner) (lines_of text) answers

@@ -1,5 +1,5 @@
 -- The lines of a text.
-use Rattle.std.specs.Prelude.{◌≡◌, ◌≢◌, ◌⊎◌, ℕ, ◌<◌, List, [], ◌∷◌, ◌++◌, length}
+use Rattle.std.specs.Prelude.{◌≡◌, ◌≢◌, ◌⊎◌, ℕ, ◌<◌, ◌==◌, if◌then◌else◌, List, [], ◌∷◌, ◌++◌, length}
 use Rattle.std.specs.List.{AllByRecursion}
 
 -- the byte stands nowhere in the text
@@ -12,12 +12,12 @@ pub record BeginsWithLine (text line after : List ℕ) : Type 0 where
   pub one_line : Lacks 10 line
   pub split : (text ≡ line ++ 10 ∷ after) ⊎ ((text ≡ line) × (0 < length line) × (after ≡ []))
 
--- the text begins with these lines, and that much is behind them
-abbrev pub BeginsWithLines : List (List ℕ) → List ℕ → List ℕ → Type 0
-BeginsWithLines [] text after = text ≡ after
-BeginsWithLines (line ∷ lines) text after =
-    (middle : List ℕ) × BeginsWithLine text line middle × BeginsWithLines lines middle after
+-- the lines with a byte more at the beginning of the first
+abbrev pub begin_with : ℕ → List (List ℕ) → List (List ℕ)
+begin_with c [] = (c ∷ []) ∷ []
+begin_with c (line ∷ lines) = (c ∷ line) ∷ lines
 
--- these are the lines of the text
-abbrev pub AreLines : List (List ℕ) → List ℕ → Type 0
-AreLines lines text = BeginsWithLines lines text []
+-- the lines of a text: each ends with a newline, and a last one that isn't empty may lack it
+unfoldable pub lines_of : List ℕ → List (List ℕ)
+lines_of [] = []
+lines_of (c ∷ cs) = if c == 10 then [] ∷ lines_of cs else begin_with c (lines_of cs)

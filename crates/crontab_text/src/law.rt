@@ -1,6 +1,6 @@
-ghost use Rattle.std.specs.Prelude.{◌≡◌, ◌∷◌, [], ℕ, List, Result, flat_map};
+ghost use Rattle.std.specs.Prelude.{◌≡◌, ◌<◌, ◌∷◌, [], ℕ, List, Result, flat_map, length};
 ghost use Rattle.crontab_text.specs.Answers.{AreAnswers, IsAnswer, LineAnswer};
-ghost use Rattle.crontab_text.specs.Lines.{AreLines};
+ghost use Rattle.crontab_text.specs.Lines.{BeginsWithLine, lines_of};
 ghost use Rattle.crontab_text.specs.Percent.{ArePieces, CommandPiece, bytes_said, said_by};
 ghost use Rattle.crontab_text.specs.Reader.{ReadsLine, answer_of};
 ghost use Rattle.crontab_text.specs.TableReader.{TableReader, rest_of};
@@ -16,10 +16,13 @@ pub fn a_line_has_one_reading()
         → IsAnswer style owner line a → IsAnswer style owner line b → a ≡ b }
 {}
 
-/// A law: each text is one list of lines.
-pub fn a_text_has_one_list_of_lines()
-    ensures some { (text : List ℕ) → (lines : List (List ℕ)) × AreLines lines text }
-    ensures one { (text : List ℕ) (a b : List (List ℕ)) → AreLines a text → AreLines b text → a ≡ b }
+/// A law: the lines of a text are the line that it begins with, and those of what is behind it. An empty text has none,
+/// and each other text begins with a line.
+pub fn a_text_is_its_lines()
+    ensures none { lines_of [] ≡ [] }
+    ensures next { (text line after : List ℕ) → BeginsWithLine text line after → lines_of text ≡ line ∷ lines_of after }
+    ensures some { (text : List ℕ) → 0 < length text
+        → (line : List ℕ) × (after : List ℕ) × BeginsWithLine text line after }
 {}
 
 /// A law: each table has one list of answers.

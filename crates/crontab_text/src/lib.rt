@@ -16,7 +16,7 @@ mod tail;
 pub use answer::{Body, Line, LineFault, Span, Style};
 pub use law::{
     a_command_has_one_list_of_pieces, a_line_has_one_reading, a_table_has_one_list_of_answers,
-    a_text_has_one_list_of_lines, answers_come_in_order, pieces_say_what_the_command_says,
+    a_text_is_its_lines, answers_come_in_order, pieces_say_what_the_command_says,
 };
 pub use percent::{Piece, Pieces, split_percent};
 pub use reader::Lines;

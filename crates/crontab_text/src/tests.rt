@@ -2,7 +2,7 @@ ghost use Rattle.std.specs.Prelude.{◌<◌, ◌^◌, length};
 
 use crate::{
     Body, Line, LineFault, Lines, Piece, Style, a_command_has_one_list_of_pieces,
-    a_line_has_one_reading, a_table_has_one_list_of_answers, a_text_has_one_list_of_lines,
+    a_line_has_one_reading, a_table_has_one_list_of_answers, a_text_is_its_lines,
     answers_come_in_order, pieces_say_what_the_command_says, split_percent,
 };
 use cron_fields::{FieldSet, Fields};
@@ -476,7 +476,7 @@ fn splits_commands(rt: HostRuntime) -> Result<(), Fail> {
 #[test]
 fn laws_hold(_rt: HostRuntime) {
     a_line_has_one_reading();
-    a_text_has_one_list_of_lines();
+    a_text_is_its_lines();
     a_table_has_one_list_of_answers();
     answers_come_in_order();
     a_command_has_one_list_of_pieces();
