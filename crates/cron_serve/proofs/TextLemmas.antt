@@ -6,10 +6,10 @@ use Rattle.std.proofs.lemmas.List.{append-nil, take_rest}
 use Rattle.std.proofs.Math.Seq.{drop-append_seam, take-append_seam}
 use Rattle.std.proofs.lemmas.Str.{IsUtf8-nil, IsUtf8-append, IsUtf8-take, IsUtf8-drop, IsUtf8-from_ascii, IsCharBoundary-before_ascii, IsCharBoundary-after_ascii}
 use Rattle.launch_machine.proofs.MachineLemmas.{same_or_not}
-use Rattle.run_text.specs.Lines.{lines_of}
 use Rattle.run_text.specs.declared.refusal.Refusal.{Refusal}
 use Rattle.crontab_text.specs.Blanks.{IsFirstIndex, LacksAny}
-use Rattle.run_text.proofs.LineLemmas.{lines_of-newline, lines_of-last}
+use Rattle.crontab_text.specs.Lines.{lines_of}
+use Rattle.crontab_text.proofs.LineLemmas.{lines_of-newline, lines_of-last}
 use Rattle.job_table.specs.Table.{at_line}
 use Rattle.cron_serve.specs.Text.{IsText, AreTexts, IsNotText, PassesText, BeginsWithNoText}
 

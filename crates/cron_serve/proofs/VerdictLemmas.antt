@@ -1,8 +1,8 @@
 -- An input has one verdict.
 use Rattle.std.proofs.Common.{◌≡◌, ◌⊎◌, inl, inr, ℕ, ◌<◌, ◌≤◌, List, length, refl, sym, ◌∙◌, subst, arith}
+use Rattle.crontab_text.specs.Lines.{lines_of}
 use Rattle.due_set.specs.Table.{Table}
 use Rattle.run_text.specs.Follow.{Nothing}
-use Rattle.run_text.specs.Lines.{lines_of}
 use Rattle.run_text.specs.Reading.{IsRunText, IsRefusedText}
 use Rattle.run_text.specs.Run.{Run}
 use Rattle.run_text.specs.declared.refusal.Refusal.{Refusal}

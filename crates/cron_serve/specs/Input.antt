@@ -1,7 +1,7 @@
 -- Which inputs the program takes, and for what it refuses the others.
 use Rattle.std.specs.Prelude.{◌≡◌, ◌⊎◌, ℕ, ◌<◌, ◌≤◌, List, length}
+use Rattle.crontab_text.specs.Lines.{lines_of}
 use Rattle.due_set.specs.Table.{Table}
-use Rattle.run_text.specs.Lines.{lines_of}
 use Rattle.run_text.specs.Reading.{IsRunText, IsRefusedText}
 use Rattle.run_text.specs.Run.{Run}
 use Rattle.run_text.specs.declared.refusal.Refusal.{Refusal}

@@ -1,7 +1,7 @@
 -- Which lines of an input are text, and which line of another input is at fault.
 use Rattle.std.specs.Prelude.{◌≡◌, ◌≢◌, ℕ, ◌+◌, List, ◌∷◌, ◌++◌, length, IsUtf8}
 use Rattle.std.specs.List.{AllByRecursion}
-use Rattle.run_text.specs.Lines.{lines_of}
+use Rattle.crontab_text.specs.Lines.{lines_of}
 use Rattle.run_text.specs.declared.refusal.Refusal.{Refusal}
 use Rattle.job_table.specs.Table.{at_line}
 

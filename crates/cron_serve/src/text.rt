@@ -1,7 +1,7 @@
 //! The check that an input is text.
 ghost use Rattle.std.specs.Prelude.{◌≡◌, ◌⊎◌, ◌∷◌, [], ◌+◌, ◌<◌, ◌^◌, length, IfSome, IfNone, IfOk, OnOk, IfErr};
 ghost use Rattle.crontab_text.specs.Blanks.{IsFirstIndex, LacksAny};
-ghost use Rattle.run_text.specs.Lines.{lines_of};
+ghost use Rattle.crontab_text.specs.Lines.{lines_of};
 ghost use Rattle.job_table.specs.Table.{at_line};
 ghost use Rattle.cron_serve.specs.Text.{IsText, AreTexts, IsNotText, PassesText, BeginsWithNoText};
 

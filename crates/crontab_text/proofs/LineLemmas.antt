@@ -97,7 +97,7 @@ lines_of-some text some =
     (line, after, lines_of-begins text line after begins)
 
 -- behind the first line of a text are the lines of a text
-lines_of-first : (text line : List ℕ) (more : List (List ℕ)) → lines_of text ≡ line ∷ more → (after : List ℕ) × (more ≡ lines_of after)
+pub lines_of-first : (text line : List ℕ) (more : List (List ℕ)) → lines_of text ≡ line ∷ more → (after : List ℕ) × (more ≡ lines_of after)
 unfolding lines_of
 lines_of-first [] line more is = cc
 lines_of-first (c ∷ cs) line more is =
@@ -218,6 +218,10 @@ lines_of-front lines front after is = elim (joined front after) as (λ _. lines_
       let same = same_element joins.above lines (joins.last ++ joins.first) joins.first joins.below cut in
       absurd (omega (arith, ap length same, length-append joins.last joins.first, joins.some))
 ]
+
+-- the lines that stand before those of the rest, and how many they are
+pub lines_of-count : (lines : List (List ℕ)) (text rest : List ℕ) → lines_of text ≡ lines ++ lines_of rest → length (lines_of text) ≡ length lines + length (lines_of rest)
+lines_of-count lines text rest is = ap length is ∙ length-append lines (lines_of rest)
 
 begun : (c : ℕ) (lines : List (List ℕ)) (size : ℕ) → length lines ≤ size → length (begin_with c lines) ≤ size + 1
 begun c [] size le = omega arith

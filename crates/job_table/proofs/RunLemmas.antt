@@ -6,16 +6,16 @@ use Rattle.std.proofs.lemmas.List.{append-nil, length-map, take_more, take_all}
 use Rattle.std.proofs.lemmas.List.Elements.{All-get_or}
 use Rattle.std.proofs.Math.ListN.{get_or-map}
 use Rattle.crontab_text.specs.LineBody.{LineBody}
+use Rattle.crontab_text.specs.Lines.{lines_of}
+use Rattle.crontab_text.proofs.LineLemmas.{lines_at_most}
 use Rattle.due_set.specs.Table.{Job}
 use Rattle.run_text.specs.Follow.{style_of}
-use Rattle.run_text.specs.Lines.{lines_of}
 use Rattle.run_text.specs.Reading.{IsReadRun, ArePartsOf}
 use Rattle.run_text.specs.Run.{Section, Run, section_of, run_of}
 use Rattle.run_text.specs.Sound.{IsSoundSection, IsSoundRun}
 use Rattle.run_text.specs.declared.refusal.Refusal.{Refusal}
 use Rattle.run_text.specs.declared.run.RunFile.{RunFile}
 use Rattle.run_text.specs.declared.run.Section.{Section as SectionText}
-use Rattle.run_text.proofs.LineLemmas.{lines_at_most}
 use Rattle.run_text.proofs.SoundLemmas.{sound_run}
 use Rattle.job_table.specs.Collect.{Collected, AddsSection, RefusesSection, HasMarks, HasFaultyMarks}
 use Rattle.job_table.specs.Marks.{Mark, AreBodies, AreMarks, section_marks}

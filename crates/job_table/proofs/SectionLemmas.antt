@@ -5,21 +5,19 @@ use Rattle.std.specs.List.{AllByRecursion, AllZip}
 use Rattle.std.proofs.lemmas.List.{append-nil}
 use Rattle.crontab_text.specs.Answers.{IsLineOf, IsLineFault, LineAnswer, Said, Broken, IsAnswer}
 use Rattle.crontab_text.specs.LineBody.{LineBody, BlankBody, CommentBody, AssignBody, EntryBody, NickBody, body_of}
-use Rattle.crontab_text.specs.Lines.{BeginsWithLine, BeginsWithLines}
+use Rattle.crontab_text.specs.Lines.{lines_of}
 use Rattle.crontab_text.specs.Reader.{ReadsLine, answer_of, number_of}
 use Rattle.crontab_text.specs.TableReader.{TableReader, table_reader, rest_of}
 use Rattle.crontab_text.specs.declared.answer.Line.{Line}
 use Rattle.crontab_text.specs.declared.answer.LineFault.{LineFault}
 use Rattle.crontab_text.specs.declared.answer.Style.{Style}
 use Rattle.crontab_text.proofs.AnswerLemmas.{same_answer}
-use Rattle.crontab_text.proofs.LineLemmas.{BeginsWithLines-append}
+use Rattle.crontab_text.proofs.LineLemmas.{lines_of-none, lines_of-begins, lines_of-count}
 use Rattle.due_set.specs.Table.{Job}
 use Rattle.run_text.specs.Follow.{style_of}
-use Rattle.run_text.specs.Lines.{lines_of}
 use Rattle.run_text.specs.Run.{Section}
 use Rattle.run_text.specs.Table.{Says}
 use Rattle.run_text.specs.declared.refusal.Refusal.{Refusal}
-use Rattle.run_text.proofs.LineLemmas.{lines_of-begins, lines_of-count, front_of}
 use Rattle.job_table.specs.Collect.{Collected, AddsMarks, RefusesMarks, AddsSection, RefusesSection, line_marks, is_entry, entries_of, entries_in}
 use Rattle.job_table.specs.Marks.{Mark, MarksZone, MarksJob, job_name, kind_of, marks_from, section_marks, AreBodies}
 use Rattle.due_set.specs.declared.job.JobKind.TheVariants.{Crontab}
@@ -93,10 +91,6 @@ all_behind : (P : List ℕ → Type 0) (xs ys : List (List ℕ)) → AllByRecurs
 all_behind P [] ys all = all
 all_behind P (x ∷ xs) ys all = all_behind P xs ys all.1
 
-lines_behind : (lines : List (List ℕ)) (text rest : List ℕ) → BeginsWithLines lines text rest → lines_of text ≡ lines ++ lines_of rest
-lines_behind [] text rest begins = ap lines_of begins
-lines_behind (line ∷ lines) text rest (middle, begins, more) = lines_of-begins text line middle begins ∙ ap (λ l. line ∷ l) (lines_behind lines middle rest more)
-
 -- one list of marks after another
 adds_both : (old now new : List Job) (a b : List Mark) → AddsMarks old now a → AddsMarks now new b → AddsMarks old new (a ++ b)
 adds_both old now new a b first second marks collected = subst (λ m. Collected m new) (append_assoc marks a b) (second (marks ++ a) (first marks collected))
@@ -105,7 +99,7 @@ adds_both old now new a b first second marks collected = subst (λ m. Collected 
 pub record Walking (section : Section) (text : List ℕ) (reader : TableReader) (entries : ℕ) (old now : List Job) : Type 0 where
   pub lines : List (List ℕ)
   pub bodies : List LineBody
-  pub begins : BeginsWithLines lines text (rest_of reader)
+  pub lines_are : lines_of text ≡ lines ++ lines_of (rest_of reader)
   pub said : AllZip (IsLineOf (style_of section.kind) section.label) lines bodies
   pub passed : reader.passed ≡ length lines
   pub style : reader.style ≡ style_of section.kind
@@ -118,7 +112,7 @@ pub walking_first : (section : Section) (text : List ℕ) (reader : TableReader)
 walking_first section text reader jobs zone is = record {
   lines = [];
   bodies = [];
-  begins = sym (ap rest_of is);
+  lines_are = ap lines_of (sym (ap rest_of is));
   said = tt;
   passed = ap (λ (r : TableReader). r.passed) is;
   style = ap (λ (r : TableReader). r.style) is;
@@ -138,7 +132,7 @@ pub next_says : (section : Section) (text : List ℕ) (now new : TableReader) (e
     → AllByRecursion (Says (style_of section.kind) section.label) (lines_of text) → Walking section text now entries old jobs → ReadsLine now new read → IsOk read
 next_says section text now new entries old jobs read all walk reads =
     let here : lines_of text ≡ walk.lines ++ reads.line ∷ lines_of (rest_of new) =
-    lines_behind walk.lines text (rest_of now) walk.begins ∙ ap (λ l. walk.lines ++ l) (lines_of-begins (rest_of now) reads.line (rest_of new) reads.goes_on.begins) in
+    walk.lines_are ∙ ap (λ l. walk.lines ++ l) (lines_of-begins (rest_of now) reads.line (rest_of new) reads.goes_on.begins) in
     let says = all_at (Says (style_of section.kind) section.label) walk.lines (lines_of (rest_of new)) reads.line (subst (AllByRecursion (Says (style_of section.kind) section.label)) here all) in
     let answer = subst (λ s. IsAnswer s section.label reads.line (answer_of read)) walk.style (subst (λ o. IsAnswer now.style o reads.line (answer_of read)) walk.owner reads.answer) in
     is_ok (style_of section.kind) section.label reads.line read says answer
@@ -147,7 +141,7 @@ next_says section text now new entries old jobs read all walk reads =
 pub next_within : (section : Section) (text : List ℕ) (now new : TableReader) (entries : ℕ) (old jobs : List Job) (line : Line)
     → Walking section text now entries old jobs → ReadsLine now new (Ok line) → (line.number ≤ length (lines_of text)) × (entries < length (lines_of text))
 next_within section text now new entries old jobs line walk reads =
-    let count = lines_of-count walk.lines text (rest_of now) walk.begins in
+    let count = lines_of-count walk.lines text (rest_of now) walk.lines_are in
     let here = ap length (lines_of-begins (rest_of now) reads.line (rest_of new) reads.goes_on.begins) in
     let same = zip_length (IsLineOf (style_of section.kind) section.label) walk.lines walk.bodies walk.said in
     (omega (arith, count, here, reads.number, walk.passed), omega (arith, count, here, walk.entries_are, entries_within walk.bodies, same))
@@ -168,7 +162,8 @@ walking_next section text now new entries more at old jobs next line walk reads 
     record {
       lines = walk.lines ++ reads.line ∷ [];
       bodies = walk.bodies ++ body ∷ [];
-      begins = BeginsWithLines-append walk.lines (reads.line ∷ []) text (rest_of now) (rest_of new) walk.begins (rest_of new, reads.goes_on.begins, refl);
+      lines_are = walk.lines_are ∙ ap (λ l. walk.lines ++ l) (lines_of-begins (rest_of now) reads.line (rest_of new) reads.goes_on.begins)
+          ∙ sym (append_assoc walk.lines (reads.line ∷ []) (lines_of (rest_of new)));
       said = zip_append (IsLineOf (style_of section.kind) section.label) walk.lines walk.bodies (reads.line ∷ []) (body ∷ []) walk.said (answer, tt);
       passed = ap (λ (r : TableReader). r.passed) new_is ∙ (rw (length-append walk.lines (reads.line ∷ [])) (omega (arith, walk.passed)));
       style = ap (λ (r : TableReader). r.style) new_is ∙ walk.style;
@@ -182,9 +177,8 @@ walking_next section text now new entries more at old jobs next line walk reads 
 pub walked : (section : Section) (text : List ℕ) (now : TableReader) (entries : ℕ) (old jobs : List Job)
     → Walking section text now entries old jobs → rest_of now ≡ [] → section.lines ≡ lines_of text → AddsSection old jobs section
 walked section text now entries old jobs walk end are =
-    let begins = subst (BeginsWithLines walk.lines text) end walk.begins in
-    let front = front_of walk.lines text [] begins in
-    let all : lines_of text ≡ walk.lines = ap lines_of (front.parts ∙ append-nil front.front) ∙ front.are in
+    let none : lines_of (rest_of now) ≡ [] = ap lines_of end ∙ lines_of-none in
+    let all : lines_of text ≡ walk.lines = walk.lines_are ∙ ap (λ l. walk.lines ++ l) none ∙ append-nil walk.lines in
     record {
       bodies = walk.bodies;
       are = subst (λ l. AllZip (IsLineOf (style_of section.kind) section.label) l walk.bodies) (sym (are ∙ all)) walk.said;
@@ -220,7 +214,7 @@ line_refused section text now new entries at old jobs line refusal all are walk 
     let R = IsLineOf (style_of section.kind) section.label in
     let P = Says (style_of section.kind) section.label in
     let here : lines_of text ≡ walk.lines ++ reads.line ∷ lines_of (rest_of new) =
-    lines_behind walk.lines text (rest_of now) walk.begins ∙ ap (λ l. walk.lines ++ l) (lines_of-begins (rest_of now) reads.line (rest_of new) reads.goes_on.begins) in
+    walk.lines_are ∙ ap (λ l. walk.lines ++ l) (lines_of-begins (rest_of now) reads.line (rest_of new) reads.goes_on.begins) in
     let left = all_behind P walk.lines (reads.line ∷ lines_of (rest_of new)) (subst (AllByRecursion P) here all) in
     let (others_say, others_said) = what_is_said (style_of section.kind) section.label (lines_of (rest_of new)) left.1 in
     let answer = subst (λ s. IsAnswer s section.label reads.line (answer_of (Ok line))) walk.style (subst (λ o. IsAnswer now.style o reads.line (answer_of (Ok line))) walk.owner reads.answer) in

@@ -2,9 +2,9 @@
 ghost use Rattle.std.specs.Prelude.{◌≡◌, ◌∷◌, [], ◌++◌, ◌+◌, ◌<◌, ◌^◌, ℕ, List, length, codes, Ok, IfErr, OnOk, IfOk, IsOk};
 ghost use Rattle.std.specs.List.{AllByRecursion};
 ghost use Rattle.crontab_text.specs.LineBody.{LineBody, AssignBody, body_of};
+ghost use Rattle.crontab_text.specs.Lines.{lines_of};
 ghost use Rattle.due_set.specs.Table.{Job};
 ghost use Rattle.run_text.specs.Follow.{style_of};
-ghost use Rattle.run_text.specs.Lines.{lines_of};
 ghost use Rattle.run_text.specs.Reading.{IsReadRun};
 ghost use Rattle.run_text.specs.Run.{section_of, run_of};
 ghost use Rattle.run_text.specs.Steps.{IfRefused};

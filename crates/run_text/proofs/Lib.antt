@@ -1,4 +1,3 @@
-pub mod LineLemmas
 mod ListLemmas
 mod NumberLemmas
 mod PhraseLemmas

@@ -14,7 +14,7 @@ same_run run a b is = rw is refl
 -- no section is read yet
 pub no_section : (reader : Reader) (run : Run) → LeadsTo (place_of reader (Sections run)) (place_of reader (Sections (with_sections run [])))
 no_section reader run =
-    subst (λ r. LeadsTo (place_of reader (Sections run)) (place_of reader (Sections r))) (same_run run run.sections (run.sections ++ []) (sym (append-nil run.sections))) (stays _)
+    subst (λ r. LeadsTo (place_of reader (Sections run)) (place_of reader (Sections r))) (same_run run run.sections (run.sections ++ []) (sym (append-nil run.sections))) (stays _ _ _ _ refl)
 
 -- one section more
 pub next_section : (first now new : Reader) (sections more : List SectionText) (section : SectionText) → more ≡ sections ++ section ∷ []

@@ -1,8 +1,8 @@
 -- A section, from the line that opens it to its last.
 use Rattle.std.proofs.Common.{◌≡◌, ℕ, ◌+◌, ◌<◌, ◌≤◌, List, length, refl, ap, ◌∙◌, sym, subst, inl, inr, arith}
+use Rattle.crontab_text.specs.Lines.{lines_of}
 use Rattle.run_text.specs.Follow.{Above, Sections, inside, OpensNone, whole}
 use Rattle.run_text.specs.Grammar.{IsSectionLine}
-use Rattle.run_text.specs.Lines.{lines_of}
 use Rattle.run_text.specs.Run.{Run, opened}
 use Rattle.run_text.specs.Steps.{place_of, at_table, IsWhole, LeadsTo, RefusedFrom, PassesOpening, RefusesTable}
 use Rattle.run_text.specs.declared.opening.Opening.{Opening}

@@ -3,8 +3,8 @@ use Rattle.std.proofs.Common.{◌≡◌, ℕ, zero, suc, ◌+◌, ◌<◌, ◌�
 use Rattle.std.specs.Prelude.{⊤}
 use Rattle.std.specs.List.{AllByRecursion}
 use Rattle.zone_minutes.specs.Window.{IsWithinLimits}
+use Rattle.crontab_text.specs.Lines.{lines_of}
 use Rattle.run_text.specs.Follow.{Above, Nothing, Version, Replicas, Times, Sections, Table, Script, End, inside, style_of, MayFollow}
-use Rattle.run_text.specs.Lines.{lines_of}
 use Rattle.run_text.specs.Reading.{ReadsFrom, IsRunText}
 use Rattle.run_text.specs.Run.{Section, Run, run_with, opened, with_line, with_section}
 use Rattle.run_text.specs.Sound.{IsSoundSection, IsSoundRun}

@@ -1,6 +1,6 @@
 -- Steps from a place between two lines to the next, and refusals there.
 use Rattle.std.proofs.Common.{◌≡◌, ℕ, ◌+◌, List, [], ◌∷◌, length, refl, ap, ◌∙◌, sym, subst, inl, inr}
-use Rattle.run_text.specs.Lines.{lines_of}
+use Rattle.crontab_text.specs.Lines.{lines_of}
 use Rattle.run_text.specs.Follow.{Above, End, Fault, MayFollow, Refuses, Misses}
 use Rattle.run_text.specs.Reading.{ReadsFrom, RefusesFrom}
 use Rattle.run_text.specs.Run.{Run}
@@ -8,9 +8,10 @@ use Rattle.run_text.specs.Steps.{Place, place_of, RefusedFrom, LeadsTo}
 use Rattle.run_text.specs.declared.reader.Reader.{Reader}
 use Rattle.run_text.specs.declared.refusal.Refusal.{Refusal}
 
--- a place itself
-pub stays : (place : Place) → LeadsTo place place
-stays place = record { reads = λ run reads. reads; refuses = λ refusal refused. refused }
+-- a place before the same lines
+pub stays : (number : ℕ) (above : Above) (text rest : List ℕ) → lines_of text ≡ lines_of rest
+    → LeadsTo (record { number = number; above = above; rest = text }) (record { number = number; above = above; rest = rest })
+stays number above text rest is = record { reads = λ run reads. rw is reads; refuses = λ refusal refused. rw is refused }
 
 -- one way behind another
 pub goes_on : (a b c : Place) → LeadsTo a b → LeadsTo b c → LeadsTo a c

@@ -1,16 +1,16 @@
 -- The lines of a table, passed one after another.
-use Rattle.std.proofs.Common.{◌≡◌, ℕ, zero, suc, ◌+◌, ◌-◌, ◌<◌, ◌≤◌, List, [], ◌∷◌, ◌++◌, length, take, Option, None, Some, Result, Ok, Err, refl, ap, ◌∙◌, sym, subst, arith, append_assoc, length-append}
+use Rattle.std.proofs.Common.{◌≡◌, ℕ, zero, suc, ◌+◌, ◌-◌, ◌<◌, ◌≤◌, List, [], ◌∷◌, ◌++◌, length, drop, take, Option, None, Some, Result, Ok, Err, refl, ap, ◌∙◌, sym, subst, arith, append_assoc, length-append}
 use Rattle.std.specs.List.{AllByRecursion}
 use Rattle.crontab_text.specs.Answers.{IsLineOf, IsLineFault, LineAnswer, Said, Broken, IsAnswer}
 use Rattle.crontab_text.specs.LineBody.{LineBody, body_of}
-use Rattle.crontab_text.specs.Lines.{BeginsWithLine, BeginsWithLines}
+use Rattle.crontab_text.specs.Lines.{lines_of}
 use Rattle.crontab_text.specs.Reader.{ReadsLine, answer_of, number_of}
 use Rattle.crontab_text.specs.TableReader.{TableReader, table_reader, rest_of}
 use Rattle.crontab_text.specs.declared.answer.Line.{Line}
 use Rattle.crontab_text.specs.declared.answer.LineFault.{LineFault}
 use Rattle.crontab_text.specs.declared.answer.Style.{Style}
-use Rattle.crontab_text.proofs.LineLemmas.{BeginsWithLines-append, BeginsWithLines-split}
-use Rattle.std.proofs.lemmas.List.{append-nil}
+use Rattle.crontab_text.proofs.LineLemmas.{line_size, lines_of-none, lines_of-begins, lines_of-first, lines_of-split, lines_of-front, lines_of-count, lines_at_most}
+use Rattle.std.proofs.lemmas.List.{append-nil, drop_at, take_at}
 use Rattle.run_text.specs.Follow.{Sections, Table, inside, style_of}
 use Rattle.run_text.specs.Run.{Run, Section, section_of, opened, with_line, with_lines, with_section}
 use Rattle.run_text.specs.Steps.{Place, place_of, at_table, LeadsTo, RefusedFrom, PassesTable}
@@ -18,8 +18,6 @@ use Rattle.run_text.specs.declared.opening.Opening.{Opening}
 use Rattle.run_text.specs.declared.reader.Reader.{Reader}
 use Rattle.run_text.specs.declared.run.Section.{Section as SectionText}
 use Rattle.run_text.specs.declared.refusal.Refusal.{Refusal}
-use Rattle.run_text.specs.Lines.{lines_of}
-use Rattle.run_text.proofs.LineLemmas.{lines_of-begins, lines_of-count, lines_short, front_of, front_part}
 use Rattle.run_text.proofs.StepLemmas.{stays, goes_on, one_line, wrong_line}
 use Rattle.run_text.specs.Table.{Says, IsFirstFault, IsFault, Passes, PassesAll, PassesFewer, earlier_fault}
 
@@ -58,7 +56,7 @@ next_fault style owner lines line None (Err fault) so_far answer number = record
 pub passes_none : (old : TableReader) → PassesAll old old 0 None
 passes_none old = record {
   lines = [];
-  passes = record { begins = refl; passed = omega arith; style = refl; owner = refl };
+  passes = record { front = []; parts = refl; lines_are = refl; passed = omega arith; style = refl; owner = refl };
   count_is = refl;
   fault_is = tt;
 }
@@ -69,6 +67,8 @@ pub passes_next : (old now new : TableReader) (count : ℕ) (fault : Option Line
 passes_next old now new count fault read fresh so_far reads =
     let passes = so_far.passes in
     let line = reads.line in
+    let begins = reads.goes_on.begins in
+    let (piece, parts, some) = line_size (rest_of now) line (rest_of new) begins in
     let new_is = reads.goes_on.new_is in
     let passed : new.passed ≡ now.passed + 1 = ap (λ (r : TableReader). r.passed) new_is in
     let style : new.style ≡ now.style = ap (λ (r : TableReader). r.style) new_is in
@@ -79,7 +79,10 @@ passes_next old now new count fault read fresh so_far reads =
     record {
       lines = so_far.lines ++ line ∷ [];
       passes = record {
-        begins = BeginsWithLines-append so_far.lines (line ∷ []) (rest_of old) (rest_of now) (rest_of new) passes.begins (rest_of new, reads.goes_on.begins, refl);
+        front = passes.front ++ piece;
+        parts = passes.parts ∙ ap (λ t. passes.front ++ t) parts ∙ sym (append_assoc passes.front piece (rest_of new));
+        lines_are = passes.lines_are ∙ ap (λ l. so_far.lines ++ l) (lines_of-begins (rest_of now) line (rest_of new) begins)
+            ∙ sym (append_assoc so_far.lines (line ∷ []) (lines_of (rest_of new)));
         passed = rw length-append (omega (arith, passed, passes.passed));
         style = style ∙ passes.style;
         owner = owner ∙ passes.owner;
@@ -98,18 +101,19 @@ in_section number run section left rest = record { number = number; above = insi
 -- from a section's first line to one of its lines, or to what is behind its last
 pub front_leads : (front : List (List ℕ)) (left total number last : ℕ) (run : Run) (section : Section) (text rest : List ℕ)
     → total ≡ length front + left → last ≡ number + length front
-    → BeginsWithLines front text rest → AllByRecursion (Says (style_of section.kind) section.label) front
+    → lines_of text ≡ front ++ lines_of rest → AllByRecursion (Says (style_of section.kind) section.label) front
     → LeadsTo (in_section number run section total text) (in_section last run (with_lines section front) left rest)
-front_leads [] left total number last run section text rest total_is last_is begins all =
+front_leads [] left total number last run section text rest total_is last_is is all =
     let total_left : total ≡ left = omega (arith, total_is) in
     let last_number : last ≡ number = omega (arith, last_is) in
     let section_same : with_lines section [] ≡ section = same_lines section (section.lines ++ []) section.lines (append-nil section.lines) in
-    rw (total_left, last_number, section_same, begins) (stays _)
-front_leads (line ∷ lines) left total number last run section text rest total_is last_is (middle, begins, more) all =
+    rw (total_left, last_number, section_same) (stays number (inside run section left) text rest is)
+front_leads (line ∷ lines) left total number last run section text rest total_is last_is is all =
+    let (middle, behind) = lines_of-first text line (lines ++ lines_of rest) is in
     let total_next : total ≡ suc (length lines + left) = omega (arith, total_is) in
     let first = one_line number (Table run section (length lines + left)) (inside run (with_line section line) (length lines + left)) text line middle
-    (lines_of-begins text line middle begins) (all.0.0, all.0.1, refl) in
-    let others = front_leads lines left (length lines + left) (number + 1) last run (with_line section line) middle rest refl (omega (arith, last_is)) more all.1 in
+    (is ∙ ap (λ l. line ∷ l) behind) (all.0.0, all.0.1, refl) in
+    let others = front_leads lines left (length lines + left) (number + 1) last run (with_line section line) middle rest refl (omega (arith, last_is)) (sym behind) all.1 in
     let joined : with_lines (with_line section line) lines ≡ with_lines section (line ∷ lines) =
     same_lines section ((section.lines ++ line ∷ []) ++ lines) (section.lines ++ line ∷ lines) (append_assoc section.lines (line ∷ []) lines) in
     subst (λ t. LeadsTo (in_section number run section t text) (in_section last run (with_lines section (line ∷ lines)) left rest)) (sym total_next)
@@ -117,23 +121,27 @@ front_leads (line ∷ lines) left total number last run section text rest total_
 
 -- the first line of a section that says nothing
 pub table_refused : (lines : List (List ℕ)) (number : ℕ) (run : Run) (section : Section) (text rest : List ℕ) (fault : LineFault) (refusal : Refusal)
-    → BeginsWithLines lines text rest → IsFirstFault (style_of section.kind) section.label lines fault
+    → lines_of text ≡ lines ++ lines_of rest → IsFirstFault (style_of section.kind) section.label lines fault
     → refusal.line ≡ number + fault.line → refusal.cause ≡ fault.cause → refusal.place ≡ fault.place
     → RefusedFrom (record { number = number + 1; above = inside run section (length lines); rest = text }) refusal
-table_refused lines number run section text rest fault refusal begins first line_is cause_is place_is =
-    let cut = BeginsWithLines-split first.front (first.line ∷ first.back) text rest (subst (λ l. BeginsWithLines l text rest) first.parts begins) in
-    let behind = cut.2 in
+table_refused lines number run section text rest fault refusal is first line_is cause_is place_is =
+    let parts : lines_of text ≡ first.front ++ first.line ∷ (first.back ++ lines_of rest) =
+    is ∙ ap (λ l. l ++ lines_of rest) first.parts ∙ append_assoc first.front (first.line ∷ first.back) (lines_of rest) in
+    let (middle, behind) = lines_of-split first.front text (first.line ∷ (first.back ++ lines_of rest)) parts in
+    let (after, more) = lines_of-first middle first.line (first.back ++ lines_of rest) (sym behind) in
     let count : length lines ≡ length first.front + suc (length first.back) = ap length first.parts ∙ length-append first.front (first.line ∷ first.back) in
-    let way = front_leads first.front (suc (length first.back)) (length lines) (number + 1) (number + 1 + length first.front) run section text cut.0 count refl cut.1 first.before in
-    let here = wrong_line (number + 1 + length first.front) (Table run (with_lines section first.front) (length first.back)) cut.0 first.line behind.0
-    (record { cause = fault.cause; place = fault.place }) refusal (lines_of-begins cut.0 first.line behind.0 behind.1) first.here
+    let way = front_leads first.front (suc (length first.back)) (length lines) (number + 1) (number + 1 + length first.front) run section text middle count refl (parts ∙ ap (λ l. first.front ++ l) behind) first.before in
+    let here = wrong_line (number + 1 + length first.front) (Table run (with_lines section first.front) (length first.back)) middle first.line after
+    (record { cause = fault.cause; place = fault.place }) refusal (sym behind ∙ ap (λ l. first.line ∷ l) more) first.here
     (line_is ∙ omega (arith, first.number)) cause_is place_is in
     way.refuses refusal here
 
 -- so many lines that a text begins with, and what is at fault in them
 pub record PassedText (text rest : List ℕ) (style : Style) (owner : List ℕ) (count : ℕ) (fault : Option LineFault) : Type 0 where
   pub lines : List (List ℕ)
-  pub begins : BeginsWithLines lines text rest
+  pub front : List ℕ
+  pub parts : text ≡ front ++ rest
+  pub lines_are : lines_of text ≡ lines ++ lines_of rest
   pub count_is : length lines ≡ count
   pub fault_is : IsFault style owner lines fault
 
@@ -141,16 +149,46 @@ pub passed_text : (text owner : List ℕ) (style : Style) (reader new : TableRea
     → PassesAll reader new count fault → PassedText text (rest_of new) style owner count fault
 passed_text text owner style reader new count fault fresh passes =
     let all = subst (λ r. PassesAll r new count fault) fresh passes in
-    record { lines = all.lines; begins = all.passes.begins; count_is = all.count_is; fault_is = all.fault_is }
+    record {
+      lines = all.lines;
+      front = all.passes.front;
+      parts = all.passes.parts;
+      lines_are = all.passes.lines_are;
+      count_is = all.count_is;
+      fault_is = all.fault_is;
+    }
+
+-- the lines that were passed are those of the front
+front_lines : (text rest owner : List ℕ) (style : Style) (count : ℕ) (fault : Option LineFault) (passed : PassedText text rest style owner count fault) → lines_of passed.front ≡ passed.lines
+front_lines text rest owner style count fault passed =
+    lines_of-front passed.lines passed.front rest (ap lines_of (sym passed.parts) ∙ passed.lines_are)
+
+-- each of them takes a byte at least
+pub lines_short : (text rest owner : List ℕ) (style : Style) (count : ℕ) (fault : Option LineFault) → PassedText text rest style owner count fault → count + length rest ≤ length text
+lines_short text rest owner style count fault passed =
+    let long : length text ≡ length passed.front + length rest = ap length passed.parts ∙ length-append passed.front rest in
+    let lines : length (lines_of passed.front) ≡ count = ap length (front_lines text rest owner style count fault passed) ∙ passed.count_is in
+    omega (arith, lines_at_most passed.front)
+
+-- the front ends where the rest begins
+pub front_size : (text rest owner : List ℕ) (style : Style) (count : ℕ) (fault : Option LineFault) (passed : PassedText text rest style owner count fault) → length passed.front ≡ length text - length rest
+front_size text rest owner style count fault passed =
+    let long : length text ≡ length passed.front + length rest = ap length passed.parts ∙ length-append passed.front rest in
+    omega arith
+
+-- what is left behind the lines is the back of the text
+pub rest_back : (text rest owner : List ℕ) (style : Style) (count : ℕ) (fault : Option LineFault) → PassedText text rest style owner count fault → drop (length text - length rest) text ≡ rest
+rest_back text rest owner style count fault passed =
+    ap (drop (length text - length rest)) passed.parts
+    ∙ drop_at passed.front rest (length text - length rest) (front_size text rest owner style count fault passed)
 
 -- all the lines of a text are fewer
 pub fewer_lines : (text owner : List ℕ) (style : Style) (reader new : TableReader) (count : ℕ) → reader ≡ table_reader text style owner
     → PassesFewer reader new count → length (lines_of text) < count
-unfolding lines_of
 fewer_lines text owner style reader new count fresh passes =
     let all = subst (λ r. PassesFewer r new count) fresh passes in
-    let begins = subst (λ t. BeginsWithLines all.lines text t) all.end all.passes.begins in
-    omega (arith, lines_of-count all.lines text [] begins, all.fewer)
+    let none : length (lines_of (rest_of new)) ≡ 0 = ap length (ap lines_of all.end ∙ lines_of-none) in
+    omega (arith, lines_of-count all.lines text (rest_of new) all.passes.lines_are, all.fewer)
 
 -- a fault is of one of the lines
 pub fault_line_within : (style : Style) (owner : List ℕ) (lines : List (List ℕ)) (fault : LineFault) → IsFirstFault style owner lines fault → fault.line ≤ length lines
@@ -159,18 +197,22 @@ fault_line_within style owner lines fault first =
     omega (arith, first.number)
 
 -- the text of lines that were passed, cut off by its length
-pub front_is : (lines : List (List ℕ)) (text rest part : List ℕ) (size : ℕ) → BeginsWithLines lines text rest → size ≡ length text - length rest → part ≡ take size text → lines_of part ≡ lines
-front_is lines text rest part size begins size_is part_is =
-    let front = front_of lines text rest begins in
-    ap lines_of (part_is ∙ front_part text front.front rest size size_is front.parts) ∙ front.are
+pub front_is : (text rest part owner : List ℕ) (style : Style) (count : ℕ) (fault : Option LineFault) (passed : PassedText text rest style owner count fault)
+    → part ≡ take (length text - length rest) text → lines_of part ≡ passed.lines
+front_is text rest part owner style count fault passed part_is =
+    ap lines_of (
+      part_is ∙ ap (take (length text - length rest)) passed.parts
+      ∙ take_at passed.front rest (length text - length rest) (front_size text rest owner style count fault passed)
+    )
+    ∙ front_lines text rest owner style count fault passed
 
 pub table_refused_at : (lines : List (List ℕ)) (count number : ℕ) (run : Run) (section : Section) (text rest : List ℕ) (fault : LineFault) (refusal : Refusal)
-    → BeginsWithLines lines text rest → length lines ≡ count → IsFirstFault (style_of section.kind) section.label lines fault
+    → lines_of text ≡ lines ++ lines_of rest → length lines ≡ count → IsFirstFault (style_of section.kind) section.label lines fault
     → refusal.line ≡ number + fault.line → refusal.cause ≡ fault.cause → refusal.place ≡ fault.place
     → RefusedFrom (in_section (number + 1) run section count text) refusal
-table_refused_at lines count number run section text rest fault refusal begins count_is first line_is cause_is place_is =
+table_refused_at lines count number run section text rest fault refusal is count_is first line_is cause_is place_is =
     subst (λ n. RefusedFrom (in_section (number + 1) run section n text) refusal) count_is
-    (table_refused lines number run section text rest fault refusal begins first line_is cause_is place_is)
+    (table_refused lines number run section text rest fault refusal is first line_is cause_is place_is)
 
 -- a refusal by its parts
 pub is_refusal : (refusal : Refusal) (line cause : ℕ) → refusal.line ≡ line → refusal.cause ≡ cause → refusal.place ≡ 0 → refusal ≡ record { line = line; cause = cause; place = 0 }
@@ -178,14 +220,14 @@ is_refusal refusal line cause line_is cause_is place_is = rw (sym line_is, sym c
 
 -- the lines of a section, as the reader passes them
 pub passed_table : (old new : Reader) (opening : Opening) (section : SectionText) (lines : List (List ℕ))
-    → BeginsWithLines lines old.rest.now new.rest.now → length lines ≡ opening.count
+    → lines_of old.rest.now ≡ lines ++ lines_of new.rest.now → length lines ≡ opening.count
     → AllByRecursion (Says (style_of opening.kind) opening.label.now) lines → new.number ≡ old.number + opening.count
     → section_of section ≡ record { line = old.number; kind = opening.kind; label = opening.label.now; zone = opening.zone.now; lines = lines }
     → PassesTable old new opening section
-passed_table old new opening section lines begins count_is all number_is section_is = record {
-  whole = omega (arith, lines_of-count lines old.rest.now new.rest.now begins, count_is);
+passed_table old new opening section lines is count_is all number_is section_is = record {
+  whole = omega (arith, lines_of-count lines old.rest.now new.rest.now is, count_is);
   leads = λ run.
       subst (λ s. LeadsTo (place_of old (at_table old opening run)) (place_of new (Sections (with_section run s)))) (sym section_is)
       (front_leads lines 0 opening.count (old.number + 1) (new.number + 1) run (opened old.number opening.kind opening.label.now opening.zone.now) old.rest.now new.rest.now
-      (omega (arith, count_is)) (omega (arith, number_is, count_is)) begins all);
+      (omega (arith, count_is)) (omega (arith, number_is, count_is)) is all);
 }

@@ -1,6 +1,5 @@
 pub mod Follow
 pub mod Grammar
-pub mod Lines
 pub mod Reading
 pub mod Run
 pub mod Sound

@@ -1,6 +1,6 @@
 -- What a run file says, and for what it is refused. Relations on all its lines.
 use Rattle.std.specs.Prelude.{◌≡◌, ◌⊎◌, ℕ, ◌+◌, ◌<◌, ◌≤◌, ◌^◌, List, [], ◌∷◌, length, All}
-use Rattle.run_text.specs.Lines.{lines_of}
+use Rattle.crontab_text.specs.Lines.{lines_of}
 use Rattle.run_text.specs.Follow.{Above, Nothing, End, MayFollow, Refuses, Misses}
 use Rattle.run_text.specs.Run.{Run, run_of}
 use Rattle.run_text.specs.declared.refusal.Refusal.{Refusal}

@@ -1,7 +1,7 @@
 -- A run: how many replicas there are, a window of time, and the tables of jobs.
 use Rattle.std.specs.Prelude.{ℕ, List, ◌++◌, ◌∷◌, [], map}
 use Rattle.zone_minutes.specs.declared.minute.Window.{Window}
-use Rattle.run_text.specs.Lines.{lines_of}
+use Rattle.crontab_text.specs.Lines.{lines_of}
 use Rattle.run_text.specs.declared.run.SectionKind.{SectionKind}
 use Rattle.run_text.specs.declared.run.Section.{Section as SectionText}
 use Rattle.run_text.specs.declared.run.RunFile.{RunFile}

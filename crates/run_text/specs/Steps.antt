@@ -1,6 +1,6 @@
 -- Where a reader stands in a run file, and what it comes to from there.
 use Rattle.std.specs.Prelude.{◌≡◌, ◌⊎◌, ℕ, ◌+◌, ◌<◌, ◌≤◌, ◌^◌, List, ◌∷◌, length, ⊤}
-use Rattle.run_text.specs.Lines.{lines_of}
+use Rattle.crontab_text.specs.Lines.{lines_of}
 use Rattle.run_text.specs.Follow.{Above, Nothing, Sections, inside}
 use Rattle.run_text.specs.Grammar.{IsSectionLine}
 use Rattle.run_text.specs.Reading.{ReadsFrom, RefusesFrom}

@@ -3,7 +3,7 @@ use Rattle.std.specs.Prelude.{◌≡◌, ℕ, ◌+◌, ◌<◌, List, [], ◌∷
 use Rattle.std.specs.List.{AllByRecursion}
 use Rattle.crontab_text.specs.Answers.{IsLineOf, IsLineFault}
 use Rattle.crontab_text.specs.LineBody.{LineBody}
-use Rattle.crontab_text.specs.Lines.{BeginsWithLines}
+use Rattle.crontab_text.specs.Lines.{lines_of}
 use Rattle.crontab_text.specs.TableReader.{TableReader, rest_of}
 use Rattle.crontab_text.specs.declared.answer.LineFault.{LineFault}
 use Rattle.crontab_text.specs.declared.answer.Line.{Line}
@@ -30,9 +30,11 @@ abbrev pub IsFault : Style → List ℕ → List (List ℕ) → Option LineFault
 IsFault style owner lines None = AllByRecursion (Says style owner) lines
 IsFault style owner lines (Some fault) = IsFirstFault style owner lines fault
 
--- the reader passed these lines
+-- the reader passed these lines, which are a front of its text
 pub record Passes (old new : TableReader) (lines : List (List ℕ)) : Type 0 where
-  pub begins : BeginsWithLines lines (rest_of old) (rest_of new)
+  pub front : List ℕ
+  pub parts : rest_of old ≡ front ++ rest_of new
+  pub lines_are : lines_of (rest_of old) ≡ lines ++ lines_of (rest_of new)
   pub passed : new.passed ≡ old.passed + length lines
   pub style : new.style ≡ old.style
   pub owner : new.owner ≡ old.owner

@@ -1,6 +1,6 @@
 ghost use Rattle.std.specs.Prelude.{◌≡◌, ◌+◌, ◌<◌, ◌^◌, List, ℕ, length};
+ghost use Rattle.crontab_text.specs.Lines.{lines_of};
 ghost use Rattle.run_text.specs.Reading.{IsRunText, IsRefusedText, HasReading};
-ghost use Rattle.run_text.specs.Lines.{lines_of};
 ghost use Rattle.run_text.specs.Run.{Run};
 ghost use Rattle.run_text.specs.Sound.{IsSoundRun};
 ghost use Rattle.run_text.specs.declared.refusal.Refusal.{Refusal};

@@ -1,5 +1,5 @@
 ghost use Rattle.std.specs.Prelude.{◌≡◌, ◌+◌, ◌<◌, ◌≤◌, ◌^◌, ℕ, [], ◌∷◌, length, IfSome, IfNone};
-ghost use Rattle.run_text.specs.Lines.{lines_of};
+ghost use Rattle.crontab_text.specs.Lines.{lines_of};
 
 /// What is left to read of a run file, behind some lines of it.
 #[derive(Clone, Copy, Debug)]

@@ -1,6 +1,6 @@
 //! The script, which has no command so far, and the end of the file.
 ghost use Rattle.std.specs.Prelude.{◌+◌, IfErr, OnOk};
-ghost use Rattle.run_text.specs.Lines.{lines_of};
+ghost use Rattle.crontab_text.specs.Lines.{lines_of};
 ghost use Rattle.run_text.specs.Follow.{Script, End};
 ghost use Rattle.run_text.specs.Reading.{ReadsFrom};
 ghost use Rattle.run_text.specs.Run.{Run};

@@ -1,5 +1,5 @@
+use Rattle.crontab_text.specs.Lines.{lines_of}
 use Rattle.run_text.specs.Follow.{Nothing}
-use Rattle.run_text.specs.Lines.{lines_of}
 use Rattle.run_text.proofs.UniqueLemmas.{one_run, one_refusal, never_both}
 use Rattle.run_text.proofs.laws.a_text_has_one_reading.Goals as goal
 
