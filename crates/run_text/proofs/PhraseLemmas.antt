@@ -1,14 +1,14 @@
 -- The lines of a run file that hold a phrase.
-use Rattle.std.proofs.Common.{◌≡◌, ◌≢◌, ℕ, ◌<◌, ◌≤◌, ◌⊎◌, inl, inr, List, [], ◌∷◌, ◌++◌, length, get_or, Option, Some, None, Bor, refl, ap, ◌∙◌, sym, subst, arith, rules, append_assoc, codes, decimal}
+use Rattle.std.proofs.Common.{◌≡◌, ◌≢◌, ℕ, ◌<◌, ◌≤◌, inl, inr, List, [], ◌∷◌, ◌++◌, length, get_or, Some, None, Bor, refl, ap, ◌∙◌, sym, subst, arith, rules, codes, decimal}
 use Rattle.std.specs.List.{AllByRecursion}
 use Rattle.std.specs.Str.Pattern.{FindsTextPrefix, StripsPrefix}
 use Rattle.std.proofs.lemmas.Str.Pattern.{IsSplitOnceResult, split_parts}
 use Rattle.std.proofs.lemmas.List.{append_cancel_left}
 use Rattle.std.proofs.lemmas.Fmt.{decimal_injective}
-use Rattle.run_text.specs.Grammar.{IsLabelStart, IsLabelByte, IsLabel, IsZoneByte, IsZoneName, replicas_line, IsGraceLine, section_word, section_line, IsSectionLine, HasSectionWord}
+use Rattle.run_text.specs.Grammar.{IsLabelStart, IsLabelByte, IsLabel, IsZoneByte, IsZoneName, replicas_line, IsGraceLine, section_word, IsSectionLine, HasSectionWord}
 use Rattle.run_text.specs.declared.run.SectionKind.{SectionKind}
 use Rattle.run_text.specs.declared.run.SectionKind.TheVariants.{User, System}
-use Rattle.run_text.proofs.ListLemmas.{LacksAny, Lacks, Lacks-from_get_or, same_cut, lacks_none}
+use Rattle.run_text.proofs.ListLemmas.{Lacks, Lacks-from_get_or, same_cut, lacks_none}
 
 -- what `strip_prefix` leaves
 pub strips : (prefix text rest : List ℕ) → StripsPrefix (FindsTextPrefix prefix) text rest → text ≡ prefix ++ rest

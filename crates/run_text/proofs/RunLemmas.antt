@@ -1,7 +1,7 @@
 -- Runs with sections put to them.
-use Rattle.std.proofs.Common.{◌≡◌, List, [], ◌∷◌, ◌++◌, refl, ap, sym, subst, append_assoc, map}
+use Rattle.std.proofs.Common.{◌≡◌, List, [], ◌∷◌, ◌++◌, refl, sym, subst, append_assoc, map}
 use Rattle.std.proofs.lemmas.List.{append-nil, map-append}
-use Rattle.run_text.specs.Follow.{Sections, Script}
+use Rattle.run_text.specs.Follow.{Sections}
 use Rattle.run_text.specs.Run.{Run, Section, section_of, with_section, with_sections}
 use Rattle.run_text.specs.Steps.{place_of, LeadsTo}
 use Rattle.run_text.specs.declared.reader.Reader.{Reader}

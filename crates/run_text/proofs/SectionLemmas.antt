@@ -1,5 +1,5 @@
 -- A section, from the line that opens it to its last.
-use Rattle.std.proofs.Common.{◌≡◌, ℕ, ◌+◌, ◌<◌, ◌≤◌, List, length, refl, ap, ◌∙◌, sym, subst, inl, inr, arith}
+use Rattle.std.proofs.Common.{ℕ, ◌+◌, ◌<◌, List, length, refl, ap, ◌∙◌, inl, inr, arith}
 use Rattle.crontab_text.specs.Lines.{lines_of}
 use Rattle.run_text.specs.Follow.{Above, Sections, inside, OpensNone, whole}
 use Rattle.run_text.specs.Grammar.{IsSectionLine}

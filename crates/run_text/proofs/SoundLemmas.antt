@@ -1,15 +1,14 @@
 -- What holds of each run that is read, line by line.
-use Rattle.std.proofs.Common.{◌≡◌, ℕ, zero, suc, ◌+◌, ◌<◌, ◌≤◌, List, [], ◌∷◌, ◌++◌, length, refl, ap, sym, subst, inl, inr, arith, length-append}
+use Rattle.std.proofs.Common.{◌≡◌, ℕ, zero, suc, ◌+◌, ◌≤◌, List, [], ◌∷◌, ◌++◌, length, sym, subst, inl, inr, arith, length-append}
 use Rattle.std.specs.Prelude.{⊤}
 use Rattle.std.specs.List.{AllByRecursion}
 use Rattle.zone_minutes.specs.Window.{IsWithinLimits}
 use Rattle.crontab_text.specs.Lines.{lines_of}
 use Rattle.run_text.specs.Follow.{Above, Nothing, Version, Replicas, Times, Sections, Table, Script, End, inside, style_of, MayFollow}
 use Rattle.run_text.specs.Reading.{ReadsFrom, IsRunText}
-use Rattle.run_text.specs.Run.{Section, Run, run_with, opened, with_line, with_section}
+use Rattle.run_text.specs.Run.{Section, Run, opened, with_line, with_section}
 use Rattle.run_text.specs.Sound.{IsSoundSection, IsSoundRun}
 use Rattle.run_text.specs.Table.{Says}
-use Rattle.run_text.specs.declared.run.SectionKind.{SectionKind}
 
 -- what holds above the line of that number
 abbrev Good : ℕ → Above → Type 0

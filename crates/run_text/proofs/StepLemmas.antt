@@ -1,8 +1,8 @@
 -- Steps from a place between two lines to the next, and refusals there.
-use Rattle.std.proofs.Common.{◌≡◌, ℕ, ◌+◌, List, [], ◌∷◌, length, refl, ap, ◌∙◌, sym, subst, inl, inr}
+use Rattle.std.proofs.Common.{◌≡◌, ℕ, ◌+◌, List, [], ◌∷◌, length, refl, sym, subst, inl, inr}
 use Rattle.crontab_text.specs.Lines.{lines_of}
 use Rattle.run_text.specs.Follow.{Above, End, Fault, MayFollow, Refuses, Misses}
-use Rattle.run_text.specs.Reading.{ReadsFrom, RefusesFrom}
+use Rattle.run_text.specs.Reading.{ReadsFrom}
 use Rattle.run_text.specs.Run.{Run}
 use Rattle.run_text.specs.Steps.{Place, place_of, RefusedFrom, LeadsTo}
 use Rattle.run_text.specs.declared.reader.Reader.{Reader}

@@ -1,8 +1,8 @@
 -- The lines of a table, passed one after another.
-use Rattle.std.proofs.Common.{◌≡◌, ℕ, zero, suc, ◌+◌, ◌-◌, ◌<◌, ◌≤◌, List, [], ◌∷◌, ◌++◌, length, drop, take, Option, None, Some, Result, Ok, Err, refl, ap, ◌∙◌, sym, subst, arith, append_assoc, length-append}
+use Rattle.std.proofs.Common.{◌≡◌, ℕ, suc, ◌+◌, ◌-◌, ◌<◌, ◌≤◌, List, [], ◌∷◌, ◌++◌, length, drop, take, Option, None, Some, Result, Ok, Err, refl, ap, ◌∙◌, sym, subst, arith, append_assoc, length-append}
 use Rattle.std.specs.List.{AllByRecursion}
-use Rattle.crontab_text.specs.Answers.{IsLineOf, IsLineFault, LineAnswer, Said, Broken, IsAnswer}
-use Rattle.crontab_text.specs.LineBody.{LineBody, body_of}
+use Rattle.crontab_text.specs.Answers.{IsAnswer}
+use Rattle.crontab_text.specs.LineBody.{body_of}
 use Rattle.crontab_text.specs.Lines.{lines_of}
 use Rattle.crontab_text.specs.Reader.{ReadsLine, answer_of, number_of}
 use Rattle.crontab_text.specs.TableReader.{TableReader, table_reader, rest_of}
@@ -19,7 +19,7 @@ use Rattle.run_text.specs.declared.reader.Reader.{Reader}
 use Rattle.run_text.specs.declared.run.Section.{Section as SectionText}
 use Rattle.run_text.specs.declared.refusal.Refusal.{Refusal}
 use Rattle.run_text.proofs.StepLemmas.{stays, goes_on, one_line, wrong_line}
-use Rattle.run_text.specs.Table.{Says, IsFirstFault, IsFault, Passes, PassesAll, PassesFewer, earlier_fault}
+use Rattle.run_text.specs.Table.{Says, IsFirstFault, IsFault, PassesAll, PassesFewer, earlier_fault}
 
 -- one line more that says something, or of which the fault was found before
 all_append : (P : List ℕ → Type 0) (xs : List (List ℕ)) (x : List ℕ) → AllByRecursion P xs → P x → AllByRecursion P (xs ++ x ∷ [])
@@ -201,8 +201,8 @@ pub front_is : (text rest part owner : List ℕ) (style : Style) (count : ℕ) (
     → part ≡ take (length text - length rest) text → lines_of part ≡ passed.lines
 front_is text rest part owner style count fault passed part_is =
     ap lines_of (
-      part_is ∙ ap (take (length text - length rest)) passed.parts
-      ∙ take_at passed.front rest (length text - length rest) (front_size text rest owner style count fault passed)
+    part_is ∙ ap (take (length text - length rest)) passed.parts
+    ∙ take_at passed.front rest (length text - length rest) (front_size text rest owner style count fault passed)
     )
     ∙ front_lines text rest owner style count fault passed
 

@@ -1,16 +1,14 @@
 -- A line may stand where it stands, or it may not: never both, and in one way.
-use Rattle.std.proofs.Common.{◌≡◌, ℕ, ◌+◌, ◌≤◌, List, [], ◌∷◌, length, get_or, refl, ap, ◌∙◌, sym, subst, inl, inr, arith, codes}
+use Rattle.std.proofs.Common.{◌≡◌, ℕ, ◌+◌, List, [], ◌∷◌, length, get_or, refl, ap, ◌∙◌, sym, subst, inl, inr, arith, codes}
 use Rattle.crontab_text.specs.Answers.{IsLineOf, IsLineFault, LineAnswer, Said, Broken}
 use Rattle.crontab_text.specs.LineBody.{LineBody}
 use Rattle.crontab_text.specs.declared.answer.Style.{Style}
 use Rattle.crontab_text.proofs.AnswerLemmas.{same_answer}
-use Rattle.zone_minutes.specs.declared.minute.Window.{Window}
-use Rattle.run_text.specs.Follow.{Above, Nothing, Version, Replicas, Times, Sections, Table, Script, End, inside, style_of, MayFollow, StartsSection, Fault, whole, Refuses, RefusesReplicas, RefusesBeforeScript, RefusesInScript, Misses}
+use Rattle.run_text.specs.Follow.{Above, Nothing, Version, Replicas, Times, Sections, Table, Script, End, style_of, MayFollow, StartsSection, Fault, Refuses, RefusesReplicas, RefusesBeforeScript, RefusesInScript, Misses}
 use Rattle.run_text.specs.Grammar.{replicas_line, first_word, HasSectionWord, HasLaterWord, IsCommandWord, round, campaign, stop, break, restart, cut, heal, drop, repeat, reverse, again, skew, fate, arrive, settle, walk, free}
 use Rattle.run_text.specs.Reading.{ReadsFrom, RefusesFrom}
-use Rattle.run_text.specs.Run.{Run, run_with, opened}
+use Rattle.run_text.specs.Run.{Run}
 use Rattle.run_text.specs.declared.refusal.Refusal.{Refusal}
-use Rattle.run_text.specs.declared.run.SectionKind.{SectionKind}
 use Rattle.run_text.proofs.PhraseLemmas.{one_replicas_line, one_grace_line, one_opening, opening_word}
 use Rattle.run_text.proofs.WindowLemmas.{one_window_line}
 

@@ -1,5 +1,5 @@
 -- Which line of a run file may follow which, and why another one may not.
-use Rattle.std.specs.Prelude.{◌≡◌, ◌≢◌, ◌⊎◌, ℕ, zero, suc, ◌<◌, ◌≤◌, List, [], codes}
+use Rattle.std.specs.Prelude.{◌≡◌, ◌≢◌, ◌⊎◌, ℕ, zero, suc, ◌≤◌, List, codes}
 use Rattle.zone_minutes.specs.declared.minute.Window.{Window}
 use Rattle.crontab_text.specs.Answers.{IsLineOf, IsLineFault}
 use Rattle.crontab_text.specs.LineBody.{LineBody}

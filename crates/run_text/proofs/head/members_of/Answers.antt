@@ -1,4 +1,4 @@
-use Rattle.std.proofs.Common.{◌≡◌, codes, ◌∙◌, sym, ap, ◌++◌, decimal, arith}
+use Rattle.std.proofs.Common.{◌≡◌, codes, ◌∙◌, sym, ap, ◌++◌, arith}
 use Rattle.run_text.specs.Grammar.{replicas_line}
 use Rattle.run_text.proofs.PhraseLemmas.{strips, one_replicas_line}
 use Rattle.run_text.proofs.head.members_of.Goals as goal

@@ -1,7 +1,4 @@
-use Rattle.std.proofs.Common.{subst}
-use Rattle.run_text.specs.Follow.{Version, Replicas, Times, Sections}
-use Rattle.run_text.specs.Run.{run_with}
-use Rattle.run_text.specs.Steps.{place_of, start, LeadsTo, RefusedFrom}
+use Rattle.run_text.specs.Steps.{start, RefusedFrom}
 use Rattle.run_text.proofs.StepLemmas.{goes_on}
 use Rattle.run_text.proofs.VariantLemmas.{handed_on}
 use Rattle.run_text.proofs.head.read_head.Goals as goal

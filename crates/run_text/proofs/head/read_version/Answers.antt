@@ -1,4 +1,3 @@
-use Rattle.std.proofs.Common.{refl}
 use Rattle.run_text.specs.Follow.{Nothing}
 use Rattle.run_text.proofs.StepLemmas.{missing_line}
 use Rattle.run_text.proofs.head.read_version.Goals as goal

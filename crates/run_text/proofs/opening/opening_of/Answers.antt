@@ -1,5 +1,5 @@
-use Rattle.std.proofs.Common.{◌≡◌, ℕ, List, None, sym, subst, ◌∙◌, arith}
-use Rattle.run_text.specs.Grammar.{section_word, IsLabel, IsZoneName, IsSectionLine}
+use Rattle.std.proofs.Common.{ℕ, List, sym, subst}
+use Rattle.run_text.specs.Grammar.{IsLabel, IsZoneName, IsSectionLine}
 use Rattle.run_text.specs.declared.run.SectionKind.{SectionKind}
 use Rattle.run_text.proofs.PhraseLemmas.{cut_at_space, no_space, behind_word, behind_label, behind_zone, section_from_parts}
 use Rattle.run_text.proofs.VariantLemmas.{if_none}

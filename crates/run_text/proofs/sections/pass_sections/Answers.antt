@@ -2,7 +2,7 @@ use Rattle.std.proofs.Common.{◌++◌, ◌∷◌, []}
 use Rattle.run_text.specs.Follow.{Sections, Script}
 use Rattle.run_text.specs.Run.{Run, section_of, with_section, with_sections}
 use Rattle.run_text.specs.Steps.{place_of, LeadsTo, RefusedFrom}
-use Rattle.run_text.proofs.RunLemmas.{no_section, more_sections}
+use Rattle.run_text.proofs.RunLemmas.{more_sections}
 use Rattle.run_text.proofs.StepLemmas.{goes_on}
 use Rattle.run_text.proofs.VariantLemmas.{at_some, at_none, handed_on}
 use Rattle.run_text.proofs.sections.pass_sections.Goals as goal

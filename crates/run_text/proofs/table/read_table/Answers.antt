@@ -1,14 +1,11 @@
-use Rattle.std.proofs.Common.{◌≡◌, ℕ, ◌≤◌, ◌-◌, ◌+◌, List, length, Some, None, refl, sym, ap, subst, ◌∙◌, inl, inr, arith}
+use Rattle.std.proofs.Common.{◌≤◌, length, Some, None, refl, sym, subst, inl, inr, arith}
 use Rattle.std.specs.List.{AllByRecursion}
 use Rattle.std.proofs.lemmas.Str.{IsCharBoundary-from_drop}
 use Rattle.crontab_text.specs.Lines.{lines_of}
-use Rattle.crontab_text.specs.declared.answer.Style.{Style}
-use Rattle.crontab_text.specs.declared.answer.LineFault.{LineFault}
 use Rattle.crontab_text.proofs.LineLemmas.{lines_of-count}
-use Rattle.run_text.specs.Follow.{style_of}
 use Rattle.run_text.specs.Run.{opened}
 use Rattle.run_text.specs.Table.{Says, IsFirstFault}
-use Rattle.run_text.proofs.TableLemmas.{PassedText, front_leads, table_refused_at, is_refusal, passed_text, fewer_lines, fault_line_within, lines_short, rest_back, front_is, same_lines, passed_table}
+use Rattle.run_text.proofs.TableLemmas.{PassedText, table_refused_at, is_refusal, passed_text, fewer_lines, fault_line_within, lines_short, rest_back, front_is, same_lines, passed_table}
 use Rattle.run_text.proofs.table.read_table.Goals as goal
 
 pub refusal_of-requires : goal.refusal_of-requires
