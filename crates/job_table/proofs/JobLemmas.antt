@@ -1,5 +1,5 @@
 -- Jobs that are kept in a map under their names.
-use Rattle.std.proofs.Common.{◌≡◌, ◌≢◌, ◌⊎◌, ℕ, ◌+◌, Bool, true, false, cond, take, get_or, List, [], ◌∷◌, ◌++◌, Option, None, Some, String, map, refl, ap, ◌∙◌, sym, subst, inl, inr, true≢false, bytes_eq}
+use Rattle.std.proofs.Common.{◌≡◌, ◌≢◌, ◌⊎◌, ℕ, ◌+◌, Bool, true, false, cond, take, get_or, List, [], ◌∷◌, ◌++◌, Some, String, map, refl, ap, ◌∙◌, sym, inl, inr, true≢false, bytes_eq}
 use Rattle.std.specs.Prelude.{All, is_some, string_bytes, slice_get}
 use Rattle.std.specs.String.{string_eq}
 use Rattle.std.specs.Map.{lookup}
@@ -13,7 +13,7 @@ use Rattle.indexmap.specs.IndexMap.{insert_entry}
 use Rattle.due_set.specs.Table.{Job, job_of, AreNamesDistinct}
 use Rattle.due_set.specs.declared.job.JobSpec.{JobSpec}
 use Rattle.due_set.specs.declared.job.JobKind.{JobKind}
-use Rattle.job_table.specs.Jobs.{crontab_job, entry_job, HasJob}
+use Rattle.job_table.specs.Jobs.{entry_job, HasJob}
 
 -- what a look-up by a text finds is a job of that name
 pub found_job : (entries : List (String Global × JobKind)) (name : List ℕ) → is_some (lookup (λ k. bytes_eq name (string_bytes k)) entries) ≡ true → HasJob name (map entry_job entries)

@@ -1,11 +1,10 @@
 -- Marks that are collected one by one.
-use Rattle.std.proofs.Common.{◌≡◌, ◌⊎◌, ◌↔◌, ℕ, Bool, true, false, List, [], ◌∷◌, ◌++◌, refl, ap, ◌∙◌, sym, subst, inl, inr, true≢false, codes, bytes_eq, append_assoc}
+use Rattle.std.proofs.Common.{◌≡◌, ℕ, List, [], ◌∷◌, ◌++◌, refl, ap, ◌∙◌, sym, subst, inl, inr, codes, append_assoc}
 use Rattle.std.proofs.lemmas.List.{append-nil}
 use Rattle.due_set.specs.Table.{Job}
 use Rattle.due_set.specs.declared.job.JobKind.{JobKind}
-use Rattle.crontab_text.specs.LineBody.{AssignBody}
 use Rattle.run_text.specs.declared.refusal.Refusal.{Refusal}
-use Rattle.job_table.specs.Collect.{Collected, AddsMarks, RefusesMarks, line_marks}
+use Rattle.job_table.specs.Collect.{Collected, AddsMarks, RefusesMarks}
 use Rattle.job_table.specs.Jobs.{crontab_job, HasJob}
 use Rattle.job_table.specs.Marks.{Mark, MarksZone, MarksJob, BringsJob, IsMarkFault, AreSoundBehind, AreSound}
 use Rattle.job_table.specs.Table.{jobs_of, at_line, HasLineAtFault}

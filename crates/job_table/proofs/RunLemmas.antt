@@ -1,6 +1,5 @@
 -- A run's sections, one after another.
 use Rattle.std.proofs.Common.{◌≡◌, ℕ, ◌+◌, ◌<◌, ◌≤◌, ◌^◌, List, [], ◌∷◌, ◌++◌, zero, suc, length, map, take, drop, get_or, refl, ap, ◌∙◌, sym, subst, arith, append_assoc, take-append-drop, drop-cons}
-use Rattle.std.specs.Prelude.{All}
 use Rattle.std.specs.List.{AllByRecursion}
 use Rattle.std.proofs.lemmas.List.{append-nil, length-map, take_more, take_all}
 use Rattle.std.proofs.lemmas.List.Elements.{All-get_or}
@@ -12,14 +11,13 @@ use Rattle.due_set.specs.Table.{Job}
 use Rattle.run_text.specs.Follow.{style_of}
 use Rattle.run_text.specs.Reading.{IsReadRun, ArePartsOf}
 use Rattle.run_text.specs.Run.{Section, Run, section_of, run_of}
-use Rattle.run_text.specs.Sound.{IsSoundSection, IsSoundRun}
+use Rattle.run_text.specs.Sound.{IsSoundSection}
 use Rattle.run_text.specs.declared.refusal.Refusal.{Refusal}
 use Rattle.run_text.specs.declared.run.RunFile.{RunFile}
 use Rattle.run_text.specs.declared.run.Section.{Section as SectionText}
 use Rattle.run_text.proofs.SoundLemmas.{sound_run}
 use Rattle.job_table.specs.Collect.{Collected, AddsSection, RefusesSection, HasMarks, HasFaultyMarks}
 use Rattle.job_table.specs.Marks.{Mark, AreBodies, AreMarks, section_marks}
-use Rattle.job_table.specs.Table.{HasLineAtFault}
 use Rattle.job_table.proofs.SectionLemmas.{what_is_said}
 
 -- the marks of some sections are collected

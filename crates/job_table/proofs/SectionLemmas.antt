@@ -1,12 +1,12 @@
 -- A section's lines, taken over one after another.
-use Rattle.std.proofs.Common.{◌≡◌, ◌⊎◌, ℕ, suc, ◌+◌, ◌<◌, ◌≤◌, Bool, true, false, List, [], ◌∷◌, ◌++◌, length, Result, Ok, Err, refl, ap, ◌∙◌, sym, subst, inl, inr, arith, codes, bytes_eq, append_assoc, length-append}
+use Rattle.std.proofs.Common.{◌≡◌, ℕ, suc, ◌+◌, ◌<◌, ◌≤◌, Bool, true, false, List, [], ◌∷◌, ◌++◌, length, Result, Ok, Err, refl, ap, ◌∙◌, sym, subst, arith, codes, bytes_eq, append_assoc, length-append}
 use Rattle.std.specs.Prelude.{IsOk, if◌then◌else◌}
 use Rattle.std.specs.List.{AllByRecursion, AllZip}
 use Rattle.std.proofs.lemmas.List.{append-nil}
-use Rattle.crontab_text.specs.Answers.{IsLineOf, IsLineFault, LineAnswer, Said, Broken, IsAnswer}
+use Rattle.crontab_text.specs.Answers.{IsLineOf, LineAnswer, Said, Broken, IsAnswer}
 use Rattle.crontab_text.specs.LineBody.{LineBody, BlankBody, CommentBody, AssignBody, EntryBody, NickBody, body_of}
 use Rattle.crontab_text.specs.Lines.{lines_of}
-use Rattle.crontab_text.specs.Reader.{ReadsLine, answer_of, number_of}
+use Rattle.crontab_text.specs.Reader.{ReadsLine, answer_of}
 use Rattle.crontab_text.specs.TableReader.{TableReader, table_reader, rest_of}
 use Rattle.crontab_text.specs.declared.answer.Line.{Line}
 use Rattle.crontab_text.specs.declared.answer.LineFault.{LineFault}
@@ -19,7 +19,7 @@ use Rattle.run_text.specs.Run.{Section}
 use Rattle.run_text.specs.Table.{Says}
 use Rattle.run_text.specs.declared.refusal.Refusal.{Refusal}
 use Rattle.job_table.specs.Collect.{Collected, AddsMarks, RefusesMarks, AddsSection, RefusesSection, line_marks, is_entry, entries_of, entries_in}
-use Rattle.job_table.specs.Marks.{Mark, MarksZone, MarksJob, job_name, kind_of, marks_from, section_marks, AreBodies}
+use Rattle.job_table.specs.Marks.{Mark, MarksZone, MarksJob, job_name, kind_of, marks_from, section_marks}
 use Rattle.due_set.specs.declared.job.JobKind.TheVariants.{Crontab}
 use Rattle.job_table.specs.Table.{at_line, HasLineAtFault}
 use Rattle.job_table.proofs.MarkLemmas.{adds_zone, refuses_zone}

@@ -1,12 +1,12 @@
 -- The jobs that marks bring, as those of a table.
-use Rattle.std.proofs.Common.{◌≡◌, ℕ, ◌+◌, ◌<◌, Bool, true, false, List, [], ◌∷◌, ◌++◌, length, Option, None, Some, refl, ap, ◌∙◌, sym, subst, codes, bytes_eq, arith, if◌then◌else◌}
+use Rattle.std.proofs.Common.{◌≡◌, ℕ, ◌+◌, ◌<◌, Bool, true, false, List, [], ◌∷◌, ◌++◌, Option, None, Some, refl, ap, sym, subst, codes, bytes_eq, arith, if◌then◌else◌}
 use Rattle.std.specs.Prelude.{All}
 use Rattle.std.proofs.lemmas.List.Elements.{All-nil, All-cons, All-append}
 use Rattle.cron_fields.specs.declared.field.Fields.{Fields}
 use Rattle.crontab_text.specs.LineBody.{LineBody, BlankBody, CommentBody, AssignBody, EntryBody, NickBody}
 use Rattle.due_set.specs.Table.{Job, IsAnacron, AreZonesBelow}
 use Rattle.run_text.specs.Run.{Section}
-use Rattle.job_table.specs.Marks.{Mark, MarksZone, MarksJob, marks_from, section_marks, kind_of, job_name, AreMarks}
+use Rattle.job_table.specs.Marks.{Mark, MarksZone, MarksJob, marks_from, section_marks, kind_of, AreMarks}
 use Rattle.job_table.specs.Table.{jobs_of}
 
 -- each job runs by the one zone

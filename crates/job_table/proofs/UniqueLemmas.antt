@@ -1,5 +1,5 @@
 -- A run has one verdict: a table, or a refusal.
-use Rattle.std.proofs.Common.{◌≡◌, ◌⊎◌, ℕ, ◌<◌, ◌≤◌, List, [], ◌∷◌, ◌++◌, length, refl, ap, ◌∙◌, sym, subst, inl, inr, arith, append_assoc}
+use Rattle.std.proofs.Common.{◌≡◌, ◌⊎◌, ℕ, ◌≤◌, List, [], ◌∷◌, ◌++◌, length, refl, ap, ◌∙◌, sym, subst, inl, inr, arith, append_assoc}
 use Rattle.std.specs.List.{AllZip}
 use Rattle.std.proofs.lemmas.List.{append-nil}
 use Rattle.crontab_text.specs.Answers.{IsLineOf, LineAnswer, Said}
@@ -10,8 +10,8 @@ use Rattle.due_set.specs.Table.{Table}
 use Rattle.run_text.specs.Follow.{style_of}
 use Rattle.run_text.specs.Run.{Section, Run}
 use Rattle.run_text.specs.declared.refusal.Refusal.{Refusal}
-use Rattle.job_table.specs.Marks.{Mark, MarksZone, MarksJob, AreBodies, AreMarks, section_marks, IsMarkFault, AreSoundBehind, AreSound, IsFirstMarkFault}
-use Rattle.job_table.specs.Table.{jobs_of, table_of, whole_run, IsDueCount, IsTableOf, IsRefusedRun, HasLineAtFault, HasTooManyJobs, HasTooManyDue}
+use Rattle.job_table.specs.Marks.{Mark, MarksZone, MarksJob, AreMarks, section_marks, IsMarkFault, AreSoundBehind, AreSound, IsFirstMarkFault}
+use Rattle.job_table.specs.Table.{jobs_of, table_of, IsDueCount, IsTableOf, IsRefusedRun, HasLineAtFault, HasTooManyJobs, HasTooManyDue}
 use Rattle.job_table.proofs.DueCountLemmas.{CountsFirst, counts_at_least}
 
 same_body : (style : Style) (owner line : List ℕ) (a b : LineBody) → IsLineOf style owner line a → IsLineOf style owner line b → a ≡ b

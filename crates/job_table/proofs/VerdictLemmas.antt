@@ -1,10 +1,10 @@
 -- A run whose table isn't taken.
-use Rattle.std.proofs.Common.{◌≡◌, ℕ, ◌<◌, ◌≤◌, List, [], ◌∷◌, length, map, refl, ap, ◌∙◌, sym, subst, inl, inr}
+use Rattle.std.proofs.Common.{◌≡◌, ℕ, ◌<◌, ◌≤◌, List, [], ◌∷◌, length, refl, ap, ◌∙◌, subst, inr}
 use Rattle.due_set.specs.Table.{Job, Table, IsSound, utc_over}
 use Rattle.run_text.specs.Run.{Run}
 use Rattle.run_text.specs.declared.refusal.Refusal.{Refusal}
 use Rattle.job_table.specs.Collect.{HasMarks}
-use Rattle.job_table.specs.Table.{jobs_of, table_of, whole_run, IsDueCount, IsRefusedRun}
+use Rattle.job_table.specs.Table.{table_of, IsDueCount, IsRefusedRun}
 use Rattle.job_table.proofs.DueCountLemmas.{due_count}
 
 -- a table of the run's jobs is the one of its marks

@@ -1,5 +1,5 @@
 -- What the lines of a run's tables come to: zones that are named, and jobs, in the order of the lines.
-use Rattle.std.specs.Prelude.{◌≡◌, ◌⊎◌, ℕ, ◌+◌, List, [], ◌∷◌, ◌++◌, Option, None, Some, if◌then◌else◌, codes, decimal, bytes_eq, Contains}
+use Rattle.std.specs.Prelude.{◌≡◌, ◌⊎◌, ℕ, ◌+◌, List, [], ◌∷◌, ◌++◌, Option, None, Some, if◌then◌else◌, codes, decimal, bytes_eq}
 use Rattle.std.specs.List.{AllZip}
 use Rattle.cron_fields.specs.declared.field.Fields.{Fields}
 use Rattle.crontab_text.specs.Answers.{IsLineOf}

@@ -1,9 +1,8 @@
-use Rattle.std.proofs.Common.{◌≡◌, List, [], ◌∷◌, ap, sym, subst, ◌∙◌, refl, inl, inr, arith}
+use Rattle.std.proofs.Common.{[], ◌∷◌, ap, sym, subst, ◌∙◌, arith}
 use Rattle.std.specs.Prelude.{All}
 use Rattle.due_set.specs.Table.{Job, AreZonesBelow, IsAnacron, utc_over}
 use Rattle.run_text.specs.Run.{run_of}
 use Rattle.run_text.proofs.SoundLemmas.{sound_run}
-use Rattle.job_table.specs.Table.{jobs_of}
 use Rattle.job_table.proofs.TableLemmas.{zones_below, none_anacron}
 use Rattle.job_table.proofs.VerdictLemmas.{too_many_due}
 use Rattle.job_table.proofs.build.build_table.Goals as goal

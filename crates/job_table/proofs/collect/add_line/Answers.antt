@@ -1,13 +1,12 @@
 use Rattle.std.proofs.Common.{◌≡◌, ◌++◌, ◌∷◌, [], ap, ◌∙◌, subst, sym}
 use Rattle.crontab_text.specs.LineBody.{body_of}
 use Rattle.crontab_text.specs.declared.answer.Body.TheVariants.{Entry, Nick}
-use Rattle.run_text.specs.declared.refusal.Refusal.{Refusal}
 use Rattle.due_set.specs.declared.job.JobKind.TheVariants.{Crontab}
 use Rattle.job_table.specs.Collect.{RefusesMarks, AddsMarks, line_marks}
 use Rattle.job_table.specs.Jobs.{crontab_job, HasJob}
 use Rattle.job_table.specs.Marks.{job_name, kind_of}
 use Rattle.job_table.specs.Table.{at_line}
-use Rattle.job_table.proofs.MarkLemmas.{adds_none, adds_job, refuses_job}
+use Rattle.job_table.proofs.MarkLemmas.{adds_job, refuses_job}
 use Rattle.job_table.proofs.VariantLemmas.{refused_on, handed_on}
 use Rattle.job_table.proofs.collect.add_line.Goals as goal
 

@@ -1,4 +1,4 @@
-use Rattle.std.proofs.Common.{◌≡◌, ℕ, ◌+◌, refl, Ok, true, false, ◌∙◌, sym, ap, subst, arith}
+use Rattle.std.proofs.Common.{◌≡◌, ℕ, ◌+◌, refl, ◌∙◌, sym, ap, subst, arith}
 use Rattle.crontab_text.specs.LineBody.{body_of}
 use Rattle.crontab_text.specs.Reader.{ReadsLine}
 use Rattle.crontab_text.specs.TableReader.{table_reader}

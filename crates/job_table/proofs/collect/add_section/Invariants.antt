@@ -1,4 +1,4 @@
-use Rattle.std.proofs.Common.{◌<◌, length}
+use Rattle.std.proofs.Common.{length}
 use Rattle.crontab_text.specs.TableReader.{rest_of}
 use Rattle.run_text.specs.Run.{section_of}
 use Rattle.job_table.proofs.SectionLemmas.{Walking}

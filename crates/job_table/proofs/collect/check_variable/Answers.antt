@@ -1,6 +1,4 @@
-use Rattle.std.proofs.Common.{subst, sym, true, bytes_eq, codes, Bool, if◌then◌else◌, ◌∷◌, [], List, ◌∙◌}
-use Rattle.job_table.specs.Collect.{AddsMarks}
-use Rattle.job_table.specs.Marks.{Mark, MarksZone}
+use Rattle.std.proofs.Common.{sym, ◌∙◌}
 use Rattle.job_table.proofs.MarkLemmas.{adds_zone}
 use Rattle.job_table.proofs.collect.check_variable.Goals as goal
 

@@ -1,7 +1,6 @@
-use Rattle.std.proofs.Common.{◌≡◌, List, arith}
 use Rattle.run_text.specs.Run.{run_of}
 use Rattle.job_table.specs.Collect.{HasFaultyMarks}
-use Rattle.job_table.proofs.RunLemmas.{sound_text, next_so_far, section_refused_at, all_marks}
+use Rattle.job_table.proofs.RunLemmas.{sound_text, next_so_far, section_refused_at}
 use Rattle.job_table.proofs.VariantLemmas.{handed_on}
 use Rattle.job_table.proofs.collect.collect.Goals as goal
 

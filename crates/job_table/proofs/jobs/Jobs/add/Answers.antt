@@ -4,7 +4,6 @@ use Rattle.std.specs.Map.{lookup}
 use Rattle.std.specs.declared.alloc.Global.{Global}
 use Rattle.std.proofs.lemmas.List.{map-append}
 use Rattle.due_set.specs.Table.{AreNamesDistinct}
-use Rattle.due_set.specs.declared.job.JobKind.{JobKind}
 use Rattle.job_table.specs.Jobs.{crontab_job, entry_job, HasJob}
 use Rattle.job_table.proofs.JobLemmas.{found_job, no_job, insert_new, distinct_push}
 use Rattle.job_table.proofs.jobs.Jobs.add.Goals as goal
