@@ -34,13 +34,18 @@ same_first name (x ∷ before) (y ∷ others) after behind one other e is-one is
     let rest : before ++ one ∷ after ≡ others ++ other ∷ behind = cc in
     same_first name before others after behind one other rest is-one is-other (All-tail (λ r. r.name ≢ name) x before p) (All-tail (λ r. r.name ≢ name) y others q)
 
+-- of the rows under a name one is the first
+pub IsFirstUnder-same : (held : List SchedRow) (name : Name) (one other : SchedRow) → IsFirstUnder held name one → IsFirstUnder held name other → one ≡ other
+IsFirstUnder-same held name one other p q =
+    same_first name p.before q.before p.after q.after one other (sym p.parts ∙ q.parts) p.named q.named p.first q.first
+
 -- a look has one answer
 pub IsLookedUp-same : (held : List SchedRow) (name : Name) (one other : Option SchedRow) → IsLookedUp held name one → IsLookedUp held name other → one ≡ other
 IsLookedUp-same held name None None p q = refl
 IsLookedUp-same held name None (Some other) p q = absurd (not_both held name other q p)
 IsLookedUp-same held name (Some one) None p q = absurd (not_both held name one p q)
 IsLookedUp-same held name (Some one) (Some other) p q =
-    ap Some (same_first name p.before q.before p.after q.after one other (sym p.parts ∙ q.parts) p.named q.named p.first q.first)
+    ap Some (IsFirstUnder-same held name one other p q)
 
 -- what a call answers is the first row under its name afterwards
 pub Answers-first : (old new : List SchedRow) (row first : SchedRow) → Answers old row first new → IsFirstUnder new row.name first

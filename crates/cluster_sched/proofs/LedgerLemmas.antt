@@ -4,11 +4,16 @@ use Rattle.std.proofs.lemmas.List.Elements.{All-nil, All-cons, All-head, All-tai
 use Rattle.std.proofs.lemmas.List.{map-append}
 use Rattle.std.proofs.lemmas.List.Quantifiers.{all_pairs_push}
 use Rattle.std.proofs.lemmas.Bool.Decides.{Decides-and, Decides-eqb, Decides-int_eq, Decides-like}
+use Rattle.std.specs.Prelude.{is_some, not}
 use Rattle.std.specs.Bool.{Decides}
 use Rattle.std.specs.Map.{lookup, values_of}
 use Rattle.std.specs.Ordering.{int_eq}
 use Rattle.indexmap.specs.IndexMap.{insert_entry}
 use Rattle.cluster_sched.specs.Held.{AreUnderTheirNames, AreNamedOnce, NoneUnder, IsLookedUp}
+use denote.Enum.Bare.{sameb}
+use Rattle.paxos_base.specs.contracts.entry.Kind.{the_type}
+use Rattle.paxos_base.specs.declared.entry.Kind.{Kind}
+use Rattle.paxos_base.specs.declared.entry.Kind.TheVariants.{Launch, Void}
 use Rattle.cluster_sched.specs.declared.row.Name.{Name}
 use Rattle.cluster_sched.specs.declared.row.SchedRow.{SchedRow}
 
@@ -82,6 +87,10 @@ insert_entry-other (entry ∷ entries) name row under none =
 pub values_of-push : (entries : List (Name × SchedRow)) (name : Name) (row : SchedRow) → values_of (entries ++ (name, row) ∷ []) ≡ values_of entries ++ row ∷ []
 values_of-push entries name row = map-append (λ (e : Name × SchedRow). e.1) entries ((name, row) ∷ [])
 
+pub none_from_test : (found : Option SchedRow) (test : Bool) → is_some found ≡ not test → test ≡ true → found ≡ None
+none_from_test None test is e = refl
+none_from_test (Some row) test is e = absurd (true≢false (is ∙ ap not e))
+
 -- the map's rows, after a row of a new name, are each under its own name, and no two under one
 pub push_keeps_names : (entries : List (Name × SchedRow)) (row : SchedRow) → AreUnderTheirNames entries → AreNamedOnce (values_of entries) → NoneUnder (values_of entries) row.name
     → AreUnderTheirNames (entries ++ (row.name, row) ∷ []) × AreNamedOnce (values_of entries ++ row ∷ [])
@@ -89,3 +98,32 @@ push_keeps_names entries row under once none = (
   All-push (λ e. e.1.name ≡ e.0) entries (row.name, row) under refl,
   all_pairs_push (λ a b. a.name ≢ b.name) (values_of entries) row once none,
 )
+
+-- ---- rows that are told apart
+
+abbrev pub kind_eq : Kind → Kind → Bool
+kind_eq a b = sameb the_type a b
+
+Decides-kind_eq : (a b : Kind) → Decides (kind_eq a b) (a ≡ b)
+Decides-kind_eq Launch Launch = (λ e. refl, λ e. refl)
+Decides-kind_eq Launch Void = (λ e. absurd (true≢false (sym e)), λ e. absurd cc)
+Decides-kind_eq Void Launch = (λ e. absurd (true≢false (sym e)), λ e. absurd cc)
+Decides-kind_eq Void Void = (λ e. refl, λ e. refl)
+
+abbrev pub row_eq : SchedRow → SchedRow → Bool
+row_eq a b = name_eq a.name b.name && (kind_eq a.kind b.kind && (int_eq a.now.0 b.now.0 && (a.by == b.by)))
+
+-- two rows are equal if all their parts are
+pub Decides-row_eq : (a b : SchedRow) → Decides (row_eq a b) (a ≡ b)
+Decides-row_eq a b =
+    let times = Decides-and (int_eq a.now.0 b.now.0) (a.by == b.by) (Decides-int_eq a.now.0 b.now.0) (Decides-eqb a.by b.by) in
+    let kinds = Decides-and (kind_eq a.kind b.kind) (int_eq a.now.0 b.now.0 && (a.by == b.by)) (Decides-kind_eq a.kind b.kind) times in
+    let parts = Decides-and (name_eq a.name b.name) (kind_eq a.kind b.kind && (int_eq a.now.0 b.now.0 && (a.by == b.by))) (Decides-name_eq a.name b.name) kinds in
+    Decides-like (row_eq a b) (λ h. same a b h.0 h.1.0 h.1.1.0 h.1.1.1)
+        (λ (e : a ≡ b). (ap (λ (r : SchedRow). r.name) e, (ap (λ (r : SchedRow). r.kind) e, (ap (λ (r : SchedRow). r.now.0) e, ap (λ (r : SchedRow). r.by) e)))) parts
+  where
+    same : (a b : SchedRow) → a.name ≡ b.name → a.kind ≡ b.kind → a.now.0 ≡ b.now.0 → a.by ≡ b.by → a ≡ b
+    same a b name kind now by =
+        let make : Name → Kind → ℤ → ℕ → SchedRow = λ n k t r. record { name = n; kind = k; now = record { 0 = t }; by = r } in
+        let e : make a.name a.kind a.now.0 a.by ≡ make b.name b.kind b.now.0 b.by = rw (name, kind, now, by) in
+        e

@@ -1,3 +1,4 @@
+pub mod ArrivalLemmas
 pub mod LedgerLemmas
 pub mod NameLemmas
 pub mod StampLemmas

@@ -5,10 +5,6 @@ use Rattle.cluster_sched.specs.declared.fault.CallFault.TheVariants.{Failed}
 use Rattle.cluster_sched.specs.declared.row.Name.{Name}
 use Rattle.cluster_sched.specs.declared.row.SchedRow.{SchedRow}
 
--- what a ledger holds
-pub record Holdings : Type 0 where
-  pub held : List SchedRow
-
 -- each row of a map is under its own name
 abbrev pub AreUnderTheirNames : List (Name × SchedRow) → Type 0
 AreUnderTheirNames entries = All (λ entry. entry.1.name ≡ entry.0) entries

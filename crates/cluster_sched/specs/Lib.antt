@@ -1,2 +1,4 @@
 pub mod Held
 pub mod Names
+pub mod Calls
+pub mod Fates

@@ -1,5 +1,6 @@
 ghost use Rattle.std.specs.Prelude.{◌≡◌, ◌≤◌, IfOk, IsErrOf};
 ghost use Rattle.cron_io.specs.Faults.{Rose};
+ghost use Rattle.cluster_sched.specs.Calls.{IsCall};
 ghost use Rattle.cluster_sched.specs.Held.{Answers, Follows, MayGoLate, NoneUnder};
 
 use crate::fault::CallFault;
@@ -24,6 +25,7 @@ pub fn call_by_name<C: Scheduler>(sched: &mut C, row: SchedRow) -> Result<SchedR
         → (C.held sched.new ≡ C.held sched.old) × (C.late sched.new ≡ C.late sched.old) }
     ensures later { C.faults sched.old ≤ C.faults sched.new }
     ensures failed { IsErrOf result CallFault.Failed → Rose (C.faults sched.old) (C.faults sched.new) }
+    ensures calls { IsCall C.look_gives C.create_gives sched.old row result sched.new }
 {
     match sched.look(row.name)? {
         Some(first) => Ok(first),

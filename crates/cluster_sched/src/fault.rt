@@ -1,8 +1,7 @@
 ghost use Rattle.std.specs.Prelude.{◌≡◌};
 ghost use Rattle.cluster_sched.specs.declared.fault.CallFault.TheVariants.{OutOfMemory as no_memory};
 
-use crate::row::{Name, SchedRow};
-use std::alloc::AllocFailed;
+use cron_io::OutOfMemory;
 
 /// Why a call of the scheduler has no answer.
 #[derive(Clone, Copy, Debug, PartialEq, Eq)]
@@ -13,10 +12,10 @@ pub enum CallFault {
     OutOfMemory,
 }
 
-impl From<AllocFailed<(Name, SchedRow)>> for CallFault {
+impl From<OutOfMemory> for CallFault {
     ghost from_gives = { λ _ e. e ≡ no_memory };
 
-    fn from(_: AllocFailed<(Name, SchedRow)>) -> Self {
+    fn from(_: OutOfMemory) -> Self {
         CallFault::OutOfMemory
     }
 }

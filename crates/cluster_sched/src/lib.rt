@@ -2,9 +2,10 @@
 #![tactic(auto)]
 
 mod call;
-mod fault;
 #[cfg(test)]
-mod flaky;
+mod counting;
+mod fate;
+mod fault;
 mod laws;
 mod ledger;
 mod name;
@@ -14,12 +15,13 @@ mod scheduler;
 mod tests;
 
 pub use call::call_by_name;
+pub use fate::Fate;
 pub use fault::CallFault;
 pub use laws::{
     a_look_has_one_answer, answers_stay, held_rows_stay, late_rows_stay,
     names_differ_in_their_texts, rows_named_once_are_first,
 };
-pub use ledger::{Fate, Ledger};
+pub use ledger::Ledger;
 pub use name::{read_name, write_name};
 pub use row::{Name, SchedRow};
 pub use scheduler::Scheduler;

@@ -1,6 +1,8 @@
-ghost use Rattle.std.specs.Prelude.{◌≡◌, ◌≤◌, ℕ, List, IfOk, IsErrOf};
+ghost use Rattle.std.specs.Prelude.{◌≡◌, ◌≤◌, ℕ, ⊤, List, Option, Result, IfOk, IsErrOf};
 ghost use Rattle.cron_io.specs.Faults.{Rose};
 ghost use Rattle.cluster_sched.specs.Held.{Answers, Follows, IsLookedUp, MayGoLate};
+ghost use Rattle.cluster_sched.specs.declared.fault.CallFault.{CallFault};
+ghost use Rattle.cluster_sched.specs.declared.row.Name.{Name};
 ghost use Rattle.cluster_sched.specs.declared.row.SchedRow.{SchedRow};
 
 use crate::fault::CallFault;
@@ -22,6 +24,12 @@ pub trait Scheduler {
     /// How often a call has failed: a count that doesn't fall, and stands still at the last value of a `u64`.
     ghost faults: { Self → ℕ };
 
+    /// What a look does, for a scheduler that tells more of it than the clauses below.
+    ghost look_gives: { Self → Name → Result (Option SchedRow) CallFault → Self → Type 0 } = { λ _ _ _ _. ⊤ };
+
+    /// What a creation does, in the same way.
+    ghost create_gives: { Self → SchedRow → Result SchedRow CallFault → Self → Type 0 } = { λ _ _ _ _. ⊤ };
+
     /// The row that is held under the name.
     ///
     /// # Errors
@@ -33,7 +41,8 @@ pub trait Scheduler {
         ensures late { late self.new ≡ late self.old }
         ensures creates { creates self.new ≡ creates self.old }
         ensures later { faults self.old ≤ faults self.new }
-        ensures failed { IsErrOf result CallFault.Failed → Rose (faults self.old) (faults self.new) };
+        ensures failed { IsErrOf result CallFault.Failed → Rose (faults self.old) (faults self.new) }
+        ensures gives { look_gives self.old name result self.new };
 
     /// Holds the row, where nothing is held under its name yet, and answers the first row that is held there.
     ///
@@ -48,5 +57,6 @@ pub trait Scheduler {
         ensures memory { IsErrOf result CallFault.OutOfMemory
             → (held self.new ≡ held self.old) × (late self.new ≡ late self.old) }
         ensures later { faults self.old ≤ faults self.new }
-        ensures failed { IsErrOf result CallFault.Failed → Rose (faults self.old) (faults self.new) };
+        ensures failed { IsErrOf result CallFault.Failed → Rose (faults self.old) (faults self.new) }
+        ensures gives { create_gives self.old row result self.new };
 }
