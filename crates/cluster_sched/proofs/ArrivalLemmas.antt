@@ -1,8 +1,8 @@
 -- The arrival of a late call.
-use Rattle.std.proofs.Common.{◌≡◌, ◌≢◌, ℕ, Bool, true, List, [], ◌∷◌, ◌++◌, Option, None, Some, refl, sym, ap, ◌∙◌, subst}
+use Rattle.std.proofs.Common.{◌≡◌, Bool, List, [], ◌++◌, Option, None, Some, refl, sym, subst}
 use Rattle.std.specs.Prelude.{IsTrue, unwrap_or}
 use Rattle.std.proofs.lemmas.List.{append-nil}
-use Rattle.cluster_sched.specs.Held.{NoneUnder, IsFirstUnder, IsLookedUp}
+use Rattle.cluster_sched.specs.Held.{IsFirstUnder, IsLookedUp}
 use Rattle.cluster_sched.specs.Fates.{Holdings, Holds, Arrives, added}
 use Rattle.cluster_sched.proofs.HeldLemmas.{IsFirstUnder-same}
 use Rattle.cluster_sched.proofs.LedgerLemmas.{row_eq, Decides-row_eq}

@@ -68,6 +68,21 @@ IsLookedUp-lookup (entry ∷ entries) name under =
     }
     by false e later = IsLookedUp-later entry.1 (values_of entries) name (lookup (name_eq name) entries) (λ same. name_eq-differs name entry.0 e (sym same ∙ own)) later
 
+-- a look has an answer
+pub IsLookedUp-some : (held : List SchedRow) (name : Name) → (found : Option SchedRow) × IsLookedUp held name found
+IsLookedUp-some [] name = (None, All-nil (λ r. r.name ≢ name))
+IsLookedUp-some (row ∷ held) name = by (name_eq name row.name) refl (IsLookedUp-some held name)
+  where
+    by : (b : Bool) → name_eq name row.name ≡ b → (found : Option SchedRow) × IsLookedUp held name found → (found : Option SchedRow) × IsLookedUp (row ∷ held) name found
+    by true e later = (Some row, record {
+      before = [];
+      after = held;
+      parts = refl;
+      named = sym ((Decides-name_eq name row.name).0 e);
+      first = All-nil (λ r. r.name ≢ name);
+    })
+    by false e later = (later.0, IsLookedUp-later row held name later.0 (λ same. name_eq-differs name row.name e (sym same)) later.1)
+
 -- a new name goes last
 pub insert_entry-other : (entries : List (Name × SchedRow)) (name : Name) (row : SchedRow) → AreUnderTheirNames entries → NoneUnder (values_of entries) name
     → insert_entry name_eq entries name row ≡ entries ++ (name, row) ∷ []

@@ -1,3 +1,4 @@
+pub mod FateLemmas
 pub mod ArrivalLemmas
 pub mod LedgerLemmas
 pub mod NameLemmas

@@ -108,6 +108,7 @@ pub record LacksMemory (fate : Fate) (old : Holdings) (row : SchedRow) (new : Ho
   pub none : NoneUnder old.held row.name
   pub asks : AsksMemory fate old.spare
   pub same : IsUnchanged old new
+  pub spare : old.spare ≤ new.spare
 
 -- a row is created in a ledger
 pub record CreatesRow (old : Holdings) (row : SchedRow) (result : Result SchedRow CallFault) (new : Holdings) : Type 0 where

@@ -1,6 +1,8 @@
 //! Laws of names and of held rows. Each is the contract of a function that does nothing.
-ghost use Rattle.std.specs.Prelude.{◌≡◌, ◌⊎◌, ◌++◌, ℕ, List, Option, Some, Result, Ok, slice_get};
+ghost use Rattle.std.specs.Prelude.{◌≡◌, ◌⊎◌, ◌++◌, ℕ, Bool, List, Option, Some, Result, Ok, slice_get};
 ghost use Rattle.due_set.specs.Table.{Table, IsSound};
+ghost use Rattle.cluster_sched.specs.Calls.{IsCall};
+ghost use Rattle.cluster_sched.specs.Fates.{Arrives, Calls, CallsByName, Creates, CreatesRow, Holdings, IsUnchanged, LooksUp};
 ghost use Rattle.cluster_sched.specs.Held.{Answers, AreNamedOnce, Follows, IsFirstUnder, IsLookedUp, MayGoLate};
 ghost use Rattle.cluster_sched.specs.Names.{IsNameIn, name_text};
 ghost use Rattle.cluster_sched.specs.declared.fault.CallFault.{CallFault};
@@ -54,4 +56,34 @@ pub fn late_rows_stay()
         → MayGoLate held held' late late' row result → IsFirstUnder held row.name first → late' ≡ late }
     ensures held { (held held' late late' : List SchedRow) (row : SchedRow) (result : Result SchedRow CallFault)
         → MayGoLate held held' late late' row result → (late' ≡ late) ⊎ (held' ≡ held) }
+{}
+
+/// What comes of a ledger's call by a name goes by its fate and by what is held, as what comes of a creation does.
+pub fn calls_go_by_their_fates()
+    ensures { (old new : Holdings) (row : SchedRow) (result : Result SchedRow CallFault)
+        → IsCall LooksUp Creates old row result new → Calls old row result new }
+{}
+
+/// What a ledger does has one answer, and leaves one ledger, but for its room.
+pub fn ledgers_answer_alike()
+    ensures looks { (old one other : Holdings) (name : Name) (a b : Result (Option SchedRow) CallFault)
+        → LooksUp old name a one → LooksUp old name b other → (a ≡ b) × (one ≡ other) }
+    ensures creations { (old one other : Holdings) (row : SchedRow) (a b : Result SchedRow CallFault)
+        → CreatesRow old row a one → CreatesRow old row b other → (a ≡ b) × IsUnchanged one other }
+    ensures calls { (old one other : Holdings) (row : SchedRow) (a b : Result SchedRow CallFault)
+        → CallsByName old row a one → CallsByName old row b other → (a ≡ b) × IsUnchanged one other }
+    ensures arrivals { (old one other : Holdings) (row : SchedRow) (a b : Bool)
+        → Arrives old row a one → Arrives old row b other → (a ≡ b) × IsUnchanged one other }
+{}
+
+/// What a ledger does has an answer, whatever it holds and whatever its fate is.
+pub fn ledgers_always_answer()
+    ensures looks { (old : Holdings) (name : Name)
+        → (result : Result (Option SchedRow) CallFault) × (new : Holdings) × LooksUp old name result new }
+    ensures creations { (old : Holdings) (row : SchedRow)
+        → (result : Result SchedRow CallFault) × (new : Holdings) × CreatesRow old row result new }
+    ensures calls { (old : Holdings) (row : SchedRow)
+        → (result : Result SchedRow CallFault) × (new : Holdings) × CallsByName old row result new }
+    ensures arrivals { (old : Holdings) (row : SchedRow)
+        → (stands : Bool) × (new : Holdings) × Arrives old row stands new }
 {}

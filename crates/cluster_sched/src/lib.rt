@@ -18,8 +18,9 @@ pub use call::call_by_name;
 pub use fate::Fate;
 pub use fault::CallFault;
 pub use laws::{
-    a_look_has_one_answer, answers_stay, held_rows_stay, late_rows_stay,
-    names_differ_in_their_texts, rows_named_once_are_first,
+    a_look_has_one_answer, answers_stay, calls_go_by_their_fates, held_rows_stay, late_rows_stay,
+    ledgers_always_answer, ledgers_answer_alike, names_differ_in_their_texts,
+    rows_named_once_are_first,
 };
 pub use ledger::Ledger;
 pub use name::{read_name, write_name};

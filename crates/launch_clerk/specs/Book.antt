@@ -1,7 +1,9 @@
 -- The clerk's log beside what is held for the launches that he called.
-use Rattle.std.specs.Prelude.{ℕ, List, ℤ, All, Contains, ◌≡◌}
+use Rattle.std.specs.Prelude.{ℕ, List, [], ℤ, All, Contains, ◌≡◌}
 use Rattle.paxos_base.specs.declared.entry.Entry.{Entry}
 use Rattle.paxos_base.specs.declared.entry.Entry.TheVariants.{Start}
+use Rattle.cluster_sched.specs.Fates.{Holdings}
+use Rattle.cluster_sched.specs.declared.fate.Fate.TheVariants.{Done}
 use Rattle.cluster_sched.specs.declared.row.Name.{Name}
 use Rattle.cluster_sched.specs.declared.row.SchedRow.{SchedRow}
 
@@ -17,6 +19,12 @@ IsStarted log name = (now : ℤ) × Contains log (Start name.job name.at now)
 -- each launch that is held has a start in the log
 abbrev pub AreStarted : List Entry → List SchedRow → Type 0
 AreStarted log held = All (λ row. IsStarted log row.name) held
+
+-- a scheduler of whose calls none has failed or come late, and whose next call is answered
+pub record AnswersAll (ledger : Holdings) : Type 0 where
+  pub fate : ledger.fate ≡ Done
+  pub late : ledger.late ≡ []
+  pub faults : ledger.faults ≡ 0
 
 -- each launch is started and called in the minute at which it is due, by the one clerk, whose number is 0
 pub record AreInTheirMinutes (log : List Entry) (held : List SchedRow) : Type 0 where

@@ -1,7 +1,7 @@
 //! The log and the scheduler, kept together: no launch is called whose start isn't in the log.
 ghost use Rattle.std.specs.Prelude.{◌≡◌, [], ◌∷◌, ◌++◌, IfOk, OnOk, OnErr};
 ghost use Rattle.cluster_sched.specs.Held.{Answers, Follows};
-ghost use Rattle.launch_clerk.specs.Book.{AreStarted, IsStarted};
+ghost use Rattle.launch_clerk.specs.Book.{AnswersAll, AreStarted, IsStarted};
 
 use cluster_sched::{CallFault, Ledger, SchedRow, call_by_name};
 use cron_io::OutOfMemory;
@@ -10,7 +10,7 @@ use std::alloc::Global;
 use std::marker::Model;
 
 /// A log of starts and ends, and the scheduler in which the launches are called. Each row that the scheduler holds came
-/// by a call, and only a launch whose start was in the log was called.
+/// by a call, and only a launch whose start was in the log was called. No call has failed, and none is late.
 #[derive(Debug, Drop)]
 pub struct LaunchBook {
     log: EntryList,
@@ -18,13 +18,13 @@ pub struct LaunchBook {
 }
 
 impl Model for LaunchBook {
-    ghost use Rattle.launch_clerk.specs.Book.{Book, AreStarted};
+    ghost use Rattle.launch_clerk.specs.Book.{Book, AnswersAll, AreStarted};
 
     ghost Value = { Book };
 
     ghost view = { λ book. record { log = book.log; held = book.ledger.held } };
 
-    ghost invariant = { λ book. AreStarted book.log book.ledger.held };
+    ghost invariant = { λ book. AreStarted book.log book.ledger.held × AnswersAll book.ledger };
 }
 
 impl LaunchBook {
@@ -80,6 +80,7 @@ impl LaunchBook {
     pub fn into_parts(self) -> (EntryList, Ledger)
         ensures log { result.0 ≡ self.log }
         ensures held { result.1.held ≡ self.held }
+        ensures answers { AnswersAll result.1 }
     {
         (self.log, self.ledger)
     }
@@ -94,11 +95,13 @@ fn push_entry(list: &mut EntryList, entry: Entry) -> Result<(), OutOfMemory>
     Ok(())
 }
 
-// Calls the ledger, whose calls don't fail but for want of memory.
+// Calls the ledger, which answers all calls but for want of memory.
 fn call_ledger(ledger: &mut Ledger, row: SchedRow) -> Result<SchedRow, OutOfMemory>
+    requires { AnswersAll ledger.old }
     ensures first { IfOk result (λ first. Answers ledger.old.held row first ledger.new.held) }
     ensures held { Follows ledger.old.held row ledger.new.held }
     ensures err { OnErr result (ledger.new.held ≡ ledger.old.held) }
+    ensures answers { AnswersAll ledger.new }
 {
     match call_by_name(ledger, row) {
         Ok(first) => Ok(first),

@@ -1,4 +1,4 @@
-use Rattle.std.proofs.Common.{◌≡◌, ◌∙◌, ◌++◌, ◌∷◌, [], ◌+◌, ◌≤◌, length, Option, None, Some, ap, sym, subst, arith}
+use Rattle.std.proofs.Common.{◌≡◌, ◌∙◌, ◌++◌, ◌∷◌, [], None, ap, sym, subst}
 use Rattle.std.specs.Map.{values_of}
 use Rattle.cluster_sched.specs.Held.{NoneUnder, IsLookedUp}
 use Rattle.cluster_sched.specs.Fates.{added}
