@@ -28,23 +28,27 @@ same_holdings one other held late fate faults spare =
 pub LooksUp-same : (old one other : Holdings) (name : Name) (a b : Result (Option SchedRow) CallFault) → LooksUp old name a one → LooksUp old name b other → (a ≡ b) × (one ≡ other)
 LooksUp-same old one other name a b p q =
     let found : p.found ≡ q.found = IsLookedUp-same old.held name p.found q.found p.is_found q.is_found in
-    let answer : a ≡ b = p.answer ∙ ap (look_answer old.fate) found ∙ sym q.answer in
-    (answer, same_holdings one other (p.held ∙ sym q.held) (p.late ∙ sym q.late)
-        (p.fate ∙ ap (fate_after_look old.fate) answer ∙ sym q.fate)
-        (p.faults ∙ ap (λ (r : Result (Option SchedRow) CallFault). faults_after old.faults r) answer ∙ sym q.faults)
-        (p.spare ∙ sym q.spare))
+    let answer : a ≡ b = p.answer ∙ ap (look_answer old.fate) found ∙ sym q.answer in (
+      answer,
+      same_holdings one other (p.held ∙ sym q.held) (p.late ∙ sym q.late)
+          (p.fate ∙ ap (fate_after_look old.fate) answer ∙ sym q.fate)
+          (p.faults ∙ ap (λ (r : Result (Option SchedRow) CallFault). faults_after old.faults r) answer ∙ sym q.faults)
+          (p.spare ∙ sym q.spare),
+    )
 
 -- an outcome has one answer, and leaves one ledger but for its room
 ComesTo-same : (one_comes other_comes : Outcome) (old one other : Holdings) (a b : Result SchedRow CallFault) → one_comes ≡ other_comes
     → ComesTo one_comes old a one → ComesTo other_comes old b other → (a ≡ b) × IsUnchanged one other
 ComesTo-same x y old one other a b e p q =
-    let answer : a ≡ b = p.answer ∙ ap (λ (o : Outcome). o.answer) e ∙ sym q.answer in
-    (answer, record {
-      held = q.held ∙ ap (λ (o : Outcome). old.held ++ o.held) (sym e) ∙ sym p.held;
-      late = q.late ∙ ap (λ (o : Outcome). old.late ++ o.late) (sym e) ∙ sym p.late;
-      fate = q.fate ∙ sym p.fate;
-      faults = q.faults ∙ ap (λ (r : Result SchedRow CallFault). faults_after old.faults r) (sym answer) ∙ sym p.faults;
-    })
+    let answer : a ≡ b = p.answer ∙ ap (λ (o : Outcome). o.answer) e ∙ sym q.answer in (
+      answer,
+      record {
+        held = q.held ∙ ap (λ (o : Outcome). old.held ++ o.held) (sym e) ∙ sym p.held;
+        late = q.late ∙ ap (λ (o : Outcome). old.late ++ o.late) (sym e) ∙ sym p.late;
+        fate = q.fate ∙ sym p.fate;
+        faults = q.faults ∙ ap (λ (r : Result SchedRow CallFault). faults_after old.faults r) (sym answer) ∙ sym p.faults;
+      },
+    )
 
 pub CreatesRow-same : (old one other : Holdings) (row : SchedRow) (a b : Result SchedRow CallFault) → CreatesRow old row a one → CreatesRow old row b other → (a ≡ b) × IsUnchanged one other
 CreatesRow-same old one other row a b p q =
@@ -60,13 +64,15 @@ pub Arrives-same : (old one other : Holdings) (row : SchedRow) (a b : Bool) → 
 Arrives-same old one other row a b p q =
     let found : p.found ≡ q.found = IsLookedUp-same old.held row.name p.found q.found p.holds.is_found q.holds.is_found in
     let held : other.held ≡ one.held = q.holds.held ∙ ap (λ (f : Option SchedRow). old.held ++ added row f) (sym found) ∙ sym p.holds.held in
-    let told = subst (λ (rows : List SchedRow). (IsTrue b → IsFirstUnder rows row.name row) × (IsFirstUnder rows row.name row → IsTrue b)) held q.told in
-    (same_from_decides a b p.told told, record {
-      held = held;
-      late = q.holds.late ∙ sym p.holds.late;
-      fate = q.holds.fate ∙ sym p.holds.fate;
-      faults = q.holds.faults ∙ sym p.holds.faults;
-    })
+    let told = subst (λ (rows : List SchedRow). (IsTrue b → IsFirstUnder rows row.name row) × (IsFirstUnder rows row.name row → IsTrue b)) held q.told in (
+      same_from_decides a b p.told told,
+      record {
+        held = held;
+        late = q.holds.late ∙ sym p.holds.late;
+        fate = q.holds.fate ∙ sym p.holds.fate;
+        faults = q.holds.faults ∙ sym p.holds.faults;
+      },
+    )
 
 -- ---- always one
 

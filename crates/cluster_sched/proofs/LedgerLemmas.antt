@@ -74,13 +74,16 @@ IsLookedUp-some [] name = (None, All-nil (λ r. r.name ≢ name))
 IsLookedUp-some (row ∷ held) name = by (name_eq name row.name) refl (IsLookedUp-some held name)
   where
     by : (b : Bool) → name_eq name row.name ≡ b → (found : Option SchedRow) × IsLookedUp held name found → (found : Option SchedRow) × IsLookedUp (row ∷ held) name found
-    by true e later = (Some row, record {
-      before = [];
-      after = held;
-      parts = refl;
-      named = sym ((Decides-name_eq name row.name).0 e);
-      first = All-nil (λ r. r.name ≢ name);
-    })
+    by true e later = (
+      Some row,
+      record {
+        before = [];
+        after = held;
+        parts = refl;
+        named = sym ((Decides-name_eq name row.name).0 e);
+        first = All-nil (λ r. r.name ≢ name);
+      },
+    )
     by false e later = (later.0, IsLookedUp-later row held name later.0 (λ same. name_eq-differs name row.name e (sym same)) later.1)
 
 -- a new name goes last
@@ -135,7 +138,7 @@ Decides-row_eq a b =
     let kinds = Decides-and (kind_eq a.kind b.kind) (int_eq a.now.0 b.now.0 && (a.by == b.by)) (Decides-kind_eq a.kind b.kind) times in
     let parts = Decides-and (name_eq a.name b.name) (kind_eq a.kind b.kind && (int_eq a.now.0 b.now.0 && (a.by == b.by))) (Decides-name_eq a.name b.name) kinds in
     Decides-like (row_eq a b) (λ h. same a b h.0 h.1.0 h.1.1.0 h.1.1.1)
-        (λ (e : a ≡ b). (ap (λ (r : SchedRow). r.name) e, (ap (λ (r : SchedRow). r.kind) e, (ap (λ (r : SchedRow). r.now.0) e, ap (λ (r : SchedRow). r.by) e)))) parts
+    (λ (e : a ≡ b). (ap (λ (r : SchedRow). r.name) e, (ap (λ (r : SchedRow). r.kind) e, (ap (λ (r : SchedRow). r.now.0) e, ap (λ (r : SchedRow). r.by) e)))) parts
   where
     same : (a b : SchedRow) → a.name ≡ b.name → a.kind ≡ b.kind → a.now.0 ≡ b.now.0 → a.by ≡ b.by → a ≡ b
     same a b name kind now by =

@@ -32,8 +32,11 @@ impl Model for Ledger {
     ghost Value = { Holdings };
 
     ghost view = { λ ledger. record {
-        held = values ledger.rows; late = ledger.late.items; fate = ledger.fate; faults = ledger.faults;
-        spare = spare ledger.rows
+      held = values ledger.rows;
+      late = ledger.late.items;
+      fate = ledger.fate;
+      faults = ledger.faults;
+      spare = spare ledger.rows;
     } };
 
     ghost invariant = { λ ledger. AreUnderTheirNames ledger.rows.entries × AreNamedOnce (values ledger.rows) };

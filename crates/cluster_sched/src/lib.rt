@@ -8,6 +8,8 @@ mod fate;
 mod fault;
 mod laws;
 mod ledger;
+#[cfg(test)]
+mod ledger_tests;
 mod name;
 mod row;
 mod scheduler;

@@ -1,15 +1,13 @@
-//! Calls of a ledger, and of a scheduler that fails, and names.
+//! Names, and the laws.
 ghost use Rattle.std.specs.Prelude.{IfOk};
 ghost use Rattle.cluster_sched.specs.Names.{IsNameIn};
 
-use crate::flaky::{Course, Flaky};
 use crate::{
-    CallFault, Ledger, Name, SchedRow, Scheduler, a_look_has_one_answer, answers_stay,
-    call_by_name, held_rows_stay, late_rows_stay, names_differ_in_their_texts, read_name,
-    rows_named_once_are_first, write_name,
+    Name, a_look_has_one_answer, answers_stay, calls_go_by_their_fates, held_rows_stay,
+    late_rows_stay, ledgers_always_answer, ledgers_answer_alike, names_differ_in_their_texts,
+    read_name, rows_named_once_are_first, write_name,
 };
 use due_set::{JobKind, JobSpec, JobTable};
-use paxos_base::Kind;
 use std::alloc::Global;
 use std::test::Fail;
 use zone_minutes::{Minute, Window};
@@ -80,85 +78,6 @@ fn names(rt: HostRuntime) -> Result<(), Fail> {
     Ok(())
 }
 
-// A launch and a void under one name, and a void under another.
-fn rows() -> (SchedRow, SchedRow, SchedRow) {
-    let launch = SchedRow {
-        name: LAUNCH,
-        kind: Kind::Launch,
-        now: Minute(28_530_780),
-        by: 1,
-    };
-    let void = SchedRow {
-        kind: Kind::Void,
-        now: Minute(28_530_800),
-        by: 2,
-        ..launch
-    };
-    let other = SchedRow {
-        name: Name { job: 1, ..LAUNCH },
-        ..void
-    };
-    (launch, void, other)
-}
-
-#[test]
-fn first_row_is_held_for_good(rt: HostRuntime) {
-    let (launch, void, other) = rows();
-    let mut ledger = Ledger::new(rt.alloc());
-    assert_eq!(rt; ledger.look(LAUNCH), Ok(None));
-    assert_eq!(rt; call_by_name(&mut ledger, launch), Ok(launch));
-    assert_eq!(rt; call_by_name(&mut ledger, void), Ok(launch));
-    assert_eq!(rt; ledger.create(void), Ok(launch));
-    assert_eq!(rt; ledger.held(), [launch].as_slice());
-    assert_eq!(rt; call_by_name(&mut ledger, other), Ok(other));
-    assert_eq!(rt; ledger.look(LAUNCH), Ok(Some(launch)));
-    assert_eq!(rt; ledger.held(), [launch, other].as_slice());
-}
-
-#[test]
-fn failed_calls_are_told(rt: HostRuntime) {
-    let (launch, void, _) = rows();
-    let failed = Err(CallFault::Failed);
-    let mut flaky = Flaky::new(rt.alloc());
-    flaky.loses_looks = true;
-    assert_eq!(rt; call_by_name(&mut flaky, launch), failed);
-    assert_eq!(rt; (flaky.looks, flaky.creates, flaky.faults), (1, 0, 1));
-    flaky.loses_looks = false;
-    flaky.course = Course::LostBefore;
-    assert_eq!(rt; call_by_name(&mut flaky, launch), failed);
-    assert_eq!(rt; (flaky.looks, flaky.creates, flaky.faults), (2, 1, 2));
-    assert_eq!(rt; flaky.ledger.held(), [].as_slice());
-    flaky.course = Course::LostAfter;
-    assert_eq!(rt; call_by_name(&mut flaky, launch), failed);
-    assert_eq!(rt; flaky.ledger.held(), [launch].as_slice());
-    // What was lost on its way back is found by the next call.
-    assert_eq!(rt; call_by_name(&mut flaky, void), Ok(launch));
-    assert_eq!(rt; (flaky.looks, flaky.creates, flaky.faults), (4, 2, 3));
-    assert_eq!(rt; flaky.late.as_slice(), [].as_slice());
-}
-
-#[test]
-fn late_calls_wait_in_order(rt: HostRuntime) {
-    let (launch, void, other) = rows();
-    let failed = Err(CallFault::Failed);
-    let mut flaky = Flaky::new(rt.alloc());
-    flaky.course = Course::Late;
-    assert_eq!(rt; call_by_name(&mut flaky, void), failed);
-    assert_eq!(rt; call_by_name(&mut flaky, launch), failed);
-    assert_eq!(rt; flaky.late.as_slice(), [void, launch].as_slice());
-    assert_eq!(rt; flaky.ledger.held(), [].as_slice());
-    flaky.course = Course::Answered;
-    assert_eq!(rt; call_by_name(&mut flaky, launch), Ok(launch));
-    assert_eq!(rt; call_by_name(&mut flaky, other), Ok(other));
-    // A held name costs one look and no create, whatever would become of one.
-    flaky.course = Course::Late;
-    assert_eq!(rt; call_by_name(&mut flaky, void), Ok(launch));
-    assert_eq!(rt; flaky.create(void), failed);
-    assert_eq!(rt; (flaky.looks, flaky.creates, flaky.faults), (5, 5, 3));
-    assert_eq!(rt; flaky.late.as_slice(), [void, launch].as_slice());
-    assert_eq!(rt; flaky.ledger.held(), [launch, other].as_slice());
-}
-
 #[test]
 fn laws_hold(_rt: HostRuntime) {
     names_differ_in_their_texts();
@@ -167,4 +86,7 @@ fn laws_hold(_rt: HostRuntime) {
     answers_stay();
     rows_named_once_are_first();
     late_rows_stay();
+    calls_go_by_their_fates();
+    ledgers_answer_alike();
+    ledgers_always_answer();
 }
