@@ -1,0 +1,4 @@
+pub mod DeltaLemmas
+pub mod LineLemmas
+pub mod SoundLemmas
+pub mod VoteLemmas

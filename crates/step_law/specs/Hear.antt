@@ -1,0 +1,121 @@
+-- What a replica does when it hears a message.
+use Rattle.std.specs.Prelude.{ℕ, ◌+◌, ◌-◌, ◌==◌, nat_le, nat_lt, Bool, true, false, not, ◌&&◌, ◌||◌, List, [], ◌∷◌, ◌++◌, map, drop, Option, None, Some, if◌then◌else◌}
+use Rattle.paxos_base.specs.Members.{with_member}
+use Rattle.paxos_base.specs.Vote.{vote_at, votes_from}
+use Rattle.paxos_base.specs.declared.entry.Entry.{Entry}
+use Rattle.paxos_base.specs.declared.entry.Vote.{Vote}
+use Rattle.term_core.specs.declared.flight.Flight.{Flight}
+use Rattle.term_core.specs.declared.term.Term.{Term}
+use Rattle.term_core.specs.declared.term.Term.TheVariants.{Follower, Candidate, Leader}
+use Rattle.step_law.specs.Act.{Act, Observe, Gather, Pledge, Cast, Count, Learn, Send, after_act}
+use Rattle.step_law.specs.Folds.{after_acts}
+use Rattle.step_law.specs.Message.{Message, Prepare, Promise, Accept, Accepted, Nack, Known, AskFrom, Snap, Lead, Mention, Only, ballot_in}
+use Rattle.step_law.specs.Propose.{choose_if, lead_if}
+use Rattle.step_law.specs.State.{State, Identity, prefix_of, promised_in}
+
+-- a request for the entries from its prefix on
+abbrev pub ask : ℕ → State → Act
+ask from state = Send (Only from) (AskFrom (prefix_of state))
+
+-- The launch table and the entries from the base on, for one that asks for what lies below. Nothing lies below a base of 0,
+-- which is the only one so far.
+abbrev pub snapshot : ℕ → State → List Act
+snapshot from state = []
+
+-- **Prepare**: a ballot that isn't above the promised one is refused. Else it is promised, with the votes that are asked for.
+unfoldable pub on_prepare : ℕ → ℕ → ℕ → State → List Act
+on_prepare from ballot slot state =
+    if nat_le ballot (promised_in state.kept) then Send (Only from) (Nack ballot (promised_in state.kept)) ∷ []
+    else (if nat_lt slot state.kept.base then snapshot from state
+    else Pledge ballot ∷ Send (Only from) (Promise ballot slot (votes_from slot state.kept.votes)) ∷ [])
+
+-- **Promise**, to a replica of this term: it counts for the candidate that asked for it, and for nobody else.
+unfoldable pub on_promise : ℕ → ℕ → ℕ → ℕ → List Vote → Term → List Act
+on_promise members from ballot slot votes (Follower ended) = []
+on_promise members from ballot slot votes (Candidate own first heard best) =
+    if (own == ballot) && (first == slot) then Gather from votes ∷ lead_if members (with_member from heard) else []
+on_promise members from ballot slot votes (Leader own best flight) = []
+
+-- the vote is of that ballot
+abbrev pub is_vote_of : ℕ → Option Vote → Bool
+is_vote_of ballot None = false
+is_vote_of ballot (Some vote) = vote.ballot == ballot
+
+-- a vote is cast, unless it was cast before
+abbrev pub cast_new : Vote → State → List Act
+cast_new vote state = if is_vote_of vote.ballot (vote_at vote.slot state.kept.votes) then [] else Cast vote ∷ []
+
+-- entries are missing below the slot, and are asked for
+abbrev pub ask_below : ℕ → ℕ → State → List Act
+ask_below from slot state = if nat_lt (prefix_of state) slot then ask from state ∷ [] else []
+
+-- **Accept**: a ballot below the promised one is refused. Else the vote is cast and told.
+unfoldable pub on_accept : ℕ → Vote → State → List Act
+on_accept from vote state =
+    if nat_lt vote.ballot (promised_in state.kept) then Send (Only from) (Nack vote.ballot (promised_in state.kept)) ∷ []
+    else (if nat_lt vote.slot state.kept.base then snapshot from state
+    else cast_new vote state ++ (Send (Only from) (Accepted vote.ballot vote.slot) ∷ ask_below from vote.slot state))
+
+-- **Accepted**, to a replica of this term: it counts for the leader's flight of that ballot and slot, and for no other.
+unfoldable pub on_accepted : ℕ → ℕ → ℕ → ℕ → Term → List Act
+on_accepted members from ballot slot (Follower ended) = []
+on_accepted members from ballot slot (Candidate own first heard best) = []
+on_accepted members from ballot slot (Leader own best None) = []
+on_accepted members from ballot slot (Leader own best (Some flight)) =
+    if (own == ballot) && (flight.slot == slot)
+    then Count from ∷ choose_if members (with_member from flight.accepted) flight.slot flight.entry
+    else []
+
+-- **Known**: the next entry is learned. One behind it shows that entries are missing, which are asked for once a letter.
+unfoldable pub on_known : ℕ → ℕ → Entry → Bool → State → List Act
+on_known from slot entry asked state =
+    if slot == prefix_of state then Learn slot entry ∷ [] else (if asked then [] else ask_below from slot state)
+
+-- entries of the slots from one on
+abbrev pub known_from : ℕ → List Entry → List Message
+known_from slot [] = []
+known_from slot (entry ∷ entries) = Known slot entry ∷ known_from (slot + 1) entries
+
+-- the messages, to one replica
+abbrev pub send_all : ℕ → List Message → List Act
+send_all from messages = map (Send (Only from)) messages
+
+-- **AskFrom**: what was learned from the slot on is told.
+unfoldable pub on_ask : ℕ → ℕ → State → List Act
+on_ask from slot state =
+    if nat_lt slot state.kept.base then snapshot from state
+    else send_all from (known_from slot (drop (slot - state.kept.base) state.learned))
+
+-- **Lead**: entries that the leader has learned and this replica has not are asked for.
+unfoldable pub on_lead : ℕ → ℕ → State → List Act
+on_lead from slot state = ask_below from slot state
+
+-- what a message asks for, once its ballot was observed. A snapshot changes nothing so far.
+unfoldable pub line : Identity → ℕ → Message → Bool → State → List Act
+line self from (Prepare ballot slot) asked state = on_prepare from ballot slot state
+line self from (Promise ballot slot votes) asked state = on_promise self.members from ballot slot votes state.term
+line self from (Accept vote) asked state = on_accept from vote state
+line self from (Accepted ballot slot) asked state = on_accepted self.members from ballot slot state.term
+line self from (Nack ballot promised) asked state = []
+line self from (Known slot entry) asked state = on_known from slot entry asked state
+line self from (AskFrom slot) asked state = on_ask from slot state
+line self from (Snap slot rows) asked state = []
+line self from (Lead ballot slot) asked state = on_lead from slot state
+line self from (Mention ballot) asked state = []
+
+-- **Hear** a message: its ballot is observed first.
+unfoldable pub hear : Identity → ℕ → Message → Bool → State → List Act
+hear self from message asked state =
+    Observe (ballot_in message) ∷ line self from message asked (after_act (Observe (ballot_in message)) state)
+
+-- a message tells an entry behind the next one, so that the entries between are asked for
+abbrev pub shows_gap : Message → State → Bool
+shows_gap (Known slot entry) state = nat_lt (prefix_of state) slot
+shows_gap message state = false
+
+-- the messages of a letter, one after another; whether its entries have had this replica ask for others
+unfoldable pub hear_all : Identity → ℕ → List Message → Bool → State → List Act
+hear_all self from [] asked state = []
+hear_all self from (message ∷ messages) asked state =
+    hear self from message asked state
+    ++ hear_all self from messages (asked || shows_gap message state) (after_acts (hear self from message asked state) state)
