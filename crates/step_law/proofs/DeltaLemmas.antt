@@ -1,6 +1,6 @@
 -- A step changes what is kept once at most.
-use Rattle.std.proofs.Common.{◌≡◌, ℕ, ◌+◌, ◌-◌, ◌<◌, ◌≤◌, Bool, Option, Some, None, List, [], ◌∷◌, ◌++◌, length, drop, true, false, eqb, ltb, leb, ◌&&◌, ◌||◌, ℤ, refl, sym, ap, ◌∙◌, inl, inr, arith, if◌then◌else◌, length-append, lit≤}
-use Rattle.std.specs.List.{count_by, flat_map}
+use Rattle.std.proofs.Common.{◌≡◌, ℕ, ◌+◌, ◌-◌, ◌≤◌, Bool, Some, None, List, [], ◌∷◌, ◌++◌, length, drop, true, false, eqb, ltb, leb, ◌&&◌, ◌||◌, ℤ, refl, ap, ◌∙◌, inl, inr, arith, if◌then◌else◌, length-append}
+use Rattle.std.specs.List.{count_by}
 use Rattle.std.proofs.lemmas.List.Concat.{flat_map-append}
 use Rattle.std.proofs.lemmas.Bool.{cases_Bool}
 use Rattle.std.proofs.lemmas.List.Sums.{sum_by-cons}
@@ -15,13 +15,13 @@ use Rattle.term_core.specs.declared.term.Term.{Term}
 use Rattle.term_core.specs.declared.term.Term.TheVariants.{Follower, Candidate, Leader}
 use Rattle.launch_machine.specs.declared.machine.Intent.{Intent}
 use Rattle.launch_machine.specs.declared.machine.Intent.TheVariants as intent
-use Rattle.step_law.specs.Act.{Act, Observe, Stand, Gather, TakeLead, Pledge, Cast, Launch, Count, Wait, Learn, Rebase, Call, Send, Restart, after_act}
+use Rattle.step_law.specs.Act.{Act}
 use Rattle.step_law.specs.Folds.{after_acts, deltas_by, deltas_of}
-use Rattle.step_law.specs.Hear.{ask_below, cast_new, hear, hear_all, is_vote_of, known_from, line, on_prepare, on_promise, on_accept, on_accepted, on_known, on_ask, on_lead, send_all, shows_gap}
-use Rattle.step_law.specs.Message.{Message, Whom, Prepare, Promise, Accept, Accepted, Nack, Known, AskFrom, Snap, Lead, Mention, Only, Others, Outside}
+use Rattle.step_law.specs.Hear.{ask_below, hear, hear_all, is_vote_of, known_from, line, on_prepare, on_promise, on_accept, on_accepted, on_known, on_ask, on_lead, send_all, shows_gap}
+use Rattle.step_law.specs.Message.{Message, Prepare, Promise, Accept, Accepted, Nack, Known, AskFrom, Snap, Lead, Mention}
 use Rattle.step_law.specs.Propose.{answer, answer_of, campaign, choose_if, end_if, follow_intent, lead_if, lead_on, propose, proposal, tick, tick_of, wait, is_open}
 use Rattle.step_law.specs.State.{State, Identity, prefix_of, promised_in}
-use Rattle.step_law.specs.Step.{Event, Campaign, Tick, Hear, Answer, AsksOnce, Plan, asks_change, step}
+use Rattle.step_law.specs.Step.{Event, Campaign, Tick, Hear, Answer, AsksOnce, asks_change, step}
 
 -- how many changes of what is kept some acts bring
 abbrev pub changes : List Act → ℕ

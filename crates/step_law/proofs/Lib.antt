@@ -1,4 +1,5 @@
 pub mod DeltaLemmas
+pub mod HeardLemmas
 pub mod LineLemmas
 pub mod SoundLemmas
 pub mod VoteLemmas

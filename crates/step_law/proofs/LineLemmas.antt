@@ -1,33 +1,33 @@
 -- Each act of each line of the table may be done where it is.
-use Rattle.std.proofs.Common.{◌≡◌, ◌≢◌, ℕ, ◌+◌, ◌-◌, ◌*◌, ◌/◌, ◌%◌, ◌<◌, ◌≤◌, max, Bool, Option, Some, None, List, [], ◌∷◌, ◌++◌, length, drop, map, true, false, eqb, ltb, leb, ◌&&◌, ◌||◌, ℤ, refl, sym, ap, ◌∙◌, inl, inr, arith, subst, if◌then◌else◌, IsTrue}
+use Rattle.std.proofs.Common.{◌≡◌, ℕ, ◌+◌, ◌-◌, ◌*◌, ◌<◌, ◌≤◌, max, Bool, Option, Some, None, List, [], ◌∷◌, ◌++◌, length, drop, true, false, eqb, ltb, leb, ◌&&◌, ◌||◌, ℤ, refl, ◌∙◌, inl, inr, arith, subst, if◌then◌else◌, IsTrue}
 use Rattle.std.specs.List.{All, Contains, AllByRecursion}
 use Rattle.std.proofs.Math.Nat.{le-max_left, le-max_right, max-le}
 use Rattle.std.proofs.lemmas.Bool.{both_ways, cases_Bool, and_parts, ltb-true, ltb-false, leb-true, leb-false, eqb-true, eq-eqb}
 use Rattle.std.proofs.lemmas.List.Elements.{All-filter, All-weaker, Contains-push, Contains-append_left, Contains-append_right}
 use Rattle.paxos_base.specs.Ballot.{ballot_number, member_of, round_of}
 use Rattle.paxos_base.specs.Durable.{after_delta}
-use Rattle.paxos_base.specs.Members.{has_majority, only_member, with_member}
+use Rattle.paxos_base.specs.Members.{has_majority, with_member}
 use Rattle.paxos_base.specs.declared.entry.Entry.{Entry}
 use Rattle.paxos_base.specs.declared.entry.Entry.TheVariants.{Noop, Start, End}
 use Rattle.paxos_base.specs.declared.entry.Vote.{Vote}
-use Rattle.paxos_base.specs.Vote.{vote_at, votes_from, put_vote}
+use Rattle.paxos_base.specs.Vote.{vote_at, votes_from}
 use Rattle.paxos_base.proofs.PutLemmas.{at_put}
 use Rattle.term_core.specs.Best.{best_of}
-use Rattle.term_core.specs.Term.{after_ballot, is_ended_by, is_fourth, new_flight, accepted_by}
+use Rattle.term_core.specs.Term.{after_ballot, is_fourth, new_flight, accepted_by}
 use Rattle.term_core.specs.declared.flight.Flight.{Flight}
 use Rattle.term_core.specs.declared.term.Term.{Term}
 use Rattle.term_core.specs.declared.term.Term.TheVariants.{Follower, Candidate, Leader}
-use Rattle.step_law.specs.Act.{Act, Observe, Stand, Gather, TakeLead, Pledge, Cast, Launch, Count, Wait, Learn, Rebase, Call, Send, Restart, after_act}
+use Rattle.step_law.specs.Act.{Act, Observe, Gather, Cast, Launch, Count, Send, after_act}
 use Rattle.step_law.specs.Folds.{after_acts}
 use Rattle.step_law.specs.Hear.{ask_below, cast_new, hear, hear_all, is_vote_of, known_from, line, on_prepare, on_promise, on_accept, on_accepted, on_known, on_ask, on_lead, send_all, shows_gap}
-use Rattle.step_law.specs.May.{May, AllMay, Saying, Setting, HasSaid, IsFollower, HasNoOther, IsNamed, none_named, by_saying, IsHeard, LeadsIn, MayEnter, MaySend, WasSaid}
+use Rattle.step_law.specs.May.{May, AllMay, Saying, Setting, HasSaid, IsFollower, HasNoOther, IsNamed, none_named, by_saying, IsHeard, MayEnter, WasSaid}
 use Rattle.step_law.specs.Step.{Event, Campaign, Tick, Hear, Answer, IsLaunchTable, IsPlanned, Plan, step}
 use Rattle.launch_machine.specs.Answers.{IsIntent}
 use Rattle.launch_machine.specs.declared.machine.Intent.{Intent}
 use Rattle.launch_machine.specs.declared.machine.Intent.TheVariants as intent
-use Rattle.step_law.specs.Message.{Message, Whom, Prepare, Promise, Accept, Accepted, Nack, Known, AskFrom, Snap, Lead, Mention, Only, Others, Outside, ballot_in}
-use Rattle.step_law.specs.Propose.{answer, answer_of, campaign, choose_if, end_if, follow_intent, is_open, lead_if, lead_on, propose, proposal, tick, tick_of, vote_of, wait}
-use Rattle.step_law.specs.Sound.{IsSound, FitsTerm, IsOwn, IsAtPrefix, AreUpTo}
+use Rattle.step_law.specs.Message.{Message, Prepare, Promise, Accept, Accepted, Nack, Known, AskFrom, Snap, Lead, Mention, Only, ballot_in}
+use Rattle.step_law.specs.Propose.{answer, answer_of, campaign, choose_if, end_if, follow_intent, is_open, lead_if, lead_on, propose, proposal, tick, tick_of, wait}
+use Rattle.step_law.specs.Sound.{IsSound, FitsTerm, AreUpTo}
 use Rattle.step_law.specs.State.{State, Identity, prefix_of, promised_in}
 use Rattle.step_law.proofs.SoundLemmas.{act_sound}
 use Rattle.step_law.proofs.VoteLemmas.{found_vote, known-push, known-drop}
@@ -91,9 +91,9 @@ on_prepare_may setting state from ballot slot sound seen not_low =
           rw above (elim (cases_Bool (ltb slot state.kept.base)) [
             | inl behind ↦ rw behind tt
             | inr kept ↦ rw kept (
-                record { above = high; seen = seen; follower = no_lower setting.self state ballot state.term sound.term not_low high },
-                (record { promised = refl; kept_all = ltb-false slot state.kept.base kept; votes_are = refl; lower = lower_votes (promised_in state.kept) ballot slot state.kept.votes high sound.votes }, tt),
-              )
+              record { above = high; seen = seen; follower = no_lower setting.self state ballot state.term sound.term not_low high },
+              (record { promised = refl; kept_all = ltb-false slot state.kept.base kept; votes_are = refl; lower = lower_votes (promised_in state.kept) ballot slot state.kept.votes high sound.votes }, tt),
+            )
           ])
     ]
 
@@ -152,9 +152,9 @@ voted_may setting state from vote sound seen not_low said least = go (vote_at vo
           let there = found_vote (IsUpTo (promised_in state.kept)) vote.slot state.kept.votes found sound.votes is in
           rw again (told_may setting state from vote.ballot vote.slot found (omega (arith, there.1, least, same)) same there.0 is)
       | inr new ↦ rw new (
-          record { from = from; asked = said; promised = least; seen = seen; alone = no_other setting.self state vote.ballot state.term sound.term not_low least; first = λ again. both_ways (eqb found.ballot vote.ballot) new (rw is at again) },
-          told_may setting (after_act (Cast vote) state) from vote.ballot vote.slot vote refl refl refl (at_put vote.slot vote state.kept.votes ∙ rw (eq-eqb vote.slot vote.slot refl) refl),
-        )
+        record { from = from; asked = said; promised = least; seen = seen; alone = no_other setting.self state vote.ballot state.term sound.term not_low least; first = λ again. both_ways (eqb found.ballot vote.ballot) new (rw is at again) },
+        told_may setting (after_act (Cast vote) state) from vote.ballot vote.slot vote refl refl refl (at_put vote.slot vote state.kept.votes ∙ rw (eq-eqb vote.slot vote.slot refl) refl),
+      )
     ]
 
 pub on_accept_may : (setting : Setting) (state : State) (from : ℕ) (vote : Vote) → IsSound setting.self state → vote.ballot ≤ state.seen → IsNotBelow vote.ballot state.term → HasSaid setting.said from (Accept vote) → AllMay setting state (on_accept from vote state)
@@ -182,9 +182,9 @@ unfolding May after_act
 choose_may setting state ballot best flight is at =
     elim (cases_Bool (has_majority setting.self.members flight.accepted)) [
       | inl enough ↦ rw enough (
-          record { next = at; known = inr (record { ballot = ballot; best = best; flight = flight; leader = is; slot_is = refl; entry_is = refl; majority = enough }) },
-          (learned_is_known state.kept.base state.learned flight.slot flight.entry at, tt),
-        )
+        record { next = at; known = inr (record { ballot = ballot; best = best; flight = flight; leader = is; slot_is = refl; entry_is = refl; majority = enough }) },
+        (learned_is_known state.kept.base state.learned flight.slot flight.entry at, tt),
+      )
       | inr few ↦ rw few tt
     ]
 
@@ -200,7 +200,7 @@ on_accepted_may setting state from ballot slot (Leader own best (Some flight)) i
           let same : own ≡ ballot = eqb-true own ballot parts.0 in
           let at : flight.slot ≡ slot = eqb-true flight.slot slot parts.1 in
           let fits : FitsTerm setting.self state.kept (prefix_of state) (Leader own best (Some flight)) =
-                subst (λ term. FitsTerm setting.self state.kept (prefix_of state) term) is sound.term in
+          subst (λ term. FitsTerm setting.self state.kept (prefix_of state) term) is sound.term in
           rw counts (
             record { ballot = own; best = best; flight = flight; leader = is; accepted = rw (same, at) said },
             choose_may setting (after_act (Count from) state) own best (accepted_by from flight) (rw is refl) fits.1.slot,
@@ -234,7 +234,7 @@ on_ask_may setting state from slot =
           let least : state.kept.base ≤ slot = ltb-false slot state.kept.base kept in
           let at : state.kept.base + (slot - state.kept.base) ≡ slot = omega (arith, least) in
           rw kept (send_may setting state from slot (drop (slot - state.kept.base) state.learned) (λ message has.
-            known-drop state.kept.base (slot - state.kept.base) state.learned message (rw at has)))
+          known-drop state.kept.base (slot - state.kept.base) state.learned message (rw at has)))
     ]
 
 pub on_lead_may : (setting : Setting) (state : State) (from slot : ℕ) → AllMay setting state (on_lead from slot state)
@@ -273,8 +273,8 @@ unfolding hear May after_act
 hear_may setting state from message asked sound said = (
   named setting.said from message said,
   hear_line setting (after_act (Observe (ballot_in message)) state) from message asked
-  (act_sound setting state (Observe (ballot_in message)) sound (named setting.said from message said))
-  (le-max_right state.seen (ballot_in message)) (not_below (ballot_in message) state.term) said,
+      (act_sound setting state (Observe (ballot_in message)) sound (named setting.said from message said))
+      (le-max_right state.seen (ballot_in message)) (not_below (ballot_in message) state.term) said,
 )
 
 hear_all_may : (setting : Setting) (state : State) (from : ℕ) (messages : List Message) (asked : Bool) → IsSound setting.self state → AllByRecursion (WasSaid setting.said from) messages → AllMay setting state (hear_all setting.self from messages asked state)
@@ -322,7 +322,7 @@ wait_may : (setting : Setting) (state : State) (ballot : ℕ) (best : List Vote)
 unfolding May after_act
 wait_may setting state ballot best flight is sound =
     let fits : FitsTerm setting.self state.kept (prefix_of state) (Leader ballot best (Some flight)) =
-          subst (λ term. FitsTerm setting.self state.kept (prefix_of state) term) is sound.term in (
+    subst (λ term. FitsTerm setting.self state.kept (prefix_of state) term) is sound.term in (
       tt,
       elim (cases_Bool (is_fourth flight)) [
         | inl again ↦ rw again ((fits.1.voted, rw is refl), tt)

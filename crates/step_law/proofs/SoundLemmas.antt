@@ -1,27 +1,26 @@
 -- Each act that may be done leaves a sound replica.
-use Rattle.std.proofs.Common.{◌≡◌, ℕ, ◌+◌, ◌-◌, ◌*◌, ◌/◌, ◌%◌, ◌<◌, ◌≤◌, max, Option, Some, None, List, [], ◌∷◌, ◌++◌, length, drop, true, false, eqb, ltb, leb, refl, sym, ap, ◌∙◌, inl, inr, arith, subst, length-append, length-drop, if◌then◌else◌, IsTrue}
-use Rattle.std.specs.List.{All, filter}
+use Rattle.std.proofs.Common.{◌≡◌, ℕ, ◌+◌, ◌-◌, ◌≤◌, max, Some, None, List, [], ◌∷◌, ◌++◌, length, drop, true, false, eqb, ltb, refl, sym, ◌∙◌, inl, inr, arith, subst, length-append, length-drop, IsTrue}
 use Rattle.std.proofs.Math.Nat.{le-max_left, le-max_right, max-le}
-use Rattle.std.proofs.lemmas.Bool.{cases_Bool, ltb-true, ltb-false, eq-eqb, ne_eqb, eqb-true, lt-ltb, le-ltb, le-leb, cases_lt, cases_eq}
+use Rattle.std.proofs.lemmas.Bool.{cases_Bool, eq-eqb, ne_eqb, lt-ltb, le-ltb, le-leb, cases_lt}
 use Rattle.std.proofs.lemmas.List.Elements.{All-cons, All-append, All-filter, All-weaker}
-use Rattle.paxos_base.specs.Ballot.{ballot_number, member_of, round_of}
+use Rattle.paxos_base.specs.Ballot.{ballot_number, round_of}
 use Rattle.paxos_base.specs.Durable.{after_delta}
 use Rattle.paxos_base.specs.declared.durable.Durable.{Durable}
-use Rattle.paxos_base.specs.declared.durable.Delta.TheVariants.{Tried, Promised, Voted, Base}
+use Rattle.paxos_base.specs.declared.durable.Delta.TheVariants.{Promised, Voted, Base}
 use Rattle.paxos_base.specs.declared.entry.Entry.{Entry}
 use Rattle.paxos_base.specs.declared.entry.Vote.{Vote}
 use Rattle.paxos_base.specs.declared.rows.JobRow.{JobRow}
 use Rattle.paxos_base.specs.Vote.{vote_at, votes_from, votes_below, put_vote}
 use Rattle.paxos_base.proofs.PutLemmas.{at_put, at_from}
-use Rattle.term_core.specs.Term.{after_advance, after_ballot, after_tick, is_ended_by, ticked}
+use Rattle.term_core.specs.Term.{after_advance, after_ballot, after_tick, is_ended_by}
 use Rattle.term_core.specs.declared.flight.Flight.{Flight}
 use Rattle.term_core.specs.declared.term.Term.{Term}
 use Rattle.term_core.specs.declared.term.Term.TheVariants.{Follower, Candidate, Leader}
 use Rattle.step_law.specs.Act.{Act, Observe, Stand, Gather, TakeLead, Pledge, Cast, Launch, Count, Wait, Learn, Rebase, Call, Send, Restart, after_act, after_counting, after_gathering, as_leader}
 use Rattle.step_law.specs.Hear.{is_vote_of}
-use Rattle.step_law.specs.May.{May, Setting, HasNoOther, IsFollower, MayCast, MayPledge, MayPropose, MayStand}
+use Rattle.step_law.specs.May.{May, Setting, HasNoOther, IsFollower}
 use Rattle.step_law.specs.Propose.{vote_of}
-use Rattle.step_law.specs.Sound.{IsSound, FitsTerm, IsOwn, IsAtPrefix, IfFlies, AreUpTo}
+use Rattle.step_law.specs.Sound.{IsSound, FitsTerm, IsOwn, AreUpTo}
 use Rattle.step_law.specs.State.{State, Identity, prefix_of, promised_in, started}
 
 abbrev UpTo : ℕ → Vote → Type 0
@@ -99,9 +98,9 @@ fits_after_vote self kept prefix vote (Leader ballot best None) alone first fits
 fits_after_vote self kept prefix vote (Leader ballot best (Some flight)) alone first fits =
     let own : IsOwn self (after_delta (Voted vote) kept) ballot = record { promised = sym alone; member = fits.0.member; round = fits.0.round } in
     let apart : eqb vote.slot flight.slot ≡ false =
-        ne_eqb vote.slot flight.slot (λ same.
-          let there : vote_at vote.slot kept.votes ≡ Some (vote_of ballot flight) = rw same fits.1.voted in
-          first (rw (there, alone) (eq-eqb vote.ballot vote.ballot refl))) in
+    ne_eqb vote.slot flight.slot (λ same.
+    let there : vote_at vote.slot kept.votes ≡ Some (vote_of ballot flight) = rw same fits.1.voted in
+    first (rw (there, alone) (eq-eqb vote.ballot vote.ballot refl))) in
     (own, record { slot = fits.1.slot; voted = at_put flight.slot vote kept.votes ∙ rw apart fits.1.voted })
 
 -- a leader's own vote is the one of its flight
@@ -109,8 +108,7 @@ fits_after_proposal : (self : Identity) (kept : Durable) (prefix : ℕ) (vote : 
 unfolding after_delta
 fits_after_proposal self kept prefix vote best flight own at slot entry =
     let is : eqb vote.slot flight.slot ≡ true = eq-eqb vote.slot flight.slot (sym slot) in
-    let same : Some vote ≡ Some (vote_of vote.ballot flight) = rw (slot, entry) refl in
-    (
+    let same : Some vote ≡ Some (vote_of vote.ballot flight) = rw (slot, entry) refl in (
       record { promised = refl; member = own.member; round = own.round },
       record { slot = slot ∙ at; voted = at_put flight.slot vote kept.votes ∙ rw is same },
     )
@@ -148,13 +146,13 @@ fits_after_rebase self kept prefix slot rows (Leader ballot best None) later fit
     (record { promised = fits.0.promised; member = fits.0.member; round = fits.0.round }, tt)
 fits_after_rebase self kept prefix slot rows (Leader ballot best (Some flight)) later fits =
     let own : IsOwn self (after_delta (Base slot rows) kept) ballot =
-          record { promised = fits.0.promised; member = fits.0.member; round = fits.0.round } in
+    record { promised = fits.0.promised; member = fits.0.member; round = fits.0.round } in
     elim (cases_lt flight.slot slot) [
       | inl below ↦ rw (lt-ltb flight.slot slot below) (own, tt)
       | inr here ↦
           let at : flight.slot ≡ slot = omega (arith, here, fits.1.slot, later) in
           let voted : vote_at flight.slot (votes_from slot kept.votes) ≡ Some (vote_of ballot flight) =
-                at_from slot flight.slot kept.votes ∙ rw (le-leb slot flight.slot here) fits.1.voted in
+          at_from slot flight.slot kept.votes ∙ rw (le-leb slot flight.slot here) fits.1.voted in
           rw (le-ltb flight.slot slot here) (own, record { slot = at; voted = voted })
     ]
 
@@ -193,7 +191,7 @@ act_sound setting state (Cast vote) sound may = record {
 }
 act_sound setting state (Launch me vote) sound may =
     let fits : FitsTerm setting.self state.kept (prefix_of state) (Leader vote.ballot may.best None) =
-          subst (λ term. FitsTerm setting.self state.kept (prefix_of state) term) may.leader sound.term in
+    subst (λ term. FitsTerm setting.self state.kept (prefix_of state) term) may.leader sound.term in
     let same : promised_in state.kept ≡ vote.ballot = fits.0.promised in
     record {
       promised = rw (← same) sound.promised;
@@ -212,7 +210,7 @@ act_sound setting state Wait sound may = record {
 }
 act_sound setting state (Learn slot entry) sound may =
     let longer : state.kept.base + length (state.learned ++ entry ∷ []) ≡ prefix_of state + 1 =
-          omega (arith, length-push state.learned entry) in
+    omega (arith, length-push state.learned entry) in
     record {
       promised = sound.promised;
       term = rw longer (fits_after_learning setting.self state.kept (prefix_of state) state.term sound.term);
@@ -220,7 +218,7 @@ act_sound setting state (Learn slot entry) sound may =
     }
 act_sound setting state (Rebase slot rows) sound may =
     let short : length (drop (slot - state.kept.base) state.learned) ≡ 0 =
-          length-drop_all state.learned (slot - state.kept.base) (omega (arith, may)) in
+    length-drop_all state.learned (slot - state.kept.base) (omega (arith, may)) in
     let at : slot + length (drop (slot - state.kept.base) state.learned) ≡ slot = omega (arith, short) in
     record {
       promised = sound.promised;

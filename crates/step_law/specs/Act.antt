@@ -11,7 +11,7 @@ use Rattle.paxos_base.specs.declared.rows.JobRow.{JobRow}
 use Rattle.term_core.specs.Best.{best_of}
 use Rattle.term_core.specs.Term.{accepted_by, after_advance, after_ballot, after_proposal, after_tick}
 use Rattle.term_core.specs.declared.term.Term.{Term}
-use Rattle.term_core.specs.declared.term.Term.TheVariants.{Follower, Candidate, Leader}
+use Rattle.term_core.specs.declared.term.Term.TheVariants.{Candidate, Leader}
 use Rattle.cluster_sched.specs.declared.row.SchedRow.{SchedRow}
 use Rattle.step_law.specs.Message.{Message, Whom}
 use Rattle.step_law.specs.State.{State, prefix_of, started}

@@ -1,11 +1,11 @@
 -- What a list of acts comes to: the state after it, what is to be stored, sent, learned and called.
-use Rattle.std.specs.Prelude.{ℕ, Bool, List, [], ◌∷◌, ◌++◌, Option, None, Some, if◌then◌else◌}
+use Rattle.std.specs.Prelude.{ℕ, List, [], ◌∷◌, if◌then◌else◌}
 use Rattle.std.specs.List.{flat_map, range_with_len}
 use Rattle.paxos_base.specs.declared.durable.Delta.{Delta}
 use Rattle.paxos_base.specs.declared.durable.Delta.TheVariants.{Tried, Promised, Voted, Base}
 use Rattle.cluster_sched.specs.declared.row.SchedRow.{SchedRow}
-use Rattle.step_law.specs.Act.{Act, Observe, Stand, Gather, TakeLead, Pledge, Cast, Launch, Count, Wait, Learn, Rebase, Call, Send, Restart, after_act}
-use Rattle.step_law.specs.Message.{Message, Whom, goes_to}
+use Rattle.step_law.specs.Act.{Act, Stand, Pledge, Cast, Launch, Learn, Rebase, Call, Send, after_act}
+use Rattle.step_law.specs.Message.{Message, goes_to}
 use Rattle.step_law.specs.State.{State, Identity}
 use Rattle.step_law.specs.declared.out.LearntRow.{LearntRow}
 

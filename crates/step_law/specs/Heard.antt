@@ -1,7 +1,6 @@
 -- How messages are spelled in packets, and as what packets are heard.
-use Rattle.std.specs.Prelude.{◌≡◌, ◌⊎◌, ℕ, ◌+◌, ◌<◌, ◌^◌, ⊤, List, [], ◌∷◌, ◌++◌, length, map, take, Option, None, Some}
-use Rattle.std.specs.List.{AllByRecursion, flat_map}
-use Rattle.paxos_base.specs.Ballot.{round_of}
+use Rattle.std.specs.Prelude.{ℕ, List, [], ◌∷◌, length, map, take, replicate}
+use Rattle.std.specs.List.{flat_map}
 use Rattle.paxos_base.specs.declared.entry.Vote.{Vote}
 use Rattle.paxos_base.specs.declared.rows.JobRow.{JobRow}
 use Rattle.paxos_letter.specs.declared.packet.Packet.{Packet}
@@ -50,3 +49,13 @@ messages_of (packet.AskFrom slot ∷ rest) = AskFrom slot ∷ messages_of rest
 messages_of (packet.Snap slot count ∷ rest) = Snap slot (flat_map row_in (take count rest)) ∷ messages_of rest
 messages_of (packet.SnapRow slot row ∷ rest) = messages_of rest
 messages_of (packet.Lead ballot slot ∷ rest) = Lead ballot slot ∷ messages_of rest
+
+-- the ballots that the old votes of a promise name besides
+abbrev pub mentions_of : Message → List Message
+mentions_of (Promise ballot slot votes) = replicate (length votes) (Mention ballot)
+mentions_of message = []
+
+-- as what a message is heard: as itself, and a promise with a mention of its ballot for each vote
+abbrev pub heard_as : Message → List Message
+heard_as (Mention ballot) = []
+heard_as message = message ∷ mentions_of message

@@ -19,7 +19,7 @@ use Rattle.launch_machine.specs.declared.machine.Intent.TheVariants as intent
 use Rattle.step_law.specs.Step.{Event, Campaign, Tick, Hear, Answer, IsLaunchTable}
 use Rattle.step_law.specs.Act.{Act, Observe, Stand, Gather, TakeLead, Pledge, Cast, Launch, Count, Wait, Learn, Rebase, Call, Send, Restart, after_act}
 use Rattle.step_law.specs.Hear.{is_vote_of, known_from}
-use Rattle.step_law.specs.Message.{Message, Whom, Prepare, Promise, Accept, Accepted, Nack, Known, AskFrom, Snap, Lead, Mention, ballot_in}
+use Rattle.step_law.specs.Message.{Message, Prepare, Promise, Accept, Accepted, Nack, Known, AskFrom, Snap, Lead, Mention, ballot_in}
 use Rattle.step_law.specs.Propose.{bound_by, is_open}
 use Rattle.step_law.specs.State.{State, Identity, prefix_of, promised_in}
 

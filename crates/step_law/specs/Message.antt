@@ -1,5 +1,5 @@
 -- What replicas tell one another ("Paxos Made Simple", sections 2.2, 2.3 and 3), each message whole.
-use Rattle.std.specs.Prelude.{ℕ, Bool, true, false, List, ◌==◌, not, ◌&&◌}
+use Rattle.std.specs.Prelude.{ℕ, Bool, List, ◌==◌, not, ◌&&◌}
 use Rattle.paxos_base.specs.Members.{has_member}
 use Rattle.paxos_base.specs.declared.entry.Entry.{Entry}
 use Rattle.paxos_base.specs.declared.entry.Vote.{Vote}

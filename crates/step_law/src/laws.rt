@@ -1,9 +1,11 @@
 //! Laws of a replica's step. Each is the contract of a function that does nothing.
-ghost use Rattle.std.specs.Prelude.{◌≡◌, ◌≤◌, ◌<◌, ℕ, List, length};
+ghost use Rattle.std.specs.Prelude.{◌≡◌, ◌≤◌, ◌<◌, ℕ, List, flat_map, length};
 ghost use Rattle.paxos_base.specs.declared.durable.Durable.{Durable};
 ghost use Rattle.step_law.specs.Act.{Act, after_act};
 ghost use Rattle.step_law.specs.Folds.{after_acts, deltas_of};
+ghost use Rattle.step_law.specs.Heard.{heard_as, messages_of, packets_of};
 ghost use Rattle.step_law.specs.May.{AllMay, IsHeard, May, Setting};
+ghost use Rattle.step_law.specs.Message.{Message};
 ghost use Rattle.step_law.specs.Sound.{AreUpTo, IsSound};
 ghost use Rattle.step_law.specs.State.{State, Identity, promised_in, started};
 ghost use Rattle.step_law.specs.Step.{AsksOnce, Event, IsPlanned, step};
@@ -28,4 +30,10 @@ pub fn replicas_stay_sound()
 /// A step changes what is kept once at most.
 pub fn a_step_has_one_delta_at_most()
     ensures { (self : Identity) (event : Event) (state : State) → AsksOnce event → length (deltas_of (step self event state)) ≤ 1 }
+{}
+
+/// What is spelled in packets is heard as it was meant: each message as itself, and with a promise a mention of its ballot
+/// for each of its votes.
+pub fn messages_are_heard_as_they_are_spelled()
+    ensures { (messages : List Message) → messages_of (flat_map packets_of messages) ≡ flat_map heard_as messages }
 {}

@@ -3,6 +3,11 @@
 
 mod laws;
 mod out;
+#[cfg(test)]
+mod tests;
 
-pub use laws::{a_step_has_one_delta_at_most, each_act_may_be_done, replicas_stay_sound};
+pub use laws::{
+    a_step_has_one_delta_at_most, each_act_may_be_done, messages_are_heard_as_they_are_spelled,
+    replicas_stay_sound,
+};
 pub use out::LearntRow;

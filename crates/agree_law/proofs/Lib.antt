@@ -1,0 +1,11 @@
+pub mod Chosen
+pub mod ChosenLemmas
+pub mod Growing
+pub mod Kept
+pub mod KeptLemmas
+pub mod OneValue
+pub mod Safe
+pub mod Told
+pub mod ToldLemmas
+pub mod Turns
+pub mod Whole

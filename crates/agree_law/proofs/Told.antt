@@ -1,0 +1,72 @@
+-- What a promise tells, and what a candidate and a leader have heard ("Paxos Made Simple", section 2.2: a majority none of
+-- whose members votes below the ballot any more, and the highest votes that they have cast).
+use Rattle.std.proofs.Common.{◌≡◌, ◌≢◌, ℕ, ◌+◌, ◌-◌, ◌<◌, ◌≤◌, Option, Some, None, List, [], ◌∷◌, ◌++◌, length, drop, true, false, eqb, ltb, leb, refl, sym, ap, ◌∙◌, inl, inr, arith, subst, ◌⊎◌, length-append, IsTrue}
+use Rattle.std.specs.List.{All, Contains}
+use Rattle.std.specs.Option.{IsSomeAnd}
+use Rattle.std.proofs.lemmas.List.{length-drop}
+use Rattle.std.proofs.lemmas.List.Elements.{All-contains}
+use Rattle.std.proofs.lemmas.Bool.{cases_Bool, cases_eq, cases_lt, le-leb}
+use Rattle.paxos_base.specs.Ballot.{member_of, round_of}
+use Rattle.paxos_base.specs.Durable.{after_delta}
+use Rattle.paxos_base.specs.Members.{AllBelow, HasMember, has_majority, no_members, only_member, with_member}
+use Rattle.paxos_base.specs.Vote.{vote_at, votes_from}
+use Rattle.paxos_base.specs.declared.entry.Entry.{Entry}
+use Rattle.paxos_base.specs.declared.entry.Vote.{Vote}
+use Rattle.paxos_base.proofs.MemberLemmas.{has_member-set}
+use Rattle.paxos_base.proofs.PutLemmas.{at_from}
+use Rattle.due_set.specs.Table.{Table}
+use Rattle.term_core.specs.Best.{best_of}
+use Rattle.term_core.specs.Term.{after_advance, after_ballot, after_proposal, after_tick, is_ended_by}
+use Rattle.term_core.specs.declared.flight.Flight.{Flight}
+use Rattle.term_core.specs.declared.term.Term.{Term}
+use Rattle.term_core.specs.declared.term.Term.TheVariants.{Follower, Candidate, Leader}
+use Rattle.term_core.proofs.LawLemmas.{held_or_higher, heard_or_higher, held_or_heard}
+use Rattle.step_law.specs.Act.{Act, Observe, Stand, Gather, TakeLead, Pledge, Cast, Launch, Count, Wait, Learn, Rebase, Call, Send, Restart, after_act, after_counting, after_gathering, as_leader}
+use Rattle.step_law.specs.May.{May, MaySend, MayPromise, Outcome, Setting}
+use Rattle.step_law.specs.Message.{Message, Promise}
+use Rattle.step_law.specs.Sound.{IsSound, FitsTerm, IsOwn}
+use Rattle.step_law.specs.State.{State, Identity, prefix_of, promised_in}
+use Rattle.step_law.proofs.VoteLemmas.{found_vote}
+use Rattle.agree_law.specs.Agree.{HasCast}
+use Rattle.agree_law.specs.World.{Ballot, Doing, MayDo, World, after_doing, cast_after, with_replica}
+use Rattle.agree_law.proofs.Growing.{Casts, Says, HasSaid, IsLater, GoesOn, cast_cases, cast_now, cast_stays, casts_stored, each_replica, found_there, from_there, goes_on, said_cases}
+use Rattle.agree_law.proofs.Kept.{Kept, says_may}
+use Rattle.agree_law.proofs.KeptLemmas.{setting_of}
+
+-- the replica votes in no ballot below this one any more, and these votes tell each that it has cast from the slot on
+pub record Heeds (cast : List Ballot) (promised q ballot first : ℕ) (votes : List Vote) : Type 0 where
+  pub promised_it : ballot ≤ promised
+  pub tells : (vote : Vote) → HasCast cast q vote → first ≤ vote.slot → vote.ballot < ballot → IsLater (vote_at vote.slot votes) vote.ballot
+
+-- each of the votes was cast by some replica, below the ballot
+abbrev pub AreBacked : List Ballot → (ballot : ℕ) → List Vote → Type 0
+AreBacked cast ballot votes = (vote : Vote) → Contains votes vote → (q : ℕ) × HasCast cast q vote × (vote.ballot < ballot)
+
+-- those that were heard heed the ballot, and the best votes are the highest that they have cast
+pub record IsRallied (n : ℕ) (w : World) (prefix ballot first heard : ℕ) (best : List Vote) : Type 0 where
+  pub up : first ≤ prefix
+  pub below : AllBelow n heard
+  pub each : (m : ℕ) → HasMember heard m → Heeds w.cast (promised_in (w.replicas m).kept) m ballot first best
+  pub backed : AreBacked w.cast ballot best
+
+-- the same of those that have made a leader
+pub record IsLed (n : ℕ) (w : World) (prefix ballot : ℕ) (best : List Vote) : Type 0 where
+  pub heard : ℕ
+  pub first : ℕ
+  pub majority : IsTrue (has_majority n heard)
+  pub rallied : IsRallied n w prefix ballot first heard best
+
+-- what a term has heard
+abbrev pub HasHeard : ℕ → World → (prefix : ℕ) → Term → Type 0
+HasHeard n w prefix (Follower ended) = Unit {0}
+HasHeard n w prefix (Candidate ballot first heard best) = IsRallied n w prefix ballot first heard best
+HasHeard n w prefix (Leader ballot best flight) = IsLed n w prefix ballot best
+
+-- a promise holds
+pub record IsPromised (w : World) (q ballot first : ℕ) (votes : List Vote) : Type 0 where
+  pub heeds : Heeds w.cast (promised_in (w.replicas q).kept) q ballot first votes
+  pub backed : AreBacked w.cast ballot votes
+
+pub record Told (n : ℕ) (w : World) : Type 0 where
+  pub promises : (q ballot first : ℕ) (votes : List Vote) → HasSaid w.said q (Promise ballot first votes) → IsPromised w q ballot first votes
+  pub terms : (q : ℕ) → q < n → HasHeard n w (prefix_of (w.replicas q)) (w.replicas q).term

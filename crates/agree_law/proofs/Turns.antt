@@ -1,0 +1,149 @@
+-- The acts of a turn may be done one after another.
+use Rattle.std.proofs.Common.{◌≡◌, ◌≢◌, ℕ, ◌+◌, ◌-◌, ◌<◌, ◌≤◌, Option, Some, None, List, [], ◌∷◌, ◌++◌, length, drop, true, false, eqb, ltb, leb, refl, sym, ap, ◌∙◌, inl, inr, arith, subst, ◌⊎◌, length-append, IsTrue}
+use Rattle.std.specs.List.{All, Contains}
+use Rattle.std.specs.Option.{IsSomeAnd}
+use Rattle.std.proofs.lemmas.List.{length-drop}
+use Rattle.std.proofs.lemmas.List.Elements.{All-contains, All-contains_itself, Contains-push, Contains-append_left, Contains-append_right}
+use Rattle.std.proofs.lemmas.Nat.Bits.{bit_at-zero}
+use Rattle.std.proofs.lemmas.Bool.{cases_Bool, cases_eq, cases_lt, eq-eqb, le-leb}
+use Rattle.paxos_base.specs.Ballot.{member_of, round_of}
+use Rattle.paxos_base.specs.Durable.{after_delta}
+use Rattle.paxos_base.specs.Members.{AllBelow, HasMember, has_majority, no_members, only_member, with_member}
+use Rattle.paxos_base.specs.Vote.{vote_at, votes_from}
+use Rattle.paxos_base.specs.declared.entry.Entry.{Entry}
+use Rattle.paxos_base.specs.declared.entry.Vote.{Vote}
+use Rattle.paxos_base.proofs.MemberLemmas.{has_member-set}
+use Rattle.paxos_base.proofs.PutLemmas.{at_from}
+use Rattle.due_set.specs.Table.{Table}
+use Rattle.term_core.specs.Best.{best_of, is_higher, with_vote}
+use Rattle.term_core.specs.Term.{after_advance, after_ballot, after_proposal, after_tick, is_ended_by}
+use Rattle.term_core.specs.declared.flight.Flight.{Flight}
+use Rattle.term_core.specs.declared.term.Term.{Term}
+use Rattle.term_core.specs.declared.term.Term.TheVariants.{Follower, Candidate, Leader}
+use Rattle.term_core.proofs.LawLemmas.{held_or_higher, heard_or_higher, held_or_heard}
+use Rattle.step_law.specs.Act.{Act, Observe, Stand, Gather, TakeLead, Pledge, Cast, Launch, Count, Wait, Learn, Rebase, Call, Send, Restart, after_act, after_counting, after_gathering, as_leader}
+use Rattle.step_law.specs.May.{May, MaySend, MayPromise, Outcome, Setting}
+use Rattle.step_law.specs.Message.{Message, Promise}
+use Rattle.step_law.specs.Sound.{IsSound, FitsTerm, IsOwn}
+use Rattle.step_law.specs.State.{State, Identity, prefix_of, promised_in}
+use Rattle.step_law.proofs.VoteLemmas.{found_vote}
+use Rattle.agree_law.specs.Agree.{HasCast}
+use Rattle.agree_law.specs.World.{Ballot, Doing, MayDo, World, after_doing, cast_after, with_replica}
+use Rattle.agree_law.proofs.Growing.{Casts, Says, HasSaid, IsLater, GoesOn, cast_cases, cast_now, cast_stays, casts_stored, each_replica, found_there, from_there, goes_on, put_cases, said_cases}
+use Rattle.agree_law.proofs.Kept.{Kept, says_may}
+use Rattle.agree_law.proofs.KeptLemmas.{setting_of}
+use Rattle.agree_law.proofs.Told.{Heeds, AreBacked, IsRallied, IsLed, HasHeard, IsPromised, Told}
+use Rattle.std.specs.List.{AllByRecursion, filter}
+use Rattle.step_law.specs.Folds.{after_acts}
+use Rattle.step_law.specs.May.{AllMay, IsChosen as IsCounted, IsNamed, none_named, by_saying, IsHeard, MayEnter, MayLearn, Saying}
+use Rattle.paxos_base.specs.declared.entry.Entry.TheVariants.{Noop, Start, End}
+use Rattle.step_law.specs.Message.{Accept, Accepted, Known, ballot_in}
+use Rattle.step_law.specs.Step.{Event, IsPlanned, step}
+use Rattle.step_law.proofs.LineLemmas.{step_may}
+use Rattle.agree_law.specs.Turn.{Turn, Did, Stopped, Restarted, AreTurns, MayTake, MayTurn, acts_of, after_turn, after_turns, identity_of, is_silent, turn_of}
+use Rattle.agree_law.specs.World.{AllMayDo, after_all, doings_of, said_after}
+use Rattle.agree_law.proofs.Whole.{IsWhole, whole_after_all}
+
+-- what was said stays said
+said_stays : (by : ℕ) (act : Act) (said : List Saying) (saying : Saying) → Contains said saying → Contains (said_after by act said) saying
+said_stays by (Send whom mine) said saying has = Contains-append_left said (record { by = by; message = mine } ∷ []) saying has
+said_stays by act said saying has = has
+
+-- a setting in which more was said
+abbrev with_said : List Saying → Setting → Setting
+with_said said setting = record setting { said = said }
+
+-- what may be done may be done where more was said
+may_more : (setting : Setting) (more : List Saying) (state : State) (act : Act) → ((saying : Saying) → Contains setting.said saying → Contains more saying) → May setting state act → May (with_said more setting) state act
+unfolding May
+may_more setting more state (Observe ballot) stays may = named may
+  where
+    named : IsNamed setting.said ballot → IsNamed more ballot
+    named (none_named is) = none_named is
+    named (by_saying saying has is) = by_saying saying (stays saying has) is
+may_more setting more state (Stand me ballot) stays may = may
+may_more setting more state (Gather from votes) stays may = record {
+  ballot = may.ballot; first = may.first; heard = may.heard; best = may.best; candidate = may.candidate;
+  promise = stays (record { by = from; message = Promise may.ballot may.first votes }) may.promise;
+}
+may_more setting more state TakeLead stays may = may
+may_more setting more state (Pledge ballot) stays may = may
+may_more setting more state (Cast vote) stays may = record {
+  from = may.from; asked = stays (record { by = may.from; message = Accept vote }) may.asked;
+  promised = may.promised; seen = may.seen; alone = may.alone; first = may.first;
+}
+may_more setting more state (Launch me vote) stays may = record {
+  is_me = may.is_me; best = may.best; leader = may.leader; slot = may.slot; entry = may.entry;
+  may = enter may.entry may.may; bound = may.bound;
+}
+  where
+    enter : (entry : Entry) → MayEnter setting state entry → MayEnter (with_said more setting) state entry
+    enter Noop it = it
+    enter (Start job at now) it = record { rows = it.rows; rows_are = it.rows_are; asked = it.asked }
+    enter (End job at kind) it = record { rows = it.rows; rows_are = it.rows_are; open_there = it.open_there; answered = it.answered }
+may_more setting more state (Count from) stays may = record {
+  ballot = may.ballot; best = may.best; flight = may.flight; leader = may.leader;
+  accepted = stays (record { by = from; message = Accepted may.ballot may.flight.slot }) may.accepted;
+}
+may_more setting more state Wait stays may = may
+may_more setting more state (Learn slot entry) stays may = record { next = may.next; known = known may.known }
+  where
+    known : ((from : ℕ) × Contains setting.said (record { by = from; message = Known slot entry })) ⊎ IsCounted setting.self state slot entry
+        → ((from : ℕ) × Contains more (record { by = from; message = Known slot entry })) ⊎ IsCounted setting.self state slot entry
+    known (inl (from, has)) = inl (from, stays (record { by = from; message = Known slot entry }) has)
+    known (inr counted) = inr counted
+may_more setting more state (Rebase slot rows) stays may = may
+may_more setting more state (Call row) stays may = record { by = may.by; rows = may.rows; rows_are = may.rows_are; asked = may.asked }
+may_more setting more state (Send whom message) stays may = may
+may_more setting more state (Restart me) stays may = may
+
+-- what the replica knows that did an act
+here : (by : ℕ) (act : Act) (w : World) → (after_doing by act w).replicas by ≡ after_act act (w.replicas by)
+unfolding after_doing
+here by act w = rw (eq-eqb by by refl) refl
+
+said_is : (by : ℕ) (act : Act) (w : World) → (after_doing by act w).said ≡ said_after by act w.said
+unfolding after_doing
+said_is by act w = refl
+
+-- acts that a replica may do are done one after another, whatever it says meanwhile
+acts_done : (n : ℕ) (table : Table) (by : ℕ) (answered : List Outcome) (heard : List Saying) (acts : List Act) (w : World) → by < n → ((saying : Saying) → Contains heard saying → Contains w.said saying) → AllMay (record { self = identity_of n by; table = table; said = heard; answered = answered }) (w.replicas by) acts → AllMayDo n table w (doings_of by acts)
+acts_done n table by answered heard [] w member stays may = tt
+acts_done n table by answered heard (act ∷ acts) w member stays may = (
+  record { member = member; answered = answered; may = may_more _ w.said (w.replicas by) act stays may.0 },
+  acts_done n table by answered heard acts (after_doing by act w) member
+    (λ saying has. rw (said_is by act w) (said_stays by act w.said saying (stays saying has)))
+    (rw (here by act w) may.1),
+)
+
+-- acts that come first may be done without the rest
+front_may : (setting : Setting) (state : State) (front back : List Act) → AllMay setting state (front ++ back) → AllMay setting state front
+front_may setting state [] back may = tt
+front_may setting state (act ∷ front) back may = (may.0, front_may setting (after_act act state) front back may.1)
+
+-- a message that doesn't leave changes nothing for the acts behind it
+silent_may : (setting : Setting) (state : State) (acts : List Act) → AllMay setting state acts → AllMay setting state (filter is_silent acts)
+unfolding after_act
+silent_may setting state [] may = tt
+silent_may setting state (Send whom message ∷ acts) may = silent_may setting state acts may.1
+silent_may setting state (act ∷ acts) may = (may.0, silent_may setting (after_act act state) acts may.1)
+
+-- a turn that may come next leaves the world whole
+turn_whole : (n : ℕ) (table : Table) (w : World) (turn : Turn) → n ≤ 7 → IsWhole n w → MayTurn n table w turn → IsWhole n (after_turn n turn w)
+unfolding May
+turn_whole n table w (Did by event) few whole may =
+    let acts = step_may (record { self = identity_of n by; table = table; said = w.said; answered = may.answered }) (w.replicas by) event (omega (arith, may.member, few)) (whole.kept.sound by may.member) may.planned may.heard in
+    whole_after_all n table w _ few whole (acts_done n table by may.answered w.said _ w may.member (λ saying has. has) acts)
+turn_whole n table w (Stopped by event front back) few whole (may, parts) =
+    let setting : Setting = record { self = identity_of n by; table = table; said = w.said; answered = may.answered } in
+    let acts = step_may setting (w.replicas by) event (omega (arith, may.member, few)) (whole.kept.sound by may.member) may.planned may.heard in
+    let first = front_may setting (w.replicas by) front back (subst (λ acts. AllMay setting (w.replicas by) acts) parts acts) in
+    whole_after_all n table w _ few whole (acts_done n table by may.answered w.said _ w may.member (λ saying has. has) (silent_may setting (w.replicas by) front first))
+turn_whole n table w (Restarted by) few whole member =
+    let may : AllMayDo n table w (doings_of by (Restart by ∷ [])) = (record { member = member; answered = []; may = refl }, tt) in
+    whole_after_all n table w (doings_of by (Restart by ∷ [])) few whole may
+
+pub turns_whole : (n : ℕ) (table : Table) (w : World) (turns : List Turn) → n ≤ 7 → IsWhole n w → AreTurns n table w turns → IsWhole n (after_turns n turns w)
+turns_whole n table w [] few whole may = whole
+turns_whole n table w (turn ∷ turns) few whole may =
+    turns_whole n table (after_turn n turn w) turns few (turn_whole n table w turn few whole may.0) may.1

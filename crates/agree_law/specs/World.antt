@@ -1,0 +1,93 @@
+-- Replicas and what they have done: any of them, in any order, acts that may be done where they are.
+use Rattle.std.specs.Prelude.{ℕ, ◌==◌, ◌<◌, ⊤, None, List, [], ◌∷◌, ◌++◌, map, if◌then◌else◌}
+use Rattle.paxos_base.specs.declared.durable.Durable.{Durable}
+use Rattle.paxos_base.specs.declared.entry.Entry.{Entry}
+use Rattle.paxos_base.specs.declared.entry.Vote.{Vote}
+use Rattle.paxos_base.specs.declared.rows.JobRow.{JobRow}
+use Rattle.due_set.specs.Table.{Table}
+use Rattle.step_law.specs.Act.{Act, Observe, Stand, Gather, TakeLead, Pledge, Cast, Launch, Count, Wait, Learn, Rebase, Call, Send, Restart, after_act}
+use Rattle.step_law.specs.May.{May, Outcome, Saying, Setting}
+use Rattle.step_law.specs.State.{State, started}
+
+-- a vote, and who cast it
+pub record Ballot : Type 0 where
+  pub by : ℕ
+  pub vote : Vote
+
+-- an entry that was learned for a slot, and by whom
+pub record Learning : Type 0 where
+  pub by : ℕ
+  pub slot : ℕ
+  pub entry : Entry
+
+-- what each replica knows, and all that was cast, said and learned so far
+pub record World : Type 0 where
+  pub replicas : ℕ → State
+  pub cast : List Ballot
+  pub said : List Saying
+  pub learned : List Learning
+
+-- what a replica keeps before it has done anything
+abbrev pub fresh : List JobRow → Durable
+fresh rows = record { tried = 0; promised = None; votes = []; base = 0; rows = rows }
+
+-- the world before anything was done
+abbrev pub first_world : List JobRow → World
+first_world rows = record { replicas = λ me. started me (fresh rows); cast = []; said = []; learned = [] }
+
+-- the votes with those of an act
+abbrev pub cast_after : ℕ → Act → List Ballot → List Ballot
+cast_after by (Cast vote) cast = cast ++ record { by = by; vote = vote } ∷ []
+cast_after by (Launch me vote) cast = cast ++ record { by = by; vote = vote } ∷ []
+cast_after by act cast = cast
+
+-- what was said, with what an act says
+abbrev pub said_after : ℕ → Act → List Saying → List Saying
+said_after by (Send whom message) said = said ++ record { by = by; message = message } ∷ []
+said_after by act said = said
+
+-- what was learned, with what an act learns
+abbrev pub learned_after : ℕ → Act → List Learning → List Learning
+learned_after by (Learn slot entry) learned = learned ++ record { by = by; slot = slot; entry = entry } ∷ []
+learned_after by act learned = learned
+
+-- the replicas with one of them changed
+abbrev pub with_replica : ℕ → State → (ℕ → State) → ℕ → State
+with_replica by state replicas other = if other == by then state else replicas other
+
+-- the world after an act of a replica
+unfoldable pub after_doing : ℕ → Act → World → World
+after_doing by act world =
+    record {
+      replicas = with_replica by (after_act act (world.replicas by)) world.replicas;
+      cast = cast_after by act world.cast;
+      said = said_after by act world.said;
+      learned = learned_after by act world.learned;
+    }
+
+-- an act, and who does it
+pub record Doing : Type 0 where
+  pub by : ℕ
+  pub act : Act
+
+-- the world after some acts
+abbrev pub after_all : List Doing → World → World
+after_all [] world = world
+after_all (doing ∷ doings) world = after_all doings (after_doing doing.by doing.act world)
+
+-- one of so many replicas does an act that it may do, by what was said so far and whatever its scheduler has answered
+pub record MayDo (members : ℕ) (table : Table) (world : World) (doing : Doing) : Type 0 where
+  pub member : doing.by < members
+  pub answered : List Outcome
+  pub may : May (record { self = record { me = doing.by; members = members }; table = table; said = world.said; answered = answered })
+      (world.replicas doing.by) doing.act
+
+-- each of some acts may be done where it is
+abbrev pub AllMayDo : ℕ → Table → World → List Doing → Type 0
+AllMayDo members table world [] = ⊤
+AllMayDo members table world (doing ∷ doings) =
+    MayDo members table world doing × AllMayDo members table (after_doing doing.by doing.act world) doings
+
+-- the acts of one replica, one after another
+abbrev pub doings_of : ℕ → List Act → List Doing
+doings_of by acts = map (λ act. record { by = by; act = act }) acts
