@@ -96,12 +96,12 @@ counts_one_more : (n : ℕ) (w : World) (by from : ℕ) (ballot : ℕ) (best : L
 counts_one_more n w by from ballot best flight kept known few member leader said =
     let counts : AreCounted n w.cast ballot flight = subst (λ term. Counts n w.cast term) leader (known.flights by member) in
     let fits : FitsTerm (record { me = by; members = n }) (w.replicas by).kept (prefix_of (w.replicas by)) (Leader ballot best (Some flight)) =
-          subst (λ term. FitsTerm (record { me = by; members = n }) (w.replicas by).kept (prefix_of (w.replicas by)) term) leader (kept.sound by member).term in
+    subst (λ term. FitsTerm (record { me = by; members = n }) (w.replicas by).kept (prefix_of (w.replicas by)) term) leader (kept.sound by member).term in
     let mine : HasCast w.cast by (vote_of ballot flight) =
-          kept.stored by (vote_of ballot flight) (found_there flight.slot (w.replicas by).kept.votes (vote_of ballot flight) fits.1.voted) in
+    kept.stored by (vote_of ballot flight) (found_there flight.slot (w.replicas by).kept.votes (vote_of ballot flight) fits.1.voted) in
     let told = known.accepted from ballot flight.slot said in
     let same : vote_for flight.slot ballot told.entry ≡ vote_of ballot flight =
-          kept.once from by (vote_for flight.slot ballot told.entry) (vote_of ballot flight) told.has mine refl refl in
+    kept.once from by (vote_for flight.slot ballot told.entry) (vote_of ballot flight) told.has mine refl refl in
     let speaker = kept.speakers from (Accepted ballot flight.slot) said in
     record {
       below = below_with n from flight.accepted speaker few counts.below;
@@ -116,8 +116,8 @@ counts_first : (n by me : ℕ) (cast : List Ballot) (vote : Vote) → by < n →
 counts_first n by me cast vote member few mine = record {
   below = λ q has. omega (arith, only_cases me q (omega (arith, mine, member, few)) has, mine, member);
   each = λ q has.
-    let it : q ≡ by = only_cases me q (omega (arith, mine, member, few)) has ∙ mine in
-    rw it (cast_now by (Launch me vote) cast vote refl);
+      let it : q ≡ by = only_cases me q (omega (arith, mine, member, few)) has ∙ mine in
+      rw it (cast_now by (Launch me vote) cast vote refl);
 }
 
 counts_here : (n : ℕ) (table : Table) (w : World) (by : ℕ) (act : Act) → Kept n w → AreKnown n w → n ≤ 7 → MayDo n table w (record { by = by; act = act }) → Counts n (cast_after by act w.cast) (after_act act (w.replicas by)).term
@@ -198,11 +198,12 @@ learned_here n table w by (Learn at new) known may slot entry has =
   where
     known_slot : {s t : ℕ} {d e : Entry} → Known s d ≡ Known t e → s ≡ t
     known_slot same = cc
+
     known_entry : {s t : ℕ} {d e : Entry} → Known s d ≡ Known t e → d ≡ e
     known_entry same = cc
 learned_here n table w by (Rebase at rows) known may slot entry has =
     let none : drop (at - (w.replicas by).kept.base) (w.replicas by).learned ≡ [] =
-          drop_of_length-le (w.replicas by).learned (omega (arith, may.may)) in
+    drop_of_length-le (w.replicas by).learned (omega (arith, may.may)) in
     absurd (nothing (rw none at has))
   where
     nothing : Contains [] (Known slot entry) → ⊥

@@ -162,7 +162,7 @@ goes_on setting state (Pledge ballot) sound may =
 goes_on setting state (Cast vote) sound may = goes_on_by_vote setting.self state vote (Cast vote) refl may.promised sound
 goes_on setting state (Launch me vote) sound may =
     let fits : FitsTerm setting.self state.kept (prefix_of state) (Leader vote.ballot may.best None) =
-          subst (λ term. FitsTerm setting.self state.kept (prefix_of state) term) may.leader sound.term in
+    subst (λ term. FitsTerm setting.self state.kept (prefix_of state) term) may.leader sound.term in
     goes_on_by_vote setting.self state vote (Launch me vote) refl (omega (arith, fits.0.promised)) sound
 goes_on setting state (Rebase slot rows) sound may = record {
   promised = omega arith;

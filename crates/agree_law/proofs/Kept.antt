@@ -74,7 +74,7 @@ casts_one act u v a b = absurd a
 pub own_ballot : (self : Identity) (state : State) (ballot : ℕ) (best : List Vote) (flight : Option Flight) → IsSound self state → state.term ≡ Leader ballot best flight → IsOwn self state.kept ballot
 own_ballot self state ballot best flight sound leader =
     let fits : FitsTerm self state.kept (prefix_of state) (Leader ballot best flight) =
-          subst (λ term. FitsTerm self state.kept (prefix_of state) term) leader sound.term in
+    subst (λ term. FitsTerm self state.kept (prefix_of state) term) leader sound.term in
     fits.0
 
 pub leads_own : (self : Identity) (state : State) (ballot : ℕ) (term : Term) → FitsTerm self state.kept (prefix_of state) term → LeadsIn ballot term → IsOwn self state.kept ballot

@@ -132,7 +132,7 @@ proposal_is_first n w by vote best kept member leader at b old has slots ballots
     let owner : member_of old.ballot ≡ by = rw (← ballots) mine.member in
     let own : HasCast w.cast by old = subst (λ q. HasCast w.cast q old) owner (kept.proposed b old has) in
     let owns : Owns w.cast by (prefix_of (w.replicas by)) (Leader vote.ballot best None) =
-          subst (λ term. Owns w.cast by (prefix_of (w.replicas by)) term) leader (kept.owns by member) in
+    subst (λ term. Owns w.cast by (prefix_of (w.replicas by)) term) leader (kept.owns by member) in
     omega (arith, owns old own (sym ballots), slots, at)
 
 -- a new vote and an old one of its slot and ballot are one
@@ -175,6 +175,7 @@ owns_here n table w by (Cast vote) answered kept member may =
   where
     asked : HasCast w.cast may.from vote × (member_of vote.ballot ≡ may.from)
     asked = kept.accepts may.from vote may.asked
+
     -- a vote in a ballot of one's own was one's own proposal
     old : (ballot : ℕ) → member_of ballot ≡ by → (other : Vote) → HasCast (cast_after by (Cast vote) w.cast) by other → other.ballot ≡ ballot → HasCast w.cast by other
     old ballot mine other has is = elim (cast_cases by (Cast vote) w.cast by other has) [
@@ -183,6 +184,7 @@ owns_here n table w by (Cast vote) answered kept member may =
           let owner : may.from ≡ by = sym asked.1 ∙ ap (λ v. member_of v.ballot) now.1 ∙ ap member_of is ∙ mine in
           rw (← now.1) (subst (λ q. HasCast w.cast q vote) owner asked.0)
     ]
+
     go : (term : Term) → FitsTerm (record { me = by; members = n }) (w.replicas by).kept (prefix_of (w.replicas by)) term → Owns w.cast by (prefix_of (w.replicas by)) term → Owns (cast_after by (Cast vote) w.cast) by (prefix_of (w.replicas by)) term
     go (Follower ended) fits owns = tt
     go (Candidate ballot first heard best) fits owns = λ other has is. owns other (old ballot fits.member other has is) is
@@ -202,11 +204,11 @@ owns_here n table w by Wait answered kept member may =
     owns_after_tick w.cast by (prefix_of (w.replicas by)) (w.replicas by).term (kept.owns by member)
 owns_here n table w by (Learn slot entry) answered kept member may =
     let longer : (w.replicas by).kept.base + length ((w.replicas by).learned ++ entry ∷ []) ≡ prefix_of (w.replicas by) + 1 =
-          omega (arith, length-append (w.replicas by).learned (entry ∷ [])) in
+    omega (arith, length-append (w.replicas by).learned (entry ∷ [])) in
     rw longer (owns_after_advance (record { me = by; members = n }) (w.replicas by) w.cast by (prefix_of (w.replicas by) + 1) (w.replicas by).term (omega arith) (kept.sound by member).term (kept.owns by member))
 owns_here n table w by (Rebase slot rows) answered kept member may =
     let short : length (drop (slot - (w.replicas by).kept.base) (w.replicas by).learned) ≡ 0 =
-          omega (arith, may, length-drop (slot - (w.replicas by).kept.base) (w.replicas by).learned) in
+    omega (arith, may, length-drop (slot - (w.replicas by).kept.base) (w.replicas by).learned) in
     let at : slot + length (drop (slot - (w.replicas by).kept.base) (w.replicas by).learned) ≡ slot = omega (arith, short) in
     rw at (owns_after_advance (record { me = by; members = n }) (w.replicas by) w.cast by slot (w.replicas by).term may (kept.sound by member).term (kept.owns by member))
 owns_here n table w by (Call row) answered kept member may = kept.owns by member
@@ -220,8 +222,8 @@ owns_after n table w doing kept may q =
     doing.by (after_act doing.act (w.replicas doing.by)) w.replicas q
     (λ member. owns_here n table w doing.by doing.act may.answered kept member may.may)
     (λ other member. owns_fewer w.cast (cast_after doing.by doing.act w.cast) q (prefix_of (w.replicas q)) (w.replicas q).term
-      (λ vote has. elim (cast_cases doing.by doing.act w.cast q vote has) [ inl old ↦ old | inr now ↦ absurd (other now.0) ])
-      (kept.owns q member))
+    (λ vote has. elim (cast_cases doing.by doing.act w.cast q vote has) [ inl old ↦ old | inr now ↦ absurd (other now.0) ])
+    (kept.owns q member))
 
 sound_after : (n : ℕ) (table : Table) (w : World) (doing : Doing) → Kept n w → MayDo n table w doing → (q : ℕ) → q < n → IsSound (record { me = q; members = n }) ((after_doing doing.by doing.act w).replicas q)
 unfolding after_doing

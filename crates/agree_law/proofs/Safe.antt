@@ -113,19 +113,19 @@ proposal_is_safe n w prefix best entry vote led at bound = record {
   each = λ q has. let heeds = led.rallied.each q has in record {
     promised_it = heeds.promised_it;
     older = λ u cast slot low.
-      let later = heeds.tells u cast (omega (arith, led.rallied.up, at, slot)) low in
-      let here : vote_at prefix best ≡ Some later.vote = subst (λ s. vote_at s best ≡ Some later.vote) (slot ∙ at) later.is in
-      let there = found_vote (Contains best) prefix best later.vote (All-contains_itself best) here in
-      let backed = led.rallied.backed later.vote there.1 in
-      record {
-        by = backed.0;
-        vote = later.vote;
-        has = backed.1;
-        slot = there.0 ∙ sym at;
-        entry = sym (bound ∙ ap (λ found. bound_by found entry) here);
-        low = later.later;
-        high = backed.2;
-      };
+        let later = heeds.tells u cast (omega (arith, led.rallied.up, at, slot)) low in
+        let here : vote_at prefix best ≡ Some later.vote = subst (λ s. vote_at s best ≡ Some later.vote) (slot ∙ at) later.is in
+        let there = found_vote (Contains best) prefix best later.vote (All-contains_itself best) here in
+        let backed = led.rallied.backed later.vote there.1 in
+        record {
+          by = backed.0;
+          vote = later.vote;
+          has = backed.1;
+          slot = there.0 ∙ sym at;
+          entry = sym (bound ∙ ap (λ found. bound_by found entry) here);
+          low = later.later;
+          high = backed.2;
+        };
   };
 }
 
@@ -138,7 +138,7 @@ safe_after n table w doing kept told safe may q vote has =
         | asked_by from said ↦ safe_on n table w doing kept may vote (safe from vote (kept.accepts from vote said).0)
         | proposed_by me proposal ↦
             let led : IsLed n w (prefix_of (w.replicas doing.by)) vote.ballot proposal.best =
-                  subst (λ term. HasHeard n w (prefix_of (w.replicas doing.by)) term) proposal.leader (told.terms doing.by may.member) in
+            subst (λ term. HasHeard n w (prefix_of (w.replicas doing.by)) term) proposal.leader (told.terms doing.by may.member) in
             safe_on n table w doing kept may vote
             (proposal_is_safe n w (prefix_of (w.replicas doing.by)) proposal.best proposal.entry vote led proposal.slot proposal.bound)
       ]

@@ -95,8 +95,8 @@ new_promise n w by ballot first votes kept may = record {
   heeds = record {
     promised_it = omega (arith, may.promised);
     tells = λ vote has within low.
-      let later = kept.latest by vote has (omega (arith, may.kept_all, within)) in
-      record { vote = later.vote; is = rw may.votes_are (at_from first vote.slot (w.replicas by).kept.votes ∙ rw (le-leb first vote.slot within) later.is); later = later.later };
+        let later = kept.latest by vote has (omega (arith, may.kept_all, within)) in
+        record { vote = later.vote; is = rw may.votes_are (at_from first vote.slot (w.replicas by).kept.votes ∙ rw (le-leb first vote.slot within) later.is); later = later.later };
   };
   backed = λ vote has. (by, kept.stored by vote (from_there first (w.replicas by).kept.votes vote (rw may.votes_are at has)), All-contains (λ (v : Vote). v.ballot < ballot) votes vote may.lower has);
 }
@@ -145,13 +145,14 @@ stands n table w by me ballot kept few may = record {
   below = λ m has. omega (arith, only_cases me m (omega (arith, mine, may.member, few)) has, mine, may.member);
   each = λ m has. heeds m (only_cases me m (omega (arith, mine, may.member, few)) has ∙ mine);
   backed = λ vote has.
-    let there = from_there (prefix_of (w.replicas by)) (w.replicas by).kept.votes vote has in
-    let up = All-contains (λ (v : Vote). v.ballot ≤ promised_in (w.replicas by).kept) (w.replicas by).kept.votes vote (kept.sound by may.member).votes there in
-    (by, kept.stored by vote there, omega (arith, up, may.may.above));
+      let there = from_there (prefix_of (w.replicas by)) (w.replicas by).kept.votes vote has in
+      let up = All-contains (λ (v : Vote). v.ballot ≤ promised_in (w.replicas by).kept) (w.replicas by).kept.votes vote (kept.sound by may.member).votes there in
+      (by, kept.stored by vote there, omega (arith, up, may.may.above));
 }
   where
     mine : me ≡ by
     mine = may.may.is_me
+
     heeds : (m : ℕ) → m ≡ by → Heeds w.cast (promised_in (with_replica by (after_act (Stand me ballot) (w.replicas by)) w.replicas m).kept) m ballot (prefix_of (w.replicas by)) (votes_from (prefix_of (w.replicas by)) (w.replicas by).kept.votes)
     heeds m same =
         each_replica (λ q s. q ≡ by → Heeds w.cast (promised_in s.kept) q ballot (prefix_of (w.replicas by)) (votes_from (prefix_of (w.replicas by)) (w.replicas by).kept.votes))
@@ -159,8 +160,8 @@ stands n table w by me ballot kept few may = record {
         (λ it. record {
           promised_it = omega arith;
           tells = λ vote has within low.
-            let later = kept.latest by vote has (omega (arith, within)) in
-            record { vote = later.vote; is = at_from (prefix_of (w.replicas by)) vote.slot (w.replicas by).kept.votes ∙ rw (le-leb (prefix_of (w.replicas by)) vote.slot within) later.is; later = later.later };
+              let later = kept.latest by vote has (omega (arith, within)) in
+              record { vote = later.vote; is = at_from (prefix_of (w.replicas by)) vote.slot (w.replicas by).kept.votes ∙ rw (le-leb (prefix_of (w.replicas by)) vote.slot within) later.is; later = later.later };
         })
         (λ other it. absurd (other it))
         same
@@ -201,13 +202,13 @@ gathers n w prefix ballot first heard from best votes member few rallied promise
   below = below_with n from heard member few rallied.below;
   each = λ m has. elim (with_cases from heard m (omega (arith, member, few)) has) [
     | inl same ↦ rw same (record {
-        promised_it = promise.heeds.promised_it;
-        tells = λ vote cast within low. later_heard best votes vote.slot vote.ballot (promise.heeds.tells vote cast within low);
-      })
+      promised_it = promise.heeds.promised_it;
+      tells = λ vote cast within low. later_heard best votes vote.slot vote.ballot (promise.heeds.tells vote cast within low);
+    })
     | inr old ↦ let heeds = rallied.each m old in record {
-        promised_it = heeds.promised_it;
-        tells = λ vote cast within low. later_held best votes vote.slot vote.ballot (heeds.tells vote cast within low);
-      }
+      promised_it = heeds.promised_it;
+      tells = λ vote cast within low. later_held best votes vote.slot vote.ballot (heeds.tells vote cast within low);
+    }
   ];
   backed = λ vote has. elim (best_there best votes vote has) [ inl held ↦ rallied.backed vote held | inr told ↦ promise.backed vote told ];
 }
@@ -245,17 +246,17 @@ heard_here n table w by (Stand me ballot) kept told few may = stands n table w b
 heard_here n table w by (Gather from votes) kept told few may =
     rw may.may.candidate
     (rallied_on n table w (record { by = by; act = Gather from votes }) kept may (prefix_of (w.replicas by)) (prefix_of (w.replicas by)) may.may.ballot may.may.first (with_member from may.may.heard) (best_of may.may.best votes) (omega arith)
-      (gathers n w (prefix_of (w.replicas by)) may.may.ballot may.may.first may.may.heard from may.may.best votes
-        (kept.speakers from (Promise may.may.ballot may.may.first votes) may.may.promise) few
-        (subst (λ term. HasHeard n w (prefix_of (w.replicas by)) term) may.may.candidate (told.terms by may.member))
-        (told.promises from may.may.ballot may.may.first votes may.may.promise)))
+    (gathers n w (prefix_of (w.replicas by)) may.may.ballot may.may.first may.may.heard from may.may.best votes
+    (kept.speakers from (Promise may.may.ballot may.may.first votes) may.may.promise) few
+    (subst (λ term. HasHeard n w (prefix_of (w.replicas by)) term) may.may.candidate (told.terms by may.member))
+    (told.promises from may.may.ballot may.may.first votes may.may.promise)))
 heard_here n table w by TakeLead kept told few may =
     rw may.may.candidate (record {
       heard = may.may.heard;
       first = may.may.first;
       majority = may.may.majority;
       rallied = rallied_on n table w (record { by = by; act = TakeLead }) kept may (prefix_of (w.replicas by)) (prefix_of (w.replicas by)) may.may.ballot may.may.first may.may.heard may.may.best (omega arith)
-        (subst (λ term. HasHeard n w (prefix_of (w.replicas by)) term) may.may.candidate (told.terms by may.member));
+          (subst (λ term. HasHeard n w (prefix_of (w.replicas by)) term) may.may.candidate (told.terms by may.member));
     })
 heard_here n table w by (Pledge ballot) kept told few may =
     heard_on n table w (record { by = by; act = Pledge ballot }) kept may (prefix_of (w.replicas by)) (prefix_of (w.replicas by)) (w.replicas by).term (omega arith) (told.terms by may.member)
@@ -264,7 +265,7 @@ heard_here n table w by (Cast vote) kept told few may =
 heard_here n table w by (Launch me vote) kept told few may =
     rw may.may.leader
     (led_on n table w (record { by = by; act = Launch me vote }) kept may (prefix_of (w.replicas by)) (prefix_of (w.replicas by)) vote.ballot may.may.best (omega arith)
-      (subst (λ term. HasHeard n w (prefix_of (w.replicas by)) term) may.may.leader (told.terms by may.member)))
+    (subst (λ term. HasHeard n w (prefix_of (w.replicas by)) term) may.may.leader (told.terms by may.member)))
 heard_here n table w by (Count from) kept told few may =
     heard_after_counting n (after_doing by (Count from) w) (prefix_of (w.replicas by)) from (w.replicas by).term
     (heard_on n table w (record { by = by; act = Count from }) kept may (prefix_of (w.replicas by)) (prefix_of (w.replicas by)) (w.replicas by).term (omega arith) (told.terms by may.member))
@@ -273,7 +274,7 @@ heard_here n table w by Wait kept told few may =
     (heard_on n table w (record { by = by; act = Wait }) kept may (prefix_of (w.replicas by)) (prefix_of (w.replicas by)) (w.replicas by).term (omega arith) (told.terms by may.member))
 heard_here n table w by (Learn slot entry) kept told few may =
     let longer : prefix_of (w.replicas by) ≤ (w.replicas by).kept.base + length ((w.replicas by).learned ++ entry ∷ []) =
-          omega (arith, length-append (w.replicas by).learned (entry ∷ [])) in
+    omega (arith, length-append (w.replicas by).learned (entry ∷ [])) in
     heard_after_advance n (after_doing by (Learn slot entry) w) _ (prefix_of (w.replicas by) + 1) (w.replicas by).term
     (heard_on n table w (record { by = by; act = Learn slot entry }) kept may (prefix_of (w.replicas by)) ((w.replicas by).kept.base + length ((w.replicas by).learned ++ entry ∷ [])) (w.replicas by).term longer (told.terms by may.member))
 heard_here n table w by (Rebase slot rows) kept told few may =

@@ -63,18 +63,31 @@ may_more setting more state (Observe ballot) stays may = named may
     named (by_saying saying has is) = by_saying saying (stays saying has) is
 may_more setting more state (Stand me ballot) stays may = may
 may_more setting more state (Gather from votes) stays may = record {
-  ballot = may.ballot; first = may.first; heard = may.heard; best = may.best; candidate = may.candidate;
+  ballot = may.ballot;
+  first = may.first;
+  heard = may.heard;
+  best = may.best;
+  candidate = may.candidate;
   promise = stays (record { by = from; message = Promise may.ballot may.first votes }) may.promise;
 }
 may_more setting more state TakeLead stays may = may
 may_more setting more state (Pledge ballot) stays may = may
 may_more setting more state (Cast vote) stays may = record {
-  from = may.from; asked = stays (record { by = may.from; message = Accept vote }) may.asked;
-  promised = may.promised; seen = may.seen; alone = may.alone; first = may.first;
+  from = may.from;
+  asked = stays (record { by = may.from; message = Accept vote }) may.asked;
+  promised = may.promised;
+  seen = may.seen;
+  alone = may.alone;
+  first = may.first;
 }
 may_more setting more state (Launch me vote) stays may = record {
-  is_me = may.is_me; best = may.best; leader = may.leader; slot = may.slot; entry = may.entry;
-  may = enter may.entry may.may; bound = may.bound;
+  is_me = may.is_me;
+  best = may.best;
+  leader = may.leader;
+  slot = may.slot;
+  entry = may.entry;
+  may = enter may.entry may.may;
+  bound = may.bound;
 }
   where
     enter : (entry : Entry) → MayEnter setting state entry → MayEnter (with_said more setting) state entry
@@ -82,7 +95,10 @@ may_more setting more state (Launch me vote) stays may = record {
     enter (Start job at now) it = record { rows = it.rows; rows_are = it.rows_are; asked = it.asked }
     enter (End job at kind) it = record { rows = it.rows; rows_are = it.rows_are; open_there = it.open_there; answered = it.answered }
 may_more setting more state (Count from) stays may = record {
-  ballot = may.ballot; best = may.best; flight = may.flight; leader = may.leader;
+  ballot = may.ballot;
+  best = may.best;
+  flight = may.flight;
+  leader = may.leader;
   accepted = stays (record { by = from; message = Accepted may.ballot may.flight.slot }) may.accepted;
 }
 may_more setting more state Wait stays may = may
@@ -112,8 +128,8 @@ acts_done n table by answered heard [] w member stays may = tt
 acts_done n table by answered heard (act ∷ acts) w member stays may = (
   record { member = member; answered = answered; may = may_more _ w.said (w.replicas by) act stays may.0 },
   acts_done n table by answered heard acts (after_doing by act w) member
-    (λ saying has. rw (said_is by act w) (said_stays by act w.said saying (stays saying has)))
-    (rw (here by act w) may.1),
+      (λ saying has. rw (said_is by act w) (said_stays by act w.said saying (stays saying has)))
+      (rw (here by act w) may.1),
 )
 
 -- acts that come first may be done without the rest
