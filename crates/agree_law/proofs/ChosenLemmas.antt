@@ -203,7 +203,7 @@ learned_here n table w by (Learn at new) known may slot entry has =
     known_entry same = cc
 learned_here n table w by (Rebase at rows) known may slot entry has =
     let none : drop (at - (w.replicas by).kept.base) (w.replicas by).learned ≡ [] =
-    drop_of_length-le (w.replicas by).learned (omega (arith, may.may)) in
+    drop_of_length-le (w.replicas by).learned (omega (arith, may.may.up)) in
     absurd (nothing (rw none at has))
   where
     nothing : Contains [] (Known slot entry) → ⊥

@@ -167,7 +167,7 @@ goes_on setting state (Launch me vote) sound may =
 goes_on setting state (Rebase slot rows) sound may = record {
   promised = omega arith;
   tried = omega arith;
-  base = omega (arith, may);
+  base = omega (arith, may.up);
   votes = λ at vote within is. record { vote = vote; is = at_from slot at state.kept.votes ∙ rw (le-leb slot at within) is; later = omega arith };
   stored = λ vote has. inl (from_there slot state.kept.votes vote has);
 }

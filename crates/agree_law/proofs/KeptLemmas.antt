@@ -208,9 +208,9 @@ owns_here n table w by (Learn slot entry) answered kept member may =
     rw longer (owns_after_advance (record { me = by; members = n }) (w.replicas by) w.cast by (prefix_of (w.replicas by) + 1) (w.replicas by).term (omega arith) (kept.sound by member).term (kept.owns by member))
 owns_here n table w by (Rebase slot rows) answered kept member may =
     let short : length (drop (slot - (w.replicas by).kept.base) (w.replicas by).learned) ≡ 0 =
-    omega (arith, may, length-drop (slot - (w.replicas by).kept.base) (w.replicas by).learned) in
+    omega (arith, may.up, length-drop (slot - (w.replicas by).kept.base) (w.replicas by).learned) in
     let at : slot + length (drop (slot - (w.replicas by).kept.base) (w.replicas by).learned) ≡ slot = omega (arith, short) in
-    rw at (owns_after_advance (record { me = by; members = n }) (w.replicas by) w.cast by slot (w.replicas by).term may (kept.sound by member).term (kept.owns by member))
+    rw at (owns_after_advance (record { me = by; members = n }) (w.replicas by) w.cast by slot (w.replicas by).term may.up (kept.sound by member).term (kept.owns by member))
 owns_here n table w by (Call row) answered kept member may = kept.owns by member
 owns_here n table w by (Send whom message) answered kept member may = kept.owns by member
 owns_here n table w by (Restart me) answered kept member may = tt

@@ -9,3 +9,5 @@ pub mod Told
 pub mod ToldLemmas
 pub mod Turns
 pub mod Whole
+pub mod LogLemmas
+pub mod Tables

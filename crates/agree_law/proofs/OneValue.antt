@@ -40,7 +40,7 @@ use Rattle.agree_law.specs.Agree.{IsChosen, vote_for}
 use Rattle.agree_law.proofs.Safe.{AreSafe, HasBetween}
 
 -- two majorities of the replicas share one
-majorities_share : (n one other : ℕ) → AllBelow n one → AllBelow n other → IsTrue (has_majority n one) → IsTrue (has_majority n other) → Meet one other
+pub majorities_share : (n one other : ℕ) → AllBelow n one → AllBelow n other → IsTrue (has_majority n one) → IsTrue (has_majority n other) → Meet one other
 majorities_share n one other below_one below_other many_one many_other =
     majorities-Meet n one other below_one below_other
     (leb-true (majority_of n) (member_count one) many_one) (leb-true (majority_of n) (member_count other) many_other)
@@ -63,7 +63,7 @@ later_votes n w slot entry kept safe chosen (suc bound) q vote under has at leas
     ]
 
 -- some replica is in a majority, so a chosen entry has a vote
-voter_of : (n : ℕ) (cast : List Ballot) (slot : ℕ) (entry : Entry) → (chosen : IsChosen n cast slot entry) → (q : ℕ) × HasCast cast q (vote_for slot chosen.ballot entry)
+pub voter_of : (n : ℕ) (cast : List Ballot) (slot : ℕ) (entry : Entry) → (chosen : IsChosen n cast slot entry) → (q : ℕ) × HasCast cast q (vote_for slot chosen.ballot entry)
 voter_of n cast slot entry chosen =
     let meet = majorities_share n chosen.voters chosen.voters chosen.below chosen.below chosen.majority chosen.majority in
     (meet.member, chosen.each meet.member meet.in_one)

@@ -279,7 +279,7 @@ heard_here n table w by (Learn slot entry) kept told few may =
     (heard_on n table w (record { by = by; act = Learn slot entry }) kept may (prefix_of (w.replicas by)) ((w.replicas by).kept.base + length ((w.replicas by).learned ++ entry ∷ [])) (w.replicas by).term longer (told.terms by may.member))
 heard_here n table w by (Rebase slot rows) kept told few may =
     heard_after_advance n (after_doing by (Rebase slot rows) w) _ slot (w.replicas by).term
-    (heard_on n table w (record { by = by; act = Rebase slot rows }) kept may (prefix_of (w.replicas by)) (slot + length (drop (slot - (w.replicas by).kept.base) (w.replicas by).learned)) (w.replicas by).term (omega (arith, may.may)) (told.terms by may.member))
+    (heard_on n table w (record { by = by; act = Rebase slot rows }) kept may (prefix_of (w.replicas by)) (slot + length (drop (slot - (w.replicas by).kept.base) (w.replicas by).learned)) (w.replicas by).term (omega (arith, may.may.up)) (told.terms by may.member))
 heard_here n table w by (Call row) kept told few may =
     heard_on n table w (record { by = by; act = Call row }) kept may (prefix_of (w.replicas by)) (prefix_of (w.replicas by)) (w.replicas by).term (omega arith) (told.terms by may.member)
 heard_here n table w by (Send whom message) kept told few may =

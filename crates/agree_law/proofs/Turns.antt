@@ -37,12 +37,15 @@ use Rattle.std.specs.List.{AllByRecursion, filter}
 use Rattle.step_law.specs.Folds.{after_acts}
 use Rattle.step_law.specs.May.{AllMay, IsChosen as IsCounted, IsNamed, none_named, by_saying, IsHeard, MayEnter, MayLearn, Saying}
 use Rattle.paxos_base.specs.declared.entry.Entry.TheVariants.{Noop, Start, End}
-use Rattle.step_law.specs.Message.{Accept, Accepted, Known, ballot_in}
-use Rattle.step_law.specs.Step.{Event, IsPlanned, step}
+use Rattle.step_law.specs.Message.{Accept, Accepted, Known, Snap, ballot_in}
+use Rattle.step_law.specs.Step.{Event, IsLaunchTable, IsPlanned, step}
 use Rattle.step_law.proofs.LineLemmas.{step_may}
 use Rattle.agree_law.specs.Turn.{Turn, Did, Stopped, Restarted, AreTurns, MayTake, MayTurn, acts_of, after_turn, after_turns, identity_of, is_silent, turn_of}
 use Rattle.agree_law.specs.World.{AllMayDo, after_all, doings_of, said_after}
-use Rattle.agree_law.proofs.Whole.{IsWhole, whole_after_all}
+use Rattle.paxos_base.specs.declared.rows.JobRow.{JobRow}
+use Rattle.agree_law.specs.World.{first_world}
+use Rattle.agree_law.proofs.Tables.{Tables, tables_after}
+use Rattle.agree_law.proofs.Whole.{IsWhole, first_is_whole, whole_after}
 
 -- what was said stays said
 said_stays : (by : ℕ) (act : Act) (said : List Saying) (saying : Saying) → Contains said saying → Contains (said_after by act said) saying
@@ -108,7 +111,12 @@ may_more setting more state (Learn slot entry) stays may = record { next = may.n
         → ((from : ℕ) × Contains more (record { by = from; message = Known slot entry })) ⊎ IsCounted setting.self state slot entry
     known (inl (from, has)) = inl (from, stays (record { by = from; message = Known slot entry }) has)
     known (inr counted) = inr counted
-may_more setting more state (Rebase slot rows) stays may = may
+may_more setting more state (Rebase slot rows) stays may = record { up = may.up; rows_of = told may.rows_of }
+  where
+    told : ((slot ≡ prefix_of state) × IsLaunchTable setting.table state rows) ⊎ ((from : ℕ) × Contains setting.said (record { by = from; message = Snap slot rows }))
+        → ((slot ≡ prefix_of state) × IsLaunchTable setting.table state rows) ⊎ ((from : ℕ) × Contains more (record { by = from; message = Snap slot rows }))
+    told (inl mine) = inl mine
+    told (inr (from, has)) = inr (from, stays (record { by = from; message = Snap slot rows }) has)
 may_more setting more state (Call row) stays may = record { by = may.by; rows = may.rows; rows_are = may.rows_are; asked = may.asked }
 may_more setting more state (Send whom message) stays may = may
 may_more setting more state (Restart me) stays may = may
@@ -144,22 +152,46 @@ silent_may setting state [] may = tt
 silent_may setting state (Send whom message ∷ acts) may = silent_may setting state acts may.1
 silent_may setting state (act ∷ acts) may = (may.0, silent_may setting (after_act act state) acts may.1)
 
--- a turn that may come next leaves the world whole
-turn_whole : (n : ℕ) (table : Table) (w : World) (turn : Turn) → n ≤ 7 → IsWhole n w → MayTurn n table w turn → IsWhole n (after_turn n turn w)
+-- the acts of a turn that may come next may be done one after another
+turn_done : (n : ℕ) (table : Table) (w : World) (turn : Turn) → n ≤ 7 → IsWhole n w → MayTurn n table w turn → AllMayDo n table w (doings_of (turn_of turn) (acts_of n turn w))
 unfolding May
-turn_whole n table w (Did by event) few whole may =
+turn_done n table w (Did by event) few whole may =
     let acts = step_may (record { self = identity_of n by; table = table; said = w.said; answered = may.answered }) (w.replicas by) event (omega (arith, may.member, few)) (whole.kept.sound by may.member) may.planned may.heard in
-    whole_after_all n table w _ few whole (acts_done n table by may.answered w.said _ w may.member (λ saying has. has) acts)
-turn_whole n table w (Stopped by event front back) few whole (may, parts) =
+    acts_done n table by may.answered w.said _ w may.member (λ saying has. has) acts
+turn_done n table w (Stopped by event front back) few whole (may, parts) =
     let setting : Setting = record { self = identity_of n by; table = table; said = w.said; answered = may.answered } in
     let acts = step_may setting (w.replicas by) event (omega (arith, may.member, few)) (whole.kept.sound by may.member) may.planned may.heard in
     let first = front_may setting (w.replicas by) front back (subst (λ acts. AllMay setting (w.replicas by) acts) parts acts) in
-    whole_after_all n table w _ few whole (acts_done n table by may.answered w.said _ w may.member (λ saying has. has) (silent_may setting (w.replicas by) front first))
-turn_whole n table w (Restarted by) few whole member =
-    let may : AllMayDo n table w (doings_of by (Restart by ∷ [])) = (record { member = member; answered = []; may = refl }, tt) in
-    whole_after_all n table w (doings_of by (Restart by ∷ [])) few whole may
+    acts_done n table by may.answered w.said _ w may.member (λ saying has. has) (silent_may setting (w.replicas by) front first)
+turn_done n table w (Restarted by) few whole member = (record { member = member; answered = []; may = refl }, tt)
 
-pub turns_whole : (n : ℕ) (table : Table) (w : World) (turns : List Turn) → n ≤ 7 → IsWhole n w → AreTurns n table w turns → IsWhole n (after_turns n turns w)
-turns_whole n table w [] few whole may = whole
-turns_whole n table w (turn ∷ turns) few whole may =
-    turns_whole n table (after_turn n turn w) turns few (turn_whole n table w turn few whole may.0) may.1
+-- a world that is whole, and whose launch tables are those of chosen entries
+pub record IsFollowed (n : ℕ) (table : Table) (first : List JobRow) (w : World) : Type 0 where
+  pub whole : IsWhole n w
+  pub tables : Tables n table first w
+
+pub first_followed : (n : ℕ) (table : Table) (rows : List JobRow) → IsFollowed n table rows (first_world rows)
+first_followed n table rows = record {
+  whole = first_is_whole n rows;
+  tables = record {
+    bases = λ q. record { entries = []; long = refl; chosen = tt; applied = refl };
+    snaps = λ q slot rows (k, within, is). absurd (omega (arith, within));
+  };
+}
+
+pub followed_after_all : (n : ℕ) (table : Table) (first : List JobRow) (w : World) (doings : List Doing) → n ≤ 7 → IsFollowed n table first w → AllMayDo n table w doings → IsFollowed n table first (after_all doings w)
+followed_after_all n table first w [] few followed may = followed
+followed_after_all n table first w (doing ∷ doings) few followed may =
+    followed_after_all n table first (after_doing doing.by doing.act w) doings few
+    (record {
+      whole = whole_after n table w doing few followed.whole may.0;
+      tables = tables_after n table first w doing followed.whole.known followed.tables may.0;
+    })
+    may.1
+
+pub turns_followed : (n : ℕ) (table : Table) (first : List JobRow) (w : World) (turns : List Turn) → n ≤ 7 → IsFollowed n table first w → AreTurns n table w turns → IsFollowed n table first (after_turns n turns w)
+turns_followed n table first w [] few followed may = followed
+turns_followed n table first w (turn ∷ turns) few followed may =
+    turns_followed n table first (after_turn n turn w) turns few
+    (followed_after_all n table first w (doings_of (turn_of turn) (acts_of n turn w)) few followed (turn_done n table w turn few followed.whole may.0))
+    may.1

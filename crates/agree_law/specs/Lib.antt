@@ -1,3 +1,4 @@
 pub mod Agree
+pub mod Log
 pub mod Turn
 pub mod World

@@ -3,7 +3,9 @@ ghost use Rattle.std.specs.Prelude.{◌≡◌, ◌≤◌, ℕ, List};
 ghost use Rattle.paxos_base.specs.declared.entry.Entry.{Entry};
 ghost use Rattle.paxos_base.specs.declared.rows.JobRow.{JobRow};
 ghost use Rattle.due_set.specs.Table.{Table};
+ghost use Rattle.launch_machine.specs.Clerk.{fresh_rows};
 ghost use Rattle.agree_law.specs.Agree.{IsChosen, LearnsChosen, LearnsOne};
+ghost use Rattle.agree_law.specs.Log.{AllFollow, IsLog};
 ghost use Rattle.agree_law.specs.Turn.{AreTurns, Turn, after_turns};
 ghost use Rattle.agree_law.specs.World.{AllMayDo, Doing, after_all, first_world};
 
@@ -28,4 +30,21 @@ pub fn learned_entries_are_chosen()
 pub fn replicas_agree_on_each_slot()
     ensures { (members : ℕ) (table : Table) (rows : List JobRow) (turns : List Turn) → members ≤ 7
         → AreTurns members table (first_world rows) turns → LearnsOne (after_turns members turns (first_world rows)) }
+{}
+
+/// There is one log, after whatever turns.
+pub fn turns_have_one_log()
+    ensures some { (members : ℕ) (table : Table) (rows : List JobRow) (turns : List Turn) → members ≤ 7
+        → AreTurns members table (first_world rows) turns
+        → (log : List Entry) × IsLog members (after_turns members turns (first_world rows)).cast log }
+    ensures one { (members : ℕ) (table : Table) (rows : List JobRow) (turns : List Turn) (one other : List Entry) → members ≤ 7
+        → AreTurns members table (first_world rows) turns → IsLog members (after_turns members turns (first_world rows)).cast one
+        → IsLog members (after_turns members turns (first_world rows)).cast other → one ≡ other }
+{}
+
+/// Each replica has learned a front of the log, and its launch table is the one that the clerk of these entries has.
+pub fn a_replicas_table_is_the_clerks()
+    ensures { (members : ℕ) (table : Table) (turns : List Turn) → members ≤ 7
+        → AreTurns members table (first_world (fresh_rows table)) turns
+        → AllFollow members table (after_turns members turns (first_world (fresh_rows table))) }
 {}

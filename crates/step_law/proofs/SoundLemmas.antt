@@ -218,11 +218,11 @@ act_sound setting state (Learn slot entry) sound may =
     }
 act_sound setting state (Rebase slot rows) sound may =
     let short : length (drop (slot - state.kept.base) state.learned) ≡ 0 =
-    length-drop_all state.learned (slot - state.kept.base) (omega (arith, may)) in
+    length-drop_all state.learned (slot - state.kept.base) (omega (arith, may.up)) in
     let at : slot + length (drop (slot - state.kept.base) state.learned) ≡ slot = omega (arith, short) in
     record {
       promised = sound.promised;
-      term = rw at (fits_after_rebase setting.self state.kept (prefix_of state) slot rows state.term may sound.term);
+      term = rw at (fits_after_rebase setting.self state.kept (prefix_of state) slot rows state.term may.up sound.term);
       votes = AreUpTo-votes_from slot (promised_in state.kept) state.kept.votes sound.votes;
     }
 act_sound setting state (Call row) sound may = sound

@@ -184,7 +184,7 @@ pub record HasAccepted (state : State) (ballot slot : ℕ) : Type 0 where
   pub entry : Entry
   pub voted : vote_at slot state.kept.votes ≡ Some (record { slot = slot; ballot = ballot; entry = entry })
 
--- When a message may be sent. A snapshot never is, so far, and a mention comes with a promise alone.
+-- when a message may be sent; a mention comes with a promise alone
 abbrev pub MaySend : State → Message → Type 0
 MaySend state (Prepare ballot slot) = (promised_in state.kept ≡ ballot) × StandsIn ballot slot state.term
 MaySend state (Promise ballot slot votes) = MayPromise state ballot slot votes
@@ -193,9 +193,15 @@ MaySend state (Accepted ballot slot) = HasAccepted state ballot slot
 MaySend state (Nack ballot promised) = (promised ≡ promised_in state.kept) × (ballot ≤ promised)
 MaySend state (Known slot entry) = Contains (known_from state.kept.base state.learned) (Known slot entry)
 MaySend state (AskFrom slot) = slot ≡ prefix_of state
-MaySend state (Snap slot rows) = ⊥
+MaySend state (Snap slot rows) = (slot ≡ state.kept.base) × (rows ≡ state.kept.rows)
 MaySend state (Lead ballot slot) = (slot ≡ prefix_of state) × LeadsIn ballot state.term
 MaySend state (Mention ballot) = ⊥
+
+-- Rows come in the place of the entries below a slot where they are the replica's own launch table at its prefix, or another's
+-- that was told.
+pub record MayRebase (setting : Setting) (state : State) (slot : ℕ) (rows : List JobRow) : Type 0 where
+  pub up : prefix_of state ≤ slot
+  pub rows_of : ((slot ≡ prefix_of state) × IsLaunchTable setting.table state rows) ⊎ ((from : ℕ) × HasSaid setting.said from (Snap slot rows))
 
 -- its launch table asks for the call of a launch that is open
 pub record MayCall (setting : Setting) (state : State) (row : SchedRow) : Type 0 where
@@ -216,7 +222,7 @@ May setting state (Launch me vote) = MayPropose setting state me vote
 May setting state (Count from) = MayCount setting.said state from
 May setting state Wait = ⊤
 May setting state (Learn slot entry) = MayLearn setting.self setting.said state slot entry
-May setting state (Rebase slot rows) = prefix_of state ≤ slot
+May setting state (Rebase slot rows) = MayRebase setting state slot rows
 May setting state (Call row) = MayCall setting state row
 May setting state (Send whom message) = MaySend state message
 May setting state (Restart me) = me ≡ setting.self.me

@@ -1,0 +1,15 @@
+use Rattle.agree_law.specs.World.{after_all, first_world}
+use Rattle.agree_law.specs.Turn.{after_turns}
+use Rattle.agree_law.proofs.Turns.{first_followed, followed_after_all, turns_followed}
+use Rattle.launch_machine.specs.Clerk.{fresh_rows}
+use Rattle.agree_law.proofs.Tables.{follows, short_of}
+use Rattle.agree_law.proofs.laws.a_replicas_table_is_the_clerks.Goals as goal
+
+pub returns : goal.returns
+returns c = λ members table turns few may log is_log by member.
+    let w = after_turns members turns (first_world (fresh_rows table)) in
+    let followed = turns_followed members table (fresh_rows table) (first_world (fresh_rows table)) turns few (first_followed members table (fresh_rows table)) may in
+    record {
+      short = short_of members table (fresh_rows table) w log by followed.whole followed.tables is_log;
+      table_is = λ rows is_table. (follows members table (fresh_rows table) w log by rows followed.whole followed.tables is_log is_table).1;
+    }

@@ -1,0 +1,15 @@
+use Rattle.agree_law.specs.World.{after_all, first_world}
+use Rattle.agree_law.specs.Turn.{after_turns}
+use Rattle.agree_law.proofs.Turns.{first_followed, followed_after_all, turns_followed}
+use Rattle.agree_law.proofs.LogLemmas.{one_log, some_log}
+use Rattle.agree_law.proofs.laws.turns_have_one_log.Goals as goal
+
+pub returns-clause-some : goal.returns-clause-some
+returns-clause-some c = λ members table rows turns few may.
+    let followed = turns_followed members table rows (first_world rows) turns few (first_followed members table rows) may in
+    some_log members (after_turns members turns (first_world rows)) followed.whole.kept few
+
+pub returns-clause-one : goal.returns-clause-one
+returns-clause-one c = λ members table rows turns one other few may is_log is_other.
+    let followed = turns_followed members table rows (first_world rows) turns few (first_followed members table rows) may in
+    one_log members (after_turns members turns (first_world rows)) one other followed.whole.kept followed.whole.safe is_log is_other
