@@ -1,54 +1,39 @@
 -- Each act that may be done keeps what is known to be chosen.
-use Rattle.std.proofs.Common.{◌≡◌, ◌≢◌, ℕ, ◌+◌, ◌-◌, ◌<◌, ◌≤◌, Option, Some, None, List, [], ◌∷◌, ◌++◌, length, drop, true, false, eqb, ltb, leb, refl, sym, ap, ◌∙◌, inl, inr, arith, subst, ◌⊎◌, length-append, IsTrue}
-use Rattle.std.specs.List.{All, Contains}
-use Rattle.std.specs.Option.{IsSomeAnd}
-use Rattle.std.proofs.lemmas.List.{length-drop}
+use Rattle.std.proofs.Common.{◌≡◌, ℕ, ◌+◌, ◌-◌, ◌<◌, ◌≤◌, Some, None, List, [], length, drop, ltb, refl, ◌∙◌, inl, inr, arith, subst}
+use Rattle.std.specs.List.{Contains}
 use Rattle.std.proofs.Math.ListN.{drop_of_length-le}
-use Rattle.std.proofs.lemmas.List.Elements.{All-contains, All-contains_itself, Contains-push, Contains-append_left, Contains-append_right}
-use Rattle.std.proofs.lemmas.Nat.Bits.{bit_at-zero}
-use Rattle.std.proofs.lemmas.Bool.{cases_Bool, cases_eq, cases_lt, le-leb}
-use Rattle.paxos_base.specs.Ballot.{member_of, round_of}
+use Rattle.std.proofs.lemmas.Bool.{cases_Bool}
 use Rattle.paxos_base.specs.Durable.{after_delta}
-use Rattle.paxos_base.specs.Members.{AllBelow, HasMember, has_majority, no_members, only_member, with_member}
-use Rattle.paxos_base.specs.Vote.{vote_at, votes_from}
 use Rattle.paxos_base.specs.declared.entry.Entry.{Entry}
 use Rattle.paxos_base.specs.declared.entry.Vote.{Vote}
-use Rattle.paxos_base.proofs.MemberLemmas.{has_member-set}
-use Rattle.paxos_base.proofs.PutLemmas.{at_from}
 use Rattle.due_set.specs.Table.{Table}
-use Rattle.term_core.specs.Best.{best_of, is_higher, with_vote}
-use Rattle.term_core.specs.Term.{after_advance, after_ballot, after_proposal, after_tick, is_ended_by}
+use Rattle.term_core.specs.Term.{after_advance, after_ballot, after_tick, is_ended_by}
 use Rattle.term_core.specs.declared.flight.Flight.{Flight}
 use Rattle.term_core.specs.declared.term.Term.{Term}
 use Rattle.term_core.specs.declared.term.Term.TheVariants.{Follower, Candidate, Leader}
-use Rattle.term_core.proofs.LawLemmas.{held_or_higher, heard_or_higher, held_or_heard}
-use Rattle.step_law.specs.Act.{Act, Observe, Stand, Gather, TakeLead, Pledge, Cast, Launch, Count, Wait, Learn, Rebase, Call, Send, Restart, after_act, after_counting, after_gathering, as_leader}
-use Rattle.step_law.specs.May.{May, MaySend, MayPromise, Outcome, Setting}
-use Rattle.step_law.specs.Message.{Message, Promise}
-use Rattle.step_law.specs.Sound.{IsSound, FitsTerm, IsOwn}
-use Rattle.step_law.specs.State.{State, Identity, prefix_of, promised_in}
-use Rattle.step_law.proofs.VoteLemmas.{found_vote}
+use Rattle.step_law.specs.Act.{Act, Observe, Stand, Gather, TakeLead, Pledge, Cast, Launch, Count, Wait, Learn, Rebase, Call, Send, Restart, after_act, after_gathering, as_leader}
+use Rattle.step_law.specs.May.{May, Ending, HasSaid}
+use Rattle.step_law.specs.Coherent.{FitsTerm}
+use Rattle.step_law.specs.State.{prefix_of}
 use Rattle.agree_law.specs.Agree.{HasCast}
-use Rattle.agree_law.specs.World.{Ballot, Doing, MayDo, World, after_doing, cast_after, with_replica}
-use Rattle.agree_law.proofs.Growing.{Casts, Says, HasSaid, IsLater, GoesOn, cast_cases, cast_now, cast_stays, casts_stored, each_replica, found_there, from_there, goes_on, put_cases, said_cases}
+use Rattle.agree_law.specs.World.{CastVote, Doing, MayDo, World, after_doing, cast_after}
+use Rattle.agree_law.proofs.Growing.{cast_now, cast_stays, each_replica, found_there, said_cases}
 use Rattle.agree_law.proofs.Kept.{Kept, says_may}
 use Rattle.agree_law.proofs.KeptLemmas.{setting_of}
-use Rattle.agree_law.proofs.Told.{Heeds, AreBacked, IsRallied, IsLed, HasHeard, IsPromised, Told}
-use Rattle.std.proofs.lemmas.List.Elements.{Contains-push_cases, Contains-append_cases}
+use Rattle.std.proofs.lemmas.List.Elements.{Contains-push_cases}
 use Rattle.term_core.specs.Term.{accepted_by, new_flight}
 use Rattle.step_law.specs.Hear.{known_from}
-use Rattle.step_law.specs.May.{IsChosen as IsCounted, MayLearn, MayPropose}
+use Rattle.step_law.specs.May.{MayLearn}
 use Rattle.step_law.specs.Message.{Accepted, Known}
 use Rattle.step_law.specs.Propose.{vote_of}
 use Rattle.step_law.proofs.VoteLemmas.{known-push}
 use Rattle.agree_law.specs.Agree.{IsChosen, LearnsChosen, vote_for}
 use Rattle.agree_law.specs.World.{Learning, learned_after}
 use Rattle.agree_law.proofs.Chosen.{AreCounted, AreKnown, Counts, HasVote}
-use Rattle.agree_law.proofs.Kept.{own_ballot}
 use Rattle.agree_law.proofs.ToldLemmas.{below_with, only_cases, with_cases}
 
 -- what is chosen stays chosen
-pub chosen_on : (n by : ℕ) (act : Act) (cast : List Ballot) (slot : ℕ) (entry : Entry) → IsChosen n cast slot entry → IsChosen n (cast_after by act cast) slot entry
+pub chosen_on : (n by : ℕ) (act : Act) (cast : List CastVote) (slot : ℕ) (entry : Entry) → IsChosen n cast slot entry → IsChosen n (cast_after by act cast) slot entry
 chosen_on n by act cast slot entry chosen = record {
   ballot = chosen.ballot;
   voters = chosen.voters;
@@ -57,34 +42,34 @@ chosen_on n by act cast slot entry chosen = record {
   each = λ q has. cast_stays by act cast q (vote_for slot chosen.ballot entry) (chosen.each q has);
 }
 
-counts_on : (n by : ℕ) (act : Act) (cast : List Ballot) (term : Term) → Counts n cast term → Counts n (cast_after by act cast) term
+counts_on : (n by : ℕ) (act : Act) (cast : List CastVote) (term : Term) → Counts n cast term → Counts n (cast_after by act cast) term
 counts_on n by act cast (Follower ended) counts = tt
 counts_on n by act cast (Candidate ballot first heard best) counts = tt
 counts_on n by act cast (Leader ballot best None) counts = tt
 counts_on n by act cast (Leader ballot best (Some flight)) counts =
     record { below = counts.below; each = λ q has. cast_stays by act cast q (vote_of ballot flight) (counts.each q has) }
 
-counts_after_ballot : (n : ℕ) (cast : List Ballot) (ballot : ℕ) (term : Term) → Counts n cast term → Counts n cast (after_ballot ballot term)
+counts_after_ballot : (n : ℕ) (cast : List CastVote) (ballot : ℕ) (term : Term) → Counts n cast term → Counts n cast (after_ballot ballot term)
 counts_after_ballot n cast ballot term counts =
     elim (cases_Bool (is_ended_by ballot term)) [ inl ended ↦ rw ended tt | inr goes ↦ rw goes counts ]
 
-counts_after_gathering : (n : ℕ) (cast : List Ballot) (from : ℕ) (votes : List Vote) (term : Term) → Counts n cast term → Counts n cast (after_gathering from votes term)
+counts_after_gathering : (n : ℕ) (cast : List CastVote) (from : ℕ) (votes : List Vote) (term : Term) → Counts n cast term → Counts n cast (after_gathering from votes term)
 counts_after_gathering n cast from votes (Follower ended) counts = tt
 counts_after_gathering n cast from votes (Candidate ballot first heard best) counts = tt
 counts_after_gathering n cast from votes (Leader ballot best flight) counts = counts
 
-counts_as_leader : (n : ℕ) (cast : List Ballot) (term : Term) → Counts n cast term → Counts n cast (as_leader term)
+counts_as_leader : (n : ℕ) (cast : List CastVote) (term : Term) → Counts n cast term → Counts n cast (as_leader term)
 counts_as_leader n cast (Follower ended) counts = tt
 counts_as_leader n cast (Candidate ballot first heard best) counts = tt
 counts_as_leader n cast (Leader ballot best flight) counts = counts
 
-counts_after_tick : (n : ℕ) (cast : List Ballot) (term : Term) → Counts n cast term → Counts n cast (after_tick term)
+counts_after_tick : (n : ℕ) (cast : List CastVote) (term : Term) → Counts n cast term → Counts n cast (after_tick term)
 counts_after_tick n cast (Follower ended) counts = tt
 counts_after_tick n cast (Candidate ballot first heard best) counts = tt
 counts_after_tick n cast (Leader ballot best None) counts = tt
 counts_after_tick n cast (Leader ballot best (Some flight)) counts = record { below = counts.below; each = counts.each }
 
-counts_after_advance : (n : ℕ) (cast : List Ballot) (later : ℕ) (term : Term) → Counts n cast term → Counts n cast (after_advance later term)
+counts_after_advance : (n : ℕ) (cast : List CastVote) (later : ℕ) (term : Term) → Counts n cast term → Counts n cast (after_advance later term)
 counts_after_advance n cast later (Follower ended) counts = tt
 counts_after_advance n cast later (Candidate ballot first heard best) counts = tt
 counts_after_advance n cast later (Leader ballot best None) counts = tt
@@ -112,7 +97,7 @@ counts_one_more n w by from ballot best flight kept known few member leader said
     }
 
 -- a new flight has the vote of its proposer
-counts_first : (n by me : ℕ) (cast : List Ballot) (vote : Vote) → by < n → n ≤ 7 → me ≡ by → AreCounted n (cast_after by (Launch me vote) cast) vote.ballot (new_flight vote.slot vote.entry me)
+counts_first : (n by me : ℕ) (cast : List CastVote) (vote : Vote) → by < n → n ≤ 7 → me ≡ by → AreCounted n (cast_after by (Launch me vote) cast) vote.ballot (new_flight vote.slot vote.entry me)
 counts_first n by me cast vote member few mine = record {
   below = λ q has. omega (arith, only_cases me q (omega (arith, mine, member, few)) has, mine, member);
   each = λ q has.
@@ -170,7 +155,7 @@ known_after n table w doing known may q slot entry has =
     ]
 
 -- what may be learned is chosen
-learn_chosen : (n : ℕ) (table : Table) (w : World) (by : ℕ) (answered : List Outcome) (slot : ℕ) (entry : Entry) → AreKnown n w → by < n → MayLearn (record { me = by; members = n }) w.said (w.replicas by) slot entry → IsChosen n w.cast slot entry
+learn_chosen : (n : ℕ) (table : Table) (w : World) (by : ℕ) (answered : List Ending) (slot : ℕ) (entry : Entry) → AreKnown n w → by < n → MayLearn (record { me = by; members = n }) w.said (w.replicas by) slot entry → IsChosen n w.cast slot entry
 learn_chosen n table w by answered slot entry known member may = elim may.known [
   | inl told ↦ known.known told.0 slot entry told.1
   | inr counted ↦

@@ -1,25 +1,23 @@
 -- What an act adds to the world, and what it leaves.
-use Rattle.std.proofs.Common.{◌≡◌, ◌≢◌, ℕ, ◌+◌, ◌<◌, ◌≤◌, Bool, Option, Some, None, List, [], ◌∷◌, ◌++◌, length, true, false, eqb, leb, refl, sym, ap, ◌∙◌, inl, inr, arith, subst, ◌⊎◌, ⊎_elim}
-use Rattle.std.specs.List.{All, Contains, filter}
-use Rattle.std.proofs.lemmas.Bool.{both_ways, cases_Bool, cases_eq, cases_lt, eqb-true, eq-eqb, ne_eqb, le-leb}
-use Rattle.std.proofs.lemmas.List.Elements.{All-contains, All-contains_itself, All-filter, Contains-push, Contains-push_cases, Contains-append_left, Contains-append_right, Contains-append_cases}
-use Rattle.paxos_base.specs.Ballot.{member_of, round_of}
+use Rattle.std.proofs.Common.{◌≡◌, ◌≢◌, ℕ, ◌+◌, ◌≤◌, Bool, Option, Some, None, List, [], ◌∷◌, eqb, refl, sym, ap, ◌∙◌, inl, inr, arith, subst, ◌⊎◌}
+use Rattle.std.specs.List.{Contains, filter}
+use Rattle.std.proofs.lemmas.Bool.{both_ways, cases_Bool, eqb-true, eq-eqb, le-leb}
+use Rattle.std.proofs.lemmas.List.Elements.{All-contains, All-contains_itself, All-filter, Contains-push, Contains-push_cases, Contains-append_left, Contains-append_cases}
 use Rattle.paxos_base.specs.Durable.{after_delta}
 use Rattle.paxos_base.specs.Vote.{vote_at, votes_below, votes_from, put_vote}
-use Rattle.paxos_base.specs.declared.durable.Delta.TheVariants.{Tried, Promised, Voted, Base}
+use Rattle.paxos_base.specs.declared.durable.Delta.TheVariants.{Voted}
 use Rattle.paxos_base.specs.declared.durable.Durable.{Durable}
-use Rattle.paxos_base.specs.declared.entry.Entry.{Entry}
 use Rattle.paxos_base.specs.declared.entry.Vote.{Vote}
 use Rattle.paxos_base.proofs.PutLemmas.{at_put, at_from}
-use Rattle.term_core.specs.declared.term.Term.TheVariants.{Follower, Candidate, Leader}
+use Rattle.term_core.specs.declared.term.Term.TheVariants.{Leader}
 use Rattle.step_law.specs.Act.{Act, Observe, Stand, Gather, TakeLead, Pledge, Cast, Launch, Count, Wait, Learn, Rebase, Call, Send, Restart, after_act}
-use Rattle.step_law.specs.May.{May, Saying, Setting}
+use Rattle.step_law.specs.May.{HasSaid, May, Saying, Setting}
 use Rattle.step_law.specs.Message.{Message}
-use Rattle.step_law.specs.Sound.{IsSound, FitsTerm}
-use Rattle.step_law.specs.State.{State, Identity, prefix_of, promised_in, started}
+use Rattle.step_law.specs.Coherent.{IsCoherent, FitsTerm}
+use Rattle.step_law.specs.State.{State, Identity, prefix_of, promised_in}
 use Rattle.step_law.proofs.VoteLemmas.{found_vote}
 use Rattle.agree_law.specs.Agree.{HasCast}
-use Rattle.agree_law.specs.World.{Ballot, World, after_doing, cast_after, said_after, with_replica}
+use Rattle.agree_law.specs.World.{CastVote, cast_after, said_after, with_replica}
 
 -- the act casts the vote
 abbrev pub Casts : Act → Vote → Type 0
@@ -33,7 +31,7 @@ Says (Send whom mine) message = mine ≡ message
 Says act message = ⊥
 
 -- a vote is an old one, or is cast now
-pub cast_cases : (by : ℕ) (act : Act) (cast : List Ballot) (q : ℕ) (vote : Vote) → HasCast (cast_after by act cast) q vote → HasCast cast q vote ⊎ ((q ≡ by) × Casts act vote)
+pub cast_cases : (by : ℕ) (act : Act) (cast : List CastVote) (q : ℕ) (vote : Vote) → HasCast (cast_after by act cast) q vote → HasCast cast q vote ⊎ ((q ≡ by) × Casts act vote)
 cast_cases by (Cast mine) cast q vote has =
     elim (Contains-push_cases cast (record { by = by; vote = mine }) (record { by = q; vote = vote }) has) [
       | inl old ↦ inl old
@@ -47,20 +45,16 @@ cast_cases by (Launch me mine) cast q vote has =
 cast_cases by act cast q vote has = inl has
 
 -- a vote that was cast stays cast
-pub cast_stays : (by : ℕ) (act : Act) (cast : List Ballot) (q : ℕ) (vote : Vote) → HasCast cast q vote → HasCast (cast_after by act cast) q vote
+pub cast_stays : (by : ℕ) (act : Act) (cast : List CastVote) (q : ℕ) (vote : Vote) → HasCast cast q vote → HasCast (cast_after by act cast) q vote
 cast_stays by (Cast mine) cast q vote has = Contains-append_left cast (record { by = by; vote = mine } ∷ []) (record { by = q; vote = vote }) has
 cast_stays by (Launch me mine) cast q vote has = Contains-append_left cast (record { by = by; vote = mine } ∷ []) (record { by = q; vote = vote }) has
 cast_stays by act cast q vote has = has
 
 -- what an act casts is cast
-pub cast_now : (by : ℕ) (act : Act) (cast : List Ballot) (vote : Vote) → Casts act vote → HasCast (cast_after by act cast) by vote
+pub cast_now : (by : ℕ) (act : Act) (cast : List CastVote) (vote : Vote) → Casts act vote → HasCast (cast_after by act cast) by vote
 cast_now by (Cast mine) cast vote casts = rw casts (Contains-push cast (record { by = by; vote = vote }))
 cast_now by (Launch me mine) cast vote casts = rw casts (Contains-push cast (record { by = by; vote = vote }))
 cast_now by act cast vote casts = absurd casts
-
--- the replica has said the message
-abbrev pub HasSaid : List Saying → ℕ → Message → Type 0
-HasSaid said by message = Contains said (record { by = by; message = message })
 
 -- what was said was said before, or is said now
 pub said_cases : (by : ℕ) (act : Act) (said : List Saying) (q : ℕ) (message : Message) → HasSaid (said_after by act said) q message → HasSaid said q message ⊎ ((q ≡ by) × Says act message)
@@ -132,7 +126,7 @@ pub found_there : (slot : ℕ) (votes : List Vote) (vote : Vote) → vote_at slo
 found_there slot votes vote is = (found_vote (Contains votes) slot votes vote (All-contains_itself votes) is).1
 
 -- a vote of a ballot that is not below the promised one takes its slot
-goes_on_by_vote : (self : Identity) (state : State) (vote : Vote) (act : Act) → Casts act vote → promised_in state.kept ≤ vote.ballot → IsSound self state → GoesOn state.kept (after_delta (Voted vote) state.kept) act
+goes_on_by_vote : (self : Identity) (state : State) (vote : Vote) (act : Act) → Casts act vote → promised_in state.kept ≤ vote.ballot → IsCoherent self state → GoesOn state.kept (after_delta (Voted vote) state.kept) act
 unfolding after_delta
 goes_on_by_vote self state vote act casts least sound = record {
   promised = least;
@@ -151,7 +145,7 @@ goes_on_by_vote self state vote act casts least sound = record {
         ]
 
 -- an act that may be done goes on from what was kept
-pub goes_on : (setting : Setting) (state : State) (act : Act) → IsSound setting.self state → May setting state act → GoesOn state.kept (after_act act state).kept act
+pub goes_on : (setting : Setting) (state : State) (act : Act) → IsCoherent setting.self state → May setting state act → GoesOn state.kept (after_act act state).kept act
 unfolding after_act after_delta May
 goes_on setting state (Stand me ballot) sound may =
     let rest = unchanged state.kept (Stand me ballot) in

@@ -1,33 +1,27 @@
 -- What replicas keep of their votes: an acceptor votes for nothing below its promise, and a proposer for one entry a slot in
 -- each ballot of its own ("Paxos Made Simple", section 2.2: P1a, and that proposals have different numbers).
-use Rattle.std.proofs.Common.{◌≡◌, ◌≢◌, ℕ, ◌+◌, ◌-◌, ◌<◌, ◌≤◌, Option, Some, None, List, [], ◌∷◌, ◌++◌, length, drop, true, false, eqb, ltb, refl, sym, ap, ◌∙◌, inl, inr, arith, subst, ◌⊎◌}
+use Rattle.std.proofs.Common.{◌≡◌, ℕ, ◌<◌, ◌≤◌, Option, Some, None, List, sym, ap, ◌∙◌, inl, inr, arith, subst, ◌⊎◌}
 use Rattle.std.specs.List.{Contains}
-use Rattle.std.proofs.lemmas.List.{length-drop}
-use Rattle.std.proofs.Common.{length-append}
 use Rattle.std.proofs.lemmas.Bool.{cases_Bool, cases_lt, lt-ltb, le-ltb}
 use Rattle.paxos_base.specs.Ballot.{member_of, round_of}
 use Rattle.paxos_base.specs.Vote.{vote_at}
-use Rattle.paxos_base.specs.declared.entry.Entry.{Entry}
 use Rattle.paxos_base.specs.declared.entry.Vote.{Vote}
-use Rattle.paxos_base.specs.declared.rows.JobRow.{JobRow}
-use Rattle.due_set.specs.Table.{Table}
 use Rattle.term_core.specs.Term.{after_advance, after_ballot, after_tick, is_ended_by}
 use Rattle.term_core.specs.declared.flight.Flight.{Flight}
 use Rattle.term_core.specs.declared.term.Term.{Term}
 use Rattle.term_core.specs.declared.term.Term.TheVariants.{Follower, Candidate, Leader}
-use Rattle.step_law.specs.Act.{Act, Observe, Stand, Gather, TakeLead, Pledge, Cast, Launch, Count, Wait, Learn, Rebase, Call, Send, Restart, after_act, after_counting, after_gathering, as_leader}
-use Rattle.step_law.specs.May.{May, MayPropose, MaySend, LeadsIn, Setting}
+use Rattle.step_law.specs.Act.{Act, Cast, Launch, Send, after_counting, after_gathering, as_leader}
+use Rattle.step_law.specs.May.{May, MayPropose, MaySend, LeadsIn, Setting, HasSaid}
 use Rattle.step_law.specs.Message.{Message, Accept}
 use Rattle.step_law.specs.Propose.{vote_of}
-use Rattle.step_law.specs.Sound.{IsSound, FitsTerm, IsOwn}
+use Rattle.step_law.specs.Coherent.{IsCoherent, FitsTerm, IsOwn}
 use Rattle.step_law.specs.State.{State, Identity, prefix_of, promised_in}
-use Rattle.step_law.proofs.SoundLemmas.{act_sound}
 use Rattle.agree_law.specs.Agree.{HasCast}
-use Rattle.agree_law.specs.World.{Ballot, Doing, MayDo, World, after_doing, cast_after, with_replica}
-use Rattle.agree_law.proofs.Growing.{Casts, Says, HasSaid, IsLater, GoesOn, cast_cases, cast_now, cast_stays, casts_stored, each_replica, goes_on, said_cases}
+use Rattle.agree_law.specs.World.{CastVote, World}
+use Rattle.agree_law.proofs.Growing.{Casts, Says, IsLater}
 
 -- which votes a proposer has cast in the ballot of its term: none as a candidate, and below its prefix or in flight as a leader
-abbrev pub Owns : List Ballot → (q prefix : ℕ) → Term → Type 0
+abbrev pub Owns : List CastVote → (q prefix : ℕ) → Term → Type 0
 Owns cast q prefix (Follower ended) = Unit {0}
 Owns cast q prefix (Candidate ballot first heard best) = (vote : Vote) → HasCast cast q vote → vote.ballot ≡ ballot → ⊥
 Owns cast q prefix (Leader ballot best None) = (vote : Vote) → HasCast cast q vote → vote.ballot ≡ ballot → vote.slot < prefix
@@ -35,7 +29,7 @@ Owns cast q prefix (Leader ballot best (Some flight)) =
     (vote : Vote) → HasCast cast q vote → vote.ballot ≡ ballot → (vote.slot < prefix) ⊎ (vote ≡ vote_of ballot flight)
 
 pub record Kept (n : ℕ) (w : World) : Type 0 where
-  pub sound : (q : ℕ) → q < n → IsSound (record { me = q; members = n }) (w.replicas q)
+  pub sound : (q : ℕ) → q < n → IsCoherent (record { me = q; members = n }) (w.replicas q)
   pub members : (q : ℕ) (vote : Vote) → HasCast w.cast q vote → q < n
   pub speakers : (q : ℕ) (message : Message) → HasSaid w.said q message → q < n
   pub below : (q : ℕ) (vote : Vote) → HasCast w.cast q vote → vote.ballot ≤ promised_in (w.replicas q).kept
@@ -71,7 +65,7 @@ casts_one (Launch me mine) u v a b = sym a ∙ b
 casts_one act u v a b = absurd a
 
 -- a proposal is of the proposer's own ballot
-pub own_ballot : (self : Identity) (state : State) (ballot : ℕ) (best : List Vote) (flight : Option Flight) → IsSound self state → state.term ≡ Leader ballot best flight → IsOwn self state.kept ballot
+pub own_ballot : (self : Identity) (state : State) (ballot : ℕ) (best : List Vote) (flight : Option Flight) → IsCoherent self state → state.term ≡ Leader ballot best flight → IsOwn self state.kept ballot
 own_ballot self state ballot best flight sound leader =
     let fits : FitsTerm self state.kept (prefix_of state) (Leader ballot best flight) =
     subst (λ term. FitsTerm self state.kept (prefix_of state) term) leader sound.term in
@@ -83,40 +77,40 @@ leads_own self state ballot (Candidate own first heard best) fits leads = absurd
 leads_own self state ballot (Leader own best flight) fits leads = subst (λ b. IsOwn self state.kept b) leads fits.0
 
 -- fewer votes leave fewer to account for
-pub owns_fewer : (cast cast' : List Ballot) (q prefix : ℕ) (term : Term) → ((vote : Vote) → HasCast cast' q vote → HasCast cast q vote) → Owns cast q prefix term → Owns cast' q prefix term
+pub owns_fewer : (cast cast' : List CastVote) (q prefix : ℕ) (term : Term) → ((vote : Vote) → HasCast cast' q vote → HasCast cast q vote) → Owns cast q prefix term → Owns cast' q prefix term
 owns_fewer cast cast' q prefix (Follower ended) old owns = tt
 owns_fewer cast cast' q prefix (Candidate ballot first heard best) old owns = λ vote has is. owns vote (old vote has) is
 owns_fewer cast cast' q prefix (Leader ballot best None) old owns = λ vote has is. owns vote (old vote has) is
 owns_fewer cast cast' q prefix (Leader ballot best (Some flight)) old owns = λ vote has is. owns vote (old vote has) is
 
-pub owns_after_ballot : (cast : List Ballot) (q prefix ballot : ℕ) (term : Term) → Owns cast q prefix term → Owns cast q prefix (after_ballot ballot term)
+pub owns_after_ballot : (cast : List CastVote) (q prefix ballot : ℕ) (term : Term) → Owns cast q prefix term → Owns cast q prefix (after_ballot ballot term)
 owns_after_ballot cast q prefix ballot term owns =
     elim (cases_Bool (is_ended_by ballot term)) [ inl ended ↦ rw ended tt | inr goes ↦ rw goes owns ]
 
-pub owns_after_gathering : (cast : List Ballot) (q prefix from : ℕ) (votes : List Vote) (term : Term) → Owns cast q prefix term → Owns cast q prefix (after_gathering from votes term)
+pub owns_after_gathering : (cast : List CastVote) (q prefix from : ℕ) (votes : List Vote) (term : Term) → Owns cast q prefix term → Owns cast q prefix (after_gathering from votes term)
 owns_after_gathering cast q prefix from votes (Follower ended) owns = owns
 owns_after_gathering cast q prefix from votes (Candidate ballot first heard best) owns = owns
 owns_after_gathering cast q prefix from votes (Leader ballot best flight) owns = owns
 
-pub owns_as_leader : (cast : List Ballot) (q prefix : ℕ) (term : Term) → Owns cast q prefix term → Owns cast q prefix (as_leader term)
+pub owns_as_leader : (cast : List CastVote) (q prefix : ℕ) (term : Term) → Owns cast q prefix term → Owns cast q prefix (as_leader term)
 owns_as_leader cast q prefix (Follower ended) owns = owns
 owns_as_leader cast q prefix (Candidate ballot first heard best) owns = λ vote has is. absurd (owns vote has is)
 owns_as_leader cast q prefix (Leader ballot best flight) owns = owns
 
-pub owns_after_counting : (cast : List Ballot) (q prefix from : ℕ) (term : Term) → Owns cast q prefix term → Owns cast q prefix (after_counting from term)
+pub owns_after_counting : (cast : List CastVote) (q prefix from : ℕ) (term : Term) → Owns cast q prefix term → Owns cast q prefix (after_counting from term)
 owns_after_counting cast q prefix from (Follower ended) owns = owns
 owns_after_counting cast q prefix from (Candidate ballot first heard best) owns = owns
 owns_after_counting cast q prefix from (Leader ballot best None) owns = owns
 owns_after_counting cast q prefix from (Leader ballot best (Some flight)) owns = owns
 
-pub owns_after_tick : (cast : List Ballot) (q prefix : ℕ) (term : Term) → Owns cast q prefix term → Owns cast q prefix (after_tick term)
+pub owns_after_tick : (cast : List CastVote) (q prefix : ℕ) (term : Term) → Owns cast q prefix term → Owns cast q prefix (after_tick term)
 owns_after_tick cast q prefix (Follower ended) owns = owns
 owns_after_tick cast q prefix (Candidate ballot first heard best) owns = owns
 owns_after_tick cast q prefix (Leader ballot best None) owns = owns
 owns_after_tick cast q prefix (Leader ballot best (Some flight)) owns = owns
 
 -- once the prefix has risen to a slot, a flight below it is over, and its vote is below the prefix
-pub owns_after_advance : (self : Identity) (state : State) (cast : List Ballot) (q later : ℕ) (term : Term) → prefix_of state ≤ later → FitsTerm self state.kept (prefix_of state) term → Owns cast q (prefix_of state) term → Owns cast q later (after_advance later term)
+pub owns_after_advance : (self : Identity) (state : State) (cast : List CastVote) (q later : ℕ) (term : Term) → prefix_of state ≤ later → FitsTerm self state.kept (prefix_of state) term → Owns cast q (prefix_of state) term → Owns cast q later (after_advance later term)
 owns_after_advance self state cast q later (Follower ended) up fits owns = tt
 owns_after_advance self state cast q later (Candidate ballot first heard best) up fits owns = owns
 owns_after_advance self state cast q later (Leader ballot best None) up fits owns = λ vote has is. omega (arith, owns vote has is, up)

@@ -1,32 +1,27 @@
 -- Each act that may be done keeps what replicas keep of their votes.
-use Rattle.std.proofs.Common.{◌≡◌, ◌≢◌, ℕ, ◌+◌, ◌-◌, ◌<◌, ◌≤◌, Option, Some, None, List, [], ◌∷◌, ◌++◌, length, drop, true, false, eqb, ltb, refl, sym, ap, ◌∙◌, inl, inr, arith, subst, ◌⊎◌, length-append}
+use Rattle.std.proofs.Common.{◌≡◌, ℕ, ◌+◌, ◌-◌, ◌<◌, ◌≤◌, Some, None, List, [], ◌∷◌, ◌++◌, length, drop, sym, ap, ◌∙◌, inl, inr, arith, subst, length-append}
 use Rattle.std.specs.List.{Contains}
 use Rattle.std.proofs.lemmas.List.{length-drop}
 use Rattle.paxos_base.specs.Ballot.{member_of, round_of}
 use Rattle.paxos_base.specs.Vote.{vote_at}
 use Rattle.paxos_base.specs.Durable.{after_delta}
-use Rattle.paxos_base.specs.declared.entry.Entry.{Entry}
 use Rattle.paxos_base.specs.declared.entry.Vote.{Vote}
-use Rattle.paxos_base.specs.declared.rows.JobRow.{JobRow}
 use Rattle.due_set.specs.Table.{Table}
-use Rattle.term_core.specs.Term.{after_proposal, new_flight}
-use Rattle.term_core.specs.declared.flight.Flight.{Flight}
 use Rattle.term_core.specs.declared.term.Term.{Term}
 use Rattle.term_core.specs.declared.term.Term.TheVariants.{Follower, Candidate, Leader}
 use Rattle.step_law.specs.Act.{Act, Observe, Stand, Gather, TakeLead, Pledge, Cast, Launch, Count, Wait, Learn, Rebase, Call, Send, Restart, after_act}
-use Rattle.step_law.specs.May.{May, MayPropose, MaySend, LeadsIn, Outcome, Setting}
+use Rattle.step_law.specs.May.{May, Ending, Setting, HasSaid}
 use Rattle.step_law.specs.Message.{Message, Accept}
-use Rattle.step_law.specs.Propose.{vote_of}
-use Rattle.step_law.specs.Sound.{IsSound, FitsTerm, IsOwn}
-use Rattle.step_law.specs.State.{State, Identity, prefix_of, promised_in}
+use Rattle.step_law.specs.Coherent.{IsCoherent, FitsTerm}
+use Rattle.step_law.specs.State.{prefix_of, promised_in}
 use Rattle.step_law.proofs.SoundLemmas.{act_sound}
 use Rattle.agree_law.specs.Agree.{HasCast}
-use Rattle.agree_law.specs.World.{Ballot, Doing, MayDo, World, after_doing, cast_after, with_replica}
-use Rattle.agree_law.proofs.Growing.{Casts, Says, HasSaid, IsLater, GoesOn, cast_cases, cast_now, cast_stays, casts_stored, each_replica, found_there, goes_on, said_cases}
-use Rattle.agree_law.proofs.Kept.{Kept, Origin, asked_by, proposed_by, Owns, casts_one, casts_origin, leads_own, own_ballot, owns_after_advance, owns_after_ballot, owns_after_counting, owns_after_gathering, owns_after_tick, owns_as_leader, owns_fewer, says_may}
+use Rattle.agree_law.specs.World.{Doing, MayDo, World, after_doing, cast_after}
+use Rattle.agree_law.proofs.Growing.{Casts, IsLater, cast_cases, cast_now, cast_stays, casts_stored, each_replica, found_there, goes_on, said_cases}
+use Rattle.agree_law.proofs.Kept.{Kept, asked_by, proposed_by, Owns, casts_one, casts_origin, leads_own, own_ballot, owns_after_advance, owns_after_ballot, owns_after_counting, owns_after_gathering, owns_after_tick, owns_as_leader, owns_fewer, says_may}
 
 -- the setting in which a replica acts
-abbrev pub setting_of : ℕ → Table → World → ℕ → List Outcome → Setting
+abbrev pub setting_of : ℕ → Table → World → ℕ → List Ending → Setting
 setting_of n table w by answered = record { self = record { me = by; members = n }; table = table; said = w.said; answered = answered }
 
 below_after : (n : ℕ) (table : Table) (w : World) (doing : Doing) → Kept n w → MayDo n table w doing → (q : ℕ) (vote : Vote) → HasCast (after_doing doing.by doing.act w).cast q vote → vote.ballot ≤ promised_in ((after_doing doing.by doing.act w).replicas q).kept
@@ -159,7 +154,7 @@ once_after n table w doing kept may a b u v has_u has_v slots ballots =
     ]
 
 -- the votes in the term's own ballot after an act of the replica itself
-owns_here : (n : ℕ) (table : Table) (w : World) (by : ℕ) (act : Act) (answered : List Outcome) → Kept n w → by < n → May (setting_of n table w by answered) (w.replicas by) act → Owns (cast_after by act w.cast) by (prefix_of (after_act act (w.replicas by))) (after_act act (w.replicas by)).term
+owns_here : (n : ℕ) (table : Table) (w : World) (by : ℕ) (act : Act) (answered : List Ending) → Kept n w → by < n → May (setting_of n table w by answered) (w.replicas by) act → Owns (cast_after by act w.cast) by (prefix_of (after_act act (w.replicas by))) (after_act act (w.replicas by)).term
 unfolding after_act after_delta May
 owns_here n table w by (Observe ballot) answered kept member may =
     owns_after_ballot w.cast by (prefix_of (w.replicas by)) ballot (w.replicas by).term (kept.owns by member)
@@ -225,10 +220,10 @@ owns_after n table w doing kept may q =
     (λ vote has. elim (cast_cases doing.by doing.act w.cast q vote has) [ inl old ↦ old | inr now ↦ absurd (other now.0) ])
     (kept.owns q member))
 
-sound_after : (n : ℕ) (table : Table) (w : World) (doing : Doing) → Kept n w → MayDo n table w doing → (q : ℕ) → q < n → IsSound (record { me = q; members = n }) ((after_doing doing.by doing.act w).replicas q)
+sound_after : (n : ℕ) (table : Table) (w : World) (doing : Doing) → Kept n w → MayDo n table w doing → (q : ℕ) → q < n → IsCoherent (record { me = q; members = n }) ((after_doing doing.by doing.act w).replicas q)
 unfolding after_doing
 sound_after n table w doing kept may q =
-    each_replica (λ q s. q < n → IsSound (record { me = q; members = n }) s)
+    each_replica (λ q s. q < n → IsCoherent (record { me = q; members = n }) s)
     doing.by (after_act doing.act (w.replicas doing.by)) w.replicas q
     (λ member. act_sound (setting_of n table w doing.by may.answered) (w.replicas doing.by) doing.act (kept.sound doing.by member) may.may)
     (λ other member. kept.sound q member)

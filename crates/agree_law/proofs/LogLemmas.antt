@@ -1,39 +1,18 @@
 -- Each world has one log.
-use Rattle.std.proofs.Common.{◌≡◌, ◌≢◌, ℕ, ◌+◌, ◌-◌, ◌<◌, ◌≤◌, Option, Some, None, List, [], ◌∷◌, ◌++◌, length, drop, true, false, eqb, ltb, leb, refl, sym, ap, ◌∙◌, inl, inr, arith, subst, ◌⊎◌, length-append, IsTrue, ◌&&◌, if◌then◌else◌, suc, zero}
-use Rattle.std.specs.List.{All, Contains}
-use Rattle.std.specs.Option.{IsSomeAnd}
-use Rattle.std.proofs.lemmas.List.{length-drop, take_all}
-use Rattle.std.proofs.lemmas.List.Elements.{All-contains, All-contains_itself, Contains-push, Contains-append_left, Contains-append_right}
+use Rattle.std.proofs.Common.{◌≡◌, ℕ, ◌+◌, ◌<◌, ◌≤◌, List, [], ◌∷◌, length, eqb, refl, sym, ap, ◌∙◌, inl, inr, arith, subst, ◌⊎◌, ◌&&◌, if◌then◌else◌, suc, zero}
+use Rattle.std.specs.List.{Contains}
+use Rattle.std.proofs.lemmas.List.{take_all}
+use Rattle.std.proofs.lemmas.List.Elements.{Contains-push, Contains-append_left, Contains-append_right}
 use Rattle.std.proofs.lemmas.Nat.Bits.{bit_at-zero}
-use Rattle.std.proofs.lemmas.Bool.{cases_Bool, cases_eq, cases_lt, le-leb}
-use Rattle.paxos_base.specs.Ballot.{member_of, round_of}
-use Rattle.paxos_base.specs.Durable.{after_delta}
-use Rattle.paxos_base.specs.Members.{AllBelow, HasMember, has_majority, no_members, only_member, with_member}
-use Rattle.paxos_base.specs.Vote.{vote_at, votes_from}
+use Rattle.std.proofs.lemmas.Bool.{cases_Bool, cases_lt}
+use Rattle.paxos_base.specs.Members.{AllBelow, HasMember, has_majority, no_members, with_member}
 use Rattle.paxos_base.specs.declared.entry.Entry.{Entry}
 use Rattle.paxos_base.specs.declared.entry.Vote.{Vote}
 use Rattle.paxos_base.proofs.MemberLemmas.{has_member-set}
-use Rattle.paxos_base.proofs.PutLemmas.{at_from}
-use Rattle.due_set.specs.Table.{Table}
-use Rattle.term_core.specs.Best.{best_of, is_higher, with_vote}
-use Rattle.term_core.specs.Term.{after_advance, after_ballot, after_proposal, after_tick, is_ended_by}
-use Rattle.term_core.specs.declared.flight.Flight.{Flight}
-use Rattle.term_core.specs.declared.term.Term.{Term}
-use Rattle.term_core.specs.declared.term.Term.TheVariants.{Follower, Candidate, Leader}
-use Rattle.term_core.proofs.LawLemmas.{held_or_higher, heard_or_higher, held_or_heard}
-use Rattle.step_law.specs.Act.{Act, Observe, Stand, Gather, TakeLead, Pledge, Cast, Launch, Count, Wait, Learn, Rebase, Call, Send, Restart, after_act, after_counting, after_gathering, as_leader}
-use Rattle.step_law.specs.May.{May, MaySend, MayPromise, Outcome, Setting}
-use Rattle.step_law.specs.Message.{Message, Promise}
-use Rattle.step_law.specs.Sound.{IsSound, FitsTerm, IsOwn}
-use Rattle.step_law.specs.State.{State, Identity, prefix_of, promised_in}
-use Rattle.step_law.proofs.VoteLemmas.{found_vote}
 use Rattle.agree_law.specs.Agree.{HasCast}
-use Rattle.agree_law.specs.World.{Ballot, Doing, MayDo, World, after_doing, cast_after, with_replica}
-use Rattle.agree_law.proofs.Growing.{Casts, Says, HasSaid, IsLater, GoesOn, cast_cases, cast_now, cast_stays, casts_stored, each_replica, found_there, from_there, goes_on, put_cases, said_cases}
-use Rattle.agree_law.proofs.Kept.{Kept, says_may}
-use Rattle.agree_law.proofs.KeptLemmas.{setting_of}
-use Rattle.agree_law.proofs.Told.{Heeds, AreBacked, IsRallied, IsLed, HasHeard, IsPromised, Told}
-use Rattle.std.specs.List.{count_by, sum_by}
+use Rattle.agree_law.specs.World.{CastVote, World}
+use Rattle.agree_law.proofs.Kept.{Kept}
+use Rattle.std.specs.List.{sum_by}
 use Rattle.std.proofs.Common.{get_or, take}
 use Rattle.std.proofs.lemmas.List.Sums.{get_or-le-sum_by, sum_by-le-sum_by}
 use Rattle.std.proofs.lemmas.List.Elements.{Contains-append_cases, Contains-push_cases}
@@ -46,36 +25,41 @@ use Rattle.agree_law.proofs.Safe.{AreSafe}
 use Rattle.agree_law.proofs.ToldLemmas.{with_cases}
 
 -- those that have voted at a slot in a ballot
-abbrev voters_of : ℕ → ℕ → List Ballot → ℕ
+abbrev voters_of : ℕ → ℕ → List CastVote → ℕ
 voters_of slot ballot [] = no_members
 voters_of slot ballot (row ∷ rows) =
     if eqb row.vote.slot slot && eqb row.vote.ballot ballot then with_member row.by (voters_of slot ballot rows) else voters_of slot ballot rows
 
 -- a vote at the slot in the ballot
-record VoteThere (rows : List Ballot) (q slot ballot : ℕ) : Type 0 where
+record VoteThere (rows : List CastVote) (q slot ballot : ℕ) : Type 0 where
   vote : Vote
   has : HasCast rows q vote
   slot_is : vote.slot ≡ slot
   ballot_is : vote.ballot ≡ ballot
 
-there_more : (row : Ballot) (rows : List Ballot) (q slot ballot : ℕ) → VoteThere rows q slot ballot → VoteThere (row ∷ rows) q slot ballot
+there_more : (row : CastVote) (rows : List CastVote) (q slot ballot : ℕ) → VoteThere rows q slot ballot → VoteThere (row ∷ rows) q slot ballot
 there_more row rows q slot ballot there = record {
-  vote = there.vote; has = Contains-append_right (row ∷ []) rows (record { by = q; vote = there.vote }) there.has;
-  slot_is = there.slot_is; ballot_is = there.ballot_is;
+  vote = there.vote;
+  has = Contains-append_right (row ∷ []) rows (record { by = q; vote = there.vote }) there.has;
+  slot_is = there.slot_is;
+  ballot_is = there.ballot_is;
 }
 
-voters_have : (slot ballot : ℕ) (rows : List Ballot) → ((row : Ballot) → Contains rows row → row.by < 8) → (q : ℕ) → HasMember (voters_of slot ballot rows) q → VoteThere rows q slot ballot
+voters_have : (slot ballot : ℕ) (rows : List CastVote) → ((row : CastVote) → Contains rows row → row.by < 8) → (q : ℕ) → HasMember (voters_of slot ballot rows) q → VoteThere rows q slot ballot
 voters_have slot ballot [] few q has = let none = bit_at-zero q in absurd (omega (arith, has, none))
 voters_have slot ballot (row ∷ rows) few q has =
     let first : Contains (row ∷ rows) row = Contains-append_left (row ∷ []) rows row (Contains-push [] row) in
-    let less = λ (other : Ballot) (in_rows : Contains rows other). few other (Contains-append_right (row ∷ []) rows other in_rows) in
+    let less = λ (other : CastVote) (in_rows : Contains rows other). few other (Contains-append_right (row ∷ []) rows other in_rows) in
     elim (cases_Bool (eqb row.vote.slot slot && eqb row.vote.ballot ballot)) [
       | inl here ↦
           let parts = and_parts (eqb row.vote.slot slot) (eqb row.vote.ballot ballot) here in
           elim (with_cases row.by (voters_of slot ballot rows) q (few row first) (rw here at has)) [
             | inl same ↦ record {
-                vote = row.vote; has = rw same first; slot_is = eqb-true row.vote.slot slot parts.0; ballot_is = eqb-true row.vote.ballot ballot parts.1;
-              }
+              vote = row.vote;
+              has = rw same first;
+              slot_is = eqb-true row.vote.slot slot parts.0;
+              ballot_is = eqb-true row.vote.ballot ballot parts.1;
+            }
             | inr old ↦ there_more row rows q slot ballot (voters_have slot ballot rows less q old)
           ]
       | inr other ↦ there_more row rows q slot ballot (voters_have slot ballot rows less q (rw other at has))
@@ -89,11 +73,11 @@ with_new : (from set : ℕ) → from < 8 → HasMember (with_member from set) fr
 unfolding with_member
 with_new from set small = (has_member-set set from small from).1 (inl refl)
 
-are_voters : (slot ballot : ℕ) (rows : List Ballot) → ((row : Ballot) → Contains rows row → row.by < 8) → (q : ℕ) (vote : Vote) → HasCast rows q vote → vote.slot ≡ slot → vote.ballot ≡ ballot → HasMember (voters_of slot ballot rows) q
+are_voters : (slot ballot : ℕ) (rows : List CastVote) → ((row : CastVote) → Contains rows row → row.by < 8) → (q : ℕ) (vote : Vote) → HasCast rows q vote → vote.slot ≡ slot → vote.ballot ≡ ballot → HasMember (voters_of slot ballot rows) q
 are_voters slot ballot [] few q vote (k, within, is) at in_ballot = absurd (omega (arith, within))
 are_voters slot ballot (row ∷ rows) few q vote has at in_ballot =
     let first : row.by < 8 = few row (Contains-append_left (row ∷ []) rows row (Contains-push [] row)) in
-    let less = λ (other : Ballot) (in_rows : Contains rows other). few other (Contains-append_right (row ∷ []) rows other in_rows) in
+    let less = λ (other : CastVote) (in_rows : Contains rows other). few other (Contains-append_right (row ∷ []) rows other in_rows) in
     elim (Contains-append_cases (row ∷ []) rows (record { by = q; vote = vote }) has) [
       | inl here ↦ elim (Contains-push_cases [] row (record { by = q; vote = vote }) here) [
         | inl (k, within, is) ↦ absurd (omega (arith, within))
@@ -122,14 +106,14 @@ more_members one other more = sum_by-le-sum_by _ _ all_members pointwise
     ]
 
 -- an entry was chosen at the slot, or none was
-abbrev Choice : ℕ → List Ballot → ℕ → Type 0
+abbrev Choice : ℕ → List CastVote → ℕ → Type 0
 Choice n cast slot = ((entry : Entry) × IsChosen n cast slot entry) ⊎ ((entry : Entry) → IsChosen n cast slot entry → ⊥)
 
-abbrev ChoiceIn : ℕ → List Ballot → (slot ballot : ℕ) → Type 0
+abbrev ChoiceIn : ℕ → List CastVote → (slot ballot : ℕ) → Type 0
 ChoiceIn n cast slot ballot =
     ((entry : Entry) × IsChosen n cast slot entry) ⊎ ((entry : Entry) → (chosen : IsChosen n cast slot entry) → chosen.ballot ≡ ballot → ⊥)
 
-few_rows : (n : ℕ) (w : World) → Kept n w → n ≤ 7 → (row : Ballot) → Contains w.cast row → row.by < 8
+few_rows : (n : ℕ) (w : World) → Kept n w → n ≤ 7 → (row : CastVote) → Contains w.cast row → row.by < 8
 few_rows n w kept few row has = omega (arith, kept.members row.by row.vote has, few)
 
 vote_is : (vote : Vote) (slot ballot : ℕ) → vote.slot ≡ slot → vote.ballot ≡ ballot → vote ≡ vote_for slot ballot vote.entry
@@ -144,14 +128,20 @@ choice_in n w slot ballot kept few =
       | inl enough ↦
           let meet = majorities_share n voters voters below below enough enough in
           let there = voters_have slot ballot w.cast rows meet.member meet.in_one in
-          inl (there.vote.entry, record {
-            ballot = ballot; voters = voters; below = below; majority = enough;
-            each = λ q has.
-              let mine = voters_have slot ballot w.cast rows q has in
-              let same = kept.once q meet.member mine.vote there.vote mine.has there.has (mine.slot_is ∙ sym there.slot_is) (mine.ballot_is ∙ sym there.ballot_is) in
-              let is : mine.vote ≡ vote_for slot ballot there.vote.entry = same ∙ vote_is there.vote slot ballot there.slot_is there.ballot_is in
-              subst (λ v. HasCast w.cast q v) is mine.has;
-          })
+          inl (
+            there.vote.entry,
+            record {
+              ballot = ballot;
+              voters = voters;
+              below = below;
+              majority = enough;
+              each = λ q has.
+                  let mine = voters_have slot ballot w.cast rows q has in
+                  let same = kept.once q meet.member mine.vote there.vote mine.has there.has (mine.slot_is ∙ sym there.slot_is) (mine.ballot_is ∙ sym there.ballot_is) in
+                  let is : mine.vote ≡ vote_for slot ballot there.vote.entry = same ∙ vote_is there.vote slot ballot there.slot_is there.ballot_is in
+                  subst (λ v. HasCast w.cast q v) is mine.has;
+            },
+          )
       | inr short ↦ inr (λ entry chosen same.
           let more = more_members chosen.voters voters (λ q has. are_voters slot ballot w.cast rows q (vote_for slot chosen.ballot entry) (chosen.each q has) refl same) in
           let many = leb-true (majority_of n) (member_count chosen.voters) chosen.majority in
@@ -160,10 +150,10 @@ choice_in n w slot ballot kept few =
     ]
 
 -- the ballot of a vote among these rows
-BallotIn : List Ballot → ℕ → Type 0
-BallotIn rows ballot = (row : Ballot) × Contains rows row × (row.vote.ballot ≡ ballot)
+BallotIn : List CastVote → ℕ → Type 0
+BallotIn rows ballot = (row : CastVote) × Contains rows row × (row.vote.ballot ≡ ballot)
 
-choice_among : (n : ℕ) (w : World) (slot : ℕ) (rows : List Ballot) → Kept n w → n ≤ 7 → ((entry : Entry) × IsChosen n w.cast slot entry) ⊎ ((entry : Entry) → (chosen : IsChosen n w.cast slot entry) → BallotIn rows chosen.ballot → ⊥)
+choice_among : (n : ℕ) (w : World) (slot : ℕ) (rows : List CastVote) → Kept n w → n ≤ 7 → ((entry : Entry) × IsChosen n w.cast slot entry) ⊎ ((entry : Entry) → (chosen : IsChosen n w.cast slot entry) → BallotIn rows chosen.ballot → ⊥)
 unfolding BallotIn
 choice_among n w slot [] kept few = inr (λ entry chosen (row, (k, within, is), same). omega (arith, within))
 choice_among n w slot (first ∷ rows) kept few = elim (choice_in n w slot first.vote.ballot kept few) [
@@ -190,22 +180,22 @@ choice_of n w slot kept few = elim (choice_among n w slot w.cast kept few) [
 ]
 
 -- a slot of which something was chosen is not above the sum of all slots
-slot_of : Ballot → ℕ
+slot_of : CastVote → ℕ
 slot_of row = row.vote.slot
 
-chosen_low : (n : ℕ) (cast : List Ballot) (slot : ℕ) (entry : Entry) → IsChosen n cast slot entry → slot ≤ sum_by slot_of cast
+chosen_low : (n : ℕ) (cast : List CastVote) (slot : ℕ) (entry : Entry) → IsChosen n cast slot entry → slot ≤ sum_by slot_of cast
 unfolding slot_of
 chosen_low n cast slot entry chosen =
     let voter = voter_of n cast slot entry chosen in
     low (record { by = voter.0; vote = vote_for slot chosen.ballot entry }) voter.1
   where
-    low : (row : Ballot) → Contains cast row → row.vote.slot ≤ sum_by (λ r. r.vote.slot) cast
+    low : (row : CastVote) → Contains cast row → row.vote.slot ≤ sum_by (λ r. r.vote.slot) cast
     low row (k, within, is) =
         let least = get_or-le-sum_by (λ r. r.vote.slot) cast k row within in
         let same : (get_or cast k row).vote.slot ≡ row.vote.slot = ap (λ r. r.vote.slot) is in
         omega (arith, least, same)
 
-record LogFrom (n : ℕ) (cast : List Ballot) (slot : ℕ) : Type 0 where
+record LogFrom (n : ℕ) (cast : List CastVote) (slot : ℕ) : Type 0 where
   log : List Entry
   chosen : AreChosen n cast slot log
   ends : (entry : Entry) → IsChosen n cast (slot + length log) entry → ⊥
@@ -233,7 +223,7 @@ some_log n w kept few =
     (from.log, record { chosen = from.chosen; ends = λ entry chosen. from.ends entry (rw at chosen) })
 
 -- an entry of chosen ones
-pub chosen_at : (n : ℕ) (cast : List Ballot) (slot i : ℕ) (entries : List Entry) → AreChosen n cast slot entries → i < length entries → (entry : Entry) × IsChosen n cast (slot + i) entry
+pub chosen_at : (n : ℕ) (cast : List CastVote) (slot i : ℕ) (entries : List Entry) → AreChosen n cast slot entries → i < length entries → (entry : Entry) × IsChosen n cast (slot + i) entry
 chosen_at n cast slot i [] chosen within = absurd (omega (arith, within))
 chosen_at n cast slot zero (entry ∷ entries) chosen within = let at : slot + 0 ≡ slot = omega arith in (entry, rw at chosen.0)
 chosen_at n cast slot (suc i) (entry ∷ entries) chosen within =

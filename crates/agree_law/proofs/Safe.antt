@@ -1,46 +1,27 @@
 -- Each vote is safe: a majority has cast no vote below its ballot but those that had it ask for this very entry ("Paxos Made
 -- Simple", section 2.2: P2c).
-use Rattle.std.proofs.Common.{◌≡◌, ◌≢◌, ℕ, ◌+◌, ◌-◌, ◌<◌, ◌≤◌, Option, Some, None, List, [], ◌∷◌, ◌++◌, length, drop, true, false, eqb, ltb, leb, refl, sym, ap, ◌∙◌, inl, inr, arith, subst, ◌⊎◌, length-append, IsTrue}
-use Rattle.std.specs.List.{All, Contains}
-use Rattle.std.specs.Option.{IsSomeAnd}
-use Rattle.std.proofs.lemmas.List.{length-drop}
-use Rattle.std.proofs.lemmas.List.Elements.{All-contains, All-contains_itself, Contains-push, Contains-append_left, Contains-append_right}
-use Rattle.std.proofs.lemmas.Nat.Bits.{bit_at-zero}
-use Rattle.std.proofs.lemmas.Bool.{cases_Bool, cases_eq, cases_lt, le-leb}
-use Rattle.paxos_base.specs.Ballot.{member_of, round_of}
-use Rattle.paxos_base.specs.Durable.{after_delta}
-use Rattle.paxos_base.specs.Members.{AllBelow, HasMember, has_majority, no_members, only_member, with_member}
-use Rattle.paxos_base.specs.Vote.{vote_at, votes_from}
+use Rattle.std.proofs.Common.{◌≡◌, ℕ, ◌<◌, ◌≤◌, Some, List, sym, ap, ◌∙◌, inl, inr, arith, subst, IsTrue}
+use Rattle.std.specs.List.{Contains}
+use Rattle.std.proofs.lemmas.List.Elements.{All-contains_itself}
+use Rattle.paxos_base.specs.Members.{AllBelow, HasMember, has_majority}
+use Rattle.paxos_base.specs.Vote.{vote_at}
 use Rattle.paxos_base.specs.declared.entry.Entry.{Entry}
 use Rattle.paxos_base.specs.declared.entry.Vote.{Vote}
-use Rattle.paxos_base.proofs.MemberLemmas.{has_member-set}
-use Rattle.paxos_base.proofs.PutLemmas.{at_from}
 use Rattle.due_set.specs.Table.{Table}
-use Rattle.term_core.specs.Best.{best_of, is_higher, with_vote}
-use Rattle.term_core.specs.Term.{after_advance, after_ballot, after_proposal, after_tick, is_ended_by}
-use Rattle.term_core.specs.declared.flight.Flight.{Flight}
-use Rattle.term_core.specs.declared.term.Term.{Term}
-use Rattle.term_core.specs.declared.term.Term.TheVariants.{Follower, Candidate, Leader}
-use Rattle.term_core.proofs.LawLemmas.{held_or_higher, heard_or_higher, held_or_heard}
-use Rattle.step_law.specs.Act.{Act, Observe, Stand, Gather, TakeLead, Pledge, Cast, Launch, Count, Wait, Learn, Rebase, Call, Send, Restart, after_act, after_counting, after_gathering, as_leader}
-use Rattle.step_law.specs.May.{May, MaySend, MayPromise, Outcome, Setting}
-use Rattle.step_law.specs.Message.{Message, Promise}
-use Rattle.step_law.specs.Sound.{IsSound, FitsTerm, IsOwn}
-use Rattle.step_law.specs.State.{State, Identity, prefix_of, promised_in}
+use Rattle.step_law.specs.Act.{Act, after_act}
+use Rattle.step_law.specs.State.{prefix_of, promised_in}
 use Rattle.step_law.proofs.VoteLemmas.{found_vote}
 use Rattle.agree_law.specs.Agree.{HasCast}
-use Rattle.agree_law.specs.World.{Ballot, Doing, MayDo, World, after_doing, cast_after, with_replica}
-use Rattle.agree_law.proofs.Growing.{Casts, Says, HasSaid, IsLater, GoesOn, cast_cases, cast_now, cast_stays, casts_stored, each_replica, found_there, from_there, goes_on, put_cases, said_cases}
-use Rattle.agree_law.proofs.Kept.{Kept, says_may}
+use Rattle.agree_law.specs.World.{CastVote, Doing, MayDo, World, after_doing, cast_after}
+use Rattle.agree_law.proofs.Growing.{cast_cases, cast_stays, casts_stored, each_replica, goes_on}
+use Rattle.agree_law.proofs.Kept.{Kept}
 use Rattle.agree_law.proofs.KeptLemmas.{setting_of}
-use Rattle.agree_law.proofs.Told.{Heeds, AreBacked, IsRallied, IsLed, HasHeard, IsPromised, Told}
-use Rattle.step_law.specs.May.{MayPropose}
-use Rattle.step_law.specs.Message.{Accept}
+use Rattle.agree_law.proofs.Told.{IsLed, HasHeard, Told}
 use Rattle.step_law.specs.Propose.{bound_by}
-use Rattle.agree_law.proofs.Kept.{Origin, asked_by, proposed_by, casts_origin}
+use Rattle.agree_law.proofs.Kept.{asked_by, proposed_by, casts_origin}
 
 -- between an older vote and a later one of the slot there is a vote for the later one's entry
-pub record HasBetween (cast : List Ballot) (older later : Vote) : Type 0 where
+pub record HasBetween (cast : List CastVote) (older later : Vote) : Type 0 where
   pub by : ℕ
   pub vote : Vote
   pub has : HasCast cast by vote
@@ -50,7 +31,7 @@ pub record HasBetween (cast : List Ballot) (older later : Vote) : Type 0 where
   pub high : vote.ballot < later.ballot
 
 -- the replica votes below the ballot no more, and what it voted there gave way to votes for the entry
-pub record GivesWay (cast : List Ballot) (promised q : ℕ) (vote : Vote) : Type 0 where
+pub record GivesWay (cast : List CastVote) (promised q : ℕ) (vote : Vote) : Type 0 where
   pub promised_it : vote.ballot ≤ promised
   pub older : (u : Vote) → HasCast cast q u → u.slot ≡ vote.slot → u.ballot < vote.ballot → HasBetween cast u vote
 
@@ -64,7 +45,7 @@ pub record IsSafe (n : ℕ) (w : World) (vote : Vote) : Type 0 where
 abbrev pub AreSafe : ℕ → World → Type 0
 AreSafe n w = (q : ℕ) (vote : Vote) → HasCast w.cast q vote → IsSafe n w vote
 
-between_on : (by : ℕ) (act : Act) (cast : List Ballot) (older later : Vote) → HasBetween cast older later → HasBetween (cast_after by act cast) older later
+between_on : (by : ℕ) (act : Act) (cast : List CastVote) (older later : Vote) → HasBetween cast older later → HasBetween (cast_after by act cast) older later
 between_on by act cast older later between = record {
   by = between.by;
   vote = between.vote;

@@ -1,55 +1,32 @@
 -- The launch table of each replica is that of chosen entries.
-use Rattle.std.proofs.Common.{◌≡◌, ◌≢◌, ℕ, ◌+◌, ◌-◌, ◌<◌, ◌≤◌, Option, Some, None, List, [], ◌∷◌, ◌++◌, length, drop, true, false, eqb, ltb, leb, refl, sym, ap, ◌∙◌, inl, inr, arith, subst, ◌⊎◌, length-append, IsTrue, suc, zero}
-use Rattle.std.specs.List.{All, Contains}
-use Rattle.std.specs.Option.{IsSomeAnd}
-use Rattle.std.proofs.lemmas.List.{length-drop}
-use Rattle.std.proofs.lemmas.List.Elements.{All-contains, All-contains_itself, Contains-push, Contains-append_left, Contains-append_right}
-use Rattle.std.proofs.lemmas.Nat.Bits.{bit_at-zero}
-use Rattle.std.proofs.lemmas.Bool.{cases_Bool, cases_eq, cases_lt, le-leb}
-use Rattle.paxos_base.specs.Ballot.{member_of, round_of}
+use Rattle.std.proofs.Common.{◌≡◌, ℕ, ◌+◌, ◌≤◌, List, [], ◌∷◌, ◌++◌, length, inl, inr, arith, subst, length-append, suc}
+use Rattle.std.specs.List.{Contains}
+use Rattle.std.proofs.lemmas.List.Elements.{Contains-push, Contains-append_left, Contains-append_right}
 use Rattle.paxos_base.specs.Durable.{after_delta}
-use Rattle.paxos_base.specs.Members.{AllBelow, HasMember, has_majority, no_members, only_member, with_member}
-use Rattle.paxos_base.specs.Vote.{vote_at, votes_from}
 use Rattle.paxos_base.specs.declared.entry.Entry.{Entry}
-use Rattle.paxos_base.specs.declared.entry.Vote.{Vote}
-use Rattle.paxos_base.proofs.MemberLemmas.{has_member-set}
-use Rattle.paxos_base.proofs.PutLemmas.{at_from}
 use Rattle.due_set.specs.Table.{Table}
-use Rattle.term_core.specs.Best.{best_of, is_higher, with_vote}
-use Rattle.term_core.specs.Term.{after_advance, after_ballot, after_proposal, after_tick, is_ended_by}
-use Rattle.term_core.specs.declared.flight.Flight.{Flight}
-use Rattle.term_core.specs.declared.term.Term.{Term}
-use Rattle.term_core.specs.declared.term.Term.TheVariants.{Follower, Candidate, Leader}
-use Rattle.term_core.proofs.LawLemmas.{held_or_higher, heard_or_higher, held_or_heard}
-use Rattle.step_law.specs.Act.{Act, Observe, Stand, Gather, TakeLead, Pledge, Cast, Launch, Count, Wait, Learn, Rebase, Call, Send, Restart, after_act, after_counting, after_gathering, as_leader}
-use Rattle.step_law.specs.May.{May, MaySend, MayPromise, Outcome, Setting}
-use Rattle.step_law.specs.Message.{Message, Promise}
-use Rattle.step_law.specs.Sound.{IsSound, FitsTerm, IsOwn}
-use Rattle.step_law.specs.State.{State, Identity, prefix_of, promised_in}
-use Rattle.step_law.proofs.VoteLemmas.{found_vote}
-use Rattle.agree_law.specs.Agree.{HasCast}
-use Rattle.agree_law.specs.World.{Ballot, Doing, MayDo, World, after_doing, cast_after, with_replica}
-use Rattle.agree_law.proofs.Growing.{Casts, Says, HasSaid, IsLater, GoesOn, cast_cases, cast_now, cast_stays, casts_stored, each_replica, found_there, from_there, goes_on, put_cases, said_cases}
-use Rattle.agree_law.proofs.Kept.{Kept, says_may}
+use Rattle.step_law.specs.Act.{Act, Observe, Stand, Gather, TakeLead, Pledge, Cast, Launch, Count, Wait, Learn, Rebase, Call, Send, Restart, after_act}
+use Rattle.step_law.specs.May.{May, HasSaid}
+use Rattle.step_law.specs.State.{prefix_of}
+use Rattle.agree_law.specs.World.{CastVote, Doing, MayDo, World, after_doing, cast_after}
+use Rattle.agree_law.proofs.Growing.{each_replica, said_cases}
+use Rattle.agree_law.proofs.Kept.{says_may}
 use Rattle.agree_law.proofs.KeptLemmas.{setting_of}
-use Rattle.agree_law.proofs.Told.{Heeds, AreBacked, IsRallied, IsLed, HasHeard, IsPromised, Told}
 use Rattle.std.proofs.Common.{take}
 use Rattle.paxos_base.specs.declared.rows.JobRow.{JobRow}
-use Rattle.launch_machine.specs.Clerk.{Applies, AppliesAll}
+use Rattle.launch_machine.specs.Clerk.{AppliesAll}
 use Rattle.step_law.specs.Hear.{known_from}
 use Rattle.step_law.specs.Message.{Known, Snap}
 use Rattle.step_law.specs.Step.{IsLaunchTable}
 use Rattle.agree_law.specs.Agree.{IsChosen}
-use Rattle.agree_law.specs.Log.{AreChosen, FollowsLog, IsLog}
-use Rattle.agree_law.specs.World.{AllMayDo, after_all}
+use Rattle.agree_law.specs.Log.{AreChosen, IsLog}
 use Rattle.agree_law.proofs.Chosen.{AreKnown}
 use Rattle.agree_law.proofs.ChosenLemmas.{chosen_on}
 use Rattle.agree_law.proofs.LogLemmas.{chosen_front, chosen_short}
-use Rattle.agree_law.proofs.Safe.{AreSafe}
-use Rattle.agree_law.proofs.Whole.{IsWhole, whole_after}
+use Rattle.agree_law.proofs.Whole.{IsWhole}
 
 -- the rows are the launch table after so many chosen entries, which began with these rows
-pub record IsTableAt (n : ℕ) (table : Table) (first : List JobRow) (cast : List Ballot) (slot : ℕ) (rows : List JobRow) : Type 0 where
+pub record IsTableAt (n : ℕ) (table : Table) (first : List JobRow) (cast : List CastVote) (slot : ℕ) (rows : List JobRow) : Type 0 where
   pub entries : List Entry
   pub long : length entries ≡ slot
   pub chosen : AreChosen n cast 0 entries
@@ -59,24 +36,24 @@ pub record Tables (n : ℕ) (table : Table) (first : List JobRow) (w : World) : 
   pub bases : (q : ℕ) → IsTableAt n table first w.cast (w.replicas q).kept.base (w.replicas q).kept.rows
   pub snaps : (q slot : ℕ) (rows : List JobRow) → HasSaid w.said q (Snap slot rows) → IsTableAt n table first w.cast slot rows
 
-are_chosen_on : (n by : ℕ) (act : Act) (cast : List Ballot) (slot : ℕ) (entries : List Entry) → AreChosen n cast slot entries → AreChosen n (cast_after by act cast) slot entries
+are_chosen_on : (n by : ℕ) (act : Act) (cast : List CastVote) (slot : ℕ) (entries : List Entry) → AreChosen n cast slot entries → AreChosen n (cast_after by act cast) slot entries
 are_chosen_on n by act cast slot [] chosen = tt
 are_chosen_on n by act cast slot (entry ∷ entries) chosen =
     (chosen_on n by act cast slot entry chosen.0, are_chosen_on n by act cast (slot + 1) entries chosen.1)
 
-table_on : (n : ℕ) (table : Table) (first : List JobRow) (by : ℕ) (act : Act) (cast : List Ballot) (slot : ℕ) (rows : List JobRow) → IsTableAt n table first cast slot rows → IsTableAt n table first (cast_after by act cast) slot rows
+table_on : (n : ℕ) (table : Table) (first : List JobRow) (by : ℕ) (act : Act) (cast : List CastVote) (slot : ℕ) (rows : List JobRow) → IsTableAt n table first cast slot rows → IsTableAt n table first (cast_after by act cast) slot rows
 table_on n table first by act cast slot rows at =
     record { entries = at.entries; long = at.long; chosen = are_chosen_on n by act cast 0 at.entries at.chosen; applied = at.applied }
 
 -- entries that are known are chosen, one behind the other
-known_chosen : (n : ℕ) (cast : List Ballot) (slot : ℕ) (entries : List Entry) → ((at : ℕ) (entry : Entry) → Contains (known_from slot entries) (Known at entry) → IsChosen n cast at entry) → AreChosen n cast slot entries
+known_chosen : (n : ℕ) (cast : List CastVote) (slot : ℕ) (entries : List Entry) → ((at : ℕ) (entry : Entry) → Contains (known_from slot entries) (Known at entry) → IsChosen n cast at entry) → AreChosen n cast slot entries
 known_chosen n cast slot [] known = tt
 known_chosen n cast slot (entry ∷ entries) known = (
   known slot entry (Contains-append_left (Known slot entry ∷ []) (known_from (slot + 1) entries) (Known slot entry) (Contains-push [] (Known slot entry))),
   known_chosen n cast (slot + 1) entries (λ at other has. known at other (Contains-append_right (Known slot entry ∷ []) (known_from (slot + 1) entries) (Known at other) has)),
 )
 
-chosen_append : (n : ℕ) (cast : List Ballot) (slot : ℕ) (xs ys : List Entry) → AreChosen n cast slot xs → AreChosen n cast (slot + length xs) ys → AreChosen n cast slot (xs ++ ys)
+chosen_append : (n : ℕ) (cast : List CastVote) (slot : ℕ) (xs ys : List Entry) → AreChosen n cast slot xs → AreChosen n cast (slot + length xs) ys → AreChosen n cast slot (xs ++ ys)
 chosen_append n cast slot [] ys front back = let at : slot + 0 ≡ slot = omega arith in rw at at back
 chosen_append n cast slot (x ∷ xs) ys front back =
     let at : slot + suc (length xs) ≡ slot + 1 + length xs = omega arith in

@@ -1,45 +1,26 @@
 -- What a promise tells, and what a candidate and a leader have heard ("Paxos Made Simple", section 2.2: a majority none of
 -- whose members votes below the ballot any more, and the highest votes that they have cast).
-use Rattle.std.proofs.Common.{◌≡◌, ◌≢◌, ℕ, ◌+◌, ◌-◌, ◌<◌, ◌≤◌, Option, Some, None, List, [], ◌∷◌, ◌++◌, length, drop, true, false, eqb, ltb, leb, refl, sym, ap, ◌∙◌, inl, inr, arith, subst, ◌⊎◌, length-append, IsTrue}
-use Rattle.std.specs.List.{All, Contains}
-use Rattle.std.specs.Option.{IsSomeAnd}
-use Rattle.std.proofs.lemmas.List.{length-drop}
-use Rattle.std.proofs.lemmas.List.Elements.{All-contains}
-use Rattle.std.proofs.lemmas.Bool.{cases_Bool, cases_eq, cases_lt, le-leb}
-use Rattle.paxos_base.specs.Ballot.{member_of, round_of}
-use Rattle.paxos_base.specs.Durable.{after_delta}
-use Rattle.paxos_base.specs.Members.{AllBelow, HasMember, has_majority, no_members, only_member, with_member}
-use Rattle.paxos_base.specs.Vote.{vote_at, votes_from}
-use Rattle.paxos_base.specs.declared.entry.Entry.{Entry}
+use Rattle.std.proofs.Common.{ℕ, ◌<◌, ◌≤◌, List, IsTrue}
+use Rattle.std.specs.List.{Contains}
+use Rattle.paxos_base.specs.Members.{AllBelow, HasMember, has_majority}
+use Rattle.paxos_base.specs.Vote.{vote_at}
 use Rattle.paxos_base.specs.declared.entry.Vote.{Vote}
-use Rattle.paxos_base.proofs.MemberLemmas.{has_member-set}
-use Rattle.paxos_base.proofs.PutLemmas.{at_from}
-use Rattle.due_set.specs.Table.{Table}
-use Rattle.term_core.specs.Best.{best_of}
-use Rattle.term_core.specs.Term.{after_advance, after_ballot, after_proposal, after_tick, is_ended_by}
-use Rattle.term_core.specs.declared.flight.Flight.{Flight}
 use Rattle.term_core.specs.declared.term.Term.{Term}
 use Rattle.term_core.specs.declared.term.Term.TheVariants.{Follower, Candidate, Leader}
-use Rattle.term_core.proofs.LawLemmas.{held_or_higher, heard_or_higher, held_or_heard}
-use Rattle.step_law.specs.Act.{Act, Observe, Stand, Gather, TakeLead, Pledge, Cast, Launch, Count, Wait, Learn, Rebase, Call, Send, Restart, after_act, after_counting, after_gathering, as_leader}
-use Rattle.step_law.specs.May.{May, MaySend, MayPromise, Outcome, Setting}
-use Rattle.step_law.specs.Message.{Message, Promise}
-use Rattle.step_law.specs.Sound.{IsSound, FitsTerm, IsOwn}
-use Rattle.step_law.specs.State.{State, Identity, prefix_of, promised_in}
-use Rattle.step_law.proofs.VoteLemmas.{found_vote}
+use Rattle.step_law.specs.Message.{Promise}
+use Rattle.step_law.specs.State.{prefix_of, promised_in}
+use Rattle.step_law.specs.May.{HasSaid}
 use Rattle.agree_law.specs.Agree.{HasCast}
-use Rattle.agree_law.specs.World.{Ballot, Doing, MayDo, World, after_doing, cast_after, with_replica}
-use Rattle.agree_law.proofs.Growing.{Casts, Says, HasSaid, IsLater, GoesOn, cast_cases, cast_now, cast_stays, casts_stored, each_replica, found_there, from_there, goes_on, said_cases}
-use Rattle.agree_law.proofs.Kept.{Kept, says_may}
-use Rattle.agree_law.proofs.KeptLemmas.{setting_of}
+use Rattle.agree_law.specs.World.{CastVote, World}
+use Rattle.agree_law.proofs.Growing.{IsLater}
 
 -- the replica votes in no ballot below this one any more, and these votes tell each that it has cast from the slot on
-pub record Heeds (cast : List Ballot) (promised q ballot first : ℕ) (votes : List Vote) : Type 0 where
+pub record Heeds (cast : List CastVote) (promised q ballot first : ℕ) (votes : List Vote) : Type 0 where
   pub promised_it : ballot ≤ promised
   pub tells : (vote : Vote) → HasCast cast q vote → first ≤ vote.slot → vote.ballot < ballot → IsLater (vote_at vote.slot votes) vote.ballot
 
 -- each of the votes was cast by some replica, below the ballot
-abbrev pub AreBacked : List Ballot → (ballot : ℕ) → List Vote → Type 0
+abbrev pub AreBacked : List CastVote → (ballot : ℕ) → List Vote → Type 0
 AreBacked cast ballot votes = (vote : Vote) → Contains votes vote → (q : ℕ) × HasCast cast q vote × (vote.ballot < ballot)
 
 -- those that were heard heed the ballot, and the best votes are the highest that they have cast

@@ -1,46 +1,22 @@
 -- The acts of a turn may be done one after another.
-use Rattle.std.proofs.Common.{◌≡◌, ◌≢◌, ℕ, ◌+◌, ◌-◌, ◌<◌, ◌≤◌, Option, Some, None, List, [], ◌∷◌, ◌++◌, length, drop, true, false, eqb, ltb, leb, refl, sym, ap, ◌∙◌, inl, inr, arith, subst, ◌⊎◌, length-append, IsTrue}
-use Rattle.std.specs.List.{All, Contains}
-use Rattle.std.specs.Option.{IsSomeAnd}
-use Rattle.std.proofs.lemmas.List.{length-drop}
-use Rattle.std.proofs.lemmas.List.Elements.{All-contains, All-contains_itself, Contains-push, Contains-append_left, Contains-append_right}
-use Rattle.std.proofs.lemmas.Nat.Bits.{bit_at-zero}
-use Rattle.std.proofs.lemmas.Bool.{cases_Bool, cases_eq, cases_lt, eq-eqb, le-leb}
-use Rattle.paxos_base.specs.Ballot.{member_of, round_of}
-use Rattle.paxos_base.specs.Durable.{after_delta}
-use Rattle.paxos_base.specs.Members.{AllBelow, HasMember, has_majority, no_members, only_member, with_member}
-use Rattle.paxos_base.specs.Vote.{vote_at, votes_from}
+use Rattle.std.proofs.Common.{◌≡◌, ℕ, ◌<◌, ◌≤◌, List, [], ◌∷◌, ◌++◌, refl, inl, inr, arith, subst, ◌⊎◌}
+use Rattle.std.specs.List.{Contains}
+use Rattle.std.proofs.lemmas.List.Elements.{Contains-append_left}
+use Rattle.std.proofs.lemmas.Bool.{eq-eqb}
 use Rattle.paxos_base.specs.declared.entry.Entry.{Entry}
-use Rattle.paxos_base.specs.declared.entry.Vote.{Vote}
-use Rattle.paxos_base.proofs.MemberLemmas.{has_member-set}
-use Rattle.paxos_base.proofs.PutLemmas.{at_from}
 use Rattle.due_set.specs.Table.{Table}
-use Rattle.term_core.specs.Best.{best_of, is_higher, with_vote}
-use Rattle.term_core.specs.Term.{after_advance, after_ballot, after_proposal, after_tick, is_ended_by}
-use Rattle.term_core.specs.declared.flight.Flight.{Flight}
-use Rattle.term_core.specs.declared.term.Term.{Term}
-use Rattle.term_core.specs.declared.term.Term.TheVariants.{Follower, Candidate, Leader}
-use Rattle.term_core.proofs.LawLemmas.{held_or_higher, heard_or_higher, held_or_heard}
-use Rattle.step_law.specs.Act.{Act, Observe, Stand, Gather, TakeLead, Pledge, Cast, Launch, Count, Wait, Learn, Rebase, Call, Send, Restart, after_act, after_counting, after_gathering, as_leader}
-use Rattle.step_law.specs.May.{May, MaySend, MayPromise, Outcome, Setting}
-use Rattle.step_law.specs.Message.{Message, Promise}
-use Rattle.step_law.specs.Sound.{IsSound, FitsTerm, IsOwn}
-use Rattle.step_law.specs.State.{State, Identity, prefix_of, promised_in}
-use Rattle.step_law.proofs.VoteLemmas.{found_vote}
-use Rattle.agree_law.specs.Agree.{HasCast}
-use Rattle.agree_law.specs.World.{Ballot, Doing, MayDo, World, after_doing, cast_after, with_replica}
-use Rattle.agree_law.proofs.Growing.{Casts, Says, HasSaid, IsLater, GoesOn, cast_cases, cast_now, cast_stays, casts_stored, each_replica, found_there, from_there, goes_on, put_cases, said_cases}
-use Rattle.agree_law.proofs.Kept.{Kept, says_may}
-use Rattle.agree_law.proofs.KeptLemmas.{setting_of}
-use Rattle.agree_law.proofs.Told.{Heeds, AreBacked, IsRallied, IsLed, HasHeard, IsPromised, Told}
-use Rattle.std.specs.List.{AllByRecursion, filter}
-use Rattle.step_law.specs.Folds.{after_acts}
-use Rattle.step_law.specs.May.{AllMay, IsChosen as IsCounted, IsNamed, none_named, by_saying, IsHeard, MayEnter, MayLearn, Saying}
+use Rattle.step_law.specs.Act.{Act, Observe, Stand, Gather, TakeLead, Pledge, Cast, Launch, Count, Wait, Learn, Rebase, Call, Send, Restart, after_act}
+use Rattle.step_law.specs.May.{May, Ending, Setting}
+use Rattle.step_law.specs.Message.{Promise}
+use Rattle.step_law.specs.State.{State, prefix_of}
+use Rattle.agree_law.specs.World.{Doing, World, after_doing}
+use Rattle.std.specs.List.{filter}
+use Rattle.step_law.specs.May.{AllMay, IsCounted, IsNamed, none_named, by_saying, MayEnter, Saying}
 use Rattle.paxos_base.specs.declared.entry.Entry.TheVariants.{Noop, Start, End}
-use Rattle.step_law.specs.Message.{Accept, Accepted, Known, Snap, ballot_in}
-use Rattle.step_law.specs.Step.{Event, IsLaunchTable, IsPlanned, step}
+use Rattle.step_law.specs.Message.{Accept, Accepted, Known, Snap}
+use Rattle.step_law.specs.Step.{IsLaunchTable}
 use Rattle.step_law.proofs.LineLemmas.{step_may}
-use Rattle.agree_law.specs.Turn.{Turn, Did, Stopped, Restarted, AreTurns, MayTake, MayTurn, acts_of, after_turn, after_turns, identity_of, is_silent, turn_of}
+use Rattle.agree_law.specs.Turn.{Turn, Did, Stopped, Restarted, AreTurns, MayTurn, acts_of, after_turn, after_turns, identity_of, is_silent, turn_of}
 use Rattle.agree_law.specs.World.{AllMayDo, after_all, doings_of, said_after}
 use Rattle.paxos_base.specs.declared.rows.JobRow.{JobRow}
 use Rattle.agree_law.specs.World.{first_world}
@@ -131,7 +107,7 @@ unfolding after_doing
 said_is by act w = refl
 
 -- acts that a replica may do are done one after another, whatever it says meanwhile
-acts_done : (n : ℕ) (table : Table) (by : ℕ) (answered : List Outcome) (heard : List Saying) (acts : List Act) (w : World) → by < n → ((saying : Saying) → Contains heard saying → Contains w.said saying) → AllMay (record { self = identity_of n by; table = table; said = heard; answered = answered }) (w.replicas by) acts → AllMayDo n table w (doings_of by acts)
+acts_done : (n : ℕ) (table : Table) (by : ℕ) (answered : List Ending) (heard : List Saying) (acts : List Act) (w : World) → by < n → ((saying : Saying) → Contains heard saying → Contains w.said saying) → AllMay (record { self = identity_of n by; table = table; said = heard; answered = answered }) (w.replicas by) acts → AllMayDo n table w (doings_of by acts)
 acts_done n table by answered heard [] w member stays may = tt
 acts_done n table by answered heard (act ∷ acts) w member stays may = (
   record { member = member; answered = answered; may = may_more _ w.said (w.replicas by) act stays may.0 },

@@ -3,10 +3,10 @@ use Rattle.std.specs.Prelude.{◌≡◌, ℕ, IsTrue, List, Contains}
 use Rattle.paxos_base.specs.Members.{AllBelow, HasMember, has_majority}
 use Rattle.paxos_base.specs.declared.entry.Entry.{Entry}
 use Rattle.paxos_base.specs.declared.entry.Vote.{Vote}
-use Rattle.agree_law.specs.World.{Ballot, Learning, World}
+use Rattle.agree_law.specs.World.{CastVote, Learning, World}
 
 -- the replica has cast the vote
-abbrev pub HasCast : List Ballot → ℕ → Vote → Type 0
+abbrev pub HasCast : List CastVote → ℕ → Vote → Type 0
 HasCast cast by vote = Contains cast (record { by = by; vote = vote })
 
 -- the vote at a slot for an entry in a ballot
@@ -14,7 +14,7 @@ abbrev pub vote_for : (slot ballot : ℕ) → Entry → Vote
 vote_for slot ballot entry = record { slot = slot; ballot = ballot; entry = entry }
 
 -- A majority of the replicas has voted for the entry at the slot, in one ballot.
-pub record IsChosen (members : ℕ) (cast : List Ballot) (slot : ℕ) (entry : Entry) : Type 0 where
+pub record IsChosen (members : ℕ) (cast : List CastVote) (slot : ℕ) (entry : Entry) : Type 0 where
   pub ballot : ℕ
   pub voters : ℕ
   pub below : AllBelow members voters

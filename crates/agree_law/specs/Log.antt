@@ -1,5 +1,5 @@
 -- The log, and the launch tables that follow it.
-use Rattle.std.specs.Prelude.{◌≡◌, ℕ, ◌+◌, ◌<◌, ◌≤◌, ⊤, List, [], ◌∷◌, length, take}
+use Rattle.std.specs.Prelude.{ℕ, ◌+◌, ◌<◌, ◌≤◌, ⊤, List, [], ◌∷◌, length, take}
 use Rattle.paxos_base.specs.declared.entry.Entry.{Entry}
 use Rattle.paxos_base.specs.declared.rows.JobRow.{JobRow}
 use Rattle.due_set.specs.Table.{Table}
@@ -7,15 +7,15 @@ use Rattle.launch_machine.specs.Clerk.{IsClerkOf}
 use Rattle.step_law.specs.State.{State, prefix_of}
 use Rattle.step_law.specs.Step.{IsLaunchTable}
 use Rattle.agree_law.specs.Agree.{IsChosen}
-use Rattle.agree_law.specs.World.{Ballot, World}
+use Rattle.agree_law.specs.World.{CastVote, World}
 
 -- each of the entries was chosen for its slot, from this one on
-abbrev pub AreChosen : ℕ → List Ballot → (slot : ℕ) → List Entry → Type 0
+abbrev pub AreChosen : ℕ → List CastVote → (slot : ℕ) → List Entry → Type 0
 AreChosen members cast slot [] = ⊤
 AreChosen members cast slot (entry ∷ entries) = IsChosen members cast slot entry × AreChosen members cast (slot + 1) entries
 
 -- The log: what is chosen from slot 0 on, up to the first slot for which nothing is chosen.
-pub record IsLog (members : ℕ) (cast : List Ballot) (log : List Entry) : Type 0 where
+pub record IsLog (members : ℕ) (cast : List CastVote) (log : List Entry) : Type 0 where
   pub chosen : AreChosen members cast 0 log
   pub ends : (entry : Entry) → IsChosen members cast (length log) entry → ⊥
 

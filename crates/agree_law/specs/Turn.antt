@@ -1,10 +1,10 @@
 -- Turns of replicas: what one does at an event, also where it is stopped in the midst of it, and how it starts again.
-use Rattle.std.specs.Prelude.{◌≡◌, ℕ, ◌+◌, ◌<◌, ⊤, Bool, true, false, List, [], ◌∷◌, ◌++◌}
+use Rattle.std.specs.Prelude.{◌≡◌, ℕ, ◌<◌, ⊤, Bool, true, false, List, [], ◌∷◌, ◌++◌}
 use Rattle.std.specs.List.{filter}
 use Rattle.due_set.specs.Table.{Table}
-use Rattle.step_law.specs.Act.{Act, Observe, Stand, Gather, TakeLead, Pledge, Cast, Launch, Count, Wait, Learn, Rebase, Call, Send, Restart}
-use Rattle.step_law.specs.May.{IsHeard, Outcome, Saying, Setting}
-use Rattle.step_law.specs.State.{Identity, State}
+use Rattle.step_law.specs.Act.{Act, Send, Restart}
+use Rattle.step_law.specs.May.{IsHeard, Ending}
+use Rattle.step_law.specs.State.{Identity}
 use Rattle.step_law.specs.Step.{Event, IsPlanned, step}
 use Rattle.agree_law.specs.World.{World, after_all, doings_of}
 
@@ -49,7 +49,7 @@ after_turns members (turn ∷ turns) world = after_turns members turns (after_tu
 -- answered what it takes for answered
 pub record MayTake (members : ℕ) (table : Table) (world : World) (by : ℕ) (event : Event) : Type 0 where
   pub member : by < members
-  pub answered : List Outcome
+  pub answered : List Ending
   pub planned : IsPlanned table (world.replicas by) event
   pub heard : IsHeard (record { self = identity_of members by; table = table; said = world.said; answered = answered }) event
 

@@ -5,12 +5,12 @@ use Rattle.paxos_base.specs.declared.entry.Entry.{Entry}
 use Rattle.paxos_base.specs.declared.entry.Vote.{Vote}
 use Rattle.paxos_base.specs.declared.rows.JobRow.{JobRow}
 use Rattle.due_set.specs.Table.{Table}
-use Rattle.step_law.specs.Act.{Act, Observe, Stand, Gather, TakeLead, Pledge, Cast, Launch, Count, Wait, Learn, Rebase, Call, Send, Restart, after_act}
-use Rattle.step_law.specs.May.{May, Outcome, Saying, Setting}
+use Rattle.step_law.specs.Act.{Act, Cast, Launch, Learn, Send, after_act}
+use Rattle.step_law.specs.May.{May, Ending, Saying}
 use Rattle.step_law.specs.State.{State, started}
 
 -- a vote, and who cast it
-pub record Ballot : Type 0 where
+pub record CastVote : Type 0 where
   pub by : ℕ
   pub vote : Vote
 
@@ -23,7 +23,7 @@ pub record Learning : Type 0 where
 -- what each replica knows, and all that was cast, said and learned so far
 pub record World : Type 0 where
   pub replicas : ℕ → State
-  pub cast : List Ballot
+  pub cast : List CastVote
   pub said : List Saying
   pub learned : List Learning
 
@@ -36,7 +36,7 @@ abbrev pub first_world : List JobRow → World
 first_world rows = record { replicas = λ me. started me (fresh rows); cast = []; said = []; learned = [] }
 
 -- the votes with those of an act
-abbrev pub cast_after : ℕ → Act → List Ballot → List Ballot
+abbrev pub cast_after : ℕ → Act → List CastVote → List CastVote
 cast_after by (Cast vote) cast = cast ++ record { by = by; vote = vote } ∷ []
 cast_after by (Launch me vote) cast = cast ++ record { by = by; vote = vote } ∷ []
 cast_after by act cast = cast
@@ -78,7 +78,7 @@ after_all (doing ∷ doings) world = after_all doings (after_doing doing.by doin
 -- one of so many replicas does an act that it may do, by what was said so far and whatever its scheduler has answered
 pub record MayDo (members : ℕ) (table : Table) (world : World) (doing : Doing) : Type 0 where
   pub member : doing.by < members
-  pub answered : List Outcome
+  pub answered : List Ending
   pub may : May (record { self = record { me = doing.by; members = members }; table = table; said = world.said; answered = answered })
       (world.replicas doing.by) doing.act
 

@@ -27,7 +27,7 @@ use Rattle.launch_machine.specs.declared.machine.Intent.{Intent}
 use Rattle.launch_machine.specs.declared.machine.Intent.TheVariants as intent
 use Rattle.step_law.specs.Message.{Message, Prepare, Promise, Accept, Accepted, Nack, Known, AskFrom, Snap, Lead, Mention, Only, ballot_in}
 use Rattle.step_law.specs.Propose.{answer, answer_of, campaign, choose_if, end_if, follow_intent, is_open, lead_if, lead_on, propose, proposal, tick, tick_of, wait}
-use Rattle.step_law.specs.Sound.{IsSound, FitsTerm, AreUpTo}
+use Rattle.step_law.specs.Coherent.{IsCoherent, FitsTerm, AreUpTo}
 use Rattle.step_law.specs.State.{State, Identity, prefix_of, promised_in}
 use Rattle.step_law.proofs.SoundLemmas.{act_sound}
 use Rattle.step_law.proofs.VoteLemmas.{found_vote, known-push, known-drop}
@@ -37,8 +37,8 @@ pub all_append : (setting : Setting) (state : State) (xs ys : List Act) → AllM
 all_append setting state [] ys first second = second
 all_append setting state (x ∷ xs) ys first second = (first.0, all_append setting (after_act x state) xs ys first.1 second)
 
--- they leave a sound replica
-pub acts_sound : (setting : Setting) (state : State) (acts : List Act) → IsSound setting.self state → AllMay setting state acts → IsSound setting.self (after_acts acts state)
+-- they leave a coherent replica
+pub acts_sound : (setting : Setting) (state : State) (acts : List Act) → IsCoherent setting.self state → AllMay setting state acts → IsCoherent setting.self (after_acts acts state)
 acts_sound setting state [] sound may = sound
 acts_sound setting state (act ∷ acts) sound may =
     acts_sound setting (after_act act state) acts (act_sound setting state act sound may.0) may.1
@@ -81,7 +81,7 @@ unfolding votes_from
 lower_votes promised ballot slot votes above all =
     All-filter _ (IsBelow ballot) votes (All-weaker (IsUpTo promised) (IsBelow ballot) (λ vote up. omega (arith, up, above)) votes all)
 
-pub on_prepare_may : (setting : Setting) (state : State) (from ballot slot : ℕ) → IsSound setting.self state → ballot ≤ state.seen → IsNotBelow ballot state.term → AllMay setting state (on_prepare from ballot slot state)
+pub on_prepare_may : (setting : Setting) (state : State) (from ballot slot : ℕ) → IsCoherent setting.self state → ballot ≤ state.seen → IsNotBelow ballot state.term → AllMay setting state (on_prepare from ballot slot state)
 unfolding on_prepare after_act after_delta May
 on_prepare_may setting state from ballot slot sound seen not_low =
     elim (cases_Bool (leb ballot (promised_in state.kept))) [
@@ -137,7 +137,7 @@ told_may setting state from ballot slot vote promised own at voted =
     (record { promised = promised; entry = vote.entry; voted = voted ∙ same }, ask_may setting state from slot)
 
 -- the answer to a proposal that may be voted for
-voted_may : (setting : Setting) (state : State) (from : ℕ) (vote : Vote) → IsSound setting.self state → vote.ballot ≤ state.seen → IsNotBelow vote.ballot state.term → HasSaid setting.said from (Accept vote) → promised_in state.kept ≤ vote.ballot → AllMay setting state (cast_new vote state ++ (Send (Only from) (Accepted vote.ballot vote.slot) ∷ ask_below from vote.slot state))
+voted_may : (setting : Setting) (state : State) (from : ℕ) (vote : Vote) → IsCoherent setting.self state → vote.ballot ≤ state.seen → IsNotBelow vote.ballot state.term → HasSaid setting.said from (Accept vote) → promised_in state.kept ≤ vote.ballot → AllMay setting state (cast_new vote state ++ (Send (Only from) (Accepted vote.ballot vote.slot) ∷ ask_below from vote.slot state))
 unfolding May after_act after_delta
 voted_may setting state from vote sound seen not_low said least = go (vote_at vote.slot state.kept.votes) refl
   where
@@ -157,7 +157,7 @@ voted_may setting state from vote sound seen not_low said least = go (vote_at vo
       )
     ]
 
-pub on_accept_may : (setting : Setting) (state : State) (from : ℕ) (vote : Vote) → IsSound setting.self state → vote.ballot ≤ state.seen → IsNotBelow vote.ballot state.term → HasSaid setting.said from (Accept vote) → AllMay setting state (on_accept from vote state)
+pub on_accept_may : (setting : Setting) (state : State) (from : ℕ) (vote : Vote) → IsCoherent setting.self state → vote.ballot ≤ state.seen → IsNotBelow vote.ballot state.term → HasSaid setting.said from (Accept vote) → AllMay setting state (on_accept from vote state)
 unfolding on_accept after_act after_delta May
 on_accept_may setting state from vote sound seen not_low said =
     elim (cases_Bool (ltb vote.ballot (promised_in state.kept))) [
@@ -188,7 +188,7 @@ choose_may setting state ballot best flight is at =
       | inr few ↦ rw few tt
     ]
 
-pub on_accepted_may : (setting : Setting) (state : State) (from ballot slot : ℕ) (term : Term) → state.term ≡ term → IsSound setting.self state → HasSaid setting.said from (Accepted ballot slot) → AllMay setting state (on_accepted setting.self.members from ballot slot term)
+pub on_accepted_may : (setting : Setting) (state : State) (from ballot slot : ℕ) (term : Term) → state.term ≡ term → IsCoherent setting.self state → HasSaid setting.said from (Accepted ballot slot) → AllMay setting state (on_accepted setting.self.members from ballot slot term)
 unfolding on_accepted May after_act
 on_accepted_may setting state from ballot slot (Follower ended) is sound said = tt
 on_accepted_may setting state from ballot slot (Candidate own first heard best) is sound said = tt
@@ -242,7 +242,7 @@ unfolding on_lead
 on_lead_may setting state from slot = ask_may setting state from slot
 
 -- hearing of a ballot that was named
-pub hear_line : (setting : Setting) (state : State) (from : ℕ) (message : Message) (asked : Bool) → IsSound setting.self state → ballot_in message ≤ state.seen → IsNotBelow (ballot_in message) state.term → WasSaid setting.said from message → AllMay setting state (line setting.self from message asked state)
+pub hear_line : (setting : Setting) (state : State) (from : ℕ) (message : Message) (asked : Bool) → IsCoherent setting.self state → ballot_in message ≤ state.seen → IsNotBelow (ballot_in message) state.term → WasSaid setting.said from message → AllMay setting state (line setting.self from message asked state)
 unfolding line
 hear_line setting state from (Prepare ballot slot) asked sound seen not_low said = on_prepare_may setting state from ballot slot sound seen not_low
 hear_line setting state from (Promise ballot slot votes) asked sound seen not_low said = on_promise_may setting state from ballot slot votes state.term refl said
@@ -268,7 +268,7 @@ named said from (AskFrom slot) has = none_named refl
 named said from (Snap slot rows) has = none_named refl
 named said from (Lead ballot slot) has = by_saying (record { by = from; message = Lead ballot slot }) has refl
 
-hear_may : (setting : Setting) (state : State) (from : ℕ) (message : Message) (asked : Bool) → IsSound setting.self state → WasSaid setting.said from message → AllMay setting state (hear setting.self from message asked state)
+hear_may : (setting : Setting) (state : State) (from : ℕ) (message : Message) (asked : Bool) → IsCoherent setting.self state → WasSaid setting.said from message → AllMay setting state (hear setting.self from message asked state)
 unfolding hear May after_act
 hear_may setting state from message asked sound said = (
   named setting.said from message said,
@@ -277,7 +277,7 @@ hear_may setting state from message asked sound said = (
       (le-max_right state.seen (ballot_in message)) (not_below (ballot_in message) state.term) said,
 )
 
-hear_all_may : (setting : Setting) (state : State) (from : ℕ) (messages : List Message) (asked : Bool) → IsSound setting.self state → AllByRecursion (WasSaid setting.said from) messages → AllMay setting state (hear_all setting.self from messages asked state)
+hear_all_may : (setting : Setting) (state : State) (from : ℕ) (messages : List Message) (asked : Bool) → IsCoherent setting.self state → AllByRecursion (WasSaid setting.said from) messages → AllMay setting state (hear_all setting.self from messages asked state)
 unfolding hear_all
 hear_all_may setting state from [] asked sound said = tt
 hear_all_may setting state from (message ∷ messages) asked sound said =
@@ -299,7 +299,7 @@ next_is_higher me seen tried promised small up =
     max_below : (x y z : ℕ) → x < z → y < z → max x y + 1 ≤ z
     max_below x y z p q = let r : max x y ≤ z - 1 = max-le (omega (arith, p)) (omega (arith, q)) in omega (arith, r, p)
 
-campaign_may : (setting : Setting) (state : State) → setting.self.me < 8 → IsSound setting.self state → AllMay setting state (campaign setting.self state)
+campaign_may : (setting : Setting) (state : State) → setting.self.me < 8 → IsCoherent setting.self state → AllMay setting state (campaign setting.self state)
 unfolding campaign May after_act after_delta
 campaign_may setting state small sound =
     let next = next_is_higher setting.self.me state.seen state.kept.tried (promised_in state.kept) small sound.promised in (
@@ -318,7 +318,7 @@ propose_may setting state ballot best entry is may =
       ),
     )
 
-wait_may : (setting : Setting) (state : State) (ballot : ℕ) (best : List Vote) (flight : Flight) → state.term ≡ Leader ballot best (Some flight) → IsSound setting.self state → AllMay setting state (wait ballot flight)
+wait_may : (setting : Setting) (state : State) (ballot : ℕ) (best : List Vote) (flight : Flight) → state.term ≡ Leader ballot best (Some flight) → IsCoherent setting.self state → AllMay setting state (wait ballot flight)
 unfolding May after_act
 wait_may setting state ballot best flight is sound =
     let fits : FitsTerm setting.self state.kept (prefix_of state) (Leader ballot best (Some flight)) =
@@ -340,7 +340,7 @@ follow_may setting state now plan ballot best is table asked = go plan.intent as
         propose_may setting state ballot best (Start job at now) is (record { rows = plan.rows; rows_are = table; asked = asked })
     go intent.Rest asked = ((refl, rw is refl), tt)
 
-pub tick_may : (setting : Setting) (state : State) (now : ℤ) (plan : Plan) (term : Term) → state.term ≡ term → IsSound setting.self state → IsLaunchTable setting.table state plan.rows → IsIntent setting.table plan.rows now plan.intent → AllMay setting state (tick_of setting.self now plan.intent state term)
+pub tick_may : (setting : Setting) (state : State) (now : ℤ) (plan : Plan) (term : Term) → state.term ≡ term → IsCoherent setting.self state → IsLaunchTable setting.table state plan.rows → IsIntent setting.table plan.rows now plan.intent → AllMay setting state (tick_of setting.self now plan.intent state term)
 tick_may setting state now plan (Follower ended) is sound table asked = tt
 tick_may setting state now plan (Candidate ballot first heard best) is sound table asked = tt
 tick_may setting state now plan (Leader ballot best (Some flight)) is sound table asked = wait_may setting state ballot best flight is sound
@@ -362,7 +362,7 @@ answer_may setting state entry open_now (Leader ballot best None) is may = go (v
     go (bound ∷ others) now so = tt
 
 -- each act of a step may be done where it is
-pub step_may : (setting : Setting) (state : State) (event : Event) → setting.self.me < 8 → IsSound setting.self state → IsPlanned setting.table state event → IsHeard setting event → AllMay setting state (step setting.self event state)
+pub step_may : (setting : Setting) (state : State) (event : Event) → setting.self.me < 8 → IsCoherent setting.self state → IsPlanned setting.table state event → IsHeard setting event → AllMay setting state (step setting.self event state)
 unfolding step tick answer
 step_may setting state Campaign small sound planned heard = campaign_may setting state small sound
 step_may setting state (Tick now plan) small sound planned heard = tick_may setting state now plan state.term refl sound planned.0 planned.1

@@ -1,4 +1,4 @@
--- Each act that may be done leaves a sound replica.
+-- Each act that may be done leaves a coherent replica.
 use Rattle.std.proofs.Common.{◌≡◌, ℕ, ◌+◌, ◌-◌, ◌≤◌, max, Some, None, List, [], ◌∷◌, ◌++◌, length, drop, true, false, eqb, ltb, refl, sym, ◌∙◌, inl, inr, arith, subst, length-append, length-drop, IsTrue}
 use Rattle.std.proofs.Math.Nat.{le-max_left, le-max_right, max-le}
 use Rattle.std.proofs.lemmas.Bool.{cases_Bool, eq-eqb, ne_eqb, lt-ltb, le-ltb, le-leb, cases_lt}
@@ -20,7 +20,7 @@ use Rattle.step_law.specs.Act.{Act, Observe, Stand, Gather, TakeLead, Pledge, Ca
 use Rattle.step_law.specs.Hear.{is_vote_of}
 use Rattle.step_law.specs.May.{May, Setting, HasNoOther, IsFollower}
 use Rattle.step_law.specs.Propose.{vote_of}
-use Rattle.step_law.specs.Sound.{IsSound, FitsTerm, IsOwn, AreUpTo}
+use Rattle.step_law.specs.Coherent.{IsCoherent, FitsTerm, IsOwn, AreUpTo}
 use Rattle.step_law.specs.State.{State, Identity, prefix_of, promised_in, started}
 
 abbrev UpTo : ℕ → Vote → Type 0
@@ -156,8 +156,8 @@ fits_after_rebase self kept prefix slot rows (Leader ballot best (Some flight)) 
           rw (le-ltb flight.slot slot here) (own, record { slot = at; voted = voted })
     ]
 
--- each act that may be done leaves a sound replica
-pub act_sound : (setting : Setting) (state : State) (act : Act) → IsSound setting.self state → May setting state act → IsSound setting.self (after_act act state)
+-- each act that may be done leaves a coherent replica
+pub act_sound : (setting : Setting) (state : State) (act : Act) → IsCoherent setting.self state → May setting state act → IsCoherent setting.self (after_act act state)
 unfolding after_act after_delta May
 act_sound setting state (Observe ballot) sound may = record {
   promised = more_seen state.seen ballot (promised_in state.kept) state.kept.tried sound.promised;
@@ -233,6 +233,6 @@ act_sound setting state (Restart me) sound may = record {
   votes = sound.votes;
 }
 
--- a replica is sound when it starts
-pub start_sound : (self : Identity) (kept : Durable) → AreUpTo (promised_in kept) kept.votes → IsSound self (started self.me kept)
+-- a replica is coherent when it starts
+pub start_sound : (self : Identity) (kept : Durable) → AreUpTo (promised_in kept) kept.votes → IsCoherent self (started self.me kept)
 start_sound self kept votes = record { promised = more_seen _ _ _ _ (le-max_left _ _); term = tt; votes = votes }

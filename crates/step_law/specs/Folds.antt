@@ -55,15 +55,15 @@ abbrev pub sent_to : (me member : ℕ) → List Act → List Message
 sent_to me member acts = flat_map (sent_by me member) acts
 
 -- a letter: to whom, and what it says
-pub record Letter : Type 0 where
+pub record Addressed : Type 0 where
   pub to : ℕ
   pub messages : List Message
 
 -- the letter to a replica, where anything is said to it
-abbrev pub letter_of : ℕ → List Message → List Letter
+abbrev pub letter_of : ℕ → List Message → List Addressed
 letter_of to [] = []
 letter_of to (message ∷ messages) = record { to = to; messages = message ∷ messages } ∷ []
 
 -- the letters of some acts: to each replica at most one, in the order of their numbers
-abbrev pub letters_of : Identity → List Act → List Letter
+abbrev pub letters_of : Identity → List Act → List Addressed
 letters_of self acts = flat_map (λ member. letter_of member (sent_to self.me member acts)) (range_with_len 0 self.members)

@@ -1,10 +1,10 @@
 pub mod Act
+pub mod Coherent
 pub mod Folds
 pub mod Hear
 pub mod Heard
 pub mod May
 pub mod Message
 pub mod Propose
-pub mod Sound
 pub mod State
 pub mod Step

@@ -29,7 +29,7 @@ pub record Saying : Type 0 where
   pub message : Message
 
 -- a launch, and what it came to
-pub record Outcome : Type 0 where
+pub record Ending : Type 0 where
   pub job : ℕ
   pub at : ℤ
   pub kind : Kind
@@ -39,7 +39,7 @@ pub record Setting : Type 0 where
   pub self : Identity
   pub table : Table
   pub said : List Saying
-  pub answered : List Outcome
+  pub answered : List Ending
 
 -- the replica has said so
 abbrev pub HasSaid : List Saying → ℕ → Message → Type 0
@@ -145,7 +145,7 @@ pub record MayCount (said : List Saying) (state : State) (from : ℕ) : Type 0 w
   pub accepted : HasSaid said from (Accepted ballot flight.slot)
 
 -- a majority has accepted the leader's proposal
-pub record IsChosen (self : Identity) (state : State) (slot : ℕ) (entry : Entry) : Type 0 where
+pub record IsCounted (self : Identity) (state : State) (slot : ℕ) (entry : Entry) : Type 0 where
   pub ballot : ℕ
   pub best : List Vote
   pub flight : Flight
@@ -157,7 +157,7 @@ pub record IsChosen (self : Identity) (state : State) (slot : ℕ) (entry : Entr
 -- the next slot's entry was told by one who knows it, or was chosen just now
 pub record MayLearn (self : Identity) (said : List Saying) (state : State) (slot : ℕ) (entry : Entry) : Type 0 where
   pub next : slot ≡ prefix_of state
-  pub known : ((from : ℕ) × HasSaid said from (Known slot entry)) ⊎ IsChosen self state slot entry
+  pub known : ((from : ℕ) × HasSaid said from (Known slot entry)) ⊎ IsCounted self state slot entry
 
 -- the term is that of a leader of the ballot
 abbrev pub LeadsIn : ℕ → Term → Type 0
@@ -204,7 +204,7 @@ pub record MayRebase (setting : Setting) (state : State) (slot : ℕ) (rows : Li
   pub rows_of : ((slot ≡ prefix_of state) × IsLaunchTable setting.table state rows) ⊎ ((from : ℕ) × HasSaid setting.said from (Snap slot rows))
 
 -- its launch table asks for the call of a launch that is open
-pub record MayCall (setting : Setting) (state : State) (row : SchedRow) : Type 0 where
+pub record MayCallFor (setting : Setting) (state : State) (row : SchedRow) : Type 0 where
   pub by : row.by ≡ setting.self.me
   pub rows : List JobRow
   pub rows_are : IsLaunchTable setting.table state rows
@@ -223,7 +223,7 @@ May setting state (Count from) = MayCount setting.said state from
 May setting state Wait = ⊤
 May setting state (Learn slot entry) = MayLearn setting.self setting.said state slot entry
 May setting state (Rebase slot rows) = MayRebase setting state slot rows
-May setting state (Call row) = MayCall setting state row
+May setting state (Call row) = MayCallFor setting state row
 May setting state (Send whom message) = MaySend state message
 May setting state (Restart me) = me ≡ setting.self.me
 

@@ -1,6 +1,6 @@
-use Rattle.agree_law.specs.World.{after_all, first_world}
+use Rattle.agree_law.specs.World.{first_world}
 use Rattle.agree_law.specs.Turn.{after_turns}
-use Rattle.agree_law.proofs.Turns.{first_followed, followed_after_all, turns_followed}
+use Rattle.agree_law.proofs.Turns.{first_followed, turns_followed}
 use Rattle.launch_machine.specs.Clerk.{fresh_rows}
 use Rattle.agree_law.proofs.Tables.{follows, short_of}
 use Rattle.agree_law.proofs.laws.a_replicas_table_is_the_clerks.Goals as goal

@@ -1,6 +1,6 @@
 use Rattle.step_law.proofs.LineLemmas.{acts_sound}
 use Rattle.step_law.proofs.SoundLemmas.{act_sound, start_sound}
-use Rattle.step_law.proofs.laws.replicas_stay_sound.Goals as goal
+use Rattle.step_law.proofs.laws.replicas_stay_coherent.Goals as goal
 
 pub returns-clause-start : goal.returns-clause-start
 returns-clause-start c = start_sound

@@ -38,7 +38,7 @@ AreUpTo ballot votes = All (λ vote. vote.ballot ≤ ballot) votes
 
 -- What holds of a replica: it has promised no ballot above its next one, its term fits, and it has voted in no ballot above
 -- the promised one.
-pub record IsSound (self : Identity) (state : State) : Type 0 where
+pub record IsCoherent (self : Identity) (state : State) : Type 0 where
   pub promised : promised_in state.kept ≤ max state.seen (ballot_number state.kept.tried 7)
   pub term : FitsTerm self state.kept (prefix_of state) state.term
   pub votes : AreUpTo (promised_in state.kept) state.kept.votes
