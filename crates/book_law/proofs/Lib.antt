@@ -1,0 +1,4 @@
+pub mod Acts
+pub mod Agreement
+pub mod Lists
+pub mod Reached

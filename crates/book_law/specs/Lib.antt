@@ -1,0 +1,4 @@
+pub mod Agrees
+pub mod Book
+pub mod Legal
+pub mod Letters

@@ -1,0 +1,10 @@
+//! Books: what one to seven replicas did, turn by turn, and that they agree.
+#![tactic(auto)]
+
+mod laws;
+#[cfg(test)]
+mod tests;
+mod turn;
+
+pub use laws::{a_book_has_one_log, a_cut_is_legal, every_legal_book_agrees};
+pub use turn::{CallRow, Cause, Turn};

@@ -1,0 +1,8 @@
+use crate::{a_book_has_one_log, a_cut_is_legal, every_legal_book_agrees};
+
+#[test]
+fn laws_hold(_rt: HostRuntime) {
+    every_legal_book_agrees();
+    a_cut_is_legal();
+    a_book_has_one_log();
+}
