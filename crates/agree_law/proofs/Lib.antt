@@ -3,11 +3,11 @@ pub mod ChosenLemmas
 pub mod Growing
 pub mod Kept
 pub mod KeptLemmas
+pub mod LogLemmas
 pub mod OneValue
 pub mod Safe
+pub mod Tables
 pub mod Told
 pub mod ToldLemmas
-pub mod Turns
+pub mod Transitions
 pub mod Whole
-pub mod LogLemmas
-pub mod Tables

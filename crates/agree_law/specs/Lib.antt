@@ -1,4 +1,4 @@
 pub mod Agree
 pub mod Log
-pub mod Turn
+pub mod Transition
 pub mod World

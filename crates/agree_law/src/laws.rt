@@ -6,7 +6,7 @@ ghost use Rattle.due_set.specs.Table.{Table};
 ghost use Rattle.launch_machine.specs.Clerk.{fresh_rows};
 ghost use Rattle.agree_law.specs.Agree.{IsChosen, LearnsChosen, LearnsOne};
 ghost use Rattle.agree_law.specs.Log.{AllFollow, IsLog};
-ghost use Rattle.agree_law.specs.Turn.{AreTurns, Turn, after_turns};
+ghost use Rattle.agree_law.specs.Transition.{AreTransitions, Transition, after_transitions};
 ghost use Rattle.agree_law.specs.World.{AllMayDo, Doing, after_all, first_world};
 
 /// No two entries are chosen for one slot: whatever one to seven replicas do that they may do, in whatever order.
@@ -14,37 +14,37 @@ pub fn a_slot_has_one_value()
     ensures acts { (members : ℕ) (table : Table) (rows : List JobRow) (doings : List Doing) (slot : ℕ) (one other : Entry) → members ≤ 7
         → AllMayDo members table (first_world rows) doings → IsChosen members (after_all doings (first_world rows)).cast slot one
         → IsChosen members (after_all doings (first_world rows)).cast slot other → one ≡ other }
-    ensures turns { (members : ℕ) (table : Table) (rows : List JobRow) (turns : List Turn) (slot : ℕ) (one other : Entry) → members ≤ 7
-        → AreTurns members table (first_world rows) turns → IsChosen members (after_turns members turns (first_world rows)).cast slot one
-        → IsChosen members (after_turns members turns (first_world rows)).cast slot other → one ≡ other }
+    ensures transitions { (members : ℕ) (table : Table) (rows : List JobRow) (transitions : List Transition) (slot : ℕ) (one other : Entry) → members ≤ 7
+        → AreTransitions members table (first_world rows) transitions → IsChosen members (after_transitions members transitions (first_world rows)).cast slot one
+        → IsChosen members (after_transitions members transitions (first_world rows)).cast slot other → one ≡ other }
 {}
 
-/// Each entry that a replica has learned was chosen: whatever turns they have taken, and wherever they were stopped and
+/// Each entry that a replica has learned was chosen: whatever transitions they have taken, and wherever they were stopped and
 /// started again.
 pub fn learned_entries_are_chosen()
-    ensures { (members : ℕ) (table : Table) (rows : List JobRow) (turns : List Turn) → members ≤ 7
-        → AreTurns members table (first_world rows) turns → LearnsChosen members (after_turns members turns (first_world rows)) }
+    ensures { (members : ℕ) (table : Table) (rows : List JobRow) (transitions : List Transition) → members ≤ 7
+        → AreTransitions members table (first_world rows) transitions → LearnsChosen members (after_transitions members transitions (first_world rows)) }
 {}
 
 /// No two entries are ever learned for one slot, by whatever replicas.
 pub fn replicas_agree_on_each_slot()
-    ensures { (members : ℕ) (table : Table) (rows : List JobRow) (turns : List Turn) → members ≤ 7
-        → AreTurns members table (first_world rows) turns → LearnsOne (after_turns members turns (first_world rows)) }
+    ensures { (members : ℕ) (table : Table) (rows : List JobRow) (transitions : List Transition) → members ≤ 7
+        → AreTransitions members table (first_world rows) transitions → LearnsOne (after_transitions members transitions (first_world rows)) }
 {}
 
-/// There is one log, after whatever turns.
-pub fn turns_have_one_log()
-    ensures some { (members : ℕ) (table : Table) (rows : List JobRow) (turns : List Turn) → members ≤ 7
-        → AreTurns members table (first_world rows) turns
-        → (log : List Entry) × IsLog members (after_turns members turns (first_world rows)).cast log }
-    ensures one { (members : ℕ) (table : Table) (rows : List JobRow) (turns : List Turn) (one other : List Entry) → members ≤ 7
-        → AreTurns members table (first_world rows) turns → IsLog members (after_turns members turns (first_world rows)).cast one
-        → IsLog members (after_turns members turns (first_world rows)).cast other → one ≡ other }
+/// There is one log, after whatever transitions.
+pub fn transitions_have_one_log()
+    ensures some { (members : ℕ) (table : Table) (rows : List JobRow) (transitions : List Transition) → members ≤ 7
+        → AreTransitions members table (first_world rows) transitions
+        → (log : List Entry) × IsLog members (after_transitions members transitions (first_world rows)).cast log }
+    ensures one { (members : ℕ) (table : Table) (rows : List JobRow) (transitions : List Transition) (one other : List Entry) → members ≤ 7
+        → AreTransitions members table (first_world rows) transitions → IsLog members (after_transitions members transitions (first_world rows)).cast one
+        → IsLog members (after_transitions members transitions (first_world rows)).cast other → one ≡ other }
 {}
 
 /// Each replica has learned a front of the log, and its launch table is the one that the clerk of these entries has.
 pub fn a_replicas_table_is_the_clerks()
-    ensures { (members : ℕ) (table : Table) (turns : List Turn) → members ≤ 7
-        → AreTurns members table (first_world (fresh_rows table)) turns
-        → AllFollow members table (after_turns members turns (first_world (fresh_rows table))) }
+    ensures { (members : ℕ) (table : Table) (transitions : List Transition) → members ≤ 7
+        → AreTransitions members table (first_world (fresh_rows table)) transitions
+        → AllFollow members table (after_transitions members transitions (first_world (fresh_rows table))) }
 {}

@@ -7,5 +7,5 @@ mod tests;
 
 pub use laws::{
     a_replicas_table_is_the_clerks, a_slot_has_one_value, learned_entries_are_chosen,
-    replicas_agree_on_each_slot, turns_have_one_log,
+    replicas_agree_on_each_slot, transitions_have_one_log,
 };

@@ -1,6 +1,6 @@
 use crate::{
     a_replicas_table_is_the_clerks, a_slot_has_one_value, learned_entries_are_chosen,
-    replicas_agree_on_each_slot, turns_have_one_log,
+    replicas_agree_on_each_slot, transitions_have_one_log,
 };
 
 #[test]
@@ -8,6 +8,6 @@ fn laws_hold(_rt: HostRuntime) {
     a_slot_has_one_value();
     learned_entries_are_chosen();
     replicas_agree_on_each_slot();
-    turns_have_one_log();
+    transitions_have_one_log();
     a_replicas_table_is_the_clerks();
 }

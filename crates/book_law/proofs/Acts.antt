@@ -15,7 +15,7 @@ use Rattle.step_law.specs.May.{HasSaid, Saying}
 use Rattle.step_law.specs.Message.{Message, Whom}
 use Rattle.step_law.specs.State.{State}
 use Rattle.step_law.specs.declared.out.LearntRow.{LearntRow}
-use Rattle.agree_law.specs.Turn.{is_silent}
+use Rattle.agree_law.specs.Transition.{is_silent}
 use Rattle.agree_law.specs.World.{CastVote, Learning, World, after_all, after_doing, cast_after, doings_of, learned_after, said_after, with_replica}
 use Rattle.book_law.specs.Book.{durable_after, vote_of_delta, votes_by, votes_of}
 

@@ -9,11 +9,11 @@ use Rattle.launch_machine.specs.Clerk.{fresh_rows}
 use Rattle.step_law.specs.State.{State, prefix_of}
 use Rattle.agree_law.specs.Agree.{IsChosen}
 use Rattle.agree_law.specs.Log.{FollowsLog, IsLog}
-use Rattle.agree_law.specs.Turn.{after_turns}
+use Rattle.agree_law.specs.Transition.{after_transitions}
 use Rattle.agree_law.specs.World.{CastVote, Learning, World, first_world}
 use Rattle.agree_law.proofs.LogLemmas.{one_log, some_log}
 use Rattle.agree_law.proofs.Tables.{follows, short_of}
-use Rattle.agree_law.proofs.Turns.{IsFollowed, first_followed, turns_followed}
+use Rattle.agree_law.proofs.Transitions.{IsFollowed, first_followed, transitions_followed}
 use Rattle.agree_law.proofs.Whole.{IsWhole, whole_one}
 use Rattle.book_law.specs.Agrees.{Agrees}
 use Rattle.book_law.specs.Book.{Row, learned_in, standing_after, votes_in}
@@ -47,8 +47,8 @@ stands : (n : ℕ) (table : Table) (book : List Row) → n ≤ 7 → IsLegal n t
 stands n table book few legal =
     let to = reaches n table book legal in
     record {
-      w = after_turns n to.turns (first_world (fresh_rows table));
-      followed = turns_followed n table (fresh_rows table) (first_world (fresh_rows table)) to.turns few (first_followed n table (fresh_rows table)) to.are;
+      w = after_transitions n to.turns (first_world (fresh_rows table));
+      followed = transitions_followed n table (fresh_rows table) (first_world (fresh_rows table)) to.turns few (first_followed n table (fresh_rows table)) to.are;
       matches = to.matches;
     }
 
@@ -56,14 +56,16 @@ pub agrees : (n : ℕ) (table : Table) (book : List Row) → n ≤ 7 → IsLegal
 agrees n table book few legal = record {
   chosen = λ x has. subst (λ cast. IsChosen n cast x.slot x.entry) there.matches.cast (whole.known.rows x (there.matches.learned_of x has));
   one = λ a b has_a has_b slots.
-    whole_one n there.w a.slot a.entry b.entry whole (whole.known.rows a (there.matches.learned_of a has_a)) (rw slots (whole.known.rows b (there.matches.learned_of b has_b)));
+      whole_one n there.w a.slot a.entry b.entry whole (whole.known.rows a (there.matches.learned_of a has_a)) (rw slots (whole.known.rows b (there.matches.learned_of b has_b)));
   follow = λ log is_log who runs. follow log (subst (λ cast. IsLog n cast log) (sym there.matches.cast) is_log) who;
 }
   where
     there : Stands n table book
     there = stands n table book few legal
+
     whole : IsWhole n there.w
     whole = there.followed.whole
+
     follow : (log : List Entry) → IsLog n there.w.cast log → (who : ℕ) → FollowsLog table log ((standing_after n (fresh_rows table) book).replicas who)
     follow log is_log who =
         subst (λ s. FollowsLog table log s) (there.matches.replicas who) (record {

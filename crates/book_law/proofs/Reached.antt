@@ -28,8 +28,8 @@ use Rattle.step_law.specs.declared.out.LearntRow.{LearntRow}
 use Rattle.step_law.specs.Step.{Event, IsPlanned, Plan, step}
 use Rattle.step_law.specs.Step as told
 use Rattle.step_law.proofs.HeardLemmas.{messages_heard}
-use Rattle.agree_law.specs.Turn as taken
-use Rattle.agree_law.specs.Turn.{AreTurns, MayTake, acts_of, after_turn, after_turns, is_silent}
+use Rattle.agree_law.specs.Transition as taken
+use Rattle.agree_law.specs.Transition.{AreTransitions, MayTake, acts_of, after_transition, after_transitions, is_silent}
 use Rattle.agree_law.specs.World.{CastVote, Learning, World, after_all, doings_of, first_world, with_replica}
 use Rattle.book_law.specs.Book.{PostedLetter, Row, SentLetter, Standing, acts_at, after_row, after_stop, durable_after, first_standing, identity, kept_at, learned_in, post, standing_after, turn_of, vote_of_delta, votes_in, votes_of}
 use Rattle.book_law.specs.Legal.{BringsNothing, IsEventOf, IsLegal, MayFollow, StopsWithin, Takes, kept_votes}
@@ -177,13 +177,14 @@ step_acts n jobs st votes learned w who acts letters spelled m =
   where
     w' : World
     w' = after_all (doings_of who acts) w
+
     new_letter : (letter : PostedLetter) (messages : List Message) (sent : SentLetter) (addressed : Addressed) → record { from = who; to = sent.to; bytes = sent.bytes } ≡ letter → Contains (letters_of (identity n who) acts) addressed → IsSpelled n who addressed sent → IsHeardAs n jobs letter.bytes letter.from messages → AllByRecursion (WasSaid (after_all (doings_of who acts) w).said letter.from) messages
     new_letter letter messages sent addressed is there spells heard =
         let posted : PostedLetter = record { from = who; to = sent.to; bytes = sent.bytes } in
         subst (λ (l : PostedLetter). AllByRecursion (WasSaid (after_all (doings_of who acts) w).said l.from) messages) is
         (spelled_said n jobs (after_all (doings_of who acts) w).said who addressed.messages messages sent.bytes spells.spells
-          (λ message has. all_said who acts w message (addressed_sends (identity n who) acts addressed message there has))
-          (subst (λ (l : PostedLetter). IsHeardAs n jobs l.bytes l.from messages) (sym is) heard))
+        (λ message has. all_said who acts w message (addressed_sends (identity n who) acts addressed message there has))
+        (subst (λ (l : PostedLetter). IsHeardAs n jobs l.bytes l.from messages) (sym is) heard))
 
 -- what the scheduler has answered, where an event is its answer
 abbrev answers_of : Event → List Ending
@@ -208,9 +209,9 @@ may_take n table st votes learned w who cause event m takes = record {
 
 -- turns that may come next, and what the world comes to by them
 pub record Goes (n : ℕ) (table : Table) (w : World) (st : Standing) (votes : List CastVote) (learned : List Learning) : Type 0 where
-  pub turns : List taken.Turn
-  pub are : AreTurns n table w turns
-  pub matches : Matches n (length table.jobs) st votes learned (after_turns n turns w)
+  pub turns : List taken.Transition
+  pub are : AreTransitions n table w turns
+  pub matches : Matches n (length table.jobs) st votes learned (after_transitions n turns w)
 
 did : (n : ℕ) (table : Table) (st : Standing) (votes : List CastVote) (learned : List Learning) (w : World) (who : ℕ) (cause : Cause) (row : Row) (made : Option CallRow) → Matches n (length table.jobs) st votes learned w → MayFollow n table st (Did who cause made) row → Goes n table w (after_row n st (Did who cause made) row.event row.letters) (votes ++ cast_rows who row.votes) (learned ++ learned_rows who row.learnt)
 unfolding after_row
@@ -218,7 +219,7 @@ did n table st votes learned w who cause row made m (takes, brings) =
     let acts : step (identity n who) row.event (w.replicas who) ≡ acts_at n st who row.event = ap (step (identity n who) row.event) (m.replicas who) in
     let after = step_acts n (length table.jobs) st votes learned w who (acts_at n st who row.event) row.letters brings.letters m in
     let same = matches_as n (length table.jobs) _ (after_row n st (Did who cause made) row.event row.letters) _ (votes ++ cast_rows who row.votes) _ (learned ++ learned_rows who row.learnt) _
-          (λ q. refl) refl (rw brings.votes refl) (λ x has. rw (← brings.learnt) has) after in
+    (λ q. refl) refl (rw brings.votes refl) (λ x has. rw (← brings.learnt) has) after in
     record {
       turns = taken.Did who row.event ∷ [];
       are = (may_take n table st votes learned w who cause row.event m takes, tt);
@@ -257,16 +258,22 @@ stopped_kept n table st votes learned w who cause row m takes within = record {
   where
     acts : List Act
     acts = acts_at n st who row.event
+
     silent : List Act
     silent = filter is_silent (front_of acts)
+
     stops : Stops silent (st.replicas who) within.delta
     stops = stops_at acts (st.replicas who) within.delta [] within.changes
+
     st1 : Standing
     st1 = record st { replicas = with_replica who (after_acts silent (st.replicas who)) st.replicas }
+
     first : Matches n (length table.jobs) st1 (votes ++ cast_rows who (votes_of silent)) learned (after_all (doings_of who silent) w)
     first = quiet_acts n (length table.jobs) st votes learned w who silent m
+
     is_kept : (st1.replicas who).kept ≡ kept_at n st who row.event true
     is_kept = ap (λ s. s.kept) (with_here who (after_acts silent (st.replicas who)) st.replicas) ∙ stops.kept ∙ sym (ap (λ deltas. durable_after deltas (st.replicas who).kept) within.changes)
+
     cast_is : (votes ++ cast_rows who (votes_of silent)) ++ [] ≡ votes ++ cast_rows who row.votes
     cast_is = append-nil _ ∙ ap (λ some. votes ++ cast_rows who some) (stops.votes ∙ sym within.votes)
 
@@ -295,13 +302,13 @@ goes n table st votes learned w (Arrived number) row m (late, nothing) = record 
 
 -- ---- books
 
-after_append : (n : ℕ) (xs ys : List taken.Turn) (w : World) → after_turns n (xs ++ ys) w ≡ after_turns n ys (after_turns n xs w)
+after_append : (n : ℕ) (xs ys : List taken.Transition) (w : World) → after_transitions n (xs ++ ys) w ≡ after_transitions n ys (after_transitions n xs w)
 after_append n [] ys w = refl
-after_append n (x ∷ xs) ys w = after_append n xs ys (after_turn n x w)
+after_append n (x ∷ xs) ys w = after_append n xs ys (after_transition n x w)
 
-are_append : (n : ℕ) (table : Table) (w : World) (xs ys : List taken.Turn) → AreTurns n table w xs → AreTurns n table (after_turns n xs w) ys → AreTurns n table w (xs ++ ys)
+are_append : (n : ℕ) (table : Table) (w : World) (xs ys : List taken.Transition) → AreTransitions n table w xs → AreTransitions n table (after_transitions n xs w) ys → AreTransitions n table w (xs ++ ys)
 are_append n table w [] ys first second = second
-are_append n table w (x ∷ xs) ys first second = (first.0, are_append n table (after_turn n x w) xs ys first.1 second)
+are_append n table w (x ∷ xs) ys first second = (first.0, are_append n table (after_transition n x w) xs ys first.1 second)
 
 -- turns of the world that come to what a book comes to
 abbrev pub Reaches : ℕ → Table → List Row → Type 0
@@ -316,14 +323,14 @@ reaches_first n table = record {
 
 reaches_next : (n : ℕ) (table : Table) (book : List Row) (row : Row) → Reaches n table book → MayFollow n table (standing_after n (fresh_rows table) book) row.turn row → Reaches n table (book ++ row ∷ [])
 reaches_next n table book row before may =
-    let w = after_turns n before.turns (first_world (fresh_rows table)) in
+    let w = after_transitions n before.turns (first_world (fresh_rows table)) in
     let next = goes n table (standing_after n (fresh_rows table) book) (votes_in book) (learned_in book) w row.turn row before.matches may in
     record {
       turns = before.turns ++ next.turns;
       are = are_append n table (first_world (fresh_rows table)) before.turns next.turns before.are next.are;
       matches =
-        rw (after_append n before.turns next.turns (first_world (fresh_rows table)))
-        (matches_as n (length table.jobs) _ (standing_after n (fresh_rows table) (book ++ row ∷ [])) _ (votes_in (book ++ row ∷ [])) _ (learned_in (book ++ row ∷ [])) _
+          rw (after_append n before.turns next.turns (first_world (fresh_rows table)))
+          (matches_as n (length table.jobs) _ (standing_after n (fresh_rows table) (book ++ row ∷ [])) _ (votes_in (book ++ row ∷ [])) _ (learned_in (book ++ row ∷ [])) _
           (λ q. ap (λ st. st.replicas q) (sym (fold_push _ (first_standing n (fresh_rows table)) book row)))
           (ap (λ st. st.posted) (sym (fold_push _ (first_standing n (fresh_rows table)) book row)))
           (sym (flat_map-append _ book (row ∷ []) ∙ ap (λ rows. votes_in book ++ rows) (append-nil _)))

@@ -38,7 +38,11 @@ pub enum Turn {
         kept: bool,
     },
     /// A replica started again.
-    Restarted { who: u8 },
+    Restarted {
+        who: u8,
+    },
     /// The late call of that number arrived at the scheduler.
-    Arrived { late: u32 },
+    Arrived {
+        late: u32,
+    },
 }

@@ -1,4 +1,4 @@
--- The acts of a turn may be done one after another.
+-- The acts of a transition may be done one after another.
 use Rattle.std.proofs.Common.{◌≡◌, ℕ, ◌<◌, ◌≤◌, List, [], ◌∷◌, ◌++◌, refl, inl, inr, arith, subst, ◌⊎◌}
 use Rattle.std.specs.List.{Contains}
 use Rattle.std.proofs.lemmas.List.Elements.{Contains-append_left}
@@ -16,7 +16,7 @@ use Rattle.paxos_base.specs.declared.entry.Entry.TheVariants.{Noop, Start, End}
 use Rattle.step_law.specs.Message.{Accept, Accepted, Known, Snap}
 use Rattle.step_law.specs.Step.{IsLaunchTable}
 use Rattle.step_law.proofs.LineLemmas.{step_may}
-use Rattle.agree_law.specs.Turn.{Turn, Did, Stopped, Restarted, AreTurns, MayTurn, acts_of, after_turn, after_turns, identity_of, is_silent, turn_of}
+use Rattle.agree_law.specs.Transition.{Transition, Did, Stopped, Restarted, AreTransitions, MayCome, acts_of, after_transition, after_transitions, identity_of, is_silent, done_by}
 use Rattle.agree_law.specs.World.{AllMayDo, after_all, doings_of, said_after}
 use Rattle.paxos_base.specs.declared.rows.JobRow.{JobRow}
 use Rattle.agree_law.specs.World.{first_world}
@@ -128,18 +128,18 @@ silent_may setting state [] may = tt
 silent_may setting state (Send whom message ∷ acts) may = silent_may setting state acts may.1
 silent_may setting state (act ∷ acts) may = (may.0, silent_may setting (after_act act state) acts may.1)
 
--- the acts of a turn that may come next may be done one after another
-turn_done : (n : ℕ) (table : Table) (w : World) (turn : Turn) → n ≤ 7 → IsWhole n w → MayTurn n table w turn → AllMayDo n table w (doings_of (turn_of turn) (acts_of n turn w))
+-- the acts of a transition that may come next may be done one after another
+transition_done : (n : ℕ) (table : Table) (w : World) (transition : Transition) → n ≤ 7 → IsWhole n w → MayCome n table w transition → AllMayDo n table w (doings_of (done_by transition) (acts_of n transition w))
 unfolding May
-turn_done n table w (Did by event) few whole may =
+transition_done n table w (Did by event) few whole may =
     let acts = step_may (record { self = identity_of n by; table = table; said = w.said; answered = may.answered }) (w.replicas by) event (omega (arith, may.member, few)) (whole.kept.sound by may.member) may.planned may.heard in
     acts_done n table by may.answered w.said _ w may.member (λ saying has. has) acts
-turn_done n table w (Stopped by event front back) few whole (may, parts) =
+transition_done n table w (Stopped by event front back) few whole (may, parts) =
     let setting : Setting = record { self = identity_of n by; table = table; said = w.said; answered = may.answered } in
     let acts = step_may setting (w.replicas by) event (omega (arith, may.member, few)) (whole.kept.sound by may.member) may.planned may.heard in
     let first = front_may setting (w.replicas by) front back (subst (λ acts. AllMay setting (w.replicas by) acts) parts acts) in
     acts_done n table by may.answered w.said _ w may.member (λ saying has. has) (silent_may setting (w.replicas by) front first)
-turn_done n table w (Restarted by) few whole member = (record { member = member; answered = []; may = refl }, tt)
+transition_done n table w (Restarted by) few whole member = (record { member = member; answered = []; may = refl }, tt)
 
 -- a world that is whole, and whose launch tables are those of chosen entries
 pub record IsFollowed (n : ℕ) (table : Table) (first : List JobRow) (w : World) : Type 0 where
@@ -165,9 +165,9 @@ followed_after_all n table first w (doing ∷ doings) few followed may =
     })
     may.1
 
-pub turns_followed : (n : ℕ) (table : Table) (first : List JobRow) (w : World) (turns : List Turn) → n ≤ 7 → IsFollowed n table first w → AreTurns n table w turns → IsFollowed n table first (after_turns n turns w)
-turns_followed n table first w [] few followed may = followed
-turns_followed n table first w (turn ∷ turns) few followed may =
-    turns_followed n table first (after_turn n turn w) turns few
-    (followed_after_all n table first w (doings_of (turn_of turn) (acts_of n turn w)) few followed (turn_done n table w turn few followed.whole may.0))
+pub transitions_followed : (n : ℕ) (table : Table) (first : List JobRow) (w : World) (transitions : List Transition) → n ≤ 7 → IsFollowed n table first w → AreTransitions n table w transitions → IsFollowed n table first (after_transitions n transitions w)
+transitions_followed n table first w [] few followed may = followed
+transitions_followed n table first w (transition ∷ transitions) few followed may =
+    transitions_followed n table first (after_transition n transition w) transitions few
+    (followed_after_all n table first w (doings_of (done_by transition) (acts_of n transition w)) few followed (transition_done n table w transition few followed.whole may.0))
     may.1
