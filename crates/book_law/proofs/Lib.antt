@@ -2,3 +2,4 @@ pub mod Acts
 pub mod Agreement
 pub mod Lists
 pub mod Reached
+pub mod SomeBook

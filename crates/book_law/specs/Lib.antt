@@ -2,3 +2,4 @@ pub mod Agrees
 pub mod Book
 pub mod Legal
 pub mod Letters
+pub mod Some

@@ -6,5 +6,5 @@ mod laws;
 mod tests;
 mod turn;
 
-pub use laws::{a_book_has_one_log, a_cut_is_legal, every_legal_book_agrees};
+pub use laws::{a_book_has_one_log, a_cut_is_legal, every_legal_book_agrees, some_books_are_legal};
 pub use turn::{CallRow, Cause, Turn};

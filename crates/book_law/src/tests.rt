@@ -1,8 +1,9 @@
-use crate::{a_book_has_one_log, a_cut_is_legal, every_legal_book_agrees};
+use crate::{a_book_has_one_log, a_cut_is_legal, every_legal_book_agrees, some_books_are_legal};
 
 #[test]
 fn laws_hold(_rt: HostRuntime) {
     every_legal_book_agrees();
     a_cut_is_legal();
     a_book_has_one_log();
+    some_books_are_legal();
 }
