@@ -2,4 +2,5 @@ pub mod Acts
 pub mod Agreement
 pub mod Lists
 pub mod Reached
+pub mod Refused
 pub mod SomeBook

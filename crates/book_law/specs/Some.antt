@@ -1,6 +1,8 @@
 -- Some turns of two replicas over a table without jobs.
 use Rattle.std.specs.Prelude.{ℕ, pos, true, false, List, [], ◌∷◌, None, Some}
 use Rattle.due_set.specs.Table.{Table}
+use Rattle.launch_machine.specs.Clerk.{fresh_rows}
+use Rattle.book_law.specs.Book.{Standing, first_standing}
 use Rattle.book_law.specs.declared.turn.Cause.TheVariants.{Campaign, Tick, Hear, Answer}
 use Rattle.book_law.specs.declared.turn.Turn.{Turn}
 use Rattle.book_law.specs.declared.turn.Turn.TheVariants.{Did, Stopped, Restarted, Arrived}
@@ -24,3 +26,7 @@ some_turns =
     ∷ Stopped 1 (Some Campaign) true
     ∷ Restarted 1
     ∷ []
+
+-- what stands before the first turn of two replicas over that table
+abbrev pub beginning : Standing
+beginning = first_standing 2 (fresh_rows no_jobs)

@@ -1,13 +1,18 @@
 //! Laws of books. Each is the contract of a function that does nothing.
-ghost use Rattle.std.specs.Prelude.{◌≡◌, ◌≤◌, ℕ, List, map, take};
+ghost use Rattle.std.specs.Prelude.{◌≡◌, ◌≤◌, ℕ, pos, Bool, true, false, List, [], ◌∷◌, length, map, take, Option, None, Some};
 ghost use Rattle.paxos_base.specs.declared.entry.Entry.{Entry};
 ghost use Rattle.due_set.specs.Table.{Table};
+ghost use Rattle.launch_machine.specs.Clerk.{fresh_rows};
 ghost use Rattle.agree_law.specs.Agree.{IsChosen};
 ghost use Rattle.agree_law.specs.Log.{IsLog};
 ghost use Rattle.book_law.specs.Agrees.{Agrees};
-ghost use Rattle.book_law.specs.Book.{Row, votes_in};
-ghost use Rattle.book_law.specs.Legal.{IsLegal};
-ghost use Rattle.book_law.specs.Some.{no_jobs, some_turns};
+ghost use Rattle.book_law.specs.Book.{Row, standing_after, votes_in};
+ghost use Rattle.book_law.specs.Legal.{IsLegal, MayFollow};
+ghost use Rattle.book_law.specs.Some.{beginning, no_jobs, some_turns};
+ghost use Rattle.book_law.specs.declared.turn.CallRow.{CallRow};
+ghost use Rattle.book_law.specs.declared.turn.Cause.{Cause};
+ghost use Rattle.book_law.specs.declared.turn.Cause.TheVariants.{Campaign, Tick, Hear, Answer};
+ghost use Rattle.book_law.specs.declared.turn.Turn.TheVariants.{Did, Stopped, Restarted, Arrived};
 
 /// Each legal book of one to seven replicas agrees, after each of its turns: what was learned was chosen, no two entries were
 /// learned for one slot, and each replica that runs has the launch table of a front of the log.
@@ -37,4 +42,23 @@ pub fn a_book_has_one_log()
 /// more, a tick, a stop between two steps and one within a step that keeps its change, and starts after them.
 pub fn some_books_are_legal()
     ensures { (book : List Row) × (map (λ row. row.turn) book ≡ some_turns) × IsLegal 2 no_jobs book }
+{}
+
+/// What two replicas without jobs can't begin with: a turn of a third one, a letter that wasn't sent, an answer that doesn't
+/// wait, a tick outside the window, a call that no step asks for, a stop that keeps what no step changed, a start without a
+/// stop, an arrival of no late call; a campaign brings one letter and no vote; and a replica that has stopped takes no turn.
+pub fn some_turns_are_not_legal()
+    ensures stranger { (row : Row) (cause : Cause) (made : Option CallRow) → MayFollow 2 no_jobs beginning (Did 2 cause made) row → ⊥ }
+    ensures letter { (row : Row) (number : ℕ) (made : Option CallRow) → MayFollow 2 no_jobs beginning (Did 0 (Hear number) made) row → ⊥ }
+    ensures answer { (row : Row) (made : Option CallRow) → MayFollow 2 no_jobs beginning (Did 0 Answer made) row → ⊥ }
+    ensures minute { (row : Row) (made : Option CallRow) → MayFollow 2 no_jobs beginning (Did 0 (Tick (record { 0 = pos 1 })) made) row → ⊥ }
+    ensures call { (row : Row) (call : CallRow) → MayFollow 2 no_jobs beginning (Did 0 Campaign (Some call)) row → ⊥ }
+    ensures kept { (row : Row) → MayFollow 2 no_jobs beginning (Stopped 0 None true) row → ⊥ }
+    ensures change { (row : Row) (kept : Bool) → MayFollow 2 no_jobs beginning (Stopped 0 (Some (Tick (record { 0 = pos 0 }))) kept) row → ⊥ }
+    ensures start { (row : Row) → MayFollow 2 no_jobs beginning (Restarted 0) row → ⊥ }
+    ensures arrival { (row : Row) (number : ℕ) → MayFollow 2 no_jobs beginning (Arrived number) row → ⊥ }
+    ensures votes { (row : Row) → MayFollow 2 no_jobs beginning (Did 0 Campaign None) row → row.votes ≡ [] }
+    ensures letters { (row : Row) → MayFollow 2 no_jobs beginning (Did 0 Campaign None) row → length row.letters ≡ 1 }
+    ensures stopped { (first row : Row) (cause : Cause) (made : Option CallRow) → first.turn ≡ Stopped 0 None false
+        → MayFollow 2 no_jobs (standing_after 2 (fresh_rows no_jobs) (first ∷ [])) (Did 0 cause made) row → ⊥ }
 {}

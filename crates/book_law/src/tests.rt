@@ -1,4 +1,7 @@
-use crate::{a_book_has_one_log, a_cut_is_legal, every_legal_book_agrees, some_books_are_legal};
+use crate::{
+    a_book_has_one_log, a_cut_is_legal, every_legal_book_agrees, some_books_are_legal,
+    some_turns_are_not_legal,
+};
 
 #[test]
 fn laws_hold(_rt: HostRuntime) {
@@ -6,4 +9,5 @@ fn laws_hold(_rt: HostRuntime) {
     a_cut_is_legal();
     a_book_has_one_log();
     some_books_are_legal();
+    some_turns_are_not_legal();
 }

@@ -1,0 +1,77 @@
+-- Turns that no book of two replicas without jobs may begin with.
+use Rattle.std.proofs.Common.{◌≡◌, ◌≢◌, ℕ, zero, suc, ◌+◌, ◌<◌, ◌≤◌, pos, Bool, true, false, Option, Some, None, List, [], ◌∷◌, ◌++◌, length, map, take, refl, sym, ap, ◌∙◌, inl, inr, arith, subst, ℤ}
+use Rattle.std.specs.List.{AllZip, slice_get}
+use Rattle.launch_machine.specs.Clerk.{fresh_rows}
+use Rattle.paxos_base.specs.Members.{with_member}
+use Rattle.paxos_base.specs.Vote.{votes_from}
+use Rattle.step_law.specs.Act.{Act, after_act}
+use Rattle.cluster_sched.specs.declared.row.SchedRow.{SchedRow}
+use Rattle.step_law.specs.Folds.{calls_of, deltas_of, calls_by, deltas_by, learnt_by, letters_of, sent_by}
+use Rattle.step_law.specs.Propose.{answer, campaign, tick}
+use Rattle.step_law.specs.Step.{Event, step}
+use Rattle.step_law.specs.Step as told
+use Rattle.book_law.specs.Book.{Row, SentLetter, Standing, acts_at, after_row, votes_of, first_standing, identity, standing_after}
+use Rattle.book_law.specs.Legal.{IsLegal, IsMade, MayFollow}
+use Rattle.book_law.specs.Letters.{AreLettersOf}
+use Rattle.book_law.specs.Some.{beginning, no_jobs}
+use Rattle.book_law.specs.declared.turn.CallRow.{CallRow}
+use Rattle.book_law.specs.declared.turn.Cause.{Cause}
+use Rattle.book_law.specs.declared.turn.Cause.TheVariants.{Campaign, Tick, Hear, Answer}
+use Rattle.book_law.specs.declared.turn.Turn.{Turn}
+use Rattle.book_law.specs.declared.turn.Turn.TheVariants.{Did, Stopped, Restarted, Arrived}
+
+pub no_stranger : (row : Row) (cause : Cause) (made : Option CallRow) → MayFollow 2 no_jobs beginning (Did 2 cause made) row → ⊥
+no_stranger row cause made (takes, brings) = omega (arith, takes.member)
+
+pub no_letter : (row : Row) (number : ℕ) (made : Option CallRow) → MayFollow 2 no_jobs beginning (Did 0 (Hear number) made) row → ⊥
+no_letter row number made (takes, brings) = let there = takes.event_of.there in cc
+
+pub no_answer : (row : Row) (made : Option CallRow) → MayFollow 2 no_jobs beginning (Did 0 Answer made) row → ⊥
+no_answer row made (takes, brings) = let waits = takes.event_of.waits in cc
+
+pub no_minute : (row : Row) (made : Option CallRow) → MayFollow 2 no_jobs beginning (Did 0 (Tick (record { 0 = pos 1 })) made) row → ⊥
+no_minute row made (takes, brings) = let before = takes.event_of.0.before in grind (arith, before)
+
+no_call_of : (held : List SchedRow) (call : CallRow) → IsMade held [] (Some call) → ⊥
+no_call_of held call is = cc
+
+pub no_call : (row : Row) (call : CallRow) → MayFollow 2 no_jobs beginning (Did 0 Campaign (Some call)) row → ⊥
+unfolding step campaign calls_by with_member
+no_call row call (takes, brings) =
+    no_call_of [] call (subst (λ event. IsMade [] (calls_of (acts_at 2 beginning 0 event)) (Some call)) takes.event_of brings.call)
+
+pub not_kept : (row : Row) → MayFollow 2 no_jobs beginning (Stopped 0 None true) row → ⊥
+not_kept row (member, runs, kept, nothing) = cc
+
+pub no_start : (row : Row) → MayFollow 2 no_jobs beginning (Restarted 0) row → ⊥
+no_start row (member, stopped, nothing) = cc
+
+pub no_arrival : (row : Row) (number : ℕ) → MayFollow 2 no_jobs beginning (Arrived number) row → ⊥
+no_arrival row number (late, nothing) = let there = late.there in cc
+
+pub no_change : (row : Row) (kept : Bool) → MayFollow 2 no_jobs beginning (Stopped 0 (Some (Tick (record { 0 = pos 0 }))) kept) row → ⊥
+unfolding step tick
+no_change row kept (takes, within) =
+    let none : [] ≡ within.delta ∷ [] = subst (λ event. deltas_of (acts_at 2 beginning 0 event) ≡ within.delta ∷ []) takes.event_of.2 within.changes in
+    cc
+
+pub no_votes_of_a_campaign : (row : Row) → MayFollow 2 no_jobs beginning (Did 0 Campaign None) row → row.votes ≡ []
+unfolding step campaign with_member
+no_votes_of_a_campaign row (takes, brings) =
+    subst (λ event. row.votes ≡ votes_of (acts_at 2 beginning 0 event)) takes.event_of brings.votes
+
+pub one_letter_of_a_campaign : (row : Row) → MayFollow 2 no_jobs beginning (Did 0 Campaign None) row → length row.letters ≡ 1
+unfolding step campaign sent_by with_member
+one_letter_of_a_campaign row (takes, brings) =
+    one row.letters (subst (λ event. AreLettersOf (identity 2 0) (acts_at 2 beginning 0 event) row.letters) takes.event_of brings.letters)
+  where
+    one : (letters : List SentLetter) → AreLettersOf (identity 2 0) (campaign (identity 2 0) (beginning.replicas 0)) letters → length letters ≡ 1
+    one [] zips = absurd zips
+    one (letter ∷ []) zips = refl
+    one (letter ∷ other ∷ letters) zips = absurd zips.1
+
+-- a replica that has stopped takes no turn
+pub no_turn_of_a_stopped : (first row : Row) (cause : Cause) (made : Option CallRow) → first.turn ≡ Stopped 0 None false → MayFollow 2 no_jobs (standing_after 2 (fresh_rows no_jobs) (first ∷ [])) (Did 0 cause made) row → ⊥
+unfolding after_row
+no_turn_of_a_stopped first row cause made is (takes, brings) =
+    let runs : false ≡ true = subst (λ turn. (after_row 2 beginning turn first.event first.letters).runs 0 ≡ true) is takes.runs in cc

@@ -1,0 +1,38 @@
+use Rattle.book_law.proofs.Refused.{no_stranger, no_letter, no_answer, no_minute, no_call, not_kept, no_change, no_start, no_arrival, no_votes_of_a_campaign, one_letter_of_a_campaign, no_turn_of_a_stopped}
+use Rattle.book_law.proofs.laws.some_turns_are_not_legal.Goals as goal
+
+pub returns-clause-stranger : goal.returns-clause-stranger
+returns-clause-stranger c = no_stranger
+
+pub returns-clause-letter : goal.returns-clause-letter
+returns-clause-letter c = no_letter
+
+pub returns-clause-answer : goal.returns-clause-answer
+returns-clause-answer c = no_answer
+
+pub returns-clause-minute : goal.returns-clause-minute
+returns-clause-minute c = no_minute
+
+pub returns-clause-call : goal.returns-clause-call
+returns-clause-call c = no_call
+
+pub returns-clause-kept : goal.returns-clause-kept
+returns-clause-kept c = not_kept
+
+pub returns-clause-change : goal.returns-clause-change
+returns-clause-change c = no_change
+
+pub returns-clause-start : goal.returns-clause-start
+returns-clause-start c = no_start
+
+pub returns-clause-arrival : goal.returns-clause-arrival
+returns-clause-arrival c = no_arrival
+
+pub returns-clause-votes : goal.returns-clause-votes
+returns-clause-votes c = no_votes_of_a_campaign
+
+pub returns-clause-letters : goal.returns-clause-letters
+returns-clause-letters c = one_letter_of_a_campaign
+
+pub returns-clause-stopped : goal.returns-clause-stopped
+returns-clause-stopped c = no_turn_of_a_stopped
