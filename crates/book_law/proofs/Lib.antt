@@ -4,3 +4,4 @@ pub mod Lists
 pub mod Reached
 pub mod Refused
 pub mod SomeBook
+pub mod Takeover

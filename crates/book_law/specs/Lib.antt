@@ -3,3 +3,4 @@ pub mod Book
 pub mod Legal
 pub mod Letters
 pub mod Some
+pub mod Takeover

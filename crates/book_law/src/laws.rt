@@ -1,13 +1,14 @@
 //! Laws of books. Each is the contract of a function that does nothing.
-ghost use Rattle.std.specs.Prelude.{◌≡◌, ◌≤◌, ℕ, pos, Bool, true, false, List, [], ◌∷◌, length, map, take, Option, None, Some};
+ghost use Rattle.std.specs.Prelude.{◌≡◌, ◌≤◌, ℕ, ℤ, pos, Bool, true, false, List, [], ◌∷◌, length, map, take, Option, None, Some};
 ghost use Rattle.paxos_base.specs.declared.entry.Entry.{Entry};
 ghost use Rattle.due_set.specs.Table.{Table};
 ghost use Rattle.launch_machine.specs.Clerk.{fresh_rows};
 ghost use Rattle.agree_law.specs.Agree.{IsChosen};
 ghost use Rattle.agree_law.specs.Log.{IsLog};
 ghost use Rattle.book_law.specs.Agrees.{Agrees};
-ghost use Rattle.book_law.specs.Book.{Row, standing_after, votes_in};
+ghost use Rattle.book_law.specs.Book.{Row, learned_in, standing_after, votes_in};
 ghost use Rattle.book_law.specs.Legal.{IsLegal, MayFollow};
+ghost use Rattle.book_law.specs.Takeover.{AsksFor, learned_twice, takeover};
 ghost use Rattle.book_law.specs.Some.{beginning, no_jobs, some_turns};
 ghost use Rattle.book_law.specs.declared.turn.CallRow.{CallRow};
 ghost use Rattle.book_law.specs.declared.turn.Cause.{Cause};
@@ -61,4 +62,13 @@ pub fn some_turns_are_not_legal()
     ensures letters { (row : Row) → MayFollow 2 no_jobs beginning (Did 0 Campaign None) row → length row.letters ≡ 1 }
     ensures stopped { (first row : Row) (cause : Cause) (made : Option CallRow) → first.turn ≡ Stopped 0 None false
         → MayFollow 2 no_jobs (standing_after 2 (fresh_rows no_jobs) (first ∷ [])) (Did 0 cause made) row → ⊥ }
+{}
+
+/// There is a legal book with a takeover for each table that asks for a start, and then for its call: with votes in two
+/// ballots, an old vote that binds the new leader, letters that are heard late and twice, stops between a vote and its use,
+/// a call that goes late and arrives, an answer, and entries that two replicas learn.
+pub fn a_takeover_is_legal()
+    ensures { (table : Table) (job : ℕ) (at now : ℤ) → AsksFor table job at now
+        → (book : List Row) × (map (λ row. row.turn) book ≡ takeover job at now) × IsLegal 3 table book
+        × (learned_in book ≡ learned_twice job at now) }
 {}
