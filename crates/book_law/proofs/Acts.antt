@@ -1,13 +1,12 @@
 -- What the acts of one replica come to in a world.
-use Rattle.std.proofs.Common.{◌≡◌, ◌≢◌, ℕ, Bool, true, false, eqb, Option, Some, None, List, [], ◌∷◌, ◌++◌, map, refl, sym, ap, ◌∙◌, inl, inr, arith, subst, append-nil, if◌then◌else◌}
-use Rattle.std.specs.List.{Contains, filter, flat_map}
-use Rattle.std.proofs.lemmas.Bool.{cases_Bool, both_ways, eqb-true, eq-eqb}
+use Rattle.std.proofs.Common.{◌≡◌, ℕ, Bool, true, false, eqb, List, [], ◌∷◌, ◌++◌, map, refl, sym, ap, ◌∙◌, inl, inr, arith, append-nil, if◌then◌else◌}
+use Rattle.std.specs.List.{Contains, filter}
+use Rattle.std.proofs.lemmas.Bool.{cases_Bool, eqb-true, eq-eqb}
 use Rattle.std.proofs.lemmas.List.{append_assoc}
 use Rattle.std.proofs.lemmas.List.Elements.{Contains-push, Contains-push_cases, Contains-append_left, Contains-append_cases}
 use Rattle.paxos_base.specs.Durable.{after_delta}
 use Rattle.paxos_base.specs.declared.durable.Delta.{Delta}
 use Rattle.paxos_base.specs.declared.durable.Delta.TheVariants.{Tried, Promised, Voted, Base}
-use Rattle.paxos_base.specs.declared.durable.Durable.{Durable}
 use Rattle.paxos_base.specs.declared.entry.Vote.{Vote}
 use Rattle.step_law.specs.Act.{Act, Observe, Stand, Gather, TakeLead, Pledge, Cast, Launch, Count, Wait, Learn, Rebase, Call, Send, Restart, after_act}
 use Rattle.step_law.specs.Folds.{after_acts, deltas_by, deltas_of, learnt_by, learnt_of}
@@ -17,7 +16,7 @@ use Rattle.step_law.specs.State.{State}
 use Rattle.step_law.specs.declared.out.LearntRow.{LearntRow}
 use Rattle.agree_law.specs.Transition.{is_silent}
 use Rattle.agree_law.specs.World.{CastVote, Learning, World, after_all, after_doing, cast_after, doings_of, learned_after, said_after, with_replica}
-use Rattle.book_law.specs.Book.{durable_after, vote_of_delta, votes_by, votes_of}
+use Rattle.book_law.specs.Book.{vote_of_delta, votes_by, votes_of}
 
 -- the votes of a replica
 abbrev pub cast_rows : ℕ → List Vote → List CastVote

@@ -1,16 +1,13 @@
 -- Each legal book agrees.
-use Rattle.std.proofs.Common.{◌≡◌, ℕ, zero, suc, ◌+◌, ◌<◌, ◌≤◌, true, Option, Some, None, List, [], ◌∷◌, ◌++◌, length, take, refl, sym, ap, ◌∙◌, inl, inr, arith, subst}
-use Rattle.std.specs.List.{Contains, slice_get}
-use Rattle.std.proofs.lemmas.Bool.{cases_lt}
+use Rattle.std.proofs.Common.{◌≡◌, ℕ, zero, suc, ◌≤◌, Some, List, [], ◌∷◌, length, take, refl, sym, ap, subst}
+use Rattle.std.specs.List.{slice_get}
 use Rattle.paxos_base.specs.declared.entry.Entry.{Entry}
-use Rattle.paxos_base.specs.declared.rows.JobRow.{JobRow}
 use Rattle.due_set.specs.Table.{Table}
 use Rattle.launch_machine.specs.Clerk.{fresh_rows}
-use Rattle.step_law.specs.State.{State, prefix_of}
 use Rattle.agree_law.specs.Agree.{IsChosen}
 use Rattle.agree_law.specs.Log.{FollowsLog, IsLog}
 use Rattle.agree_law.specs.Transition.{after_transitions}
-use Rattle.agree_law.specs.World.{CastVote, Learning, World, first_world}
+use Rattle.agree_law.specs.World.{World, first_world}
 use Rattle.agree_law.proofs.LogLemmas.{one_log, some_log}
 use Rattle.agree_law.proofs.Tables.{follows, short_of}
 use Rattle.agree_law.proofs.Transitions.{IsFollowed, first_followed, transitions_followed}
@@ -18,7 +15,7 @@ use Rattle.agree_law.proofs.Whole.{IsWhole, whole_one}
 use Rattle.book_law.specs.Agrees.{Agrees}
 use Rattle.book_law.specs.Book.{Row, learned_in, standing_after, votes_in}
 use Rattle.book_law.specs.Legal.{IsLegal, MayFollow}
-use Rattle.book_law.proofs.Reached.{Goes, Matches, reaches}
+use Rattle.book_law.proofs.Reached.{Matches, reaches}
 
 -- ---- cuts
 

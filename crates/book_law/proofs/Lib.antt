@@ -1,5 +1,6 @@
 pub mod Acts
 pub mod Agreement
+pub mod Asks
 pub mod Lists
 pub mod Reached
 pub mod Refused

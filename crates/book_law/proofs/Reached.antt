@@ -1,28 +1,23 @@
 -- Each legal book is a list of turns that replicas may take, and comes to the same.
-use Rattle.std.proofs.Common.{◌≡◌, ◌≢◌, ℕ, zero, suc, ◌+◌, ◌<◌, ◌≤◌, Bool, true, false, eqb, Option, Some, None, List, [], ◌∷◌, ◌++◌, length, map, take, refl, sym, ap, ◌∙◌, inl, inr, arith, subst, append-nil, ◌⊎◌, replicate, if◌then◌else◌}
-use Rattle.std.specs.List.{AllByRecursion, AllZip, Contains, filter, flat_map, fold, range_with_len, slice_get}
+use Rattle.std.proofs.Common.{◌≡◌, ℕ, zero, suc, ◌<◌, ◌≤◌, true, false, eqb, Option, Some, None, List, [], ◌∷◌, ◌++◌, length, take, refl, sym, ap, ◌∙◌, inl, inr, arith, subst, append-nil, replicate}
+use Rattle.std.specs.List.{AllByRecursion, Contains, filter, flat_map, range_with_len}
 use Rattle.std.proofs.lemmas.Bool.{cases_Bool}
-use Rattle.std.proofs.lemmas.List.{append_assoc, take_all}
+use Rattle.std.proofs.lemmas.List.{take_all}
 use Rattle.std.proofs.lemmas.List.Concat.{flat_map-append}
 use Rattle.std.proofs.lemmas.List.Sums.{fold_push}
 use Rattle.std.proofs.lemmas.List.Elements.{Contains-append_left, Contains-append_right, Contains-append_cases}
-use Rattle.paxos_base.specs.Durable.{after_delta}
 use Rattle.paxos_base.specs.declared.durable.Durable.{Durable}
-use Rattle.paxos_base.specs.declared.durable.Delta.{Delta}
 use Rattle.paxos_base.specs.declared.entry.Vote.{Vote}
-use Rattle.paxos_base.specs.declared.rows.JobRow.{JobRow}
 use Rattle.paxos_letter.specs.Letters.{Spells}
-use Rattle.paxos_letter.specs.declared.packet.Packet.{Packet}
 use Rattle.paxos_letter.proofs.LetterLemmas.{letter_again}
 use Rattle.paxos_letter.proofs.PacketBack.{same_packets}
 use Rattle.due_set.specs.Table.{Table}
 use Rattle.launch_machine.specs.Clerk.{fresh_rows}
-use Rattle.cluster_sched.specs.declared.row.SchedRow.{SchedRow}
 use Rattle.step_law.specs.Act.{Act, Send, Restart, after_act}
-use Rattle.step_law.specs.Folds.{Addressed, after_acts, deltas_of, learnt_of, letter_of, letters_of, sent_by, sent_to}
-use Rattle.step_law.specs.Heard.{heard_as, mentions_of, messages_of, packets_of}
+use Rattle.step_law.specs.Folds.{Addressed, after_acts, learnt_of, letter_of, letters_of, sent_by, sent_to}
+use Rattle.step_law.specs.Heard.{heard_as, packets_of}
 use Rattle.step_law.specs.May.{Ending, HasSaid, IsHeard, Saying, WasSaid}
-use Rattle.step_law.specs.Message.{Message, Whom, Prepare, Promise, Accept, Accepted, Nack, Known, AskFrom, Snap, Lead, Mention, goes_to}
+use Rattle.step_law.specs.Message.{Message, Prepare, Promise, Accept, Accepted, Nack, Known, AskFrom, Snap, Lead, Mention, goes_to}
 use Rattle.step_law.specs.State.{Identity, State, started}
 use Rattle.step_law.specs.declared.out.LearntRow.{LearntRow}
 use Rattle.step_law.specs.Step.{Event, IsPlanned, Plan, step}
@@ -31,16 +26,16 @@ use Rattle.step_law.proofs.HeardLemmas.{messages_heard}
 use Rattle.agree_law.specs.Transition as taken
 use Rattle.agree_law.specs.Transition.{AreTransitions, MayTake, acts_of, after_transition, after_transitions, is_silent}
 use Rattle.agree_law.specs.World.{CastVote, Learning, World, after_all, doings_of, first_world, with_replica}
-use Rattle.book_law.specs.Book.{PostedLetter, Row, SentLetter, Standing, acts_at, after_row, after_stop, durable_after, first_standing, identity, kept_at, learned_in, post, standing_after, turn_of, vote_of_delta, votes_in, votes_of}
-use Rattle.book_law.specs.Legal.{BringsNothing, IsEventOf, IsLegal, MayFollow, StopsWithin, Takes, kept_votes}
+use Rattle.book_law.specs.Book.{PostedLetter, Row, SentLetter, Standing, acts_at, after_row, after_stop, durable_after, first_standing, identity, kept_at, learned_in, post, standing_after, turn_of, votes_in, votes_of}
+use Rattle.book_law.specs.Legal.{IsEventOf, IsLegal, MayFollow, StopsWithin, Takes}
 use Rattle.book_law.specs.declared.turn.CallRow.{CallRow}
-use Rattle.book_law.specs.Letters.{AreLettersOf, IsHeardAs, IsSpelled, are_small, heard_in}
+use Rattle.book_law.specs.Letters.{AreLettersOf, IsHeardAs, IsSpelled, are_small}
 use Rattle.book_law.specs.declared.turn.Cause.{Cause}
 use Rattle.book_law.specs.declared.turn.Cause.TheVariants as cause
 use Rattle.book_law.specs.declared.turn.Turn.{Turn}
 use Rattle.book_law.specs.declared.turn.Turn.TheVariants.{Did, Stopped, Restarted, Arrived}
 use Rattle.book_law.proofs.Acts.{Sends, Stops, all_cast, all_learned, all_replicas, all_said, all_said_more, back_of, cast_rows, front_of, learned_rows, parts_of, stops_at, with_here, with_twice}
-use Rattle.book_law.proofs.Lists.{Beside, CameIn, CameOf, cons_cases, flat_came, found_in, in_first, in_rest, map_came, nothing_in, row_at, take_next, zip_beside}
+use Rattle.book_law.proofs.Lists.{cons_cases, flat_came, found_in, in_first, in_rest, map_came, nothing_in, row_at, take_next, zip_beside}
 
 -- what a book comes to is what the turns come to in a world, and what its letters are heard as was said there
 pub record Matches (n jobs : ℕ) (st : Standing) (votes : List CastVote) (learned : List Learning) (w : World) : Type 0 where

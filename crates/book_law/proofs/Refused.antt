@@ -1,23 +1,18 @@
 -- Turns that no book of two replicas without jobs may begin with.
-use Rattle.std.proofs.Common.{◌≡◌, ◌≢◌, ℕ, zero, suc, ◌+◌, ◌<◌, ◌≤◌, pos, Bool, true, false, Option, Some, None, List, [], ◌∷◌, ◌++◌, length, map, take, refl, sym, ap, ◌∙◌, inl, inr, arith, subst, ℤ}
-use Rattle.std.specs.List.{AllZip, slice_get}
+use Rattle.std.proofs.Common.{◌≡◌, ℕ, pos, Bool, true, false, Option, Some, None, List, [], ◌∷◌, length, refl, arith, subst}
 use Rattle.launch_machine.specs.Clerk.{fresh_rows}
 use Rattle.paxos_base.specs.Members.{with_member}
-use Rattle.paxos_base.specs.Vote.{votes_from}
-use Rattle.step_law.specs.Act.{Act, after_act}
 use Rattle.cluster_sched.specs.declared.row.SchedRow.{SchedRow}
-use Rattle.step_law.specs.Folds.{calls_of, deltas_of, calls_by, deltas_by, learnt_by, letters_of, sent_by}
-use Rattle.step_law.specs.Propose.{answer, campaign, tick}
-use Rattle.step_law.specs.Step.{Event, step}
-use Rattle.step_law.specs.Step as told
-use Rattle.book_law.specs.Book.{Row, SentLetter, Standing, acts_at, after_row, votes_of, first_standing, identity, standing_after}
-use Rattle.book_law.specs.Legal.{IsLegal, IsMade, MayFollow}
+use Rattle.step_law.specs.Folds.{calls_of, deltas_of, calls_by, sent_by}
+use Rattle.step_law.specs.Propose.{campaign, tick}
+use Rattle.step_law.specs.Step.{step}
+use Rattle.book_law.specs.Book.{Row, SentLetter, acts_at, after_row, votes_of, identity, standing_after}
+use Rattle.book_law.specs.Legal.{IsMade, MayFollow}
 use Rattle.book_law.specs.Letters.{AreLettersOf}
 use Rattle.book_law.specs.Some.{beginning, no_jobs}
 use Rattle.book_law.specs.declared.turn.CallRow.{CallRow}
 use Rattle.book_law.specs.declared.turn.Cause.{Cause}
 use Rattle.book_law.specs.declared.turn.Cause.TheVariants.{Campaign, Tick, Hear, Answer}
-use Rattle.book_law.specs.declared.turn.Turn.{Turn}
 use Rattle.book_law.specs.declared.turn.Turn.TheVariants.{Did, Stopped, Restarted, Arrived}
 
 pub no_stranger : (row : Row) (cause : Cause) (made : Option CallRow) → MayFollow 2 no_jobs beginning (Did 2 cause made) row → ⊥

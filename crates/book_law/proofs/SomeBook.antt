@@ -1,31 +1,29 @@
 -- A legal book with some turns.
-use Rattle.std.proofs.Common.{◌≡◌, ◌≢◌, ℕ, zero, suc, ◌+◌, ◌<◌, ◌≤◌, ◌^◌, pos, true, false, Option, Some, None, List, [], ◌∷◌, ◌++◌, length, map, take, refl, sym, ap, ◌∙◌, inl, inr, arith, subst, lit<, lit≤}
-use Rattle.std.specs.List.{AllByRecursion, AllZip, Contains, flat_map, fold, slice_get}
-use Rattle.paxos_letter.specs.Fields.{FitPacketFields}
-use Rattle.paxos_letter.specs.Letters.{IsLetter, Spells}
+use Rattle.std.proofs.Common.{◌≡◌, ℕ, zero, suc, pos, true, false, Some, None, List, [], ◌∷◌, take, refl, arith, subst, lit<}
+use Rattle.std.specs.List.{slice_get}
+use Rattle.paxos_letter.specs.Letters.{Spells}
 use Rattle.paxos_letter.specs.Spelling.{spelling}
 use Rattle.paxos_letter.specs.declared.packet.Packet.{Packet}
 use Rattle.paxos_letter.specs.declared.packet.Packet.TheVariants as packet
 use Rattle.launch_machine.specs.Clerk.{fresh_rows}
 use Rattle.launch_machine.specs.declared.machine.Intent.TheVariants as intent
-use Rattle.step_law.specs.Act.{Act, after_act}
-use Rattle.step_law.specs.Folds.{after_acts, calls_by, deltas_by, learnt_by, letters_of, sent_by}
+use Rattle.step_law.specs.Act.{after_act}
+use Rattle.step_law.specs.Folds.{calls_by, deltas_by, learnt_by, sent_by}
 use Rattle.step_law.specs.Hear.{hear, hear_all, line, on_prepare, on_promise}
 use Rattle.step_law.specs.Heard.{messages_of, packets_of}
-use Rattle.step_law.specs.Message.{Message, Prepare, Promise, Nack, Lead}
+use Rattle.step_law.specs.Message.{Prepare, Promise}
 use Rattle.step_law.specs.Propose.{campaign, tick}
-use Rattle.step_law.specs.Step.{Event, Campaign, Tick, Hear, Answer, step}
+use Rattle.step_law.specs.Step.{Event, Campaign, Tick, Hear, step}
 use Rattle.paxos_base.specs.Durable.{after_delta}
 use Rattle.paxos_base.specs.Members.{with_member}
 use Rattle.paxos_base.specs.Vote.{votes_from}
 use Rattle.paxos_base.specs.declared.durable.Delta.TheVariants.{Tried}
-use Rattle.book_law.specs.Book.{Row, SentLetter, Standing, acts_at, after_row, identity, standing_after}
+use Rattle.book_law.specs.Book.{Row, SentLetter, Standing, after_row, standing_after}
 use Rattle.book_law.specs.Legal.{IsLegal, MayFollow}
-use Rattle.book_law.specs.Letters.{AreLettersOf, IsHeardAs, IsSpelled}
-use Rattle.book_law.specs.Some.{no_jobs, some_turns}
+use Rattle.book_law.specs.Some.{no_jobs}
 use Rattle.book_law.specs.declared.turn.Cause.TheVariants as cause
 use Rattle.book_law.specs.declared.turn.Turn.{Turn}
-use Rattle.book_law.specs.declared.turn.Turn.TheVariants.{Did, Stopped, Restarted, Arrived}
+use Rattle.book_law.specs.declared.turn.Turn.TheVariants.{Did, Stopped, Restarted}
 
 -- the letter of one packet without an entry, of small numbers
 abbrev one_letter : ℕ → Packet → List ℕ

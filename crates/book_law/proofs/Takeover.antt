@@ -1,45 +1,36 @@
 -- A legal book in which a leader proposes a start, stops, and another one takes over with the vote for it.
-use Rattle.std.proofs.Common.{◌≡◌, ◌≢◌, ℕ, zero, suc, ◌+◌, ◌<◌, ◌≤◌, ◌^◌, ℤ, pos, true, false, Option, Some, None, List, [], ◌∷◌, ◌++◌, length, map, take, refl, sym, ap, ◌∙◌, inl, inr, arith, subst, lit<, lit≤, FitsSigned}
-use Rattle.std.specs.Int.{w64}
-use Rattle.std.specs.List.{AllByRecursion, AllZip, Contains, flat_map, fold, slice_get}
-use Rattle.zone_minutes.specs.Window.{IsInWindow}
+use Rattle.std.proofs.Common.{◌≡◌, ℕ, zero, suc, ℤ, true, false, Option, Some, None, List, [], ◌∷◌, take, refl, inl, arith, subst, lit<}
 use Rattle.due_set.specs.Table.{Table}
-use Rattle.paxos_letter.specs.Fields.{FitPacketFields}
-use Rattle.paxos_letter.specs.Letters.{IsLetter, Spells}
+use Rattle.paxos_letter.specs.Letters.{Spells}
 use Rattle.paxos_letter.specs.Spelling.{spelling}
 use Rattle.paxos_letter.specs.declared.packet.Packet.{Packet}
 use Rattle.paxos_letter.specs.declared.packet.Packet.TheVariants as packet
-use Rattle.launch_machine.specs.Answers.{IsIntent}
-use Rattle.launch_machine.specs.Clerk.{Applies, AppliesAll, TakesStart, fresh_rows, rows_after}
+use Rattle.launch_machine.specs.Clerk.{AppliesAll, fresh_rows}
 use Rattle.launch_machine.specs.declared.machine.Intent.TheVariants as intent
 use Rattle.paxos_base.specs.Durable.{after_delta}
 use Rattle.paxos_base.specs.Members.{with_member}
 use Rattle.paxos_base.specs.Vote.{put_vote, vote_at, votes_below, votes_from}
-use Rattle.paxos_base.specs.declared.entry.Entry.{Entry}
 use Rattle.paxos_base.specs.declared.entry.Entry.TheVariants as entry
 use Rattle.paxos_base.specs.declared.entry.Vote.{Vote}
 use Rattle.term_core.specs.Best.{with_vote}
-use Rattle.step_law.specs.Act.{Act, after_act}
-use Rattle.step_law.specs.Folds.{after_acts, calls_by, deltas_by, learnt_by, letters_of, sent_by}
+use Rattle.step_law.specs.Act.{after_act}
+use Rattle.step_law.specs.Folds.{calls_by, deltas_by, learnt_by, sent_by}
 use Rattle.step_law.specs.Hear.{hear, hear_all, line, on_accept, on_accepted, on_known, on_prepare, on_promise}
 use Rattle.step_law.specs.Heard.{messages_of, packets_of}
-use Rattle.step_law.specs.Message.{Message, Prepare, Promise, Accept, Accepted, Nack, Known, Mention}
+use Rattle.step_law.specs.Message.{Prepare, Promise, Accept, Accepted, Known, Mention}
 use Rattle.step_law.specs.Propose.{answer, campaign, is_open, propose, tick}
 use Rattle.step_law.specs.Step.{Event, Campaign, Tick, Hear, Answer, step}
 use Rattle.step_law.specs.declared.out.LearntRow.{LearntRow}
-use Rattle.book_law.specs.Book.{Row, SentLetter, Standing, acts_at, after_row, identity, is_name, standing_after, under}
+use Rattle.book_law.specs.Book.{Row, SentLetter, Standing, after_row, is_name, standing_after, under}
 use Rattle.book_law.specs.Legal.{IsLegal, MayFollow}
-use Rattle.book_law.specs.Takeover.{AsksFor, launch_row, start_of, started_rows, takeover}
+use Rattle.book_law.specs.Takeover.{AsksFor, launch_row, start_of, started_rows}
 use Rattle.paxos_base.specs.declared.entry.Kind.TheVariants.{Launch}
-use Rattle.paxos_base.specs.declared.rows.JobRow.{JobRow}
 use Rattle.cluster_sched.specs.declared.fate.Fate.TheVariants.{Done, Late}
-use Rattle.cluster_sched.specs.declared.row.SchedRow.{SchedRow}
 use Rattle.std.proofs.lemmas.Bool.{eq-eqb}
 use Rattle.std.proofs.lemmas.Bool.Decides.{Decides-int_eq}
 use Rattle.cluster_sched.specs.Fates.{call}
 use Rattle.book_law.specs.Legal.{answered}
 use Rattle.std.specs.Ordering.{int_eq}
-use Rattle.book_law.specs.Letters.{AreLettersOf, IsHeardAs, IsSpelled}
 use Rattle.book_law.specs.declared.turn.CallRow.{CallRow}
 use Rattle.book_law.specs.declared.turn.Cause.TheVariants as cause
 use Rattle.book_law.specs.declared.turn.Turn.{Turn}

@@ -18,7 +18,6 @@ use Rattle.step_law.specs.Step.{Event, step}
 use Rattle.step_law.specs.declared.out.LearntRow.{LearntRow}
 use Rattle.agree_law.specs.World.{CastVote, Learning, fresh, with_replica}
 use Rattle.book_law.specs.declared.turn.CallRow.{CallRow}
-use Rattle.book_law.specs.declared.turn.Cause.{Cause}
 use Rattle.book_law.specs.declared.turn.Turn.{Turn}
 use Rattle.book_law.specs.declared.turn.Turn.TheVariants.{Did, Stopped, Restarted, Arrived}
 

@@ -1,5 +1,5 @@
 -- Which books are legal: each turn is judged by what stands after those before it.
-use Rattle.std.specs.Prelude.{◌≡◌, ℕ, ◌<◌, ⊤, Bool, true, false, List, [], ◌∷◌, length, take, Option, None, Some, Result, Ok, Err, slice_get, Contains}
+use Rattle.std.specs.Prelude.{◌≡◌, ℕ, ◌<◌, Bool, true, false, List, [], ◌∷◌, length, take, Option, None, Some, Result, Ok, Err, slice_get, Contains}
 use Rattle.zone_minutes.specs.Window.{IsInWindow}
 use Rattle.due_set.specs.Table.{Table}
 use Rattle.launch_machine.specs.Clerk.{fresh_rows}
@@ -8,12 +8,11 @@ use Rattle.paxos_base.specs.declared.entry.Vote.{Vote}
 use Rattle.cluster_sched.specs.Fates.{call}
 use Rattle.cluster_sched.specs.declared.fault.CallFault.{CallFault}
 use Rattle.cluster_sched.specs.declared.row.SchedRow.{SchedRow}
-use Rattle.step_law.specs.Act.{Act}
 use Rattle.step_law.specs.Folds.{calls_of, deltas_of, learnt_of}
 use Rattle.step_law.specs.Message.{Message}
 use Rattle.step_law.specs.Step.{Event, IsPlanned, Plan}
 use Rattle.step_law.specs.Step as told
-use Rattle.book_law.specs.Book.{PostedLetter, Row, SentLetter, Standing, acts_at, identity, late_call, standing_after, under, vote_of_delta, votes_of}
+use Rattle.book_law.specs.Book.{PostedLetter, Row, Standing, acts_at, identity, late_call, standing_after, under, vote_of_delta, votes_of}
 use Rattle.book_law.specs.Letters.{AreLettersOf, IsHeardAs}
 use Rattle.book_law.specs.declared.turn.CallRow.{CallRow}
 use Rattle.book_law.specs.declared.turn.Cause.{Cause}

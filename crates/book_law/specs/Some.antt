@@ -1,11 +1,11 @@
 -- Some turns of two replicas over a table without jobs.
-use Rattle.std.specs.Prelude.{ℕ, pos, true, false, List, [], ◌∷◌, None, Some}
+use Rattle.std.specs.Prelude.{pos, true, false, List, [], ◌∷◌, None, Some}
 use Rattle.due_set.specs.Table.{Table}
 use Rattle.launch_machine.specs.Clerk.{fresh_rows}
 use Rattle.book_law.specs.Book.{Standing, first_standing}
-use Rattle.book_law.specs.declared.turn.Cause.TheVariants.{Campaign, Tick, Hear, Answer}
+use Rattle.book_law.specs.declared.turn.Cause.TheVariants.{Campaign, Tick, Hear}
 use Rattle.book_law.specs.declared.turn.Turn.{Turn}
-use Rattle.book_law.specs.declared.turn.Turn.TheVariants.{Did, Stopped, Restarted, Arrived}
+use Rattle.book_law.specs.declared.turn.Turn.TheVariants.{Did, Stopped, Restarted}
 
 -- a table without jobs, of a window of one minute
 abbrev pub no_jobs : Table

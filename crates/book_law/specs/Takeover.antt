@@ -1,5 +1,5 @@
 -- Turns of three replicas in which a leader proposes a start and stops, another takes over, and the launch is called and ended.
-use Rattle.std.specs.Prelude.{◌≡◌, ℕ, ◌<◌, ◌^◌, ℤ, true, false, List, [], ◌∷◌, None, Some, FitsSigned}
+use Rattle.std.specs.Prelude.{ℕ, ◌<◌, ◌^◌, ℤ, false, List, [], ◌∷◌, None, Some, FitsSigned}
 use Rattle.std.specs.Int.{w64}
 use Rattle.zone_minutes.specs.Window.{IsInWindow}
 use Rattle.due_set.specs.Table.{Table}

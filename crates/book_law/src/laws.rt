@@ -1,10 +1,11 @@
 //! Laws of books. Each is the contract of a function that does nothing.
-ghost use Rattle.std.specs.Prelude.{◌≡◌, ◌≤◌, ℕ, ℤ, pos, Bool, true, false, List, [], ◌∷◌, length, map, take, Option, None, Some};
+ghost use Rattle.std.specs.Prelude.{◌≡◌, ◌≤◌, ℕ, ℤ, pos, Bool, true, false, List, [], ◌∷◌, length, map, take, Option, None, Some, Contains};
 ghost use Rattle.paxos_base.specs.declared.entry.Entry.{Entry};
 ghost use Rattle.due_set.specs.Table.{Table};
 ghost use Rattle.launch_machine.specs.Clerk.{fresh_rows};
 ghost use Rattle.agree_law.specs.Agree.{IsChosen};
-ghost use Rattle.agree_law.specs.Log.{IsLog};
+ghost use Rattle.agree_law.specs.Log.{FollowsLog, IsLog};
+ghost use Rattle.agree_law.specs.World.{Learning};
 ghost use Rattle.book_law.specs.Agrees.{Agrees};
 ghost use Rattle.book_law.specs.Book.{Row, learned_in, standing_after, votes_in};
 ghost use Rattle.book_law.specs.Legal.{IsLegal, MayFollow};
@@ -68,7 +69,19 @@ pub fn some_turns_are_not_legal()
 /// ballots, an old vote that binds the new leader, letters that are heard late and twice, stops between a vote and its use,
 /// a call that goes late and arrives, an answer, and entries that two replicas learn.
 pub fn a_takeover_is_legal()
-    ensures { (table : Table) (job : ℕ) (at now : ℤ) → AsksFor table job at now
+    ensures some { (table : Table) × (job : ℕ) × (at : ℤ) × (now : ℤ) × AsksFor table job at now }
+    ensures legal { (table : Table) (job : ℕ) (at now : ℤ) → AsksFor table job at now
         → (book : List Row) × (map (λ row. row.turn) book ≡ takeover job at now) × IsLegal 3 table book
         × (learned_in book ≡ learned_twice job at now) }
+{}
+
+/// What it is to agree, part by part.
+pub fn what_agreement_says()
+    ensures chosen { (members : ℕ) (table : Table) (book : List Row) (learned : Learning) → Agrees members table book
+        → Contains (learned_in book) learned → IsChosen members (votes_in book) learned.slot learned.entry }
+    ensures one { (members : ℕ) (table : Table) (book : List Row) (a b : Learning) → Agrees members table book
+        → Contains (learned_in book) a → Contains (learned_in book) b → a.slot ≡ b.slot → a.entry ≡ b.entry }
+    ensures follow { (members : ℕ) (table : Table) (book : List Row) (log : List Entry) (who : ℕ) → Agrees members table book
+        → IsLog members (votes_in book) log → (standing_after members (fresh_rows table) book).runs who ≡ true
+        → FollowsLog table log ((standing_after members (fresh_rows table) book).replicas who) }
 {}

@@ -1,6 +1,10 @@
 use Rattle.std.proofs.Common.{refl}
+use Rattle.book_law.proofs.Asks.{some_asks}
 use Rattle.book_law.proofs.Takeover.{book, legal}
 use Rattle.book_law.proofs.laws.a_takeover_is_legal.Goals as goal
 
-pub returns : goal.returns
-returns c = λ table job at now asks. (book table job at now, refl, legal table job at now asks, refl)
+pub returns-clause-some : goal.returns-clause-some
+returns-clause-some c = some_asks
+
+pub returns-clause-legal : goal.returns-clause-legal
+returns-clause-legal c = λ table job at now asks. (book table job at now, refl, legal table job at now asks, refl)
