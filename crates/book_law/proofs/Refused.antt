@@ -1,12 +1,15 @@
 -- Turns that no book of two replicas without jobs may begin with.
-use Rattle.std.proofs.Common.{◌≡◌, ℕ, pos, Bool, true, false, Option, Some, None, List, [], ◌∷◌, length, refl, arith, subst}
+use Rattle.std.proofs.Common.{◌≡◌, ℕ, ℤ, pos, Bool, true, false, Option, Some, None, List, [], ◌∷◌, length, refl, ap, arith, subst}
+use Rattle.std.specs.List.{Contains, slice_get}
 use Rattle.launch_machine.specs.Clerk.{fresh_rows}
+use Rattle.launch_machine.specs.declared.machine.Intent.TheVariants as intent
 use Rattle.paxos_base.specs.Members.{with_member}
 use Rattle.cluster_sched.specs.declared.row.SchedRow.{SchedRow}
-use Rattle.step_law.specs.Folds.{calls_of, deltas_of, calls_by, sent_by}
+use Rattle.step_law.specs.Folds.{calls_of, deltas_of, learnt_of, calls_by, learnt_by, sent_by}
 use Rattle.step_law.specs.Propose.{campaign, tick}
-use Rattle.step_law.specs.Step.{step}
-use Rattle.book_law.specs.Book.{Row, SentLetter, acts_at, after_row, votes_of, identity, standing_after}
+use Rattle.step_law.specs.Step.{IsPlanned, step}
+use Rattle.step_law.specs.Step as told
+use Rattle.book_law.specs.Book.{PostedLetter, Row, SentLetter, Standing, acts_at, after_row, votes_of, identity, post, standing_after}
 use Rattle.book_law.specs.Legal.{IsMade, MayFollow}
 use Rattle.book_law.specs.Letters.{AreLettersOf}
 use Rattle.book_law.specs.Some.{beginning, no_jobs}
@@ -70,3 +73,46 @@ pub no_turn_of_a_stopped : (first row : Row) (cause : Cause) (made : Option Call
 unfolding after_row
 no_turn_of_a_stopped first row cause made is (takes, brings) =
     let runs : false ≡ true = subst (λ turn. (after_row 2 beginning turn first.event first.letters).runs 0 ≡ true) is takes.runs in cc
+
+pub no_entries_of_a_campaign : (row : Row) → MayFollow 2 no_jobs beginning (Did 0 Campaign None) row → row.learnt ≡ []
+unfolding step campaign learnt_by with_member
+no_entries_of_a_campaign row (takes, brings) =
+    subst (λ event. row.learnt ≡ learnt_of (acts_at 2 beginning 0 event)) takes.event_of brings.learnt
+
+-- a launch table without jobs asks for no start
+pub no_plan : (row : Row) (job : ℕ) (at : ℤ) → row.event ≡ told.Tick (pos 0) (record { rows = []; intent = intent.Start job at }) → MayFollow 2 no_jobs beginning (Did 0 (Tick (record { 0 = pos 0 })) None) row → ⊥
+no_plan row job at is (takes, brings) =
+    let planned : IsPlanned no_jobs (beginning.replicas 0) (told.Tick (pos 0) (record { rows = []; intent = intent.Start job at })) =
+    subst (λ event. IsPlanned no_jobs (beginning.replicas 0) event) is takes.planned in
+    none planned.1.1.takes.is_row
+  where
+    none : {X : Type 0} {x : X} → slice_get [] job ≡ Some x → ⊥
+    none there = cc
+
+-- a letter is heard by its addressee alone
+pub no_other_addressee : (first row : Row) (made : Option CallRow) → first.turn ≡ Did 0 Campaign None → MayFollow 2 no_jobs beginning first.turn first → MayFollow 2 no_jobs (standing_after 2 (fresh_rows no_jobs) (first ∷ [])) (Did 0 (Hear 0) made) row → ⊥
+unfolding step campaign sent_by with_member after_row
+no_other_addressee first row made is may (takes, brings) =
+    let began : MayFollow 2 no_jobs beginning (Did 0 Campaign None) first = subst (λ turn. MayFollow 2 no_jobs beginning turn first) is may in
+    let letters : AreLettersOf (identity 2 0) (campaign (identity 2 0) (beginning.replicas 0)) first.letters =
+    subst (λ event. AreLettersOf (identity 2 0) (acts_at 2 beginning 0 event) first.letters) began.0.event_of began.1.letters in
+    let there : slice_get (post 0 first.letters) 0 ≡ Some takes.event_of.letter =
+    subst (λ turn. slice_get (after_row 2 beginning turn first.event first.letters).posted 0 ≡ Some takes.event_of.letter) is takes.event_of.there in
+    to_one first.letters letters takes.event_of.letter there takes.event_of.to
+  where
+    to_one : (letters : List SentLetter) → AreLettersOf (identity 2 0) (campaign (identity 2 0) (beginning.replicas 0)) letters → (letter : PostedLetter) → slice_get (post 0 letters) 0 ≡ Some letter → letter.to ≡ 0 → ⊥
+    to_one [] zips letter there to = absurd zips
+    to_one (sent ∷ letters) zips letter there to =
+        let posted : PostedLetter = record { from = 0; to = sent.to; bytes = sent.bytes } in
+        let same : posted ≡ letter = cc in
+        let at : sent.to ≡ letter.to = ap (λ (l : PostedLetter). l.to) same in
+        omega (arith, zips.0.to, at, to)
+
+-- a late call arrives once
+pub no_second_arrival : (standing : Standing) (row : Row) (number : ℕ) → Contains standing.arrived number → MayFollow 2 no_jobs standing (Arrived number) row → ⊥
+no_second_arrival standing row number has (late, nothing) = late.first has
+
+-- a call that a step asks for is made
+pub no_call_left_out : (standing : Standing) (row : Row) (who : ℕ) (cause : Cause) (call : SchedRow) (calls : List SchedRow) → calls_of (acts_at 2 standing who row.event) ≡ call ∷ calls → MayFollow 2 no_jobs standing (Did who cause None) row → ⊥
+no_call_left_out standing row who cause call calls is (takes, brings) =
+    subst (λ asked. IsMade standing.held asked None) is brings.call

@@ -3,11 +3,15 @@ ghost use Rattle.std.specs.Prelude.{◌≡◌, ◌≤◌, ℕ, ℤ, pos, Bool, t
 ghost use Rattle.paxos_base.specs.declared.entry.Entry.{Entry};
 ghost use Rattle.due_set.specs.Table.{Table};
 ghost use Rattle.launch_machine.specs.Clerk.{fresh_rows};
+ghost use Rattle.launch_machine.specs.declared.machine.Intent.TheVariants.{Start};
+ghost use Rattle.cluster_sched.specs.declared.row.SchedRow.{SchedRow};
+ghost use Rattle.step_law.specs.Folds.{calls_of};
+ghost use Rattle.step_law.specs.Step as told;
 ghost use Rattle.agree_law.specs.Agree.{IsChosen};
 ghost use Rattle.agree_law.specs.Log.{FollowsLog, IsLog};
 ghost use Rattle.agree_law.specs.World.{Learning};
 ghost use Rattle.book_law.specs.Agrees.{Agrees};
-ghost use Rattle.book_law.specs.Book.{Row, learned_in, standing_after, votes_in};
+ghost use Rattle.book_law.specs.Book.{Row, Standing, acts_at, learned_in, standing_after, votes_in};
 ghost use Rattle.book_law.specs.Legal.{IsLegal, MayFollow};
 ghost use Rattle.book_law.specs.Takeover.{AsksFor, learned_twice, takeover};
 ghost use Rattle.book_law.specs.Some.{beginning, no_jobs, some_turns};
@@ -48,7 +52,9 @@ pub fn some_books_are_legal()
 
 /// What two replicas without jobs can't begin with: a turn of a third one, a letter that wasn't sent, an answer that doesn't
 /// wait, a tick outside the window, a call that no step asks for, a stop that keeps what no step changed, a start without a
-/// stop, an arrival of no late call; a campaign brings one letter and no vote; and a replica that has stopped takes no turn.
+/// stop, an arrival of no late call, a start that the launch table doesn't ask for; a campaign brings one letter, no vote and
+/// no entry. Nor may a replica that has stopped take a turn, a letter be heard by another than its addressee, a late call
+/// arrive twice, or a call be left out that a step asks for.
 pub fn some_turns_are_not_legal()
     ensures stranger { (row : Row) (cause : Cause) (made : Option CallRow) → MayFollow 2 no_jobs beginning (Did 2 cause made) row → ⊥ }
     ensures letter { (row : Row) (number : ℕ) (made : Option CallRow) → MayFollow 2 no_jobs beginning (Did 0 (Hear number) made) row → ⊥ }
@@ -61,6 +67,16 @@ pub fn some_turns_are_not_legal()
     ensures arrival { (row : Row) (number : ℕ) → MayFollow 2 no_jobs beginning (Arrived number) row → ⊥ }
     ensures votes { (row : Row) → MayFollow 2 no_jobs beginning (Did 0 Campaign None) row → row.votes ≡ [] }
     ensures letters { (row : Row) → MayFollow 2 no_jobs beginning (Did 0 Campaign None) row → length row.letters ≡ 1 }
+    ensures entries { (row : Row) → MayFollow 2 no_jobs beginning (Did 0 Campaign None) row → row.learnt ≡ [] }
+    ensures plan { (row : Row) (job : ℕ) (at : ℤ) → row.event ≡ told.Tick (pos 0) (record { rows = []; intent = Start job at })
+        → MayFollow 2 no_jobs beginning (Did 0 (Tick (record { 0 = pos 0 })) None) row → ⊥ }
+    ensures addressee { (first row : Row) (made : Option CallRow) → first.turn ≡ Did 0 Campaign None
+        → MayFollow 2 no_jobs beginning first.turn first
+        → MayFollow 2 no_jobs (standing_after 2 (fresh_rows no_jobs) (first ∷ [])) (Did 0 (Hear 0) made) row → ⊥ }
+    ensures second { (standing : Standing) (row : Row) (number : ℕ) → Contains standing.arrived number
+        → MayFollow 2 no_jobs standing (Arrived number) row → ⊥ }
+    ensures unmade { (standing : Standing) (row : Row) (who : ℕ) (cause : Cause) (call : SchedRow) (calls : List SchedRow)
+        → calls_of (acts_at 2 standing who row.event) ≡ call ∷ calls → MayFollow 2 no_jobs standing (Did who cause None) row → ⊥ }
     ensures stopped { (first row : Row) (cause : Cause) (made : Option CallRow) → first.turn ≡ Stopped 0 None false
         → MayFollow 2 no_jobs (standing_after 2 (fresh_rows no_jobs) (first ∷ [])) (Did 0 cause made) row → ⊥ }
 {}

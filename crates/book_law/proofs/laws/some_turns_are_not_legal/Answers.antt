@@ -1,4 +1,4 @@
-use Rattle.book_law.proofs.Refused.{no_stranger, no_letter, no_answer, no_minute, no_call, not_kept, no_change, no_start, no_arrival, no_votes_of_a_campaign, one_letter_of_a_campaign, no_turn_of_a_stopped}
+use Rattle.book_law.proofs.Refused.{no_stranger, no_letter, no_answer, no_minute, no_call, not_kept, no_change, no_start, no_arrival, no_votes_of_a_campaign, one_letter_of_a_campaign, no_turn_of_a_stopped, no_entries_of_a_campaign, no_plan, no_other_addressee, no_second_arrival, no_call_left_out}
 use Rattle.book_law.proofs.laws.some_turns_are_not_legal.Goals as goal
 
 pub returns-clause-stranger : goal.returns-clause-stranger
@@ -36,3 +36,18 @@ returns-clause-letters c = one_letter_of_a_campaign
 
 pub returns-clause-stopped : goal.returns-clause-stopped
 returns-clause-stopped c = no_turn_of_a_stopped
+
+pub returns-clause-entries : goal.returns-clause-entries
+returns-clause-entries c = no_entries_of_a_campaign
+
+pub returns-clause-plan : goal.returns-clause-plan
+returns-clause-plan c = no_plan
+
+pub returns-clause-addressee : goal.returns-clause-addressee
+returns-clause-addressee c = no_other_addressee
+
+pub returns-clause-second : goal.returns-clause-second
+returns-clause-second c = no_second_arrival
+
+pub returns-clause-unmade : goal.returns-clause-unmade
+returns-clause-unmade c = no_call_left_out
