@@ -26,16 +26,17 @@ use Rattle.step_law.proofs.HeardLemmas.{messages_heard}
 use Rattle.agree_law.specs.Transition as taken
 use Rattle.agree_law.specs.Transition.{AreTransitions, MayTake, acts_of, after_transition, after_transitions, is_silent}
 use Rattle.agree_law.specs.World.{CastVote, Learning, World, after_all, doings_of, first_world, with_replica}
-use Rattle.book_law.specs.Book.{PostedLetter, Row, SentLetter, Standing, acts_at, after_row, after_stop, durable_after, first_standing, identity, kept_at, learned_in, post, standing_after, turn_of, votes_in, votes_of}
+use Rattle.book_law.specs.Book.{PostedLetter, Row, Standing, acts_at, after_row, after_stop, durable_after, first_standing, identity, kept_at, learned_in, post, standing_after, turn_of, votes_in, votes_of}
 use Rattle.book_law.specs.Legal.{IsEventOf, IsLegal, MayFollow, StopsWithin, Takes}
 use Rattle.book_law.specs.declared.turn.CallRow.{CallRow}
-use Rattle.book_law.specs.Letters.{AreLettersOf, IsHeardAs, IsSpelled, are_small}
+use Rattle.step_law.specs.Letters.{AreLettersOf, IsHeardAs, IsSpelled, is_small_letter}
 use Rattle.book_law.specs.declared.turn.Cause.{Cause}
 use Rattle.book_law.specs.declared.turn.Cause.TheVariants as cause
 use Rattle.book_law.specs.declared.turn.Turn.{Turn}
 use Rattle.book_law.specs.declared.turn.Turn.TheVariants.{Did, Stopped, Restarted, Arrived}
 use Rattle.book_law.proofs.Acts.{Sends, Stops, all_cast, all_learned, all_replicas, all_said, all_said_more, back_of, cast_rows, front_of, learned_rows, parts_of, stops_at, with_here, with_twice}
 use Rattle.book_law.proofs.Lists.{cons_cases, flat_came, found_in, in_first, in_rest, map_came, nothing_in, row_at, take_next, zip_beside}
+use Rattle.step_law.specs.declared.out.OutLetter.{OutLetter}
 
 -- what a book comes to is what the turns come to in a world, and what its letters are heard as was said there
 pub record Matches (n jobs : ℕ) (st : Standing) (votes : List CastVote) (learned : List Learning) (w : World) : Type 0 where
@@ -121,7 +122,7 @@ spelled_said n jobs said from sent heard bytes spells has is =
     let one = letter_again n from (flat_map packets_of sent) bytes spells in
     let two = letter_again n from is.packets bytes is.spells in
     let same : is.packets ≡ flat_map packets_of sent = same_packets from from is.packets (flat_map packets_of sent) (sym two.fields ∙ one.fields) in
-    rw is.heard (elim (cases_Bool (are_small jobs is.packets)) [
+    rw is.heard (elim (cases_Bool (is_small_letter jobs is.packets)) [
       | inl small ↦ rw small (rw (same, messages_heard sent) (all_heard_said said from sent has))
       | inr large ↦ rw large tt
     ])
@@ -151,7 +152,7 @@ quiet_acts n jobs st votes learned w who acts m = record {
 }
 
 -- acts of a step, with its letters
-step_acts : (n jobs : ℕ) (st : Standing) (votes : List CastVote) (learned : List Learning) (w : World) (who : ℕ) (acts : List Act) (letters : List SentLetter) → AreLettersOf (identity n who) acts letters → Matches n jobs st votes learned w → Matches n jobs (record st { replicas = with_replica who (after_acts acts (st.replicas who)) st.replicas; posted = st.posted ++ post who letters }) (votes ++ cast_rows who (votes_of acts)) (learned ++ learned_rows who (learnt_of acts)) (after_all (doings_of who acts) w)
+step_acts : (n jobs : ℕ) (st : Standing) (votes : List CastVote) (learned : List Learning) (w : World) (who : ℕ) (acts : List Act) (letters : List OutLetter) → AreLettersOf (identity n who) acts letters → Matches n jobs st votes learned w → Matches n jobs (record st { replicas = with_replica who (after_acts acts (st.replicas who)) st.replicas; posted = st.posted ++ post who letters }) (votes ++ cast_rows who (votes_of acts)) (learned ++ learned_rows who (learnt_of acts)) (after_all (doings_of who acts) w)
 step_acts n jobs st votes learned w who acts letters spelled m =
     let quiet = quiet_acts n jobs st votes learned w who acts m in
     record {
@@ -173,7 +174,7 @@ step_acts n jobs st votes learned w who acts letters spelled m =
     w' : World
     w' = after_all (doings_of who acts) w
 
-    new_letter : (letter : PostedLetter) (messages : List Message) (sent : SentLetter) (addressed : Addressed) → record { from = who; to = sent.to; bytes = sent.bytes } ≡ letter → Contains (letters_of (identity n who) acts) addressed → IsSpelled n who addressed sent → IsHeardAs n jobs letter.bytes letter.from messages → AllByRecursion (WasSaid (after_all (doings_of who acts) w).said letter.from) messages
+    new_letter : (letter : PostedLetter) (messages : List Message) (sent : OutLetter) (addressed : Addressed) → record { from = who; to = sent.to; bytes = sent.bytes } ≡ letter → Contains (letters_of (identity n who) acts) addressed → IsSpelled n who addressed sent → IsHeardAs n jobs letter.bytes letter.from messages → AllByRecursion (WasSaid (after_all (doings_of who acts) w).said letter.from) messages
     new_letter letter messages sent addressed is there spells heard =
         let posted : PostedLetter = record { from = who; to = sent.to; bytes = sent.bytes } in
         subst (λ (l : PostedLetter). AllByRecursion (WasSaid (after_all (doings_of who acts) w).said l.from) messages) is

@@ -9,14 +9,15 @@ use Rattle.step_law.specs.Folds.{calls_of, deltas_of, learnt_of, calls_by, learn
 use Rattle.step_law.specs.Propose.{campaign, tick}
 use Rattle.step_law.specs.Step.{IsPlanned, step}
 use Rattle.step_law.specs.Step as told
-use Rattle.book_law.specs.Book.{PostedLetter, Row, SentLetter, Standing, acts_at, after_row, votes_of, identity, post, standing_after}
+use Rattle.book_law.specs.Book.{PostedLetter, Row, Standing, acts_at, after_row, votes_of, identity, post, standing_after}
 use Rattle.book_law.specs.Legal.{IsMade, MayFollow}
-use Rattle.book_law.specs.Letters.{AreLettersOf}
+use Rattle.step_law.specs.Letters.{AreLettersOf}
 use Rattle.book_law.specs.Some.{beginning, no_jobs}
 use Rattle.book_law.specs.declared.turn.CallRow.{CallRow}
 use Rattle.book_law.specs.declared.turn.Cause.{Cause}
 use Rattle.book_law.specs.declared.turn.Cause.TheVariants.{Campaign, Tick, Hear, Answer}
 use Rattle.book_law.specs.declared.turn.Turn.TheVariants.{Did, Stopped, Restarted, Arrived}
+use Rattle.step_law.specs.declared.out.OutLetter.{OutLetter}
 
 pub no_stranger : (row : Row) (cause : Cause) (made : Option CallRow) → MayFollow 2 no_jobs beginning (Did 2 cause made) row → ⊥
 no_stranger row cause made (takes, brings) = omega (arith, takes.member)
@@ -63,7 +64,7 @@ unfolding step campaign sent_by with_member
 one_letter_of_a_campaign row (takes, brings) =
     one row.letters (subst (λ event. AreLettersOf (identity 2 0) (acts_at 2 beginning 0 event) row.letters) takes.event_of brings.letters)
   where
-    one : (letters : List SentLetter) → AreLettersOf (identity 2 0) (campaign (identity 2 0) (beginning.replicas 0)) letters → length letters ≡ 1
+    one : (letters : List OutLetter) → AreLettersOf (identity 2 0) (campaign (identity 2 0) (beginning.replicas 0)) letters → length letters ≡ 1
     one [] zips = absurd zips
     one (letter ∷ []) zips = refl
     one (letter ∷ other ∷ letters) zips = absurd zips.1
@@ -100,7 +101,7 @@ no_other_addressee first row made is may (takes, brings) =
     subst (λ turn. slice_get (after_row 2 beginning turn first.event first.letters).posted 0 ≡ Some takes.event_of.letter) is takes.event_of.there in
     to_one first.letters letters takes.event_of.letter there takes.event_of.to
   where
-    to_one : (letters : List SentLetter) → AreLettersOf (identity 2 0) (campaign (identity 2 0) (beginning.replicas 0)) letters → (letter : PostedLetter) → slice_get (post 0 letters) 0 ≡ Some letter → letter.to ≡ 0 → ⊥
+    to_one : (letters : List OutLetter) → AreLettersOf (identity 2 0) (campaign (identity 2 0) (beginning.replicas 0)) letters → (letter : PostedLetter) → slice_get (post 0 letters) 0 ≡ Some letter → letter.to ≡ 0 → ⊥
     to_one [] zips letter there to = absurd zips
     to_one (sent ∷ letters) zips letter there to =
         let posted : PostedLetter = record { from = 0; to = sent.to; bytes = sent.bytes } in

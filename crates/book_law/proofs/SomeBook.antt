@@ -18,21 +18,22 @@ use Rattle.paxos_base.specs.Durable.{after_delta}
 use Rattle.paxos_base.specs.Members.{with_member}
 use Rattle.paxos_base.specs.Vote.{votes_from}
 use Rattle.paxos_base.specs.declared.durable.Delta.TheVariants.{Tried}
-use Rattle.book_law.specs.Book.{Row, SentLetter, Standing, after_row, standing_after}
+use Rattle.book_law.specs.Book.{Row, Standing, after_row, standing_after}
 use Rattle.book_law.specs.Legal.{IsLegal, MayFollow}
 use Rattle.book_law.specs.Some.{no_jobs}
 use Rattle.book_law.specs.declared.turn.Cause.TheVariants as cause
 use Rattle.book_law.specs.declared.turn.Turn.{Turn}
 use Rattle.book_law.specs.declared.turn.Turn.TheVariants.{Did, Stopped, Restarted}
+use Rattle.step_law.specs.declared.out.OutLetter.{OutLetter}
 
 -- the letter of one packet without an entry, of small numbers
 abbrev one_letter : ℕ → Packet → List ℕ
 one_letter from packet = spelling from (packet ∷ [])
 
-abbrev row_of : Turn → Event → List SentLetter → Row
+abbrev row_of : Turn → Event → List OutLetter → Row
 row_of turn event letters = record { turn = turn; event = event; letters = letters; votes = []; learnt = [] }
 
-abbrev letter_to : ℕ → ℕ → Packet → SentLetter
+abbrev letter_to : ℕ → ℕ → Packet → OutLetter
 letter_to to from packet = record { to = to; bytes = one_letter from packet }
 
 abbrev stands_for : Row

@@ -21,7 +21,7 @@ use Rattle.step_law.specs.Message.{Prepare, Promise, Accept, Accepted, Known, Me
 use Rattle.step_law.specs.Propose.{answer, campaign, is_open, propose, tick}
 use Rattle.step_law.specs.Step.{Event, Campaign, Tick, Hear, Answer, step}
 use Rattle.step_law.specs.declared.out.LearntRow.{LearntRow}
-use Rattle.book_law.specs.Book.{Row, SentLetter, Standing, after_row, is_name, standing_after, under}
+use Rattle.book_law.specs.Book.{Row, Standing, after_row, is_name, standing_after, under}
 use Rattle.book_law.specs.Legal.{IsLegal, MayFollow}
 use Rattle.book_law.specs.Takeover.{AsksFor, launch_row, start_of, started_rows}
 use Rattle.paxos_base.specs.declared.entry.Kind.TheVariants.{Launch}
@@ -35,6 +35,7 @@ use Rattle.book_law.specs.declared.turn.CallRow.{CallRow}
 use Rattle.book_law.specs.declared.turn.Cause.TheVariants as cause
 use Rattle.book_law.specs.declared.turn.Turn.{Turn}
 use Rattle.book_law.specs.declared.turn.Turn.TheVariants.{Did, Stopped, Restarted, Arrived}
+use Rattle.step_law.specs.declared.out.OutLetter.{OutLetter}
 
 eq-int_eq : (at : ℤ) → int_eq at at ≡ true
 eq-int_eq at = (Decides-int_eq at at).1 refl
@@ -46,10 +47,10 @@ module _ (table : Table) (job : ℕ) (at now : ℤ) where
   abbrev end_vote : Vote
   end_vote = record { slot = 1; ballot = 10; entry = entry.End job at Launch }
 
-  abbrev sent : ℕ → ℕ → List Packet → SentLetter
+  abbrev sent : ℕ → ℕ → List Packet → OutLetter
   sent to from packets = record { to = to; bytes = spelling from packets }
 
-  abbrev row_of : Turn → Event → List SentLetter → List Vote → List LearntRow → Row
+  abbrev row_of : Turn → Event → List OutLetter → List Vote → List LearntRow → Row
   row_of turn event letters votes learnt = record { turn = turn; event = event; letters = letters; votes = votes; learnt = learnt }
 
   abbrev tick_turn : Option CallRow → Turn

@@ -20,18 +20,14 @@ use Rattle.agree_law.specs.World.{CastVote, Learning, fresh, with_replica}
 use Rattle.book_law.specs.declared.turn.CallRow.{CallRow}
 use Rattle.book_law.specs.declared.turn.Turn.{Turn}
 use Rattle.book_law.specs.declared.turn.Turn.TheVariants.{Did, Stopped, Restarted, Arrived}
-
--- a letter that leaves a replica
-pub record SentLetter : Type 0 where
-  pub to : ℕ
-  pub bytes : List ℕ
+use Rattle.step_law.specs.declared.out.OutLetter.{OutLetter}
 
 -- A turn, and what it brought. The event is what its cause told the replica, with what the launch table said to that: a book
 -- needn't keep it, since there is one for each cause.
 pub record Row : Type 0 where
   pub turn : Turn
   pub event : Event
-  pub letters : List SentLetter
+  pub letters : List OutLetter
   pub votes : List Vote
   pub learnt : List LearntRow
 
@@ -107,7 +103,7 @@ answer_of None = None
 answer_of (Some made) = made.answer
 
 -- the letters of a replica, in a book
-abbrev pub post : ℕ → List SentLetter → List PostedLetter
+abbrev pub post : ℕ → List OutLetter → List PostedLetter
 post who letters = map (λ letter. record { from = who; to = letter.to; bytes = letter.bytes }) letters
 
 -- a late call, in the place of that number
@@ -120,7 +116,7 @@ abbrev pub late_call : ℕ → List SchedRow → Option SchedRow
 late_call number late = slice_get late number
 
 -- a turn in which a replica took its step
-abbrev pub after_step : ℕ → ℕ → Event → Option CallRow → List SentLetter → Standing → Standing
+abbrev pub after_step : ℕ → ℕ → Event → Option CallRow → List OutLetter → Standing → Standing
 after_step members who event made letters standing =
     record {
       replicas = with_replica who (after_acts (acts_at members standing who event) (standing.replicas who)) standing.replicas;
@@ -147,7 +143,7 @@ kept_at members standing who event true = durable_after (deltas_of (acts_at memb
 kept_at members standing who event false = (standing.replicas who).kept
 
 -- what stands after a turn
-unfoldable pub after_row : ℕ → Standing → Turn → Event → List SentLetter → Standing
+unfoldable pub after_row : ℕ → Standing → Turn → Event → List OutLetter → Standing
 after_row members standing (Did who cause made) event letters = after_step members who event made letters standing
 after_row members standing (Stopped who cause kept) event letters = after_stop who (kept_at members standing who event kept) standing
 after_row members standing (Restarted who) event letters = record standing { runs = with_fact who true standing.runs }

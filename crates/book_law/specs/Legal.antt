@@ -13,7 +13,7 @@ use Rattle.step_law.specs.Message.{Message}
 use Rattle.step_law.specs.Step.{Event, IsPlanned, Plan}
 use Rattle.step_law.specs.Step as told
 use Rattle.book_law.specs.Book.{PostedLetter, Row, Standing, acts_at, identity, late_call, standing_after, under, vote_of_delta, votes_of}
-use Rattle.book_law.specs.Letters.{AreLettersOf, IsHeardAs}
+use Rattle.step_law.specs.Letters.{AreLettersOf, IsHeardAs}
 use Rattle.book_law.specs.declared.turn.CallRow.{CallRow}
 use Rattle.book_law.specs.declared.turn.Cause.{Cause}
 use Rattle.book_law.specs.declared.turn.Cause.TheVariants.{Campaign, Tick, Hear, Answer}

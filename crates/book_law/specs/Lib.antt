@@ -1,6 +1,5 @@
 pub mod Agrees
 pub mod Book
 pub mod Legal
-pub mod Letters
 pub mod Some
 pub mod Takeover

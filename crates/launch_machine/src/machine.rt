@@ -97,6 +97,16 @@ impl Machine {
         Ok(RowList { items })
     }
 
+    /// An equal machine.
+    pub fn copy(&self) -> Result<Machine, OutOfMemory>
+        ensures { IfOk result (λ copy. copy ≡ self.now) }
+    {
+        Ok(Machine {
+            rows: self.rows.clone()?,
+            nexts: self.nexts.clone()?,
+        })
+    }
+
     /// The row of a job.
     pub fn row(&self, job: u32) -> JobRow
         requires { job < length self.now.rows }

@@ -195,6 +195,10 @@ fn calls_what_it_has_started(rt: HostRuntime) -> Result<(), Fail> {
     };
     let rows = machine.copy_rows(rt.alloc())?;
     assert_eq!(rt; rows.items.as_slice(), [opened].as_slice());
+    let copy = machine.copy()?;
+    let rows = copy.copy_rows(rt.alloc())?;
+    assert_eq!(rt; rows.items.as_slice(), [opened].as_slice());
+    assert_eq!(rt; chosen(&copy, &table, 0), Some(to_call(0, 0, Kind::Launch)));
     Ok(())
 }
 

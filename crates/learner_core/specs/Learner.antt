@@ -2,10 +2,11 @@
 use Rattle.std.specs.Prelude.{◌≡◌, ℕ, ◌+◌, ◌-◌, Option, None, List, [], ◌∷◌, ◌++◌, if◌then◌else◌, length, nat_le, slice_get, drop}
 use Rattle.paxos_base.specs.declared.entry.Entry.{Entry}
 
--- what a learner has of the log: the entries of the slots from its base on
+-- what a learner has of the log, which is the entries of the slots from its base on, and for how many more it has room
 pub record LearnerState : Type 0 where
   pub base : ℕ
   pub entries : List Entry
+  pub spare : ℕ
 
 -- the first slot whose entry has not been learned
 abbrev pub prefix_of : LearnerState → ℕ
@@ -24,3 +25,8 @@ pub record HasLearned (old new : LearnerState) (entry : Entry) : Type 0 where
 pub record IsRebased (old new : LearnerState) (base : ℕ) : Type 0 where
   pub base_is : new.base ≡ base
   pub entries : new.entries ≡ drop (base - old.base) old.entries
+
+-- one learner is as another, but for the room that it has
+pub record IsAlike (one other : LearnerState) : Type 0 where
+  pub base : one.base ≡ other.base
+  pub entries : one.entries ≡ other.entries

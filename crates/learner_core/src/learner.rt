@@ -1,5 +1,5 @@
-ghost use Rattle.std.specs.Prelude.{◌≡◌, ℕ, ◌+◌, ◌<◌, ◌≤◌, ◌^◌, ◌↔◌, ◌≢◌, [], max, Ok, IfOk, IsSome, OnOk, OnErr};
-ghost use Rattle.learner_core.specs.Learner.{prefix_of, entry_at, HasLearned, IsRebased};
+ghost use Rattle.std.specs.Prelude.{◌≡◌, ℕ, ◌+◌, ◌<◌, ◌≤◌, ◌^◌, ◌↔◌, ◌≢◌, ◌-◌, [], max, drop, Ok, IfOk, IsOk, IsSome, OnOk, OnErr};
+ghost use Rattle.learner_core.specs.Learner.{prefix_of, entry_at, HasLearned, IsRebased, IsAlike};
 
 use cron_io::OutOfMemory;
 use paxos_base::Entry;
@@ -30,7 +30,7 @@ impl Model for Learner {
 
     ghost Value = { LearnerState };
 
-    ghost view = { λ learner. record { base = learner.base; entries = learner.entries.items } };
+    ghost view = { λ learner. record { base = learner.base; entries = learner.entries.items; spare = vec_capacity learner.entries - vec_len learner.entries } };
 
     ghost invariant = { λ learner. learner.base + vec_len learner.entries < 2 ^ 64 };
 }
@@ -45,6 +45,17 @@ impl Learner {
             base,
             entries: Vec::new(alloc),
         }
+    }
+
+    /// Makes room for that many more entries at least. After want of memory all is as before.
+    pub fn reserve(&mut self, more: usize) -> Result<(), OutOfMemory>
+        ensures alike { IsAlike self.new self.old }
+        ensures room { OnOk result (more ≤ self.new.spare) }
+        ensures had_room { more ≤ self.old.spare → IsOk result }
+        ensures err { OnErr result (self.new ≡ self.old) }
+    {
+        self.entries.reserve(more)?;
+        Ok(())
     }
 
     /// The first slot whose entry has not been learned.
@@ -73,18 +84,29 @@ impl Learner {
         }
     }
 
+    /// The entries from a slot on, lent and not copied.
+    pub fn entries_from(&self, first: u64) -> &[Entry]
+        requires { self.now.base ≤ first }
+        ensures { result.now ≡ drop (first - self.now.base) self.now.entries }
+    {
+        let place = (first - self.base).min(self.entries.len() as u64);
+        &self.entries[place as usize..]
+    }
+
     /// Learns the entry at a slot, where it is the next one. Takes constant time, but where the list of entries grows.
     ///
     /// # Errors
     ///
-    /// Want of memory, where the entry is the next one. What was learned stays.
+    /// Want of memory, where the entry is the next one and there is no room for it. What was learned stays.
     pub fn learn(&mut self, slot: u64, entry: Entry) -> Result<Learnt, OutOfMemory>
-        requires { prefix_of self.old < 2 ^ 62 }
+        requires { prefix_of self.old < 2 ^ 63 }
         ensures old { (result ≡ Ok Learnt.Old) ↔ (slot < prefix_of self.old) }
         ensures gap { (result ≡ Ok Learnt.Gap) ↔ (prefix_of self.old < slot) }
         ensures new { IfOk result (λ learnt. (learnt ≡ Learnt.New) ↔ (slot ≡ prefix_of self.old)) }
         ensures learned { result ≡ Ok Learnt.New → HasLearned self.old self.new entry }
-        ensures kept { result ≢ Ok Learnt.New → self.new ≡ self.old }
+        ensures room { 1 ≤ self.old.spare → IsOk result }
+        ensures spare { self.old.spare ≤ self.new.spare + 1 }
+        ensures kept { result ≢ Ok Learnt.New → IsAlike self.new self.old }
     {
         let prefix = self.prefix();
         if slot < prefix {
@@ -103,15 +125,16 @@ impl Learner {
         ensures rebased { IsRebased self.old self.new base }
         ensures prefix { prefix_of self.new ≡ max (prefix_of self.old) base }
         ensures entries { (slot : ℕ) → base ≤ slot → entry_at slot self.new ≡ entry_at slot self.old }
+        ensures spare { self.old.spare ≤ self.new.spare }
     {
         let gone = (base - self.base).min(self.entries.len() as u64);
         self.entries.drain(..gone as usize);
         self.base = base;
     }
 
-    /// An equal learner.
+    /// An equal learner, but for the room for entries.
     pub fn copy(&self) -> Result<Learner, OutOfMemory>
-        ensures { IfOk result (λ copy. copy ≡ self.now) }
+        ensures { IfOk result (λ copy. IsAlike copy self.now) }
     {
         Ok(Learner {
             base: self.base,

@@ -16,7 +16,7 @@ const END: Entry = Entry::End {
 };
 
 // A learner takes entries while its prefix is below this.
-const LIMIT: u64 = 1 << 62;
+const LIMIT: u64 = 1 << 63;
 
 // Tells the learner entries one after the other, and compares what comes of each, and the prefix after it.
 fn play(
@@ -85,6 +85,9 @@ fn begins_at_a_later_slot(rt: HostRuntime) -> Result<(), Fail> {
         &learner,
         &[(8, None), (9, Some(Entry::Noop)), (10, None)],
     );
+    assert_eq!(rt; learner.entries_from(9), [Entry::Noop].as_slice());
+    assert!(rt; learner.entries_from(11).is_empty());
+    learner.reserve(3)?;
     let copy = learner.copy()?;
     assert!(rt; learner.base() < 64);
     learner.rebase(64);

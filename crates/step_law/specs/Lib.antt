@@ -3,6 +3,7 @@ pub mod Coherent
 pub mod Folds
 pub mod Hear
 pub mod Heard
+pub mod Letters
 pub mod May
 pub mod Message
 pub mod Propose

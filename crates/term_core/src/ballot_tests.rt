@@ -13,7 +13,7 @@ const ENTRY: Entry = Entry::Start {
 };
 
 // A learner takes entries while its prefix is below this.
-const LIMIT: u64 = 1 << 62;
+const LIMIT: u64 = 1 << 63;
 
 fn no_votes(alloc: Global) -> VoteList {
     VoteList {

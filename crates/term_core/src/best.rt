@@ -94,10 +94,12 @@ fn take_any(best: &mut Vec<Vote>, vote: &Vote) -> Result<(), OutOfMemory>
     Ok(())
 }
 
-// The best votes after a promise's.
-fn merged_items(alloc: Global, best: &[Vote], votes: &[Vote]) -> Result<Vec<Vote>, OutOfMemory>
+/// The best votes after a promise's: at each slot the vote of the highest ballot, and of equal ones the first. It is one pass
+/// over both lists where the promise's slots rise.
+pub fn best_of(alloc: Global, best: &[Vote], votes: &[Vote]) -> Result<Vec<Vote>, OutOfMemory>
     requires { SlotsRise best.now }
-    ensures { IfOk result (λ all. all.items ≡ best_of best.now votes.now) }
+    ensures best { IfOk result (λ all. all.items ≡ best_of best.now votes.now) }
+    ensures rise { IfOk result (λ all. SlotsRise all.items) }
 {
     let mut merged = Vec::with_capacity(alloc, best.len() + votes.len())?;
     let mut left = best;
@@ -114,11 +116,11 @@ fn merged_items(alloc: Global, best: &[Vote], votes: &[Vote]) -> Result<Vec<Vote
     Ok(merged)
 }
 
-/// The best votes after a promise's, which is one pass over both lists where the promise's slots rise.
+/// The best votes after a promise's.
 pub fn merged(best: &VoteList, votes: &[Vote]) -> Result<VoteList, OutOfMemory>
     ensures { IfOk result (λ merged. merged ≡ best_of best.now votes.now) }
 {
-    let items = merged_items(*best.items.allocator(), &best.items, votes)?;
+    let items = best_of(*best.items.allocator(), &best.items, votes)?;
     Ok(VoteList { items })
 }
 

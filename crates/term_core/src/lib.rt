@@ -13,6 +13,7 @@ mod term;
 #[cfg(test)]
 mod tests;
 
+pub use best::best_of;
 pub use fault::ProposeFault;
 pub use flight::Flight;
 pub use laws::{slots_are_merged_apart, the_best_vote_is_the_highest};

@@ -161,8 +161,8 @@ impl Term {
         }
     }
 
-    // Whether the term is a candidate's that asked for promises of the ballot, and for votes from the first slot on.
-    fn has_asked(&self, ballot: Ballot, first: u64) -> bool
+    /// Whether the term is a candidate's that asked for promises of the ballot, and for votes from the first slot on.
+    pub fn has_asked(&self, ballot: Ballot, first: u64) -> bool
         ensures { result ≡ has_asked ballot first self.now }
     {
         match self {

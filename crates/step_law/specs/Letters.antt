@@ -1,5 +1,5 @@
 -- The bytes of letters, and as what a replica hears them.
-use Rattle.std.specs.Prelude.{◌≡◌, ℕ, ◌^◌, ◌==◌, ◌&&◌, nat_lt, Bool, true, List, [], ◌∷◌, if◌then◌else◌}
+use Rattle.std.specs.Prelude.{◌≡◌, ℕ, ◌^◌, ◌==◌, ◌&&◌, nat_lt, Bool, true, List, [], ◌∷◌, length, if◌then◌else◌}
 use Rattle.std.specs.List.{AllZip, flat_map}
 use Rattle.paxos_base.specs.Ballot.{round_of}
 use Rattle.paxos_base.specs.declared.rows.JobRow.{JobRow}
@@ -11,7 +11,7 @@ use Rattle.step_law.specs.Folds.{Addressed, letters_of}
 use Rattle.step_law.specs.Heard.{messages_of, packets_of}
 use Rattle.step_law.specs.Message.{Message}
 use Rattle.step_law.specs.State.{Identity}
-use Rattle.book_law.specs.Book.{SentLetter}
+use Rattle.step_law.specs.declared.out.OutLetter.{OutLetter}
 
 -- the ballot's round is below 2^59
 abbrev pub is_small_ballot : ℕ → Bool
@@ -44,9 +44,13 @@ abbrev pub are_small : ℕ → List Packet → Bool
 are_small jobs [] = true
 are_small jobs (packet ∷ packets) = is_small jobs packet && are_small jobs packets
 
+-- there are fewer than 2^31 packets, and each is within the bounds
+abbrev pub is_small_letter : ℕ → List Packet → Bool
+is_small_letter jobs packets = nat_lt (length packets) (2 ^ 31) && are_small jobs packets
+
 -- Packets beyond the bounds are heard as none.
 abbrev pub heard_in : ℕ → List Packet → List Message
-heard_in jobs packets = if are_small jobs packets then messages_of packets else []
+heard_in jobs packets = if is_small_letter jobs packets then messages_of packets else []
 
 -- the bytes are a letter of that member, and are heard as these messages
 pub record IsHeardAs (members jobs : ℕ) (bytes : List ℕ) (from : ℕ) (messages : List Message) : Type 0 where
@@ -55,10 +59,10 @@ pub record IsHeardAs (members jobs : ℕ) (bytes : List ℕ) (from : ℕ) (messa
   pub heard : messages ≡ heard_in jobs packets
 
 -- the letter has the messages to its replica
-pub record IsSpelled (members from : ℕ) (addressed : Addressed) (letter : SentLetter) : Type 0 where
+pub record IsSpelled (members from : ℕ) (addressed : Addressed) (letter : OutLetter) : Type 0 where
   pub to : letter.to ≡ addressed.to
   pub spells : Spells members from (flat_map packets_of addressed.messages) letter.bytes
 
 -- the letters are those of some acts
-abbrev pub AreLettersOf : Identity → List Act → List SentLetter → Type 0
+abbrev pub AreLettersOf : Identity → List Act → List OutLetter → Type 0
 AreLettersOf self acts letters = AllZip (IsSpelled self.members self.me) (letters_of self acts) letters
