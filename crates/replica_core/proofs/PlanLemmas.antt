@@ -1,0 +1,96 @@
+-- What a letter that was read is heard as, and what of a draft its letters need.
+use Rattle.std.proofs.Common.{◌≡◌, ℕ, ◌<◌, ltb, Bool, true, false, List, [], ◌∷◌, map, refl, sym, ap, ◌∙◌, Result, Ok, Err, IfOk, length, ℤ, Bor}
+use Rattle.std.proofs.lemmas.Bool.{and_parts, ltb-true}
+use Rattle.paxos_letter.specs.Letters.{Spells}
+use Rattle.paxos_letter.specs.Spelling.{fields_of}
+use Rattle.paxos_letter.specs.declared.packet.Packet.{Packet}
+use Rattle.paxos_letter.specs.declared.packet.Packet.TheVariants.{Prepare, Promise, OldVote, Accept, Accepted, Nack, Known, AskFrom, Snap, SnapRow, Lead}
+use Rattle.due_set.specs.Table.{Table}
+use Rattle.step_law.specs.Hear.{hear_all}
+use Rattle.step_law.specs.Letters.{heard_in, is_small_letter}
+use Rattle.step_law.specs.Step.{Event, Plan, step}
+use Rattle.step_law.specs.Step as told
+use Rattle.step_law.specs.Propose.{answer, campaign, tick}
+use Rattle.paxos_base.specs.declared.entry.Kind.{Kind}
+use Rattle.zone_minutes.specs.declared.minute.Minute.{Minute}
+use Rattle.launch_machine.specs.Answers.{IsIntent}
+use Rattle.launch_machine.specs.declared.machine.Intent.{Intent}
+use Rattle.replica_core.specs.declared.input.Input.TheVariants as input
+use Rattle.replica_core.specs.Draft.{done, drafted, said_in, said_of}
+use Rattle.replica_core.specs.Replica.{Makes, identity_of, idle_desk, kept_of, state_of}
+use Rattle.replica_core.specs.Step.{Hears, MakesStep}
+use Rattle.replica_core.specs.declared.draft.Draft.{Draft}
+use Rattle.replica_core.specs.declared.parts.Core.{Core}
+use Rattle.replica_core.proofs.DraftLemmas.{done-nil}
+
+-- what holds of a result's value, by what else holds of it
+pub if_ok : {X E : Type 0} (result : Result X E) (P Q : X → Type 0) → ((x : X) → P x → Q x) → IfOk result P → IfOk result Q
+if_ok (Ok value) P Q then_so holds = then_so value holds
+if_ok (Err fault) P Q then_so holds = tt
+
+-- a packet's fields name the replica that it is from
+named : (from : ℕ) (packet : Packet) → (fields_of from packet).from ≡ from
+named from (Prepare ballot slot) = refl
+named from (Promise ballot slot count) = refl
+named from (OldVote ballot slot cast entry) = refl
+named from (Accept ballot slot entry) = refl
+named from (Accepted ballot slot) = refl
+named from (Nack ballot promised) = refl
+named from (Known slot entry) = refl
+named from (AskFrom slot) = refl
+named from (Snap slot count) = refl
+named from (SnapRow slot row) = refl
+named from (Lead ballot slot) = refl
+
+-- a letter that was read is from one of the replicas
+pub read-from : (members from : ℕ) (packets : List Packet) (bytes : List ℕ) → Spells members from packets bytes → from < members
+read-from members from [] bytes spells = absurd (spells.letter.some refl)
+read-from members from (packet ∷ packets) bytes spells =
+    let parts = and_parts _ _ spells.letter.members_keep.0 in
+    let below : ltb (fields_of from packet).from members ≡ true = (and_parts _ _ parts.0).0 in
+    ltb-true from members (rw (named from packet) at below)
+
+-- a letter beyond the bounds is heard as one without messages
+pub hears-nothing : (jobs from : ℕ) (packets : List Packet) (core : Core) (draft : Draft) → is_small_letter jobs packets ≡ false → drafted (kept_of core) draft ≡ idle_desk core
+    → Makes core (hear_all (identity_of core) from (heard_in jobs packets) false (state_of core)) draft
+unfolding hear_all
+hears-nothing jobs from packets core draft large idle = rw large (idle ∙ sym (done-nil (idle_desk core)))
+
+-- a letter that was read is heard
+pub hears-letter : (table : Table) (jobs from : ℕ) (packets : List Packet) (bytes : List ℕ) (core : Core) (draft : Draft) → Spells core.members from packets bytes
+    → jobs ≡ length table.jobs → Makes core (hear_all (identity_of core) from (heard_in jobs packets) false (state_of core)) draft → Hears table bytes core draft
+hears-letter table jobs from packets bytes core draft spells jobs_are makes =
+    record {
+      from = from;
+      messages = heard_in jobs packets;
+      heard = record { packets = packets; spells = spells; heard = ap (λ count. heard_in count packets) jobs_are };
+      makes = makes;
+    }
+
+-- what is said in a draft that makes acts is what they say
+pub said-made : (core : Core) (event : Event) (draft : Draft) → Makes core (step (identity_of core) event (state_of core)) draft
+    → map said_in draft.sends.items ≡ said_of (step (identity_of core) event (state_of core))
+said-made core event draft makes = ap (λ desk. desk.said) makes
+
+-- what each input has the replica do is a step
+
+pub campaign-step : (table : Table) (core : Core) (draft : Draft) → Makes core (campaign (identity_of core) (state_of core)) draft → MakesStep table input.Campaign core draft
+unfolding step
+campaign-step table core draft makes = record { event = told.Campaign; event_is = refl; makes = makes }
+
+pub tick-step : (table : Table) (now : Minute) (core : Core) (draft : Draft) (intent : Intent) → IsIntent table core.machine.rows now.0 intent
+    → Makes core (tick (identity_of core) now.0 intent (state_of core)) draft → MakesStep table (input.Tick now) core draft
+unfolding step
+tick-step table now core draft intent is_intent makes =
+    let plan : Plan = record { rows = core.machine.rows; intent = intent } in
+    record { event = told.Tick now.0 plan; event_is = (plan, record { rows = refl; intent = is_intent }, refl); makes = makes }
+
+pub hear-step : (table : Table) (bytes : Bor (List ℕ)) (core : Core) (draft : Draft) → Hears table bytes.now core draft → MakesStep table (input.Hear bytes) core draft
+unfolding step
+hear-step table bytes core draft hears =
+    record { event = told.Hear hears.from hears.messages; event_is = (hears.from, hears.messages, hears.heard, refl); makes = hears.makes }
+
+pub answer-step : (table : Table) (job : ℕ) (at : ℤ) (kind : Kind) (core : Core) (draft : Draft)
+    → Makes core (answer (identity_of core) job at kind core.machine.rows (state_of core)) draft → MakesStep table (input.Answer job at kind) core draft
+unfolding step
+answer-step table job at kind core draft makes = record { event = told.Answer job at kind core.machine.rows; event_is = refl; makes = makes }

@@ -1,0 +1,34 @@
+use Rattle.std.proofs.Common.{◌∙◌, refl, ◌≡◌, ◌∷◌, ◌||◌, drop, ◌+◌, true, arith}
+use Rattle.std.proofs.lemmas.Bool.{and_parts}
+use Rattle.step_law.specs.Letters.{are_small}
+use Rattle.replica_core.proofs.HearLemmas.{all_behind, hearing-all, hearing-next, next_packet, once-now, small_at}
+use Rattle.replica_core.specs.Heard.{changes_in}
+use Rattle.replica_core.proofs.parts.Core.hear_all.Goals as goal
+use Rattle.replica_core.proofs.parts.Core.hear_all.Goals.{then-asked, else-asked}
+
+pub hear-requires-clause-small : goal.hear-requires-clause-small
+hear-requires-clause-small c =
+    let packets = c.args.packets.now in
+    let jobs = c.requires.bounds.0 in
+    let small : are_small jobs packets ≡ true = (and_parts _ _ c.requires.bounds.1).1 in
+    (jobs, rw c.index-packets-place.is (small_at jobs packets c.loop-place.place c.index-packets-place.result small c.loop-place-test.true))
+
+pub hear-requires-clause-once : goal.hear-requires-clause-once
+hear-requires-clause-once c =
+    let packets = c.args.packets.now in
+    let packet = c.index-packets-place.result in
+    let at : drop c.loop-place.place packets ≡ packet ∷ drop (c.loop-place.place + 1) packets = next_packet packets c.loop-place.place packet c.index-packets-place.is c.loop-place-test.true in
+    once-now packets (drop (c.loop-place.place + 1) packets) packet c.loop-place.place (changes_in c.loop-place.draft.change) at c.loop-place.invariant.once
+
+pub loop-place-preserved : goal.loop-place-preserved
+loop-place-preserved c =
+    let packets = c.args.packets.now in
+    let packet = c.index-packets-place.result in
+    let at : drop c.loop-place.place packets ≡ packet ∷ drop (c.loop-place.place + 1) packets = next_packet packets c.loop-place.place packet c.index-packets-place.is c.loop-place-test.true in
+    let asked : c.if-asked.asked ≡ (c.loop-place.asked || c.shows_gap-gap.result) = elim c.if-asked.branch [ then-asked w ↦ w.asked-is ∙ rw w.if-asked.true refl | else-asked w ↦ w.asked-is ∙ rw w.if-asked.false refl ] in
+    rw (asked, c.shows_gap-gap.ensures)
+    (hearing-next c.args.self.now c.args.from packets packet c.loop-place.place c.loop-place.asked c.loop-place.draft c.hear.new.draft at c.loop-place.invariant
+    (rw (all_behind packets (c.loop-place.place + 1)) at c.in_ok-hear.ensures.does) c.in_ok-hear.ensures.flies c.in_ok-hear.ensures.once c.in_ok-hear.ensures.few)
+
+pub returns-clause-makes : goal.returns-clause-makes
+returns-clause-makes c = hearing-all c.args.self.now c.args.from c.args.packets.now c.loop-place.place c.loop-place.asked c.loop-place.draft (omega (arith, c.loop-place-test.false)) c.loop-place.invariant

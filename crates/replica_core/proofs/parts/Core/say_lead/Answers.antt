@@ -1,0 +1,13 @@
+use Rattle.std.proofs.Common.{[], ◌∷◌, ◌∙◌, ◌≡◌}
+use Rattle.step_law.specs.Act.{Send}
+use Rattle.step_law.specs.Message.{Lead, Others}
+use Rattle.step_law.specs.State.{prefix_of}
+use Rattle.replica_core.specs.Replica.{state_of}
+use Rattle.replica_core.proofs.LeadLemmas.{makes, own-prefix}
+use Rattle.replica_core.proofs.parts.Core.say_lead.Goals as goal
+
+pub returns-clause-makes : goal.returns-clause-makes
+returns-clause-makes c =
+    let at : c.prefix.result ≡ prefix_of (state_of c.args.self.now) = c.prefix.ensures ∙ own-prefix c.args.self.now c.requires in
+    makes c.args.self.now c.begin-draft.result c.send_lead.new.self (Send Others (Lead c.args.ballot (prefix_of (state_of c.args.self.now))) ∷ [])
+    c.begin-draft.ensures.idle (rw (← at) c.in_ok-send_lead.ensures.goes)

@@ -1,0 +1,43 @@
+use Rattle.std.proofs.Common.{◌∙◌, Some, None, refl}
+use Rattle.replica_core.specs.Replica.{identity_of, state_of}
+use Rattle.replica_core.proofs.LeadLemmas.{begun-ready, if_ok, leads_with, makes_as, makes_nothing, tick-leads, tick-rests, tick-waits}
+use Rattle.replica_core.proofs.parts.Core.tick.Goals as goal
+
+pub returns-in-Some-clause-makes : goal.returns-in-Some-clause-makes
+returns-in-Some-clause-makes c =
+    if_ok c.wait.result _ _
+    (λ draft made. (
+      c.choose-intent.result,
+      c.choose-intent.ensures,
+      makes_as c.args.self.now draft _ _
+          (tick-waits (identity_of c.args.self.now) c.args.now.0 c.choose-intent.result (state_of c.args.self.now) c.in-Leader.ballot c.in-Leader.best c.in-Some.flight
+          (leads_with c.args.self.now.term c.in-Leader.ballot c.in-Leader.best c.in-Leader.best c.in-Leader.flight (Some c.in-Some.flight) c.in-Leader.is c.in-Some.is refl))
+          made,
+    ))
+    c.wait.ensures.makes
+
+pub returns-in-None-clause-makes : goal.returns-in-None-clause-makes
+returns-in-None-clause-makes c =
+    if_ok c.lead_on.result _ _
+    (λ draft made. (
+      c.choose-intent.result,
+      c.choose-intent.ensures,
+      makes_as c.args.self.now draft _ _
+          (tick-leads (identity_of c.args.self.now) c.args.now.0 c.choose-intent.result (state_of c.args.self.now) c.in-Leader.ballot c.deref.result.now
+          (leads_with c.args.self.now.term c.in-Leader.ballot c.in-Leader.best c.deref.result.now c.in-Leader.flight None c.in-Leader.is c.in-None.is (c.deref.ensures.value ∙ c.best.view_is)))
+          made,
+    ))
+    c.lead_on.ensures.makes
+
+pub returns-in_default : goal.returns-in_default
+returns-in_default c =
+    record {
+      makes = (
+        c.choose-intent.result,
+        c.choose-intent.ensures,
+        makes_as c.args.self.now c.begin.result _ _
+            (tick-rests (identity_of c.args.self.now) c.args.now.0 c.choose-intent.result (state_of c.args.self.now) c.args.self.now.term c.in_default.not-Leader refl)
+            (makes_nothing c.args.self.now c.begin.result c.begin.ensures.idle),
+      );
+      ready = begun-ready c.args.self.now c.begin.result c.requires.whole c.begin.ensures.term c.begin.ensures.learnt;
+    }

@@ -1,0 +1,75 @@
+-- How a packet is heard: as a message, or as a part of one before it.
+use Rattle.std.specs.Prelude.{◌≡◌, ℕ, nat_lt, Bool, false, List, [], Option, None, Some, take}
+use Rattle.std.specs.List.{flat_map}
+use Rattle.paxos_letter.specs.declared.packet.Packet.{Packet}
+use Rattle.paxos_letter.specs.declared.packet.Packet.TheVariants as packet
+use Rattle.step_law.specs.Act.{Act}
+use Rattle.step_law.specs.Hear.{hear, line}
+use Rattle.step_law.specs.Heard.{row_in, vote_in}
+use Rattle.step_law.specs.Message.{Message, Prepare, Promise, Accept, Accepted, Nack, Known, AskFrom, Snap, Lead, Mention}
+use Rattle.step_law.specs.State.{State, Identity, prefix_of}
+use Rattle.replica_core.specs.Draft.{done, drafted}
+use Rattle.replica_core.specs.Replica.{kept_of}
+use Rattle.replica_core.specs.declared.draft.Change.{Change}
+use Rattle.replica_core.specs.declared.draft.Draft.{Draft}
+use Rattle.replica_core.specs.declared.parts.Core.{Core}
+
+-- the message that a packet is heard as, with the packets behind it: a row of a copy is heard with its copy alone
+abbrev pub message_in : Packet → List Packet → Option Message
+message_in (packet.Prepare ballot slot) rest = Some (Prepare ballot slot)
+message_in (packet.Promise ballot slot count) rest = Some (Promise ballot slot (flat_map vote_in (take count rest)))
+message_in (packet.OldVote ballot slot cast entry) rest = Some (Mention ballot)
+message_in (packet.Accept ballot slot entry) rest = Some (Accept (record { slot = slot; ballot = ballot; entry = entry }))
+message_in (packet.Accepted ballot slot) rest = Some (Accepted ballot slot)
+message_in (packet.Nack ballot promised) rest = Some (Nack ballot promised)
+message_in (packet.Known slot entry) rest = Some (Known slot entry)
+message_in (packet.AskFrom slot) rest = Some (AskFrom slot)
+message_in (packet.Snap slot count) rest = Some (Snap slot (flat_map row_in (take count rest)))
+message_in (packet.SnapRow slot row) rest = None
+message_in (packet.Lead ballot slot) rest = Some (Lead ballot slot)
+
+-- the ballot that a packet names to all who hear it, or 0
+abbrev pub ballot_named : Packet → ℕ
+ballot_named (packet.Prepare ballot slot) = ballot
+ballot_named (packet.Promise ballot slot count) = ballot
+ballot_named (packet.OldVote ballot slot cast entry) = ballot
+ballot_named (packet.Accept ballot slot entry) = ballot
+ballot_named (packet.Accepted ballot slot) = ballot
+ballot_named (packet.Nack ballot promised) = promised
+ballot_named (packet.Known slot entry) = 0
+ballot_named (packet.AskFrom slot) = 0
+ballot_named (packet.Snap slot count) = 0
+ballot_named (packet.SnapRow slot row) = 0
+ballot_named (packet.Lead ballot slot) = ballot
+
+-- what a packet asks for, once its ballot was observed
+abbrev pub line_in : Identity → ℕ → Option Message → Bool → State → List Act
+line_in self from None asked state = []
+line_in self from (Some message) asked state = line self from message asked state
+
+-- what is done when a packet is heard
+abbrev pub hear_in : Identity → ℕ → Option Message → Bool → State → List Act
+hear_in self from None asked state = []
+hear_in self from (Some message) asked state = hear self from message asked state
+
+-- a packet tells an entry behind the next one
+abbrev pub shows_gap_in : Packet → State → Bool
+shows_gap_in (packet.Known slot entry) state = nat_lt (prefix_of state) slot
+shows_gap_in packet state = false
+
+-- how many changes of what is on the disk a packet asks for: a Prepare, an Accept and a copy of the rows ask for one
+abbrev pub changes_asked : Packet → ℕ
+changes_asked (packet.Prepare ballot slot) = 1
+changes_asked (packet.Accept ballot slot entry) = 1
+changes_asked (packet.Snap slot count) = 1
+changes_asked packet = 0
+
+-- how many changes a draft has
+abbrev pub changes_in : Option Change → ℕ
+changes_in None = 0
+changes_in (Some change) = 1
+
+-- a draft of a replica goes on by the acts that its state asks for
+abbrev pub HearsBy : Core → Draft → Draft → (State → List Act) → Type 0
+HearsBy core old new acts =
+    drafted (kept_of core) new ≡ done (acts (drafted (kept_of core) old).state) (drafted (kept_of core) old)

@@ -1,0 +1,127 @@
+-- A replica by the parts of the protocol, and what it is in the words of the protocol.
+use Rattle.std.specs.Prelude.{◌≡◌, ℕ, ◌≤◌, ◌<◌, ◌^◌, List, [], All, Option, None, Some, length, unwrap_or, ◌+◌, ⊤}
+use Rattle.paxos_base.specs.Ballot.{round_of}
+use Rattle.paxos_base.specs.declared.durable.Durable.{Durable}
+use Rattle.paxos_base.specs.declared.entry.Vote.{Vote}
+use Rattle.paxos_base.specs.declared.rows.JobRow.{JobRow}
+use Rattle.acceptor_core.specs.Acceptor.{votes_in}
+use Rattle.acceptor_core.specs.Acceptor as acceptor
+use Rattle.learner_core.specs.Learner.{LearnerState}
+use Rattle.learner_core.specs.Learner as learner
+use Rattle.term_core.specs.Term.{best_votes}
+use Rattle.term_core.specs.declared.flight.Flight.{Flight}
+use Rattle.term_core.specs.declared.term.Term.{Term}
+use Rattle.term_core.specs.declared.term.Term.TheVariants.{Follower, Candidate, Leader}
+use Rattle.launch_machine.specs.Machine.{Launches, StandsFor}
+use Rattle.due_set.specs.Table.{Table}
+use Rattle.step_law.specs.State.{State, Identity, prefix_of}
+use Rattle.step_law.specs.Act.{Act}
+use Rattle.replica_core.specs.Draft.{Desk, IsKept, Kept, delta_of, done, drafted}
+use Rattle.replica_core.specs.declared.parts.Core.{Core}
+use Rattle.replica_core.specs.declared.draft.Change.{Change}
+use Rattle.replica_core.specs.declared.draft.Draft.{Draft}
+
+-- what a replica keeps on its disk
+abbrev pub durable_in : Core → Durable
+durable_in core =
+    record {
+      tried = core.tried;
+      promised = core.acceptor.promised;
+      votes = core.acceptor.votes;
+      base = core.acceptor.base;
+      rows = core.rows;
+    }
+
+-- what a replica knows
+abbrev pub state_of : Core → State
+state_of core = record { kept = durable_in core; learned = core.learner.entries; term = core.term; seen = core.seen }
+
+-- what a draft of a replica doesn't change
+abbrev pub kept_of : Core → Kept
+kept_of core = record { durable = durable_in core; learned = core.learner.entries; best = best_votes core.term }
+
+-- which replica it is
+abbrev pub identity_of : Core → Identity
+identity_of core = record { me = core.me; members = core.members }
+
+-- one replica is as another, but for the room that it has
+pub record IsAlikeCore (one other : Core) : Type 0 where
+  pub me : one.me ≡ other.me
+  pub members : one.members ≡ other.members
+  pub tried : one.tried ≡ other.tried
+  pub acceptor : acceptor.IsAlike one.acceptor other.acceptor
+  pub learner : learner.IsAlike one.learner other.learner
+  pub rows : one.rows ≡ other.rows
+  pub machine : one.machine ≡ other.machine
+  pub term : one.term ≡ other.term
+  pub seen : one.seen ≡ other.seen
+
+-- for how many votes a change needs room
+abbrev pub votes_of : Option Change → ℕ
+votes_of None = 0
+votes_of (Some change) = votes_in (delta_of change)
+
+-- the replica has room for what a draft brings
+pub record HasRoomFor (core : Core) (draft : Draft) : Type 0 where
+  pub votes : votes_of draft.change ≤ core.acceptor.spare
+  pub entries : length draft.learnt.items ≤ core.learner.spare
+
+-- each count of the rows is below this
+abbrev pub CountsBelow : ℕ → List JobRow → Type 0
+CountsBelow limit rows = All (λ row. (row.launched < limit) × (row.voided < limit)) rows
+
+-- a flight of the term stands at the slot
+abbrev pub FliesAt : ℕ → Term → Type 0
+FliesAt prefix (Leader ballot best (Some flight)) = flight.slot ≡ prefix
+FliesAt prefix term = ⊤
+
+-- the first slot that isn't learned, with what a draft has learned
+abbrev pub next_slot : LearnerState → Draft → ℕ
+next_slot learns draft = learner.prefix_of learns + length draft.learnt.items
+
+-- the draft's flight, where it has one, stands at the first slot that isn't learned
+abbrev pub Flies : LearnerState → Draft → Type 0
+Flies learns draft = FliesAt (next_slot learns draft) draft.term
+
+-- a draft's flight stands there still, and what is to be stored is as before
+pub record Keeps (learns : LearnerState) (old new : Draft) : Type 0 where
+  pub flies : Flies learns old → Flies learns new
+  pub change : new.change ≡ old.change
+
+-- the votes that bind the draft's term
+abbrev pub best_in : Core → Draft → List Vote
+best_in core draft = unwrap_or draft.best (best_votes core.term)
+
+-- a draft goes on by the acts that its term asks for
+abbrev pub DoesAsTerm : Core → Draft → Draft → (Term → List Act) → Type 0
+DoesAsTerm core old new acts =
+    (kept : Kept) → IsKept core.acceptor core.learner kept → kept.best ≡ best_votes core.term → drafted kept new ≡ done (acts (drafted kept old).state.term) (drafted kept old)
+
+-- a step in which nothing was done yet
+abbrev pub idle_desk : Core → Desk
+idle_desk core = record { state = state_of core; deltas = []; learnt = []; said = []; calls = [] }
+
+-- a draft does just these acts
+abbrev pub Makes : Core → List Act → Draft → Type 0
+Makes core acts draft = drafted (kept_of core) draft ≡ done acts (idle_desk core)
+
+-- What a replica needs to be at a step so that its numbers fit: the rounds of the ballots that it has tried and seen, the first slot
+-- that it has not learned, and the counts of its rows are within bounds.
+pub record IsSmall (state : State) (rows : List JobRow) : Type 0 where
+  pub tried : state.kept.tried < 2 ^ 59
+  pub seen : round_of state.seen < 2 ^ 59
+  pub prefix : prefix_of state < 2 ^ 62
+  pub counts : CountsBelow (2 ^ 31) rows
+
+-- what holds of each replica: it is one of its members, its parts begin at one slot, and a flight stands at the first slot that
+-- isn't learned
+pub record IsWhole (core : Core) : Type 0 where
+  pub me : core.me < core.members
+  pub few : core.members ≤ 7
+  pub base : core.learner.base ≡ core.acceptor.base
+  pub flies : FliesAt (learner.prefix_of core.learner) core.term
+
+-- a draft can be taken: its flight stands where it should, and it has learned few entries
+pub record IsReady (core : Core) (draft : Draft) : Type 0 where
+  pub flies : Flies core.learner draft
+  pub few : length draft.learnt.items < 2 ^ 31

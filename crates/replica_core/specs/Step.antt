@@ -1,0 +1,148 @@
+-- A step of a replica: what it is told, and what comes of it.
+use Rattle.std.specs.Prelude.{◌≡◌, ◌⊎◌, ℕ, ◌+◌, ◌<◌, ◌≤◌, ◌^◌, List, [], length, Option, None, Some, Result, Ok, Err, ⊤, ℤ, false}
+use Rattle.std.specs.Option.{option_to_list}
+use Rattle.paxos_letter.specs.Letters.{fault_of}
+use Rattle.paxos_letter.specs.declared.fault.LetterFault.{LetterFault}
+use Rattle.term_core.specs.Term.{best_votes}
+use Rattle.zone_minutes.specs.Window.{IsInWindow}
+use Rattle.due_set.specs.Table.{Table}
+use Rattle.launch_machine.specs.Answers.{IsIntent}
+use Rattle.launch_machine.specs.Clerk.{AppliesAll}
+use Rattle.launch_machine.specs.Machine.{Launches, StandsFor}
+use Rattle.step_law.specs.Act.{Act}
+use Rattle.step_law.specs.Folds.{after_acts, calls_of, deltas_of, learnt_of}
+use Rattle.step_law.specs.Hear.{hear_all}
+use Rattle.step_law.specs.Letters.{IsHeardAs}
+use Rattle.step_law.specs.Message.{Message}
+use Rattle.step_law.specs.State.{Identity, State, prefix_of}
+use Rattle.step_law.specs.Step.{Event, Plan, step}
+use Rattle.step_law.specs.Step as told
+use Rattle.replica_core.specs.Draft.{Desk, Kept, done, drafted, entries_in}
+use Rattle.replica_core.specs.Letters.{AreLettersFrom}
+use Rattle.replica_core.specs.Replica.{FliesAt, Makes, identity_of, state_of, votes_of}
+use Rattle.replica_core.specs.declared.draft.Draft.{Draft}
+use Rattle.replica_core.specs.declared.input.Input.{Input}
+use Rattle.replica_core.specs.declared.input.Input.TheVariants.{Campaign, Tick, Hear, Answer}
+use Rattle.replica_core.specs.declared.input.StepFault.{StepFault}
+use Rattle.replica_core.specs.declared.input.StepFault.TheVariants.{Letter, OutOfMemory}
+use Rattle.replica_core.specs.declared.out.StepOut.{StepOut}
+use Rattle.replica_core.specs.declared.parts.Core.{Core}
+use Rattle.replica_core.specs.declared.replica.Planned.{Planned}
+
+-- a replica: which one it is, what it knows, its launch table, and for how many votes and entries more it has room
+pub record ReplicaState : Type 0 where
+  pub identity : Identity
+  pub state : State
+  pub machine : Launches
+  pub votes_room : ℕ
+  pub entries_room : ℕ
+
+-- one replica is as another, but for the room that it has
+pub record IsAlike (one other : ReplicaState) : Type 0 where
+  pub identity : one.identity ≡ other.identity
+  pub state : one.state ≡ other.state
+  pub machine : one.machine ≡ other.machine
+
+-- the replica is one of this table of jobs
+abbrev pub IsOfTable : Table → ReplicaState → Type 0
+IsOfTable table replica = StandsFor table replica.machine
+
+-- the launch table asks for this at a clock reading
+pub record IsAskedFor (table : Table) (replica : ReplicaState) (now : ℤ) (plan : Plan) : Type 0 where
+  pub rows : plan.rows ≡ replica.machine.rows
+  pub intent : IsIntent table plan.rows now plan.intent
+
+-- the event that an input is to the replica, with what its launch table says to that
+abbrev pub IsEventOf : Table → ReplicaState → Input → Event → Type 0
+IsEventOf table replica Campaign event = event ≡ told.Campaign
+IsEventOf table replica (Tick now) event = (plan : Plan) × IsAskedFor table replica now.0 plan × (event ≡ told.Tick now.0 plan)
+IsEventOf table replica (Hear bytes) event =
+    (from : ℕ) × (messages : List Message) × IsHeardAs replica.identity.members (length table.jobs) bytes.now from messages × (event ≡ told.Hear from messages)
+IsEventOf table replica (Answer job at kind) event = event ≡ told.Answer job at kind replica.machine.rows
+
+-- a tick's clock reading is in the window
+abbrev pub IsInputInside : Table → Input → Type 0
+IsInputInside table (Tick now) = IsInWindow table.window now.0
+IsInputInside table input = ⊤
+
+-- what comes of acts: the state after them, with the entries that they learn applied to the launch table, and what they store, send,
+-- learn and call
+pub record Takes (table : Table) (old new : ReplicaState) (acts : List Act) (out : StepOut) : Type 0 where
+  pub identity : new.identity ≡ old.identity
+  pub state : new.state ≡ after_acts acts old.state
+  pub machine : AppliesAll table old.machine.rows (entries_in out.learnt) new.machine.rows
+  pub of_table : IsOfTable table new
+  pub delta : deltas_of acts ≡ option_to_list out.delta
+  pub letters : AreLettersFrom old.identity acts out.letters
+  pub learnt : out.learnt ≡ learnt_of acts
+  pub call : calls_of acts ≡ option_to_list out.call
+
+-- a step of the replica at an input
+pub record Steps (table : Table) (input : Input) (old new : ReplicaState) (out : StepOut) : Type 0 where
+  pub event : Event
+  pub event_is : IsEventOf table old input event
+  pub took : Takes table old new (step old.identity event old.state) out
+
+-- a replica as its callers see it
+abbrev pub replica_of : Core → ReplicaState
+replica_of core =
+    record {
+      identity = identity_of core;
+      state = state_of core;
+      machine = core.machine;
+      votes_room = core.acceptor.spare;
+      entries_room = core.learner.spare;
+    }
+
+-- what a planned step doesn't change
+abbrev pub kept_in : ReplicaState → Kept
+kept_in replica = record { durable = replica.state.kept; learned = replica.state.learned; best = best_votes replica.state.term }
+
+-- a step in which nothing was done yet
+abbrev pub idle_in : ReplicaState → Desk
+idle_in replica = record { state = replica.state; deltas = []; learnt = []; said = []; calls = [] }
+
+-- a draft does just what the replica does at an input
+pub record MakesStep (table : Table) (input : Input) (core : Core) (draft : Draft) : Type 0 where
+  pub event : Event
+  pub event_is : IsEventOf table (replica_of core) input event
+  pub makes : Makes core (step (identity_of core) event (state_of core)) draft
+
+-- a draft does just what the replica does at a letter
+pub record Hears (table : Table) (bytes : List ℕ) (core : Core) (draft : Draft) : Type 0 where
+  pub from : ℕ
+  pub messages : List Message
+  pub heard : IsHeardAs core.members (length table.jobs) bytes from messages
+  pub makes : Makes core (hear_all (identity_of core) from messages false (state_of core)) draft
+
+-- a step is planned that does these acts
+pub record Plans (replica : ReplicaState) (acts : List Act) (planned : Planned) : Type 0 where
+  pub makes : drafted (kept_in replica) planned.draft ≡ done acts (idle_in replica)
+  pub letters : AreLettersFrom replica.identity acts planned.letters
+
+-- a step of the replica at an input is planned
+pub record PlansStep (table : Table) (input : Input) (replica : ReplicaState) (planned : Planned) : Type 0 where
+  pub event : Event
+  pub event_is : IsEventOf table replica input event
+  pub plans : Plans replica (step replica.identity event replica.state) planned
+
+-- a planned step can be taken: there is room for it, and what it learns is counted
+pub record CanTake (replica : ReplicaState) (planned : Planned) : Type 0 where
+  pub votes : votes_of planned.draft.change ≤ replica.votes_room
+  pub entries : length planned.draft.learnt.items ≤ replica.entries_room
+  pub few : length planned.draft.learnt.items < 2 ^ 31
+  pub flies : FliesAt (prefix_of replica.state + length planned.draft.learnt.items) planned.draft.term
+
+-- the first rule that the bytes of a letter break
+abbrev pub fault_in : ℕ → Input → Option LetterFault
+fault_in members (Hear bytes) = fault_of members bytes.now
+fault_in members input = None
+
+-- a fault that was answered is the first, unless memory ran out
+abbrev pub IsFault : StepFault → Option LetterFault → Type 0
+IsFault (Letter fault) first = first ≡ Some fault
+IsFault OutOfMemory first = ⊤
+
+-- the fault was answered, unless memory ran out
+abbrev pub AnswersFault : {X : Type 0} → LetterFault → Result X StepFault → Type 0
+AnswersFault fault result = (result ≡ Err (Letter fault)) ⊎ (result ≡ Err OutOfMemory)

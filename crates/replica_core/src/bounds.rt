@@ -1,0 +1,97 @@
+//! The bounds that a replica counts with: a letter beyond them is heard as one without packets.
+ghost use Rattle.std.specs.Prelude.{◌≡◌, ◌↔◌, ◌^◌, IsTrue};
+ghost use Rattle.launch_machine.specs.Machine.{StandsFor};
+ghost use Rattle.step_law.specs.Letters.{are_small, is_small, is_small_ballot, is_small_letter, is_small_row, is_small_slot};
+ghost use Rattle.replica_core.specs.Replica.{CountsBelow, IsSmall, IsWhole, state_of};
+
+use crate::parts::Core;
+use due_set::JobTable;
+use paxos_base::{Ballot, JobRow};
+use paxos_letter::Packet;
+
+fn is_small_ballot(ballot: &Ballot) -> bool
+    ensures { result ≡ is_small_ballot ballot.now }
+{
+    ballot.round() < 1 << 59
+}
+
+fn is_small_slot(slot: u64) -> bool
+    ensures { result ≡ is_small_slot slot }
+{
+    slot < 1 << 62
+}
+
+fn is_small_row(row: &JobRow) -> bool
+    ensures { result ≡ is_small_row row.now }
+{
+    row.launched < 1 << 31 && row.voided < 1 << 31
+}
+
+// Whether what a packet carries is within the bounds, and a copy of rows has one for each job.
+fn is_small(jobs: u32, packet: &Packet) -> bool
+    ensures { result ≡ is_small jobs packet.now }
+{
+    match packet {
+        Packet::Prepare { ballot, slot }
+        | Packet::Promise { ballot, slot, .. }
+        | Packet::Accept { ballot, slot, .. }
+        | Packet::Accepted { ballot, slot }
+        | Packet::Lead { ballot, slot } => is_small_ballot(ballot) && is_small_slot(*slot),
+        Packet::OldVote {
+            ballot,
+            slot,
+            cast,
+            ..
+        } => is_small_ballot(ballot) && is_small_slot(*slot) && is_small_ballot(cast),
+        Packet::Nack { ballot, promised } => is_small_ballot(ballot) && is_small_ballot(promised),
+        Packet::Known { slot, .. } | Packet::AskFrom { slot } => is_small_slot(*slot),
+        Packet::Snap { slot, count } => is_small_slot(*slot) && *count == u64::from(jobs),
+        Packet::SnapRow { slot, row } => is_small_slot(*slot) && is_small_row(row),
+    }
+}
+
+// Whether each packet is.
+fn are_small(jobs: u32, packets: &[Packet]) -> bool
+    ensures { result ≡ are_small jobs packets.now }
+{
+    for packet in packets {
+        if !is_small(jobs, packet) {
+            return false;
+        }
+    }
+    true
+}
+
+/// Whether a letter has fewer than 2^31 packets, each of them within the bounds.
+pub fn is_small_letter(jobs: u32, packets: &[Packet]) -> bool
+    ensures { result ≡ is_small_letter jobs packets.now }
+{
+    packets.len() < 1 << 31 && are_small(jobs, packets)
+}
+
+impl Core {
+    /// Whether the numbers of the replica are within the bounds that a step needs.
+    pub fn is_small(&self, table: &JobTable) -> bool
+        requires whole { IsWhole self.now }
+        requires stands { StandsFor table.now self.now.machine }
+        ensures { IsTrue result ↔ IsSmall (state_of self.now) self.now.machine.rows }
+    {
+        self.tried < 1 << 59
+            && self.seen / 8 < 1 << 59
+            && self.learner.prefix() < 1 << 62
+            && self.has_small_counts(table)
+    }
+
+    // Whether each count of the launch table is.
+    fn has_small_counts(&self, table: &JobTable) -> bool
+        requires { StandsFor table.now self.now.machine }
+        ensures { IsTrue result ↔ CountsBelow (2 ^ 31) self.now.machine.rows }
+    {
+        for job in 0..table.jobs() {
+            if !is_small_row(&self.machine.row(job)) {
+                return false;
+            }
+        }
+        true
+    }
+}

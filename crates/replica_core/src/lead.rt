@@ -1,0 +1,325 @@
+//! How a replica comes to lead, and what a leader does at a tick and at an answer of the scheduler.
+ghost use Rattle.std.specs.Prelude.{◌≡◌, ◌+◌, ◌<◌, ◌≤◌, ◌≢◌, ◌^◌, ◌↔◌, [], ◌∷◌, None, Some, Ok, IfOk, OnOk, IsTrue, length};
+ghost use Rattle.paxos_base.specs.Members.{has_majority, only_member};
+ghost use Rattle.paxos_base.specs.Vote.{SlotsRise, vote_at, votes_from};
+ghost use Rattle.term_core.specs.Term.{answer_to_proposal, best_votes};
+ghost use Rattle.term_core.specs.declared.term.Term.TheVariants.{Leader};
+ghost use Rattle.zone_minutes.specs.Window.{IsInWindow};
+ghost use Rattle.launch_machine.specs.Answers.{IsIntent};
+ghost use Rattle.launch_machine.specs.Machine.{StandsFor};
+ghost use Rattle.launch_machine.specs.declared.machine.Intent.{Intent};
+ghost use Rattle.learner_core.specs.Learner as learned;
+ghost use Rattle.step_law.specs.Act.{Call, Send};
+ghost use Rattle.step_law.specs.Message.{Lead, Others};
+ghost use Rattle.step_law.specs.Propose.{answer, bound_by, campaign, end_if, follow_intent, is_open, lead_on, proposal, propose, tick, wait};
+ghost use Rattle.step_law.specs.State.{prefix_of};
+ghost use Rattle.replica_core.specs.Draft.{Does};
+ghost use Rattle.replica_core.specs.Replica.{Flies, IsReady, IsSmall, IsWhole, Makes, identity_of, state_of};
+
+use crate::draft::{Change, Draft, Target};
+use crate::parts::Core;
+use cluster_sched::{Name, SchedRow};
+use cron_io::OutOfMemory;
+use due_set::JobTable;
+use launch_machine::Intent;
+use paxos_base::{Ballot, Entry, Kind, Members, Vote, VoteList, majority, vote_at};
+use std::alloc::Global;
+use term_core::{Flight, Term};
+use zone_minutes::Minute;
+
+// Equal votes.
+fn copy_of(alloc: Global, votes: &[Vote]) -> Result<VoteList, OutOfMemory>
+    requires { SlotsRise votes.now }
+    ensures { IfOk result (λ copy. copy ≡ votes.now) }
+{
+    let mut items = Vec::with_capacity(alloc, votes.len())?;
+    items.extend_from_slice(votes)?;
+    Ok(VoteList { items })
+}
+
+// Whether a vote binds what is proposed at a slot or behind it.
+fn is_bound(best: &[Vote], slot: u64) -> bool
+    requires { SlotsRise best.now }
+    ensures { IsTrue result ↔ (votes_from slot best.now ≢ []) }
+{
+    match best.last() {
+        Some(vote) => slot <= vote.slot,
+        None => false,
+    }
+}
+
+// What is proposed at a slot: the entry that a vote binds it to there, or else this one.
+fn bound_by(best: &[Vote], slot: u64, entry: Entry) -> Entry
+    requires { SlotsRise best.now }
+    ensures { result ≡ bound_by (vote_at slot best.now) entry }
+{
+    match vote_at(best, slot) {
+        Some(vote) => vote.entry,
+        None => entry,
+    }
+}
+
+impl Core {
+    /// Stands for leader in its next ballot, and asks all for promises and for their votes.
+    pub fn campaign(&self) -> Result<Draft, OutOfMemory>
+        requires whole { IsWhole self.now }
+        requires small { IsSmall (state_of self.now) self.now.machine.rows }
+        ensures makes { IfOk result (λ draft. Makes self.now (campaign (identity_of self.now) (state_of self.now)) draft) }
+        ensures ready { IfOk result (λ draft. IsReady self.now draft) }
+    {
+        let mut draft = self.begin();
+        let first = self.learner.prefix();
+        let ballot = Ballot::of(self.tried.max(self.seen / 8) + 1, self.me);
+        draft.best = Some(copy_of(self.alloc, self.acceptor.votes_from(first))?);
+        draft.change = Some(Change::Tried(ballot));
+        let none = VoteList {
+            items: Vec::new(self.alloc),
+        };
+        draft
+            .term
+            .campaign(ballot, first, none, self.me, self.members);
+        draft.send_prepare(ballot, first)?;
+        Ok(draft)
+    }
+
+    /// A leader waits for the votes of its flight, proposes what votes bind it to, or does what its launch table asks for.
+    pub fn tick(&self, table: &JobTable, now: Minute) -> Result<Draft, OutOfMemory>
+        requires whole { IsWhole self.now }
+        requires small { IsSmall (state_of self.now) self.now.machine.rows }
+        requires stands { StandsFor table.now self.now.machine }
+        requires inside { IsInWindow table.now.window now.0 }
+        ensures makes { IfOk result (λ draft. (intent : Intent) × IsIntent table.now self.now.machine.rows now.0 intent
+            × Makes self.now (tick (identity_of self.now) now.0 intent (state_of self.now)) draft) }
+        ensures ready { IfOk result (λ draft. IsReady self.now draft) }
+    {
+        let intent = self.machine.choose(table, now);
+        match &self.term {
+            Term::Leader {
+                ballot,
+                best,
+                flight,
+            } => match flight {
+                Some(flight) => self.wait(*ballot, flight),
+                None => self.lead_on(*ballot, &best.items, intent, now),
+            },
+            _ => Ok(self.begin()),
+        }
+    }
+
+    // Waits for the votes of a flight. At each fourth tick those that have not voted are asked again.
+    fn wait(&self, ballot: Ballot, flight: &Flight) -> Result<Draft, OutOfMemory>
+        requires whole { IsWhole self.now }
+        requires waits { self.now.term ≡ Leader ballot (best_votes self.now.term) (Some flight.now) }
+        ensures makes { IfOk result (λ draft. Makes self.now (wait ballot flight.now) draft) }
+        ensures ready { IfOk result (λ draft. IsReady self.now draft) }
+    {
+        let mut draft = self.begin();
+        if let Some(accepted) = draft.wait() {
+            let vote = Vote {
+                slot: flight.slot,
+                ballot,
+                entry: flight.entry,
+            };
+            draft.send_accept(Target::Outside(accepted), &vote)?;
+        }
+        Ok(draft)
+    }
+
+    // What a leader without a flight does: where votes bind it still, it proposes what they ask for.
+    fn lead_on(
+        &self,
+        ballot: Ballot,
+        best: &[Vote],
+        intent: Intent,
+        now: Minute,
+    ) -> Result<Draft, OutOfMemory>
+        requires whole { IsWhole self.now }
+        requires small { IsSmall (state_of self.now) self.now.machine.rows }
+        requires leads { self.now.term ≡ Leader ballot best.now None }
+        requires rise { SlotsRise best.now }
+        ensures makes { IfOk result (λ draft. Makes self.now (lead_on (identity_of self.now) now.0 intent ballot best.now (state_of self.now)
+            (votes_from (prefix_of (state_of self.now)) best.now)) draft) }
+        ensures ready { IfOk result (λ draft. IsReady self.now draft) }
+    {
+        if is_bound(best, self.learner.prefix()) {
+            self.propose(ballot, best, Entry::Noop)
+        } else {
+            self.follow_intent(ballot, best, intent, now)
+        }
+    }
+
+    // What a leader does whom no vote binds.
+    fn follow_intent(
+        &self,
+        ballot: Ballot,
+        best: &[Vote],
+        intent: Intent,
+        now: Minute,
+    ) -> Result<Draft, OutOfMemory>
+        requires whole { IsWhole self.now }
+        requires small { IsSmall (state_of self.now) self.now.machine.rows }
+        requires leads { self.now.term ≡ Leader ballot best.now None }
+        requires rise { SlotsRise best.now }
+        ensures makes { IfOk result (λ draft. Makes self.now (follow_intent (identity_of self.now) now.0 intent ballot best.now (state_of self.now)) draft) }
+        ensures ready { IfOk result (λ draft. IsReady self.now draft) }
+    {
+        match intent {
+            Intent::Call { job, at, kind } => Ok(self.call(job, at, kind, now)),
+            Intent::Start { job, at } => {
+                let entry = Entry::Start {
+                    job,
+                    at,
+                    now: now.0,
+                };
+                self.propose(ballot, best, entry)
+            }
+            Intent::Rest => self.say_lead(ballot),
+        }
+    }
+
+    // Calls the scheduler.
+    fn call(&self, job: u32, at: i64, kind: Kind, now: Minute) -> Draft
+        requires { IsWhole self.now }
+        ensures makes { Makes self.now (Call (record { name = record { job = job; at = at }; kind = kind; now = now; by = self.now.me }) ∷ []) result }
+        ensures ready { IsReady self.now result }
+    {
+        let mut draft = self.begin();
+        draft.call(SchedRow {
+            name: Name { job, at },
+            kind,
+            now,
+            by: self.me,
+        });
+        draft
+    }
+
+    // Says to all that it leads.
+    fn say_lead(&self, ballot: Ballot) -> Result<Draft, OutOfMemory>
+        requires { IsWhole self.now }
+        ensures makes { IfOk result (λ draft. Makes self.now (Send Others (Lead ballot (prefix_of (state_of self.now))) ∷ []) draft) }
+        ensures ready { IfOk result (λ draft. IsReady self.now draft) }
+    {
+        let mut draft = self.begin();
+        draft.send_lead(ballot, self.learner.prefix())?;
+        Ok(draft)
+    }
+
+    // Proposes an entry at the first slot that isn't learned, or what a vote binds it to there.
+    fn propose(&self, ballot: Ballot, best: &[Vote], entry: Entry) -> Result<Draft, OutOfMemory>
+        requires whole { IsWhole self.now }
+        requires small { IsSmall (state_of self.now) self.now.machine.rows }
+        requires leads { self.now.term ≡ Leader ballot best.now None }
+        requires rise { SlotsRise best.now }
+        ensures makes { IfOk result (λ draft. Makes self.now (propose (identity_of self.now)
+            (proposal ballot best.now (prefix_of (state_of self.now)) entry)) draft) }
+        ensures ready { IfOk result (λ draft. IsReady self.now draft) }
+    {
+        let mut draft = self.begin();
+        let slot = self.learner.prefix();
+        let vote = Vote {
+            slot,
+            ballot,
+            entry: bound_by(best, slot, entry),
+        };
+        self.launch(&mut draft, vote)?;
+        Ok(draft)
+    }
+
+    // Votes for its own proposal, and asks all for their votes. Where it alone is a majority, the entry is chosen at once.
+    fn launch(&self, draft: &mut Draft, vote: Vote) -> Result<(), OutOfMemory>
+        requires me { self.now.me < self.now.members }
+        requires few { self.now.members ≤ 7 }
+        requires change { draft.old.change ≡ None }
+        requires learnt { draft.old.learnt.items ≡ [] }
+        requires slot { vote.slot ≡ learned.prefix_of self.now.learner }
+        requires bound { vote.slot < 2 ^ 62 }
+        requires flies { Flies self.now.learner draft.old }
+        requires leads { answer_to_proposal draft.old.term ≡ Ok vote.ballot }
+        ensures does { OnOk result (Does self.now.acceptor self.now.learner draft.old draft.new (λ state. propose (identity_of self.now) vote)) }
+        ensures ready { OnOk result (IsReady self.now draft.new) }
+    {
+        draft.launch(self.me, vote);
+        draft.send_accept(Target::Others, &vote)?;
+        if self.is_alone() {
+            draft.choose(vote.slot, vote.entry)
+        } else {
+            Ok(())
+        }
+    }
+
+    // Whether it alone is a majority.
+    fn is_alone(&self) -> bool
+        requires some { 1 ≤ self.now.members }
+        requires few { self.now.members ≤ 7 }
+        requires me { self.now.me < self.now.members }
+        ensures { result ≡ has_majority self.now.members (only_member self.now.me) }
+    {
+        Members::none().with(self.me).count() >= majority(self.members)
+    }
+
+    /// A leader that is free to propose ends a launch that is open.
+    pub fn answer(
+        &self,
+        table: &JobTable,
+        job: u32,
+        at: i64,
+        kind: Kind,
+    ) -> Result<Draft, OutOfMemory>
+        requires whole { IsWhole self.now }
+        requires small { IsSmall (state_of self.now) self.now.machine.rows }
+        requires stands { StandsFor table.now self.now.machine }
+        ensures makes { IfOk result (λ draft. Makes self.now (answer (identity_of self.now) job at kind self.now.machine.rows (state_of self.now)) draft) }
+        ensures ready { IfOk result (λ draft. IsReady self.now draft) }
+    {
+        let is_open = self.is_open(table, job, at);
+        match &self.term {
+            Term::Leader {
+                ballot,
+                best,
+                flight,
+            } => match flight {
+                Some(_) => Ok(self.begin()),
+                None => self.end_if(*ballot, &best.items, Entry::End { job, at, kind }, is_open),
+            },
+            _ => Ok(self.begin()),
+        }
+    }
+
+    // Proposes the end of a launch that is open, unless a vote binds.
+    fn end_if(
+        &self,
+        ballot: Ballot,
+        best: &[Vote],
+        entry: Entry,
+        is_open: bool,
+    ) -> Result<Draft, OutOfMemory>
+        requires whole { IsWhole self.now }
+        requires small { IsSmall (state_of self.now) self.now.machine.rows }
+        requires leads { self.now.term ≡ Leader ballot best.now None }
+        requires rise { SlotsRise best.now }
+        ensures makes { IfOk result (λ draft. Makes self.now (end_if (identity_of self.now) ballot best.now (state_of self.now) entry is_open
+            (votes_from (prefix_of (state_of self.now)) best.now)) draft) }
+        ensures ready { IfOk result (λ draft. IsReady self.now draft) }
+    {
+        if is_bound(best, self.learner.prefix()) {
+            return Ok(self.begin());
+        }
+        if is_open {
+            self.propose(ballot, best, entry)
+        } else {
+            Ok(self.begin())
+        }
+    }
+
+    // Whether the job's launch that is due at the instant is open.
+    fn is_open(&self, table: &JobTable, job: u32, at: i64) -> bool
+        requires { StandsFor table.now self.now.machine }
+        ensures { result ≡ is_open job at self.now.machine.rows }
+    {
+        if job >= table.jobs() {
+            return false;
+        }
+        let row = self.machine.row(job);
+        row.open_now.is_some() && row.cursor == Some(at)
+    }
+}

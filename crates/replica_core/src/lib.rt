@@ -1,0 +1,27 @@
+//! One replica of the log, as a pure core: what it does at each event, without a clock, a disk or a net.
+//!
+//! A step is two halves. First it is planned: the replica stays as it is, and all memory is taken. Then it is taken, which
+//! needs no memory and can't refuse. Between the two its caller stores what changes on the disk, so that no letter and no
+//! call leaves before its change is safe.
+#![tactic(auto)]
+
+mod begin;
+mod bounds;
+mod commit;
+mod draft;
+mod hear;
+mod input;
+mod lead;
+mod letters;
+mod lines;
+mod out;
+mod parts;
+mod plan;
+mod replica;
+#[cfg(test)]
+mod tests;
+
+pub use input::{Input, StepFault};
+pub use out::{LearntList, LetterList, StepOut};
+pub use replica::{Planned, Replica};
+pub use step_law::{LearntRow, OutLetter};

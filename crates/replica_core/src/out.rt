@@ -1,0 +1,48 @@
+use cluster_sched::SchedRow;
+use paxos_base::Delta;
+use std::marker::Model;
+use step_law::{LearntRow, OutLetter};
+
+/// Letters in the order of the replicas that they go to. Contracts see the list.
+#[derive(Debug, Drop)]
+pub struct LetterList {
+    pub items: Vec<OutLetter>,
+}
+
+impl Model for LetterList {
+    ghost use Rattle.std.specs.Prelude.{List};
+    ghost use Rattle.step_law.specs.declared.out.OutLetter.{OutLetter};
+
+    ghost Value = { List OutLetter };
+
+    ghost view = { λ list. list.items.items };
+}
+
+/// Entries that were learned, in the order of their slots. Contracts see the list.
+#[derive(Debug, Drop)]
+pub struct LearntList {
+    pub items: Vec<LearntRow>,
+}
+
+impl Model for LearntList {
+    ghost use Rattle.std.specs.Prelude.{List};
+    ghost use Rattle.step_law.specs.declared.out.LearntRow.{LearntRow};
+
+    ghost Value = { List LearntRow };
+
+    ghost view = { λ list. list.items.items };
+}
+
+/// What comes of a step, to be carried out in this order: what changes on the disk is stored, then letters leave and the
+/// scheduler is called.
+#[derive(Debug, Drop)]
+pub struct StepOut {
+    /// What changes on the disk.
+    pub delta: Option<Delta>,
+    /// At most one to each other replica.
+    pub letters: LetterList,
+    /// The entries that the replica has learned in this step.
+    pub learnt: LearntList,
+    /// A call of the scheduler.
+    pub call: Option<SchedRow>,
+}

@@ -1,0 +1,83 @@
+//! What is done at an input.
+ghost use Rattle.std.specs.Prelude.{◌≡◌, ℕ, List, Some, false, IfOk, IfErr};
+ghost use Rattle.paxos_letter.specs.Letters.{Spells, fault_of};
+ghost use Rattle.paxos_letter.specs.declared.fault.LetterFault.{LetterFault};
+ghost use Rattle.launch_machine.specs.Machine.{StandsFor};
+ghost use Rattle.step_law.specs.Hear.{hear_all};
+ghost use Rattle.step_law.specs.Letters.{heard_in};
+ghost use Rattle.step_law.specs.Step.{Event, step};
+ghost use Rattle.replica_core.specs.Letters.{AreLettersFrom};
+ghost use Rattle.replica_core.specs.Replica.{IsReady, IsSmall, IsWhole, Makes, identity_of, state_of};
+ghost use Rattle.replica_core.specs.Step.{AnswersFault, Hears, IsFault, IsInputInside, MakesStep, fault_in};
+
+use crate::bounds::is_small_letter;
+use crate::draft::Draft;
+use crate::input::{Input, StepFault};
+use crate::letters::letters;
+use crate::out::LetterList;
+use crate::parts::Core;
+use cron_io::OutOfMemory;
+use due_set::JobTable;
+use paxos_letter::{OwnedFault, OwnedLetter, read_letter};
+
+impl Core {
+    /// Does what an input asks for.
+    pub fn draft(&self, table: &JobTable, input: Input<'_>) -> Result<Draft, StepFault>
+        requires whole { IsWhole self.now }
+        requires small { IsSmall (state_of self.now) self.now.machine.rows }
+        requires stands { StandsFor table.now self.now.machine }
+        requires inside { IsInputInside table.now input }
+        ensures makes { IfOk result (λ draft. MakesStep table.now input.entry self.now draft) }
+        ensures ready { IfOk result (λ draft. IsReady self.now draft) }
+        ensures fault { IfErr result (λ fault. IsFault fault (fault_in self.now.members input.entry)) }
+        ensures faulty { (fault : LetterFault) → fault_in self.now.members input.entry ≡ Some fault → AnswersFault fault result }
+    {
+        match input {
+            Input::Campaign => Ok(self.campaign()?),
+            Input::Tick { now } => Ok(self.tick(table, now)?),
+            Input::Hear { bytes } => self.hear_letter(table, bytes),
+            Input::Answer { job, at, kind } => Ok(self.answer(table, job, at, kind)?),
+        }
+    }
+
+    // Reads a letter and hears it. One beyond the bounds is heard as one without packets.
+    fn hear_letter(&self, table: &JobTable, bytes: &[u8]) -> Result<Draft, StepFault>
+        requires whole { IsWhole self.now }
+        requires small { IsSmall (state_of self.now) self.now.machine.rows }
+        ensures makes { IfOk result (λ draft. Hears table.now bytes.now self.now draft) }
+        ensures ready { IfOk result (λ draft. IsReady self.now draft) }
+        ensures fault { IfErr result (λ fault. IsFault fault (fault_of self.now.members bytes.now)) }
+        ensures faulty { (fault : LetterFault) → fault_of self.now.members bytes.now ≡ Some fault → AnswersFault fault result }
+    {
+        match read_letter(self.alloc, bytes, self.members) {
+            Ok(letter) => Ok(self.hear_packets(table.jobs(), &letter)?),
+            Err(OwnedFault::Letter(fault)) => Err(StepFault::Letter(fault)),
+            Err(OwnedFault::OutOfMemory) => Err(StepFault::OutOfMemory),
+        }
+    }
+
+    // Hears the packets of a letter, or none of them where they are beyond the bounds.
+    fn hear_packets(&self, jobs: u32, letter: &OwnedLetter) -> Result<Draft, OutOfMemory>
+        requires whole { IsWhole self.now }
+        requires small { IsSmall (state_of self.now) self.now.machine.rows }
+        requires letter { (bytes : List ℕ) × Spells self.now.members letter.now.from letter.now.packets bytes }
+        ensures makes { IfOk result (λ draft. Makes self.now (hear_all (identity_of self.now) letter.now.from (heard_in jobs letter.now.packets) false (state_of self.now)) draft) }
+        ensures ready { IfOk result (λ draft. IsReady self.now draft) }
+    {
+        if is_small_letter(jobs, &letter.packets.items) {
+            self.hear_all(letter.from, &letter.packets.items)
+        } else {
+            Ok(self.begin())
+        }
+    }
+
+    /// The letters of a draft.
+    pub fn letters(&self, draft: &Draft) -> Result<LetterList, OutOfMemory>
+        requires whole { IsWhole self.now }
+        requires made { (event : Event) × Makes self.now (step (identity_of self.now) event (state_of self.now)) draft.now }
+        ensures { IfOk result (λ letters. (event : Event) → Makes self.now (step (identity_of self.now) event (state_of self.now)) draft.now
+            → AreLettersFrom (identity_of self.now) (step (identity_of self.now) event (state_of self.now)) letters) }
+    {
+        letters(self.alloc, self.me, self.members, &draft.sends)
+    }
+}

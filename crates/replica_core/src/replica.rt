@@ -1,0 +1,165 @@
+ghost use Rattle.std.specs.Prelude.{◌≡◌, ◌↔◌, ◌<◌, ◌≤◌, ◌^◌, IsTrue, List, Some, IfOk, IfErr, OnErr, length};
+ghost use Rattle.std.specs.Option.{option_map};
+ghost use Rattle.paxos_base.specs.Rows.{RowsStand};
+ghost use Rattle.paxos_letter.specs.declared.fault.LetterFault.{LetterFault};
+ghost use Rattle.step_law.specs.Act.{Act};
+ghost use Rattle.step_law.specs.State.{prefix_of, started};
+ghost use Rattle.replica_core.specs.Draft.{delta_of};
+ghost use Rattle.replica_core.specs.Replica.{IsSmall};
+ghost use Rattle.replica_core.specs.Step.{AnswersFault, CanTake, IsAlike, IsFault, IsInputInside, IsOfTable, Plans, PlansStep, Steps, Takes, fault_in};
+
+use crate::draft::Draft;
+use crate::input::{Input, StepFault};
+use crate::out::{LetterList, StepOut};
+use crate::parts::Core;
+use cron_io::OutOfMemory;
+use due_set::JobTable;
+use launch_machine::Machine;
+use paxos_base::{Delta, Durable};
+use std::marker::Model;
+use term_core::Term;
+
+/// One replica of the log. What is said of it is said for one table of jobs.
+#[derive(Debug, Drop)]
+pub struct Replica {
+    core: Core,
+}
+
+impl Model for Replica {
+    ghost use Rattle.replica_core.specs.Replica.{IsWhole};
+    ghost use Rattle.replica_core.specs.Step.{ReplicaState, replica_of};
+
+    ghost Value = { ReplicaState };
+
+    ghost view = { λ replica. replica_of replica.core };
+
+    ghost invariant = { λ replica. IsWhole replica.core };
+}
+
+/// A step that is planned, and not taken yet.
+#[derive(Debug, Drop)]
+pub struct Planned {
+    draft: Draft,
+    letters: LetterList,
+}
+
+impl Planned {
+    /// What the step changes on the disk.
+    pub fn delta(&self) -> Option<Delta>
+        ensures { result ≡ option_map delta_of self.now.draft.change }
+    {
+        match self.draft.change {
+            Some(change) => Some(change.delta()),
+            None => None,
+        }
+    }
+}
+
+impl Replica {
+    /// A replica that starts, for the first time or again, with what is on its disk.
+    pub fn start(
+        me: u8,
+        members: u8,
+        table: &JobTable,
+        durable: Durable,
+    ) -> Result<Replica, OutOfMemory>
+        requires me { me < members }
+        requires few { members ≤ 7 }
+        requires rows { RowsStand durable.rows (length table.now.jobs) }
+        requires tried { durable.tried < 2 ^ 61 }
+        ensures identity { IfOk result (λ replica. replica.identity ≡ record { me = me; members = members }) }
+        ensures state { IfOk result (λ replica. replica.state ≡ started me durable) }
+        ensures machine { IfOk result (λ replica. replica.machine.rows ≡ durable.rows) }
+        ensures of_table { IfOk result (λ replica. IsOfTable table.now replica) }
+    {
+        Ok(Replica {
+            core: Core::start(me, members, table, durable)?,
+        })
+    }
+
+    /// An equal replica, but for the room that it has.
+    pub fn copy(&self) -> Result<Replica, OutOfMemory>
+        ensures { IfOk result (λ copy. IsAlike copy self.now) }
+    {
+        Ok(Replica {
+            core: self.core.copy()?,
+        })
+    }
+
+    /// The first slot whose entry has not been learned.
+    pub fn prefix(&self) -> u64
+        ensures { result ≡ prefix_of self.now.state }
+    {
+        self.core.learner.prefix()
+    }
+
+    /// Its term as a proposer.
+    pub fn term(&self) -> &Term
+        ensures { result.now ≡ self.now.state.term }
+    {
+        &self.core.term
+    }
+
+    /// Its launch table.
+    pub fn machine(&self) -> &Machine
+        ensures { result.now ≡ self.now.machine }
+    {
+        &self.core.machine
+    }
+
+    /// Whether the replica is small enough for a step: the rounds of the ballots that it has tried and seen are below 2^59, the
+    /// first slot that it has not learned is below 2^62, and the counts of its rows are below 2^31.
+    pub fn is_small(&self, table: &JobTable) -> bool
+        requires { IsOfTable table.now self.now }
+        ensures { IsTrue result ↔ IsSmall self.now.state self.now.machine.rows }
+    {
+        self.core.is_small(table)
+    }
+
+    /// Plans a step, and makes the room that it needs. The replica stays as it is.
+    pub fn plan(&mut self, table: &JobTable, input: Input<'_>) -> Result<Planned, StepFault>
+        requires of_table { IsOfTable table.now self.old }
+        requires small { IsSmall self.old.state self.old.machine.rows }
+        requires inside { IsInputInside table.now input }
+        ensures alike { IsAlike self.new self.old }
+        ensures planned { IfOk result (λ planned. PlansStep table.now input.entry self.old planned) }
+        ensures can { IfOk result (λ planned. CanTake self.new planned) }
+        // The bytes of a letter are refused exactly where they break a rule, unless memory runs out.
+        ensures fault { IfErr result (λ fault. IsFault fault (fault_in self.old.identity.members input.entry)) }
+        ensures faulty { (fault : LetterFault) → fault_in self.old.identity.members input.entry ≡ Some fault → AnswersFault fault result }
+    {
+        let draft = self.core.draft(table, input)?;
+        let letters = self.core.letters(&draft)?;
+        self.core.reserve(&draft)?;
+        Ok(Planned { draft, letters })
+    }
+
+    /// Takes a step that it has planned. This needs no memory, and can't refuse.
+    pub fn complete(&mut self, table: &JobTable, planned: Planned) -> StepOut
+        requires of_table { IsOfTable table.now self.old }
+        requires small { IsSmall self.old.state self.old.machine.rows }
+        requires can { CanTake self.old planned }
+        ensures { (acts : List Act) → Plans self.old acts planned → Takes table.now self.old self.new acts result }
+    {
+        self.core.commit(table, planned.draft, planned.letters)
+    }
+
+    /// What the replica does at an input: a step planned, and taken at once.
+    ///
+    /// # Errors
+    ///
+    /// Bytes that are no letter, or want of memory. The replica is as it was.
+    pub fn step(&mut self, table: &JobTable, input: Input<'_>) -> Result<StepOut, StepFault>
+        requires of_table { IsOfTable table.now self.old }
+        requires small { IsSmall self.old.state self.old.machine.rows }
+        requires inside { IsInputInside table.now input }
+        ensures steps { IfOk result (λ out. Steps table.now input.entry self.old self.new out) }
+        ensures err { OnErr result (IsAlike self.new self.old) }
+        // The bytes of a letter are refused exactly where they break a rule, unless memory runs out.
+        ensures fault { IfErr result (λ fault. IsFault fault (fault_in self.old.identity.members input.entry)) }
+        ensures faulty { (fault : LetterFault) → fault_in self.old.identity.members input.entry ≡ Some fault → AnswersFault fault result }
+    {
+        let planned = self.plan(table, input)?;
+        Ok(self.complete(table, planned))
+    }
+}
