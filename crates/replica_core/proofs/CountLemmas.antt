@@ -1,6 +1,7 @@
 -- What becomes of the counts of a launch table as entries are applied.
-use Rattle.std.proofs.Common.{ℕ, ◌+◌, ◌<◌, List, inl, inr, arith, get_or}
-use Rattle.std.proofs.lemmas.List.Elements.{All-get_or, All-set, All-weaker}
+use Rattle.std.proofs.Common.{◌≡◌, ℕ, zero, suc, ◌+◌, ◌<◌, ◌≤◌, max, List, [], ◌∷◌, length, set, inl, inr, arith, get_or}
+use Rattle.std.proofs.lemmas.List.{get_or-set_same}
+use Rattle.std.proofs.lemmas.List.Elements.{All-cons, All-get_or, All-head, All-nil, All-set, All-tail, All-weaker}
 use Rattle.std.proofs.lemmas.Option.{slice_get_within}
 use Rattle.due_set.specs.Table.{Table}
 use Rattle.launch_machine.specs.Clerk.{Applies, closed_row, fresh_row, opened_row}
@@ -9,6 +10,7 @@ use Rattle.paxos_base.specs.declared.entry.Entry.TheVariants.{Noop, Start, End}
 use Rattle.paxos_base.specs.declared.entry.Kind.{Kind}
 use Rattle.paxos_base.specs.declared.entry.Kind.TheVariants.{Launch, Void}
 use Rattle.paxos_base.specs.declared.rows.JobRow.{JobRow}
+use Rattle.replica_core.specs.Counts.{count_ended, count_of, highest_count}
 use Rattle.replica_core.specs.Replica.{CountsBelow}
 
 -- each count of the row is below this
@@ -37,3 +39,59 @@ counts_applied table old (End job at kind) new n (inl (takes, e)) counts =
     let within = slice_get_within old job takes.row takes.is_row in
     let here : CountBelow n (get_or old job (fresh_row job)) = All-get_or (CountBelow n) old job (fresh_row job) within counts in
     rw e (All-set (CountBelow (n + 1)) old job (closed_row at kind (get_or old job (fresh_row job))) (closed_below n at kind (get_or old job (fresh_row job)) here) (counts_rise n old counts))
+
+-- ---- The highest count
+
+-- counts are below a limit where the highest is
+pub highest_below : (limit : ℕ) (rows : List JobRow) → 0 < limit → CountsBelow limit rows → highest_count rows < limit
+highest_below limit [] some counts = some
+highest_below limit (row ∷ rows) some counts =
+    let here = All-head (CountBelow limit) row rows counts in
+    let rest = highest_below limit rows some (All-tail (CountBelow limit) row rows counts) in
+    omega (arith, here.0, here.1, rest)
+
+pub all_below : (limit : ℕ) (rows : List JobRow) → highest_count rows < limit → CountsBelow limit rows
+all_below limit [] below = All-nil (CountBelow limit)
+all_below limit (row ∷ rows) below =
+    All-cons (CountBelow limit) row rows (omega (arith, below), omega (arith, below)) (all_below limit rows (omega (arith, below)))
+
+-- a row's count is no higher than the highest
+reached : (rows : List JobRow) (job : ℕ) (none : JobRow) → count_of none ≡ 0 → count_of (get_or rows job none) ≤ highest_count rows
+reached [] job none is = omega (arith, is)
+reached (row ∷ rows) zero none is = omega arith
+reached (row ∷ rows) (suc job) none is = let rest = reached rows job none is in omega (arith, rest)
+
+-- a row's count has risen
+highest-set : (rows : List JobRow) (job : ℕ) (row none : JobRow) → job < length rows → count_of (get_or rows job none) ≤ count_of row
+    → highest_count (set rows job row) ≡ max (highest_count rows) (count_of row)
+highest-set [] job row none within risen = absurd (omega (arith, within))
+highest-set (first ∷ rows) zero row none within risen = omega (arith, risen)
+highest-set (first ∷ rows) (suc job) row none within risen =
+    let rest = highest-set rows job row none (omega (arith, within)) risen in
+    rw rest (omega arith)
+
+closed_more : (at : _) (kind : Kind) (row : JobRow) → count_of row ≤ count_of (closed_row at kind row)
+closed_more at Launch row = omega arith
+closed_more at Void row = omega arith
+
+-- an entry raises no count but that of the job that it ends
+pub highest-applied : (table : Table) (old : List JobRow) (entry : Entry) (new : List JobRow) → Applies table old entry new
+    → highest_count new ≡ max (highest_count old) (count_ended new entry)
+highest-applied table old Noop new (inl (takes, e)) = absurd takes
+highest-applied table old Noop new (inr (not, e)) = rw e (omega arith)
+highest-applied table old (Start job at now) new (inr (not, e)) = rw e (omega arith)
+highest-applied table old (Start job at now) new (inl (takes, e)) =
+    let within = slice_get_within old job takes.row takes.is_row in
+    let row = get_or old job (fresh_row job) in
+    let raised = highest-set old job (opened_row at now row) (fresh_row job) within (omega arith) in
+    let before = reached old job (fresh_row job) (omega arith) in
+    rw e (omega (arith, raised, before))
+highest-applied table old (End job at kind) new (inr (not, e)) =
+    let before = reached old job (fresh_row job) (omega arith) in
+    rw e (omega (arith, before))
+highest-applied table old (End job at kind) new (inl (takes, e)) =
+    let within = slice_get_within old job takes.row takes.is_row in
+    let row = get_or old job (fresh_row job) in
+    let closed = closed_row at kind row in
+    let same : get_or (set old job closed) job (fresh_row job) ≡ closed = get_or-set_same old job closed (fresh_row job) within in
+    rw e (rw same (highest-set old job closed (fresh_row job) within (closed_more at kind row)))

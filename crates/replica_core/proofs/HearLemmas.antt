@@ -7,7 +7,6 @@ use Rattle.std.proofs.Math.Bool.{or-false}
 use Rattle.std.proofs.lemmas.List.{append-nil, drop_all, drop_more, length-drop, take_all}
 use Rattle.paxos_letter.specs.declared.packet.Packet.{Packet}
 use Rattle.paxos_letter.specs.declared.packet.Packet.TheVariants as packet
-use Rattle.learner_core.specs.Learner as learner
 use Rattle.term_core.specs.Term.{is_ended_by}
 use Rattle.term_core.specs.declared.term.Term.{Term}
 use Rattle.term_core.specs.declared.term.Term.TheVariants.{Follower, Candidate, Leader}
@@ -19,12 +18,13 @@ use Rattle.step_law.specs.Letters.{are_small, is_small}
 use Rattle.step_law.specs.Message.{Message, ballot_in, Prepare, Promise, Accept, Accepted, Nack, Known, AskFrom, Snap, Lead, Mention}
 use Rattle.step_law.specs.State.{Identity, State, prefix_of}
 use Rattle.step_law.specs.Step.{asks_change}
-use Rattle.replica_core.specs.Draft.{Desk, Does, Goes, IsKept, done, drafted, said_by}
+use Rattle.replica_draft.specs.Draft.{Desk, Goes, done, drafted, said_by}
+use Rattle.replica_core.specs.Lines.{Does, IsKept}
 use Rattle.replica_core.specs.Heard.{HearsBy, ballot_named, changes_asked, changes_in, hear_in, line_in, message_in, shows_gap_in}
 use Rattle.replica_core.specs.Replica.{DoesAsTerm, Flies, Makes, idle_desk, identity_of, kept_of, next_slot, state_of}
-use Rattle.replica_core.specs.declared.draft.Draft.{Draft}
+use Rattle.replica_draft.specs.declared.draft.Draft.{Draft}
 use Rattle.replica_core.specs.declared.parts.Core.{Core}
-use Rattle.replica_core.proofs.DraftLemmas.{done-append, done-nil}
+use Rattle.replica_draft.proofs.DraftLemmas.{done-append, done-nil}
 use Rattle.replica_core.proofs.LineLemmas.{drafted-prefix}
 
 -- a replica keeps what its parts keep

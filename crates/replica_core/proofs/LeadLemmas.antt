@@ -1,5 +1,5 @@
 -- How a replica comes to lead, and what a leader does.
-use Rattle.std.proofs.Common.{◌≡◌, ◌≢◌, ℕ, ◌+◌, ◌-◌, ◌<◌, ◌≤◌, ◌↔◌, true, false, Option, None, Some, List, [], ◌∷◌, ◌++◌, refl, sym, ap, ◌∙◌, inl, inr, arith, length, unwrap_or, IfOk, Result, Ok, Err, ℤ, leb, zero, suc, get_or, IsTrue, if◌then◌else◌}
+use Rattle.std.proofs.Common.{◌≡◌, ◌≢◌, ℕ, ◌+◌, ◌-◌, ◌<◌, ◌≤◌, ◌↔◌, true, false, Option, None, Some, List, [], ◌∷◌, ◌++◌, refl, sym, ap, ◌∙◌, inl, inr, arith, length, IfOk, Result, Ok, Err, ℤ, leb, zero, suc, get_or, IsTrue, if◌then◌else◌}
 use Rattle.std.specs.Prelude.{slice_get}
 use Rattle.std.proofs.lemmas.Bool.{le-leb, lt-leb, cases_Bool}
 use Rattle.std.proofs.lemmas.Bool.Decides.{leb_tells}
@@ -18,23 +18,23 @@ use Rattle.launch_machine.specs.declared.machine.Intent.{Intent}
 use Rattle.acceptor_core.specs.Acceptor.{AcceptorState}
 use Rattle.learner_core.specs.Learner.{LearnerState}
 use Rattle.learner_core.specs.Learner as learned
-use Rattle.term_core.specs.Term.{after_proposal, after_tick, answer_to_tick, best_votes, candidacy, is_fourth}
+use Rattle.term_core.specs.Term.{answer_to_tick, best_votes, candidacy, is_fourth}
 use Rattle.term_core.specs.declared.flight.Flight.{Flight}
 use Rattle.term_core.specs.declared.term.Term.{Term}
 use Rattle.term_core.specs.declared.term.Term.TheVariants.{Follower, Candidate, Leader}
 use Rattle.term_core.proofs.BestLemmas.{AllBelow, below_last}
-use Rattle.cluster_sched.specs.declared.row.SchedRow.{SchedRow}
-use Rattle.step_law.specs.Act.{Act, Call, Launch, Learn, Send, Stand, Wait, after_act}
+use Rattle.step_law.specs.Act.{Act, Launch, Learn, Send, Stand, Wait, after_act}
 use Rattle.step_law.specs.Folds.{calls_by, deltas_by, learnt_by}
 use Rattle.step_law.specs.Message.{Accept, Known, Others, Outside, Prepare}
 use Rattle.step_law.specs.Propose.{answer, campaign, end_if, is_open, lead_if, lead_on, next_ballot, propose, tick, vote_of, wait}
 use Rattle.step_law.specs.State.{Identity, State, prefix_of}
-use Rattle.replica_core.specs.Draft.{Chooses, Does, Goes, IsKept, Kept, done, drafted, said_by, with_best}
+use Rattle.replica_draft.specs.Draft.{Chooses, Goes, Kept, done, drafted, said_by, with_best}
+use Rattle.replica_core.specs.Lines.{Does, IsKept}
 use Rattle.replica_core.specs.Replica.{FliesAt, IsReady, IsWhole, Makes, identity_of, idle_desk, kept_of, next_slot, state_of}
 use Rattle.replica_core.specs.declared.parts.Core.{Core}
-use Rattle.replica_core.specs.declared.draft.Change.TheVariants.{Tried, Voted}
-use Rattle.replica_core.specs.declared.draft.Draft.{Draft}
-use Rattle.replica_core.proofs.DraftLemmas.{done-append, done-nil, drafted-learn, goes-on}
+use Rattle.replica_draft.specs.declared.draft.Change.TheVariants.{Tried}
+use Rattle.replica_draft.specs.declared.draft.Draft.{Draft}
+use Rattle.replica_draft.proofs.DraftLemmas.{done-append, done-nil, drafted-learn, goes-on}
 use Rattle.replica_core.proofs.LineLemmas.{done_as, drafted-prefix}
 
 -- ---- The votes that bind
@@ -79,52 +79,6 @@ bound-last slot votes last rise is = elim (leb_tells slot last.slot) [
       let none : votes_from slot votes ≡ [] = from-none slot votes (below_last slot votes rise (λ d. rw (get_or_from_slice_get votes (length votes - 1) last d (sym is)) past.1)) in
       rw past.0 (λ no. absurd cc, λ bound. absurd (bound none))
 ]
-
--- ---- The verbs of a leader
-
-with_best-after_proposal : (best : List Vote) (slot : ℕ) (entry : Entry) (me : ℕ) (term : Term) → with_best best (after_proposal slot entry me term) ≡ after_proposal slot entry me (with_best best term)
-with_best-after_proposal best slot entry me (Follower ended) = refl
-with_best-after_proposal best slot entry me (Candidate own first heard votes) = refl
-with_best-after_proposal best slot entry me (Leader own votes None) = refl
-with_best-after_proposal best slot entry me (Leader own votes (Some flight)) = refl
-
-with_best-after_tick : (best : List Vote) (term : Term) → with_best best (after_tick term) ≡ after_tick (with_best best term)
-with_best-after_tick best (Follower ended) = refl
-with_best-after_tick best (Candidate own first heard votes) = refl
-with_best-after_tick best (Leader own votes None) = refl
-with_best-after_tick best (Leader own votes (Some flight)) = refl
-
-pub drafted-launch : (kept : Kept) (old : Draft) (term : Term) (me : ℕ) (vote : Vote) → old.change ≡ None → term ≡ after_proposal vote.slot vote.entry me old.term
-    → drafted kept (record old { term = term; change = Some (Voted vote) }) ≡ done (Launch me vote ∷ []) (drafted kept old)
-unfolding after_act deltas_by learnt_by said_by calls_by
-drafted-launch kept old term me vote none is =
-    rw (
-      none,
-      is,
-      with_best-after_proposal (unwrap_or old.best kept.best) vote.slot vote.entry me old.term,
-      append-nil old.learnt.items,
-      append-nil (drafted kept old).said,
-      append-nil (drafted kept old).calls,
-    ) refl
-
-pub drafted-wait : (kept : Kept) (old : Draft) (term : Term) → term ≡ after_tick old.term
-    → drafted kept (record old { term = term }) ≡ done (Wait ∷ []) (drafted kept old)
-unfolding after_act deltas_by learnt_by said_by calls_by
-drafted-wait kept old term is =
-    rw (
-      is,
-      with_best-after_tick (unwrap_or old.best kept.best) old.term,
-      append-nil (drafted kept old).deltas,
-      append-nil (drafted kept old).learnt,
-      append-nil (drafted kept old).said,
-      append-nil (drafted kept old).calls,
-    ) refl
-
-pub drafted-call : (kept : Kept) (old : Draft) (row : SchedRow) → old.call ≡ None
-    → drafted kept (record old { call = Some row }) ≡ done (Call row ∷ []) (drafted kept old)
-unfolding after_act deltas_by learnt_by said_by calls_by
-drafted-call kept old row none =
-    rw (none, append-nil (drafted kept old).deltas, append-nil (drafted kept old).learnt, append-nil (drafted kept old).said) refl
 
 -- ---- From a step in which nothing was done
 

@@ -1,15 +1,11 @@
-pub mod AskLemmas
-pub mod BoundLemmas
 pub mod CountLemmas
-pub mod DraftLemmas
-pub mod GroupLemmas
 pub mod HearLemmas
+pub mod IntentLemmas
 pub mod LeadLemmas
 pub mod LearnLemmas
-pub mod LetterLemmas
 pub mod LineLemmas
 pub mod OnceLemmas
+pub mod OutcomeLemmas
 pub mod PlanLemmas
-pub mod SendLemmas
 pub mod StoreLemmas
 pub mod WholeLemmas

@@ -1,6 +1,6 @@
 -- What each line of the table comes to, by what the acceptor and the learner say.
-use Rattle.std.proofs.Common.{◌≡◌, ℕ, ◌+◌, ◌-◌, ◌<◌, ◌≤◌, Bool, true, false, Option, None, Some, List, [], ◌∷◌, ◌++◌, map, refl, sym, ap, ◌∙◌, inl, inr, arith, length, length-append, drop, unwrap_or, leb, ltb, eqb, ◌&&◌, max, zero, suc, IfSome, IsSomeAnd, OnOk, Result}
-use Rattle.std.proofs.lemmas.Bool.{le-leb, lt-leb, lt-ltb, le-ltb, eq-eqb, ne_eqb, cases_Bool, eqb-true}
+use Rattle.std.proofs.Common.{◌≡◌, ℕ, ◌+◌, ◌-◌, ◌<◌, ◌≤◌, Bool, true, false, Option, None, Some, List, [], ◌∷◌, ◌++◌, refl, sym, ap, ◌∙◌, inl, inr, arith, length, length-append, drop, unwrap_or, leb, ltb, eqb, ◌&&◌, max, zero, suc, IsSomeAnd}
+use Rattle.std.proofs.lemmas.Bool.{le-leb, lt-leb, lt-ltb, le-ltb, eq-eqb, ne_eqb, cases_Bool}
 use Rattle.std.proofs.lemmas.List.{length-map, length-drop, drop_all, map-append, append-nil}
 use Rattle.paxos_base.specs.Durable.{after_delta}
 use Rattle.paxos_base.specs.Vote.{vote_at, votes_from}
@@ -18,17 +18,18 @@ use Rattle.term_core.specs.declared.term.Term.{Term}
 use Rattle.term_core.specs.declared.term.Term.TheVariants.{Follower, Candidate, Leader}
 use Rattle.step_law.specs.Folds.{calls_by, deltas_by, learnt_by}
 use Rattle.step_law.specs.Act.{Act, Cast, Count, Learn, Pledge, Send, after_act}
-use Rattle.step_law.specs.Hear.{ask_below, cast_new, is_vote_of, known_from, on_accept, on_accepted, on_ask, on_known, on_prepare, on_promise, send_all}
-use Rattle.step_law.specs.Message.{Accepted, AskFrom, Known, Nack, Only, Others, Promise}
+use Rattle.step_law.specs.Hear.{ask_below, is_vote_of, known_from, on_accept, on_accepted, on_ask, on_known, on_prepare, on_promise, send_all}
+use Rattle.step_law.specs.Message.{AskFrom, Known, Nack, Only, Others, Promise}
 use Rattle.step_law.specs.State.{State, prefix_of, promised_in}
 use Rattle.step_law.specs.declared.out.LearntRow.{LearntRow}
-use Rattle.replica_core.specs.Draft.{Chooses, Desk, Does, Goes, IsKept, Kept, LearnsNext, cast_vote, done, drafted, durable_of, entries_in, said_by, tell_vote, with_best}
+use Rattle.replica_draft.specs.Draft.{Chooses, Desk, Goes, Kept, LearnsNext, done, drafted, durable_of, entries_in, said_by, with_best}
+use Rattle.replica_core.specs.Lines.{Does, IsKept, cast_vote, tell_vote}
 use Rattle.replica_core.specs.Replica.{DoesAsTerm, Flies, best_in, next_slot}
 use Rattle.replica_core.specs.declared.parts.Core.{Core}
-use Rattle.replica_core.specs.declared.draft.Change.{Change}
-use Rattle.replica_core.specs.declared.draft.Change.TheVariants as change
-use Rattle.replica_core.specs.declared.draft.Draft.{Draft}
-use Rattle.replica_core.proofs.DraftLemmas.{done-append, done-nil, drafted-learn, goes-on}
+use Rattle.replica_draft.specs.declared.draft.Change.{Change}
+use Rattle.replica_draft.specs.declared.draft.Change.TheVariants as change
+use Rattle.replica_draft.specs.declared.draft.Draft.{Draft}
+use Rattle.replica_draft.proofs.DraftLemmas.{done-append, done-nil, drafted-learn, goes-on}
 
 -- the same acts, called otherwise
 pub done_as : (desk : Desk) (acts these : List Act) → acts ≡ these → done these desk ≡ done acts desk

@@ -1,5 +1,5 @@
 -- What a letter that was read is heard as, and what of a draft its letters need.
-use Rattle.std.proofs.Common.{◌≡◌, ℕ, ◌<◌, ltb, Bool, true, false, List, [], ◌∷◌, map, refl, sym, ap, ◌∙◌, Result, Ok, Err, IfOk, length, ℤ, Bor}
+use Rattle.std.proofs.Common.{◌≡◌, ℕ, ◌<◌, ltb, true, false, List, [], ◌∷◌, map, refl, sym, ap, ◌∙◌, length, ℤ, Bor}
 use Rattle.std.proofs.lemmas.Bool.{and_parts, ltb-true}
 use Rattle.paxos_letter.specs.Letters.{Spells}
 use Rattle.paxos_letter.specs.Spelling.{fields_of}
@@ -16,17 +16,12 @@ use Rattle.zone_minutes.specs.declared.minute.Minute.{Minute}
 use Rattle.launch_machine.specs.Answers.{IsIntent}
 use Rattle.launch_machine.specs.declared.machine.Intent.{Intent}
 use Rattle.replica_core.specs.declared.input.Input.TheVariants as input
-use Rattle.replica_core.specs.Draft.{done, drafted, said_in, said_of}
+use Rattle.replica_draft.specs.Draft.{drafted, said_in, said_of}
 use Rattle.replica_core.specs.Replica.{Makes, identity_of, idle_desk, kept_of, state_of}
 use Rattle.replica_core.specs.Step.{Hears, MakesStep}
-use Rattle.replica_core.specs.declared.draft.Draft.{Draft}
+use Rattle.replica_draft.specs.declared.draft.Draft.{Draft}
 use Rattle.replica_core.specs.declared.parts.Core.{Core}
-use Rattle.replica_core.proofs.DraftLemmas.{done-nil}
-
--- what holds of a result's value, by what else holds of it
-pub if_ok : {X E : Type 0} (result : Result X E) (P Q : X → Type 0) → ((x : X) → P x → Q x) → IfOk result P → IfOk result Q
-if_ok (Ok value) P Q then_so holds = then_so value holds
-if_ok (Err fault) P Q then_so holds = tt
+use Rattle.replica_draft.proofs.DraftLemmas.{done-nil}
 
 -- a packet's fields name the replica that it is from
 named : (from : ℕ) (packet : Packet) → (fields_of from packet).from ≡ from

@@ -7,9 +7,9 @@ use Rattle.paxos_base.specs.Ballot.{round_of}
 use Rattle.paxos_base.specs.Durable.{after_delta}
 use Rattle.acceptor_core.specs.Acceptor.{AcceptorState, IsPart}
 use Rattle.replica_core.specs.Commit.{kept_by}
-use Rattle.replica_core.specs.Draft.{delta_of, durable_of}
-use Rattle.replica_core.specs.declared.draft.Change.{Change}
-use Rattle.replica_core.specs.declared.draft.Change.TheVariants.{Tried, Promised, Voted}
+use Rattle.replica_draft.specs.Draft.{delta_of, durable_of}
+use Rattle.replica_draft.specs.declared.draft.Change.{Change}
+use Rattle.replica_draft.specs.declared.draft.Change.TheVariants.{Tried, Promised, Voted}
 
 -- the highest round of a ballot of its own, after a change
 abbrev pub tried_after : Change → ℕ → ℕ

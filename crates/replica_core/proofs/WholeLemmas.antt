@@ -1,17 +1,17 @@
 -- What holds of each replica holds of it after a step.
-use Rattle.std.proofs.Common.{◌≡◌, ℕ, ◌+◌, Option, None, Some, List, ◌++◌, refl, sym, ap, ◌∙◌, arith, length, length-append, unwrap_or}
+use Rattle.std.proofs.Common.{◌≡◌, ℕ, ◌+◌, None, Some, List, ◌++◌, refl, ap, ◌∙◌, arith, length, length-append, unwrap_or}
 use Rattle.std.proofs.lemmas.List.{length-map}
 use Rattle.paxos_base.specs.declared.entry.Vote.{Vote}
-use Rattle.term_core.specs.declared.flight.Flight.{Flight}
 use Rattle.term_core.specs.Term.{best_votes}
 use Rattle.term_core.specs.declared.term.Term.{Term}
 use Rattle.term_core.specs.declared.term.Term.TheVariants.{Follower, Candidate, Leader}
 use Rattle.learner_core.specs.Learner as learner
 use Rattle.step_law.specs.State.{prefix_of}
 use Rattle.step_law.specs.declared.out.LearntRow.{LearntRow}
-use Rattle.replica_core.specs.Draft.{drafted, entries_in, with_best}
+use Rattle.replica_draft.specs.Draft.{drafted, entries_in, with_best}
+use Rattle.replica_core.specs.Counts.{highest_count}
 use Rattle.replica_core.specs.Replica.{FliesAt, IsWhole, identity_of, kept_of, state_of}
-use Rattle.replica_core.specs.declared.draft.Draft.{Draft}
+use Rattle.replica_draft.specs.declared.draft.Draft.{Draft}
 use Rattle.replica_core.specs.declared.parts.Core.{Core}
 use Rattle.replica_core.proofs.LineLemmas.{base_stays}
 
@@ -23,8 +23,9 @@ flies_bound slot best (Leader ballot votes None) flies = flies
 flies_bound slot best (Leader ballot votes (Some flight)) flies = flies
 
 pub whole_after : (old new : Core) (draft : Draft) → IsWhole old → state_of new ≡ (drafted (kept_of old) draft).state → identity_of new ≡ identity_of old
-    → new.learner.base ≡ new.acceptor.base → FliesAt (prefix_of (state_of old) + length draft.learnt.items) draft.term → IsWhole new
-whole_after old new draft whole state identity base flies =
+    → new.learner.base ≡ new.acceptor.base → FliesAt (prefix_of (state_of old) + length draft.learnt.items) draft.term
+    → new.high_count ≡ highest_count new.machine.rows → IsWhole new
+whole_after old new draft whole state identity base flies counts =
     let me : new.me ≡ old.me = ap (λ identity. identity.me) identity in
     let members : new.members ≡ old.members = ap (λ identity. identity.members) identity in
     let entries : new.learner.entries ≡ old.learner.entries ++ entries_in draft.learnt.items = ap (λ state. state.learned) state in
@@ -38,4 +39,5 @@ whole_after old new draft whole state identity base flies =
       few = rw members whole.few;
       base = base;
       flies = rw (next, term) (flies_bound (prefix_of (state_of old) + length draft.learnt.items) (unwrap_or draft.best (best_votes old.term)) draft.term flies);
+      counts = counts;
     }

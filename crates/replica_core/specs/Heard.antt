@@ -8,10 +8,10 @@ use Rattle.step_law.specs.Hear.{hear, line}
 use Rattle.step_law.specs.Heard.{row_in, vote_in}
 use Rattle.step_law.specs.Message.{Message, Prepare, Promise, Accept, Accepted, Nack, Known, AskFrom, Snap, Lead, Mention}
 use Rattle.step_law.specs.State.{State, Identity, prefix_of}
-use Rattle.replica_core.specs.Draft.{done, drafted}
+use Rattle.replica_draft.specs.Draft.{done, drafted}
 use Rattle.replica_core.specs.Replica.{kept_of}
-use Rattle.replica_core.specs.declared.draft.Change.{Change}
-use Rattle.replica_core.specs.declared.draft.Draft.{Draft}
+use Rattle.replica_draft.specs.declared.draft.Change.{Change}
+use Rattle.replica_draft.specs.declared.draft.Draft.{Draft}
 use Rattle.replica_core.specs.declared.parts.Core.{Core}
 
 -- the message that a packet is heard as, with the packets behind it: a row of a copy is heard with its copy alone

@@ -1,6 +1,7 @@
 pub mod Commit
-pub mod Draft
+pub mod Counts
 pub mod Heard
-pub mod Letters
+pub mod Lines
+pub mod Outcome
 pub mod Replica
 pub mod Step

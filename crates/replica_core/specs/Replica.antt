@@ -9,17 +9,17 @@ use Rattle.acceptor_core.specs.Acceptor as acceptor
 use Rattle.learner_core.specs.Learner.{LearnerState}
 use Rattle.learner_core.specs.Learner as learner
 use Rattle.term_core.specs.Term.{best_votes}
-use Rattle.term_core.specs.declared.flight.Flight.{Flight}
 use Rattle.term_core.specs.declared.term.Term.{Term}
-use Rattle.term_core.specs.declared.term.Term.TheVariants.{Follower, Candidate, Leader}
-use Rattle.launch_machine.specs.Machine.{Launches, StandsFor}
-use Rattle.due_set.specs.Table.{Table}
+use Rattle.term_core.specs.declared.term.Term.TheVariants.{Leader}
+use Rattle.launch_machine.specs.Machine.{Launches}
 use Rattle.step_law.specs.State.{State, Identity, prefix_of}
 use Rattle.step_law.specs.Act.{Act}
-use Rattle.replica_core.specs.Draft.{Desk, IsKept, Kept, delta_of, done, drafted}
+use Rattle.replica_draft.specs.Draft.{Desk, Kept, delta_of, done, drafted}
+use Rattle.replica_core.specs.Lines.{IsKept}
+use Rattle.replica_core.specs.Counts.{highest_count}
 use Rattle.replica_core.specs.declared.parts.Core.{Core}
-use Rattle.replica_core.specs.declared.draft.Change.{Change}
-use Rattle.replica_core.specs.declared.draft.Draft.{Draft}
+use Rattle.replica_draft.specs.declared.draft.Change.{Change}
+use Rattle.replica_draft.specs.declared.draft.Draft.{Draft}
 
 -- what a replica keeps on its disk
 abbrev pub durable_in : Core → Durable
@@ -36,13 +36,40 @@ durable_in core =
 abbrev pub state_of : Core → State
 state_of core = record { kept = durable_in core; learned = core.learner.entries; term = core.term; seen = core.seen }
 
--- what a draft of a replica doesn't change
-abbrev pub kept_of : Core → Kept
-kept_of core = record { durable = durable_in core; learned = core.learner.entries; best = best_votes core.term }
-
 -- which replica it is
 abbrev pub identity_of : Core → Identity
 identity_of core = record { me = core.me; members = core.members }
+
+-- a replica: which one it is, what it knows, its launch table, and for how many votes and entries more it has room
+pub record ReplicaState : Type 0 where
+  pub identity : Identity
+  pub state : State
+  pub machine : Launches
+  pub votes_room : ℕ
+  pub entries_room : ℕ
+
+-- a replica as its callers see it
+abbrev pub replica_of : Core → ReplicaState
+replica_of core =
+    record {
+      identity = identity_of core;
+      state = state_of core;
+      machine = core.machine;
+      votes_room = core.acceptor.spare;
+      entries_room = core.learner.spare;
+    }
+
+-- what a planned step doesn't change
+abbrev pub kept_in : ReplicaState → Kept
+kept_in replica = record { durable = replica.state.kept; learned = replica.state.learned; best = best_votes replica.state.term }
+
+-- a step in which nothing was done yet
+abbrev pub idle_in : ReplicaState → Desk
+idle_in replica = record { state = replica.state; deltas = []; learnt = []; said = []; calls = [] }
+
+-- what a draft of a replica doesn't change
+abbrev pub kept_of : Core → Kept
+kept_of core = kept_in (replica_of core)
 
 -- one replica is as another, but for the room that it has
 pub record IsAlikeCore (one other : Core) : Type 0 where
@@ -55,6 +82,7 @@ pub record IsAlikeCore (one other : Core) : Type 0 where
   pub machine : one.machine ≡ other.machine
   pub term : one.term ≡ other.term
   pub seen : one.seen ≡ other.seen
+  pub high_count : one.high_count ≡ other.high_count
 
 -- for how many votes a change needs room
 abbrev pub votes_of : Option Change → ℕ
@@ -97,9 +125,9 @@ abbrev pub DoesAsTerm : Core → Draft → Draft → (Term → List Act) → Typ
 DoesAsTerm core old new acts =
     (kept : Kept) → IsKept core.acceptor core.learner kept → kept.best ≡ best_votes core.term → drafted kept new ≡ done (acts (drafted kept old).state.term) (drafted kept old)
 
--- a step in which nothing was done yet
+-- a step of a replica in which nothing was done yet
 abbrev pub idle_desk : Core → Desk
-idle_desk core = record { state = state_of core; deltas = []; learnt = []; said = []; calls = [] }
+idle_desk core = idle_in (replica_of core)
 
 -- a draft does just these acts
 abbrev pub Makes : Core → List Act → Draft → Type 0
@@ -113,13 +141,14 @@ pub record IsSmall (state : State) (rows : List JobRow) : Type 0 where
   pub prefix : prefix_of state < 2 ^ 62
   pub counts : CountsBelow (2 ^ 31) rows
 
--- what holds of each replica: it is one of its members, its parts begin at one slot, and a flight stands at the first slot that
--- isn't learned
+-- what holds of each replica: it is one of its members, its parts begin at one slot, a flight stands at the first slot that isn't
+-- learned, and the highest count of its launch table is known
 pub record IsWhole (core : Core) : Type 0 where
   pub me : core.me < core.members
   pub few : core.members ≤ 7
   pub base : core.learner.base ≡ core.acceptor.base
   pub flies : FliesAt (learner.prefix_of core.learner) core.term
+  pub counts : core.high_count ≡ highest_count core.machine.rows
 
 -- a draft can be taken: its flight stands where it should, and it has learned few entries
 pub record IsReady (core : Core) (draft : Draft) : Type 0 where

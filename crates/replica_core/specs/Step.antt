@@ -1,26 +1,25 @@
 -- A step of a replica: what it is told, and what comes of it.
-use Rattle.std.specs.Prelude.{◌≡◌, ◌⊎◌, ℕ, ◌+◌, ◌<◌, ◌≤◌, ◌^◌, List, [], length, Option, None, Some, Result, Ok, Err, ⊤, ℤ, false}
+use Rattle.std.specs.Prelude.{◌≡◌, ◌⊎◌, ℕ, ◌+◌, ◌<◌, ◌≤◌, ◌^◌, List, length, Option, None, Some, Result, Err, ⊤, ℤ, false}
 use Rattle.std.specs.Option.{option_to_list}
 use Rattle.paxos_letter.specs.Letters.{fault_of}
 use Rattle.paxos_letter.specs.declared.fault.LetterFault.{LetterFault}
-use Rattle.term_core.specs.Term.{best_votes}
 use Rattle.zone_minutes.specs.Window.{IsInWindow}
 use Rattle.due_set.specs.Table.{Table}
 use Rattle.launch_machine.specs.Answers.{IsIntent}
 use Rattle.launch_machine.specs.Clerk.{AppliesAll}
-use Rattle.launch_machine.specs.Machine.{Launches, StandsFor}
+use Rattle.launch_machine.specs.Machine.{StandsFor}
 use Rattle.step_law.specs.Act.{Act}
 use Rattle.step_law.specs.Folds.{after_acts, calls_of, deltas_of, learnt_of}
 use Rattle.step_law.specs.Hear.{hear_all}
 use Rattle.step_law.specs.Letters.{IsHeardAs}
 use Rattle.step_law.specs.Message.{Message}
-use Rattle.step_law.specs.State.{Identity, State, prefix_of}
+use Rattle.step_law.specs.State.{prefix_of}
 use Rattle.step_law.specs.Step.{Event, Plan, step}
 use Rattle.step_law.specs.Step as told
-use Rattle.replica_core.specs.Draft.{Desk, Kept, done, drafted, entries_in}
-use Rattle.replica_core.specs.Letters.{AreLettersFrom}
-use Rattle.replica_core.specs.Replica.{FliesAt, Makes, identity_of, state_of, votes_of}
-use Rattle.replica_core.specs.declared.draft.Draft.{Draft}
+use Rattle.replica_draft.specs.Draft.{done, drafted, entries_in}
+use Rattle.replica_draft.specs.Letters.{AreLettersFrom}
+use Rattle.replica_core.specs.Replica.{FliesAt, Makes, ReplicaState, identity_of, idle_in, kept_in, replica_of, state_of, votes_of}
+use Rattle.replica_draft.specs.declared.draft.Draft.{Draft}
 use Rattle.replica_core.specs.declared.input.Input.{Input}
 use Rattle.replica_core.specs.declared.input.Input.TheVariants.{Campaign, Tick, Hear, Answer}
 use Rattle.replica_core.specs.declared.input.StepFault.{StepFault}
@@ -28,14 +27,6 @@ use Rattle.replica_core.specs.declared.input.StepFault.TheVariants.{Letter, OutO
 use Rattle.replica_core.specs.declared.out.StepOut.{StepOut}
 use Rattle.replica_core.specs.declared.parts.Core.{Core}
 use Rattle.replica_core.specs.declared.replica.Planned.{Planned}
-
--- a replica: which one it is, what it knows, its launch table, and for how many votes and entries more it has room
-pub record ReplicaState : Type 0 where
-  pub identity : Identity
-  pub state : State
-  pub machine : Launches
-  pub votes_room : ℕ
-  pub entries_room : ℕ
 
 -- one replica is as another, but for the room that it has
 pub record IsAlike (one other : ReplicaState) : Type 0 where
@@ -82,25 +73,6 @@ pub record Steps (table : Table) (input : Input) (old new : ReplicaState) (out :
   pub event : Event
   pub event_is : IsEventOf table old input event
   pub took : Takes table old new (step old.identity event old.state) out
-
--- a replica as its callers see it
-abbrev pub replica_of : Core → ReplicaState
-replica_of core =
-    record {
-      identity = identity_of core;
-      state = state_of core;
-      machine = core.machine;
-      votes_room = core.acceptor.spare;
-      entries_room = core.learner.spare;
-    }
-
--- what a planned step doesn't change
-abbrev pub kept_in : ReplicaState → Kept
-kept_in replica = record { durable = replica.state.kept; learned = replica.state.learned; best = best_votes replica.state.term }
-
--- a step in which nothing was done yet
-abbrev pub idle_in : ReplicaState → Desk
-idle_in replica = record { state = replica.state; deltas = []; learnt = []; said = []; calls = [] }
 
 -- a draft does just what the replica does at an input
 pub record MakesStep (table : Table) (input : Input) (core : Core) (draft : Draft) : Type 0 where

@@ -1,12 +1,12 @@
 //! A step before anything was done in it.
 ghost use Rattle.std.specs.Prelude.{◌≡◌, None, []};
 ghost use Rattle.term_core.specs.Term.{best_votes};
-ghost use Rattle.replica_core.specs.Draft.{drafted, with_best};
+ghost use Rattle.replica_draft.specs.Draft.{drafted, with_best};
 ghost use Rattle.replica_core.specs.Replica.{idle_desk, kept_of};
 
-use crate::draft::Draft;
 use crate::parts::Core;
 use paxos_base::VoteList;
+use replica_draft::{Draft, SendList};
 use std::alloc::Global;
 use term_core::Term;
 
@@ -54,7 +54,7 @@ impl Core {
             best: None,
             change: None,
             learnt: Vec::new(self.alloc),
-            sends: Vec::new(self.alloc),
+            sends: SendList::new(self.alloc),
             call: None,
         }
     }

@@ -1,11 +1,10 @@
 //! The bounds that a replica counts with: a letter beyond them is heard as one without packets.
 ghost use Rattle.std.specs.Prelude.{◌≡◌, ◌↔◌, ◌^◌, IsTrue};
-ghost use Rattle.launch_machine.specs.Machine.{StandsFor};
 ghost use Rattle.step_law.specs.Letters.{are_small, is_small, is_small_ballot, is_small_letter, is_small_row, is_small_slot};
+ghost use Rattle.replica_core.specs.Counts.{highest_count};
 ghost use Rattle.replica_core.specs.Replica.{CountsBelow, IsSmall, IsWhole, state_of};
 
 use crate::parts::Core;
-use due_set::JobTable;
 use paxos_base::{Ballot, JobRow};
 use paxos_letter::Packet;
 
@@ -71,27 +70,21 @@ pub fn is_small_letter(jobs: u32, packets: &[Packet]) -> bool
 
 impl Core {
     /// Whether the numbers of the replica are within the bounds that a step needs.
-    pub fn is_small(&self, table: &JobTable) -> bool
-        requires whole { IsWhole self.now }
-        requires stands { StandsFor table.now self.now.machine }
+    pub fn is_small(&self) -> bool
+        requires { IsWhole self.now }
         ensures { IsTrue result ↔ IsSmall (state_of self.now) self.now.machine.rows }
     {
         self.tried < 1 << 59
             && self.seen / 8 < 1 << 59
             && self.learner.prefix() < 1 << 62
-            && self.has_small_counts(table)
+            && self.has_small_counts()
     }
 
     // Whether each count of the launch table is.
-    fn has_small_counts(&self, table: &JobTable) -> bool
-        requires { StandsFor table.now self.now.machine }
+    fn has_small_counts(&self) -> bool
+        requires { self.now.high_count ≡ highest_count self.now.machine.rows }
         ensures { IsTrue result ↔ CountsBelow (2 ^ 31) self.now.machine.rows }
     {
-        for job in 0..table.jobs() {
-            if !is_small_row(&self.machine.row(job)) {
-                return false;
-            }
-        }
-        true
+        self.high_count < 1 << 31
     }
 }

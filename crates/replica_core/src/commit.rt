@@ -11,18 +11,19 @@ ghost use Rattle.paxos_base.specs.declared.rows.JobRow.{JobRow};
 ghost use Rattle.step_law.specs.State.{prefix_of, started};
 ghost use Rattle.term_core.specs.Term.{best_votes};
 ghost use Rattle.replica_core.specs.Commit.{kept_by};
-ghost use Rattle.replica_core.specs.Draft.{delta_of, drafted, durable_of, entries_in, with_best};
+ghost use Rattle.replica_core.specs.Counts.{count_ended, count_of, highest_count};
+ghost use Rattle.replica_draft.specs.Draft.{delta_of, drafted, durable_of, entries_in, with_best};
 ghost use Rattle.replica_core.specs.Replica.{CountsBelow, HasRoomFor, IsAlikeCore, identity_of, kept_of, state_of, votes_of};
 
-use crate::draft::{Change, Draft};
-use crate::out::{LearntList, LetterList, StepOut};
+use crate::out::{LearntList, StepOut};
 use crate::parts::Core;
 use acceptor_core::Acceptor;
 use cron_io::OutOfMemory;
 use due_set::JobTable;
 use launch_machine::Machine;
 use learner_core::Learner;
-use paxos_base::{Ballot, Delta, Durable, Entry, RowList, VoteList};
+use paxos_base::{Ballot, Delta, Durable, Entry, JobRow, RowList, VoteList};
+use replica_draft::{Change, Draft, LetterList};
 use std::alloc::Global;
 use std::mem;
 use step_law::LearntRow;
@@ -46,10 +47,12 @@ impl Core {
         ensures stands { IfOk result (λ core. StandsFor table.now core.machine) }
         ensures rows { IfOk result (λ core. core.machine.rows ≡ durable.rows) }
         ensures base { IfOk result (λ core. core.learner.base ≡ core.acceptor.base) }
+        ensures counts { IfOk result (λ core. core.high_count ≡ highest_count core.machine.rows) }
     {
         let alloc = *durable.votes.items.allocator();
         let machine = machine_of(alloc, table, &durable.rows)?;
         let seen = seen_at_start(me, durable.tried, durable.promised);
+        let high_count = highest_count(&durable.rows.items);
         Ok(Core {
             alloc,
             me,
@@ -61,6 +64,8 @@ impl Core {
             machine,
             term: Term::Follower { ended: None },
             seen,
+            high_count,
+            packets: Vec::new(alloc),
         })
     }
 
@@ -79,6 +84,8 @@ impl Core {
             machine: self.machine.copy()?,
             term: self.term.copy()?,
             seen: self.seen,
+            high_count: self.high_count,
+            packets: Vec::new(self.alloc),
         })
     }
 
@@ -107,6 +114,7 @@ impl Core {
         ensures stands { StandsFor table.now self.new.machine }
         ensures identity { identity_of self.new ≡ identity_of self.old }
         ensures base { self.new.learner.base ≡ self.new.acceptor.base }
+        ensures counts { self.old.high_count ≡ highest_count self.old.machine.rows → self.new.high_count ≡ highest_count self.new.machine.rows }
         ensures alloc { self.new.alloc ≡ self.old.alloc }
         ensures delta { result.delta ≡ option_map delta_of draft.change }
         ensures letters { result.letters ≡ letters }
@@ -114,7 +122,8 @@ impl Core {
         ensures call { result.call ≡ draft.call }
     {
         let delta = store(&mut self.tried, &mut self.acceptor, draft.change);
-        learn_all(&mut self.learner, &mut self.machine, table, &draft.learnt);
+        let ended = learn_all(&mut self.learner, &mut self.machine, table, &draft.learnt);
+        self.high_count = self.high_count.max(ended);
         let old = mem::replace(&mut self.term, draft.term);
         let best = draft.best.unwrap_or(best_votes(self.alloc, old));
         bind(&mut self.term, best);
@@ -145,8 +154,14 @@ fn store(tried: &mut u64, acceptor: &mut Acceptor, change: Option<Change>) -> Op
     Some(delta)
 }
 
-// Learns entries, one after another, and applies each to the launch table.
-fn learn_all(learner: &mut Learner, machine: &mut Machine, table: &JobTable, rows: &[LearntRow])
+// Learns entries, one after another, and applies each to the launch table. Answers the highest count of a job that one of them
+// has ended.
+fn learn_all(
+    learner: &mut Learner,
+    machine: &mut Machine,
+    table: &JobTable,
+    rows: &[LearntRow],
+) -> u32
     requires room { length rows.now ≤ learner.old.spare }
     requires few { length rows.now < 2 ^ 31 }
     requires prefix { learned.prefix_of learner.old < 2 ^ 62 }
@@ -156,10 +171,49 @@ fn learn_all(learner: &mut Learner, machine: &mut Machine, table: &JobTable, row
     ensures entries { learner.new.entries ≡ learner.old.entries ++ entries_in rows.now }
     ensures machine { AppliesAll table.now machine.old.rows (entries_in rows.now) machine.new.rows }
     ensures stands { StandsFor table.now machine.new }
+    ensures ended { highest_count machine.new.rows ≡ max (highest_count machine.old.rows) result }
 {
+    let mut ended: u32 = 0;
     for row in rows {
         learn(learner, row.entry);
         machine.apply(table, row.entry);
+        ended = ended.max(count_ended(machine, table, row.entry));
+    }
+    ended
+}
+
+// The count of a row.
+fn count_of(row: &JobRow) -> u32
+    ensures { result ≡ count_of row.now }
+{
+    row.launched.max(row.voided)
+}
+
+// The highest count of rows.
+fn highest_count(rows: &[JobRow]) -> u32
+    ensures { result ≡ highest_count rows.now }
+{
+    let mut high = 0;
+    for row in rows {
+        high = high.max(count_of(row));
+    }
+    high
+}
+
+// The count of the job that an entry ends, or 0.
+fn count_ended(machine: &Machine, table: &JobTable, entry: Entry) -> u32
+    requires { StandsFor table.now machine.now }
+    ensures { result ≡ count_ended machine.now.rows entry }
+{
+    match entry {
+        Entry::End { job, .. } => {
+            if job < table.jobs() {
+                count_of(&machine.row(job))
+            } else {
+                0
+            }
+        }
+        Entry::Noop | Entry::Start { .. } => 0,
     }
 }
 

@@ -1,47 +1,22 @@
 //! How a replica hears a letter: its packets one after another, each by its line of the table.
-ghost use Rattle.std.specs.Prelude.{◌≡◌, ℕ, ◌+◌, ◌^◌, ◌<◌, ◌≤◌, Bool, true, false, IfOk, OnOk, [], ◌∷◌, length, take, unwrap_or};
-ghost use Rattle.std.specs.List.{count_by, flat_map};
+ghost use Rattle.std.specs.Prelude.{◌≡◌, ℕ, ◌+◌, ◌^◌, ◌<◌, ◌≤◌, Bool, true, false, IfOk, OnOk, [], ◌∷◌, length, unwrap_or};
+ghost use Rattle.std.specs.List.{count_by};
 ghost use Rattle.learner_core.specs.Learner.{prefix_of};
 ghost use Rattle.term_core.specs.Term.{after_ballot};
 ghost use Rattle.step_law.specs.Act.{Observe};
 ghost use Rattle.step_law.specs.Hear.{hear_all};
-ghost use Rattle.step_law.specs.Heard.{messages_of, vote_in};
+ghost use Rattle.step_law.specs.Heard.{messages_of};
 ghost use Rattle.step_law.specs.Letters.{is_small, is_small_letter};
 ghost use Rattle.step_law.specs.Step.{asks_change};
-ghost use Rattle.replica_core.specs.Draft.{Goes, drafted};
+ghost use Rattle.replica_draft.specs.Draft.{Goes, drafted};
 ghost use Rattle.replica_core.specs.Heard.{HearsBy, ballot_named, changes_asked, changes_in, hear_in, line_in, message_in, shows_gap_in};
 ghost use Rattle.replica_core.specs.Replica.{Flies, IsReady, IsSmall, IsWhole, Makes, identity_of, kept_of, state_of};
 
-use crate::draft::Draft;
 use crate::parts::Core;
 use cron_io::OutOfMemory;
 use paxos_base::{Ballot, Vote};
 use paxos_letter::Packet;
-use std::alloc::Global;
-
-// The votes of a promise: of the packets behind it those that it counts.
-fn votes_of(alloc: Global, count: u64, rest: &[Packet]) -> Result<Vec<Vote>, OutOfMemory>
-    ensures { IfOk result (λ votes. votes.items ≡ flat_map vote_in (take count rest.now)) }
-{
-    let count = count.min(rest.len() as u64) as usize;
-    let mut votes = Vec::with_capacity(alloc, count)?;
-    for packet in &rest[..count] {
-        if let Packet::OldVote {
-            slot,
-            cast,
-            entry,
-            ..
-        } = packet
-        {
-            votes.push(Vote {
-                slot: *slot,
-                ballot: *cast,
-                entry: *entry,
-            })?;
-        }
-    }
-    Ok(votes)
-}
+use replica_draft::Draft;
 
 // The ballot that a packet names to all who hear it.
 fn ballot_in(packet: &Packet) -> Option<Ballot>
@@ -160,10 +135,7 @@ impl Core {
                 ballot,
                 slot,
                 count,
-            } => {
-                let votes = votes_of(self.alloc, *count, rest)?;
-                self.on_promise(draft, from, *ballot, *slot, &votes)
-            }
+            } => self.on_promise(draft, from, *ballot, *slot, *count, rest),
             Packet::Accept {
                 ballot,
                 slot,

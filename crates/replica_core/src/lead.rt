@@ -13,16 +13,16 @@ ghost use Rattle.step_law.specs.Act.{Call, Send};
 ghost use Rattle.step_law.specs.Message.{Lead, Others};
 ghost use Rattle.step_law.specs.Propose.{answer, bound_by, campaign, end_if, follow_intent, is_open, lead_on, proposal, propose, tick, wait};
 ghost use Rattle.step_law.specs.State.{prefix_of};
-ghost use Rattle.replica_core.specs.Draft.{Does};
+ghost use Rattle.replica_core.specs.Lines.{Does};
 ghost use Rattle.replica_core.specs.Replica.{Flies, IsReady, IsSmall, IsWhole, Makes, identity_of, state_of};
 
-use crate::draft::{Change, Draft, Target};
 use crate::parts::Core;
 use cluster_sched::{Name, SchedRow};
 use cron_io::OutOfMemory;
 use due_set::JobTable;
 use launch_machine::Intent;
 use paxos_base::{Ballot, Entry, Kind, Members, Vote, VoteList, majority, vote_at};
+use replica_draft::{Change, Draft, Target};
 use std::alloc::Global;
 use term_core::{Flight, Term};
 use zone_minutes::Minute;
@@ -271,7 +271,6 @@ impl Core {
         ensures makes { IfOk result (λ draft. Makes self.now (answer (identity_of self.now) job at kind self.now.machine.rows (state_of self.now)) draft) }
         ensures ready { IfOk result (λ draft. IsReady self.now draft) }
     {
-        let is_open = self.is_open(table, job, at);
         match &self.term {
             Term::Leader {
                 ballot,
@@ -279,7 +278,10 @@ impl Core {
                 flight,
             } => match flight {
                 Some(_) => Ok(self.begin()),
-                None => self.end_if(*ballot, &best.items, Entry::End { job, at, kind }, is_open),
+                None => {
+                    let entry = Entry::End { job, at, kind };
+                    self.end_if(*ballot, &best.items, entry, self.is_open(table, job, at))
+                }
             },
             _ => Ok(self.begin()),
         }

@@ -8,11 +8,10 @@
 mod begin;
 mod bounds;
 mod commit;
-mod draft;
 mod hear;
 mod input;
+mod laws;
 mod lead;
-mod letters;
 mod lines;
 mod out;
 mod parts;
@@ -22,6 +21,8 @@ mod replica;
 mod tests;
 
 pub use input::{Input, StepFault};
-pub use out::{LearntList, LetterList, StepOut};
+pub use laws::{a_step_has_one_outcome, a_step_keeps_the_table};
+pub use out::{LearntList, StepOut};
 pub use replica::{Planned, Replica};
+pub use replica_draft::LetterList;
 pub use step_law::{LearntRow, OutLetter};

@@ -1,18 +1,47 @@
 //! What a replica does at a message, a function for each line of the table. The replica stays as it is; the draft goes on.
-ghost use Rattle.std.specs.Prelude.{◌≡◌, ◌+◌, ◌^◌, ◌<◌, ◌≤◌, None, OnOk, length};
+ghost use Rattle.std.specs.Prelude.{◌≡◌, ◌+◌, ◌^◌, ◌<◌, ◌≤◌, None, IfOk, OnOk, length, take};
+ghost use Rattle.std.specs.List.{flat_map};
 ghost use Rattle.paxos_base.specs.Vote.{SlotsRise};
 ghost use Rattle.term_core.specs.Best.{best_of};
 ghost use Rattle.learner_core.specs.Learner.{prefix_of};
+ghost use Rattle.step_law.specs.Heard.{vote_in};
 ghost use Rattle.step_law.specs.Hear.{ask_below, on_accept, on_accepted, on_ask, on_known, on_prepare, on_promise};
-ghost use Rattle.replica_core.specs.Draft.{Does, SendsOnly, cast_vote, tell_vote};
+ghost use Rattle.replica_draft.specs.Draft.{SendsOnly};
+ghost use Rattle.replica_core.specs.Lines.{Does, cast_vote, tell_vote};
 ghost use Rattle.replica_core.specs.Replica.{DoesAsTerm, Flies, Keeps, best_in, next_slot};
 
-use crate::draft::Draft;
 use crate::parts::Core;
 use acceptor_core::{AcceptAnswer, PrepareAnswer};
 use cron_io::OutOfMemory;
 use paxos_base::{Ballot, Entry, Vote, VoteList};
+use paxos_letter::Packet;
+use replica_draft::Draft;
+use std::alloc::Global;
 use term_core::{Term, best_of};
+
+// The votes of a promise: of the packets behind it those that it counts.
+fn votes_of(alloc: Global, count: u64, rest: &[Packet]) -> Result<Vec<Vote>, OutOfMemory>
+    ensures { IfOk result (λ votes. votes.items ≡ flat_map vote_in (take count rest.now)) }
+{
+    let count = count.min(rest.len() as u64) as usize;
+    let mut votes = Vec::with_capacity(alloc, count)?;
+    for packet in &rest[..count] {
+        if let Packet::OldVote {
+            slot,
+            cast,
+            entry,
+            ..
+        } = packet
+        {
+            votes.push(Vote {
+                slot: *slot,
+                ballot: *cast,
+                entry: *entry,
+            })?;
+        }
+    }
+    Ok(votes)
+}
 
 impl Core {
     /// The first slot that isn't learned, with what the draft has learned.
@@ -61,26 +90,27 @@ impl Core {
         }
     }
 
-    /// A promise counts for the candidate that asked for it, and for nobody else.
+    /// A promise counts for the candidate that asked for it, and for nobody else. Its votes are in the packets behind it.
     pub fn on_promise(
         &self,
         draft: &mut Draft,
         from: u8,
         ballot: Ballot,
         slot: u64,
-        votes: &[Vote],
+        count: u64,
+        rest: &[Packet],
     ) -> Result<(), OutOfMemory>
         requires some { 1 ≤ self.now.members }
         requires few { self.now.members ≤ 7 }
         requires from { from < self.now.members }
-        ensures does { OnOk result (DoesAsTerm self.now draft.old draft.new (on_promise self.now.members from ballot slot votes.now)) }
+        ensures does { OnOk result (DoesAsTerm self.now draft.old draft.new (on_promise self.now.members from ballot slot (flat_map vote_in (take count rest.now)))) }
         ensures keeps { OnOk result (Keeps self.now.learner draft.old draft.new) }
         ensures learnt { OnOk result (draft.new.learnt.items ≡ draft.old.learnt.items) }
     {
         if !draft.term.has_asked(ballot, slot) {
             return Ok(());
         }
-        self.gather(draft, votes)?;
+        self.gather(draft, &votes_of(self.alloc, count, rest)?)?;
         draft
             .term
             .on_promise(from, ballot, slot, &[], self.members)?;

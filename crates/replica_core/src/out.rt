@@ -1,22 +1,8 @@
 use cluster_sched::SchedRow;
 use paxos_base::Delta;
+use replica_draft::LetterList;
 use std::marker::Model;
-use step_law::{LearntRow, OutLetter};
-
-/// Letters in the order of the replicas that they go to. Contracts see the list.
-#[derive(Debug, Drop)]
-pub struct LetterList {
-    pub items: Vec<OutLetter>,
-}
-
-impl Model for LetterList {
-    ghost use Rattle.std.specs.Prelude.{List};
-    ghost use Rattle.step_law.specs.declared.out.OutLetter.{OutLetter};
-
-    ghost Value = { List OutLetter };
-
-    ghost view = { λ list. list.items.items };
-}
+use step_law::LearntRow;
 
 /// Entries that were learned, in the order of their slots. Contracts see the list.
 #[derive(Debug, Drop)]

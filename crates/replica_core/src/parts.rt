@@ -2,6 +2,7 @@ use acceptor_core::Acceptor;
 use launch_machine::Machine;
 use learner_core::Learner;
 use paxos_base::RowList;
+use paxos_letter::Packet;
 use std::alloc::Global;
 use term_core::Term;
 
@@ -24,4 +25,8 @@ pub struct Core {
     pub term: Term,
     /// The number of the highest ballot that it has seen.
     pub seen: u64,
+    /// The highest count of a row of the launch table.
+    pub high_count: u32,
+    /// Room for the packets of a letter, so that a step takes no memory for them.
+    pub packets: Vec<Packet>,
 }

@@ -6,19 +6,17 @@ ghost use Rattle.launch_machine.specs.Machine.{StandsFor};
 ghost use Rattle.step_law.specs.Hear.{hear_all};
 ghost use Rattle.step_law.specs.Letters.{heard_in};
 ghost use Rattle.step_law.specs.Step.{Event, step};
-ghost use Rattle.replica_core.specs.Letters.{AreLettersFrom};
-ghost use Rattle.replica_core.specs.Replica.{IsReady, IsSmall, IsWhole, Makes, identity_of, state_of};
+ghost use Rattle.replica_draft.specs.Letters.{AreLettersFrom};
+ghost use Rattle.replica_core.specs.Replica.{IsAlikeCore, IsReady, IsSmall, IsWhole, Makes, identity_of, state_of};
 ghost use Rattle.replica_core.specs.Step.{AnswersFault, Hears, IsFault, IsInputInside, MakesStep, fault_in};
 
 use crate::bounds::is_small_letter;
-use crate::draft::Draft;
 use crate::input::{Input, StepFault};
-use crate::letters::letters;
-use crate::out::LetterList;
 use crate::parts::Core;
 use cron_io::OutOfMemory;
 use due_set::JobTable;
 use paxos_letter::{OwnedFault, OwnedLetter, read_letter};
+use replica_draft::{Draft, LetterList, write_letters};
 
 impl Core {
     /// Does what an input asks for.
@@ -72,12 +70,14 @@ impl Core {
     }
 
     /// The letters of a draft.
-    pub fn letters(&self, draft: &Draft) -> Result<LetterList, OutOfMemory>
-        requires whole { IsWhole self.now }
-        requires made { (event : Event) × Makes self.now (step (identity_of self.now) event (state_of self.now)) draft.now }
-        ensures { IfOk result (λ letters. (event : Event) → Makes self.now (step (identity_of self.now) event (state_of self.now)) draft.now
-            → AreLettersFrom (identity_of self.now) (step (identity_of self.now) event (state_of self.now)) letters) }
+    pub fn letters(&mut self, draft: &Draft) -> Result<LetterList, OutOfMemory>
+        requires whole { IsWhole self.old }
+        requires made { (event : Event) × Makes self.old (step (identity_of self.old) event (state_of self.old)) draft.now }
+        ensures alike { IsAlikeCore self.new self.old }
+        ensures letters { IfOk result (λ letters. (event : Event) → Makes self.old (step (identity_of self.old) event (state_of self.old)) draft.now
+            → AreLettersFrom (identity_of self.old) (step (identity_of self.old) event (state_of self.old)) letters) }
     {
-        letters(self.alloc, self.me, self.members, &draft.sends)
+        let sends = draft.sends.as_slice();
+        write_letters(self.alloc, self.me, self.members, sends, &mut self.packets)
     }
 }

@@ -1,21 +1,21 @@
 ghost use Rattle.std.specs.Prelude.{◌≡◌, ◌↔◌, ◌<◌, ◌≤◌, ◌^◌, IsTrue, List, Some, IfOk, IfErr, OnErr, length};
-ghost use Rattle.std.specs.Option.{option_map};
+ghost use Rattle.std.specs.Option.{option_to_list};
 ghost use Rattle.paxos_base.specs.Rows.{RowsStand};
 ghost use Rattle.paxos_letter.specs.declared.fault.LetterFault.{LetterFault};
 ghost use Rattle.step_law.specs.Act.{Act};
+ghost use Rattle.step_law.specs.Folds.{deltas_of};
 ghost use Rattle.step_law.specs.State.{prefix_of, started};
-ghost use Rattle.replica_core.specs.Draft.{delta_of};
-ghost use Rattle.replica_core.specs.Replica.{IsSmall};
+ghost use Rattle.replica_core.specs.Replica.{IsSmall, ReplicaState};
 ghost use Rattle.replica_core.specs.Step.{AnswersFault, CanTake, IsAlike, IsFault, IsInputInside, IsOfTable, Plans, PlansStep, Steps, Takes, fault_in};
 
-use crate::draft::Draft;
 use crate::input::{Input, StepFault};
-use crate::out::{LetterList, StepOut};
+use crate::out::StepOut;
 use crate::parts::Core;
 use cron_io::OutOfMemory;
 use due_set::JobTable;
 use launch_machine::Machine;
 use paxos_base::{Delta, Durable};
+use replica_draft::{Draft, LetterList};
 use std::marker::Model;
 use term_core::Term;
 
@@ -26,8 +26,7 @@ pub struct Replica {
 }
 
 impl Model for Replica {
-    ghost use Rattle.replica_core.specs.Replica.{IsWhole};
-    ghost use Rattle.replica_core.specs.Step.{ReplicaState, replica_of};
+    ghost use Rattle.replica_core.specs.Replica.{IsWhole, ReplicaState, replica_of};
 
     ghost Value = { ReplicaState };
 
@@ -46,7 +45,7 @@ pub struct Planned {
 impl Planned {
     /// What the step changes on the disk.
     pub fn delta(&self) -> Option<Delta>
-        ensures { result ≡ option_map delta_of self.now.draft.change }
+        ensures { (replica : ReplicaState) (acts : List Act) → Plans replica acts self.now → deltas_of acts ≡ option_to_list result }
     {
         match self.draft.change {
             Some(change) => Some(change.delta()),
@@ -109,11 +108,10 @@ impl Replica {
 
     /// Whether the replica is small enough for a step: the rounds of the ballots that it has tried and seen are below 2^59, the
     /// first slot that it has not learned is below 2^62, and the counts of its rows are below 2^31.
-    pub fn is_small(&self, table: &JobTable) -> bool
-        requires { IsOfTable table.now self.now }
+    pub fn is_small(&self) -> bool
         ensures { IsTrue result ↔ IsSmall self.now.state self.now.machine.rows }
     {
-        self.core.is_small(table)
+        self.core.is_small()
     }
 
     /// Plans a step, and makes the room that it needs. The replica stays as it is.

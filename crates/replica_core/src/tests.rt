@@ -38,7 +38,7 @@ fn a_first_campaign_asks_all_for_promises(rt: HostRuntime) -> Result<(), Fail> {
         rows,
     };
     let mut replica = Replica::start(0, 3, &table, durable)?;
-    assert!(rt; replica.is_small(&table));
+    assert!(rt; replica.is_small());
     let out = replica.step(&table, Input::Campaign)?;
     assert_eq!(rt; out.letters.items.len(), 2);
     for letter in &out.letters.items {

@@ -3,8 +3,8 @@ use Rattle.acceptor_core.specs.Acceptor.{IsPart}
 use Rattle.paxos_base.specs.Durable.{after_delta}
 use Rattle.paxos_base.specs.declared.durable.Delta.{Delta}
 use Rattle.paxos_base.specs.declared.durable.Durable.{Durable}
-use Rattle.replica_core.specs.Draft.{delta_of}
-use Rattle.replica_core.specs.declared.draft.Change.{Change}
+use Rattle.replica_draft.specs.Draft.{delta_of}
+use Rattle.replica_draft.specs.declared.draft.Change.{Change}
 use Rattle.replica_core.proofs.StoreLemmas.{Takes, other_change, stored, tried_after}
 use Rattle.replica_core.proofs.commit.store.Goals as goal
 use Rattle.replica_core.proofs.commit.store.Goals.{in-Tried, in_default}

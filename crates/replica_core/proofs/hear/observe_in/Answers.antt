@@ -1,4 +1,4 @@
-use Rattle.replica_core.specs.Draft.{drafted}
+use Rattle.replica_draft.specs.Draft.{drafted}
 use Rattle.replica_core.proofs.HearLemmas.{observe-none}
 use Rattle.replica_core.proofs.hear.observe_in.Goals as goal
 

@@ -19,7 +19,7 @@ returns-in-None-clause-makes c =
     makes_as c.args.self.now draft _ _
     (answer-leads (identity_of c.args.self.now) c.args.job c.args.at c.args.kind c.args.self.now.machine.rows (state_of c.args.self.now) c.in-Leader.ballot c.deref.result.now
     (leads_with c.args.self.now.term c.in-Leader.ballot c.in-Leader.best c.deref.result.now c.in-Leader.flight None c.in-Leader.is c.in-None.is (c.deref.ensures.value ∙ c.best.view_is))
-    ∙ rw (c.is_open-is_open.ensures, at) refl)
+    ∙ rw (c.is_open.ensures, at) refl)
     made)
     c.end_if.ensures.makes
 

@@ -1,6 +1,5 @@
-use Rattle.std.proofs.Common.{sym}
 use Rattle.replica_core.proofs.LineLemmas.{asks, asks_not}
-use Rattle.replica_core.proofs.DraftLemmas.{on_ok}
+use Rattle.replica_draft.proofs.DraftLemmas.{on_ok}
 use Rattle.replica_core.proofs.parts.Core.ask_below.Goals as goal
 
 pub returns-then-prefix-slot-clause-does : goal.returns-then-prefix-slot-clause-does

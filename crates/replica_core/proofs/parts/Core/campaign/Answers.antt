@@ -13,7 +13,7 @@ returns-clause-makes c =
     (c.in_ok-copy_of.ensures ∙ c.votes_from.ensures.votes)
     (c.campaign.ensures ∙ ap (candidacy c.args.self.now.members c.of-ballot.result c.prefix-first.result (only_member c.args.self.now.me)) c.new.ensures.items)
     (c.of-ballot.ensures.number ∙ ap (λ tried. 8 * (tried + 1) + c.args.self.now.me) c.max.ensures)
-    (elim c.match-draft-3.branch [
+    (elim c.match-draft-4.branch [
       | in-Some-2 w ↦ c.in_ok-send_prepare.ensures.goes
       | in-None-2 w ↦ c.in_ok-send_prepare.ensures.goes
     ])

@@ -1,5 +1,5 @@
 use Rattle.replica_core.proofs.LineLemmas.{casts}
-use Rattle.replica_core.proofs.DraftLemmas.{on_ok}
+use Rattle.replica_draft.proofs.DraftLemmas.{on_ok}
 use Rattle.replica_core.proofs.parts.Core.cast_vote.Goals as goal
 
 pub returns-clause-does : goal.returns-clause-does

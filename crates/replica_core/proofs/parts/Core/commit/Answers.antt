@@ -9,4 +9,4 @@ returns-clause-base c =
     let rows = c.args.self.now.rows in
     let stays : c.store-delta.new.acceptor.base ≡ c.args.self.now.acceptor.base =
     ap (λ (kept : Durable). kept.base) (c.store-delta.ensures.kept rows) ∙ same_base c.args.draft.change (kept_by c.args.self.now.tried c.args.self.now.acceptor rows) in
-    c.learn_all.ensures.base ∙ c.requires.base ∙ sym stays
+    c.learn_all-ended.ensures.base ∙ c.requires.base ∙ sym stays

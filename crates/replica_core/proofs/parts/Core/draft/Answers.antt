@@ -1,6 +1,7 @@
 use Rattle.std.proofs.Common.{FitsSigned, w64, arith}
 use Rattle.std.proofs.lemmas.Int.{ints, to_z-of_z}
-use Rattle.replica_core.proofs.PlanLemmas.{answer-step, campaign-step, hear-step, if_ok, tick-step}
+use Rattle.replica_core.proofs.PlanLemmas.{answer-step, campaign-step, hear-step, tick-step}
+use Rattle.replica_core.proofs.LeadLemmas.{if_ok}
 use Rattle.replica_core.proofs.parts.Core.draft.Goals as goal
 
 pub returns-in_ok-campaign-in-Campaign-clause-makes : goal.returns-in_ok-campaign-in-Campaign-clause-makes

@@ -1,4 +1,4 @@
-use Rattle.std.proofs.Common.{◌≡◌, ◌∙◌, take}
+use Rattle.std.proofs.Common.{take}
 use Rattle.std.specs.List.{flat_map}
 use Rattle.step_law.specs.Heard.{vote_in}
 use Rattle.step_law.specs.Hear.{ask_below, line, on_accept, on_accepted, on_ask, on_known, on_lead, on_prepare, on_promise}
@@ -10,12 +10,11 @@ unfolding line
 returns-in-Prepare-clause-does c =
     rw c.in-Prepare.is (of_state c.on_prepare.result c.args.self.now c.args.draft.now c.on_prepare.new.draft (on_prepare c.args.from c.in-Prepare.ballot c.in-Prepare.slot) c.requires.whole.base c.on_prepare.ensures.does)
 
-pub returns-in_ok-votes-in-Promise-clause-does : goal.returns-in_ok-votes-in-Promise-clause-does
+pub returns-in-Promise-clause-does : goal.returns-in-Promise-clause-does
 unfolding line
-returns-in_ok-votes-in-Promise-clause-does c =
-    let votes : c.deref.result.now ≡ flat_map vote_in (take c.in-Promise.count c.args.rest.now) = c.deref.ensures.value ∙ c.in_ok-votes-in-Promise.ensures in
-    rw (c.in-Promise.is, ← votes)
-    (of_term c.on_promise.result c.args.self.now c.args.draft.now c.on_promise.new.draft (on_promise c.args.self.now.members c.args.from c.in-Promise.ballot c.in-Promise.slot c.deref.result.now) c.requires.whole.base c.on_promise.ensures.does)
+returns-in-Promise-clause-does c =
+    rw c.in-Promise.is
+    (of_term c.on_promise.result c.args.self.now c.args.draft.now c.on_promise.new.draft (on_promise c.args.self.now.members c.args.from c.in-Promise.ballot c.in-Promise.slot (flat_map vote_in (take c.in-Promise.count c.args.rest.now))) c.requires.whole.base c.on_promise.ensures.does)
 
 pub returns-in-Accept-clause-does : goal.returns-in-Accept-clause-does
 unfolding line

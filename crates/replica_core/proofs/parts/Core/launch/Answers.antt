@@ -1,6 +1,6 @@
 use Rattle.std.proofs.Common.{sym, ◌∙◌}
 use Rattle.replica_core.specs.Replica.{identity_of}
-use Rattle.replica_core.proofs.DraftLemmas.{on_ok}
+use Rattle.replica_draft.proofs.DraftLemmas.{on_ok}
 use Rattle.replica_core.proofs.LeadLemmas.{proposes, proposes-alone, nothing-learned}
 use Rattle.replica_core.proofs.parts.Core.launch.Goals as goal
 

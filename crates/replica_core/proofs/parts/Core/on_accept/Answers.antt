@@ -1,6 +1,6 @@
 use Rattle.std.proofs.Common.{refl}
 use Rattle.replica_core.proofs.LineLemmas.{accept-refused, accept-behind, accept-again, accept-cast}
-use Rattle.replica_core.proofs.DraftLemmas.{on_ok}
+use Rattle.replica_draft.proofs.DraftLemmas.{on_ok}
 use Rattle.replica_core.proofs.parts.Core.on_accept.Goals as goal
 
 pub returns-in-Refused-clause-does : goal.returns-in-Refused-clause-does

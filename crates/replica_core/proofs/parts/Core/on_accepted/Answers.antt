@@ -1,6 +1,6 @@
 use Rattle.std.proofs.Common.{ap, sym, refl, ◌∙◌}
 use Rattle.replica_core.proofs.LineLemmas.{accepted-none, accepted-chosen}
-use Rattle.replica_core.proofs.DraftLemmas.{on_ok}
+use Rattle.replica_draft.proofs.DraftLemmas.{on_ok}
 use Rattle.replica_core.proofs.parts.Core.on_accepted.Goals as goal
 
 pub returns-in-Some-clause-does : goal.returns-in-Some-clause-does

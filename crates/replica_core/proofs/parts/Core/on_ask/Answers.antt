@@ -1,6 +1,6 @@
-use Rattle.std.proofs.Common.{◌≡◌, ◌∙◌, sym, ◌≤◌, ◌-◌, arith, length, refl}
+use Rattle.std.proofs.Common.{◌≡◌, ◌∙◌, ◌≤◌, ◌-◌, arith, refl}
 use Rattle.replica_core.proofs.LineLemmas.{ask-below_base, ask-both, ask-one, fresh_slot, passed}
-use Rattle.replica_core.proofs.DraftLemmas.{on_ok}
+use Rattle.replica_draft.proofs.DraftLemmas.{on_ok}
 use Rattle.replica_core.proofs.parts.Core.on_ask.Goals as goal
 
 pub returns-then-slot-base-clause-does : goal.returns-then-slot-base-clause-does

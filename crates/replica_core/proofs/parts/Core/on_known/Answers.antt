@@ -1,6 +1,6 @@
 use Rattle.std.proofs.Common.{◌∙◌, sym}
 use Rattle.replica_core.proofs.LineLemmas.{known-next, known-later, known-asked}
-use Rattle.replica_core.proofs.DraftLemmas.{on_ok}
+use Rattle.replica_draft.proofs.DraftLemmas.{on_ok}
 use Rattle.replica_core.proofs.parts.Core.on_known.Goals as goal
 
 pub returns-then-slot-next_slot-clause-does : goal.returns-then-slot-next_slot-clause-does

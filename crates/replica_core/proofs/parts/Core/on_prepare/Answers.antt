@@ -1,6 +1,6 @@
 use Rattle.std.proofs.Common.{refl, rules}
 use Rattle.replica_core.proofs.LineLemmas.{prepare-refused, prepare-behind, prepare-promised}
-use Rattle.replica_core.proofs.DraftLemmas.{on_ok}
+use Rattle.replica_draft.proofs.DraftLemmas.{on_ok}
 use Rattle.replica_core.proofs.parts.Core.on_prepare.Goals as goal
 
 pub returns-in-Refused-clause-does : goal.returns-in-Refused-clause-does

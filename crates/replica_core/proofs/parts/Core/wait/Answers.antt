@@ -3,7 +3,7 @@ use Rattle.term_core.specs.Term.{is_fourth}
 use Rattle.step_law.specs.Act.{Send, Wait}
 use Rattle.step_law.specs.Message.{Accept, Outside}
 use Rattle.step_law.specs.Propose.{vote_of, wait}
-use Rattle.replica_core.proofs.DraftLemmas.{goes-on}
+use Rattle.replica_draft.proofs.DraftLemmas.{goes-on}
 use Rattle.replica_core.proofs.LeadLemmas.{answered, makes, makes_as, wait-again, wait-not_yet}
 use Rattle.replica_core.proofs.parts.Core.wait.Goals.{in-Some+in_ok-send_accept, in_default}
 use Rattle.replica_core.proofs.parts.Core.wait.Goals as goal

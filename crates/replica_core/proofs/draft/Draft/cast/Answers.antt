@@ -1,6 +1,0 @@
-use Rattle.replica_core.proofs.DraftLemmas.{drafted-cast}
-use Rattle.std.proofs.Common.{refl}
-use Rattle.replica_core.proofs.draft.Draft.cast.Goals as goal
-
-pub returns-clause-goes : goal.returns-clause-goes
-returns-clause-goes c kept = drafted-cast kept c.args.self.now c.args.vote c.requires

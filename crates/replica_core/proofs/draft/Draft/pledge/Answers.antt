@@ -1,6 +1,0 @@
-use Rattle.replica_core.proofs.DraftLemmas.{drafted-pledge}
-use Rattle.std.proofs.Common.{refl}
-use Rattle.replica_core.proofs.draft.Draft.pledge.Goals as goal
-
-pub returns-clause-goes : goal.returns-clause-goes
-returns-clause-goes c kept = drafted-pledge kept c.args.self.now c.args.ballot c.requires

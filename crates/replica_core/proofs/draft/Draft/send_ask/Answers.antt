@@ -1,8 +1,0 @@
-use Rattle.std.proofs.Common.{refl}
-use Rattle.step_law.specs.Heard.{packets_of}
-use Rattle.step_law.specs.Message.{AskFrom}
-use Rattle.replica_core.proofs.draft.Draft.send_ask.Goals as goal
-
-pub returns-clause-goes : goal.returns-clause-goes
-unfolding packets_of
-returns-clause-goes c = c.send.ensures.goes (AskFrom c.args.slot) refl

@@ -1,7 +1,0 @@
-use Rattle.std.proofs.Common.{map, take}
-use Rattle.replica_core.specs.Draft.{said_in}
-use Rattle.replica_core.proofs.SendLemmas.{Putting}
-use Rattle.replica_core.proofs.letters.put_packets.Given as goal
-
-abbrev pub invariant-loop-sent : goal.invariant-loop-sent
-invariant-loop-sent l = Putting l.me l.member (map said_in (take l.sent-index l.sends)) l.packets.items

@@ -1,0 +1,180 @@
+-- What a draft's verbs come to.
+use Rattle.std.proofs.Common.{take, arith, ◌<◌, get_or, drop, ◌≤◌, ◌-◌, ◌≡◌, ℕ, ◌+◌, None, Some, List, [], ◌∷◌, ◌++◌, map, refl, sym, ap, ◌∙◌, unwrap_or, max, length, Result, Ok, Err, OnOk, inl, inr, ltb}
+use Rattle.std.proofs.lemmas.List.{append-nil, append_assoc, map-append, take_more, length-take-le, length-drop, length-map, get_or-drop, get_or-map}
+use Rattle.std.proofs.lemmas.List.Concat.{flat_map-append}
+use Rattle.std.proofs.lemmas.Bool.{cases_Bool}
+use Rattle.paxos_base.specs.declared.entry.Entry.{Entry}
+use Rattle.paxos_base.specs.declared.entry.Vote.{Vote}
+use Rattle.paxos_letter.specs.declared.packet.Packet.{Packet}
+use Rattle.term_core.specs.Term.{after_ballot, after_advance}
+use Rattle.term_core.specs.declared.term.Term.{Term}
+use Rattle.term_core.specs.declared.term.Term.TheVariants.{Follower, Candidate, Leader}
+use Rattle.step_law.specs.Act.{Act, Observe, Pledge, Cast, Learn, Send, after_act}
+use Rattle.step_law.specs.Folds.{after_acts, calls_by, calls_of, deltas_by, deltas_of, learnt_by, learnt_of}
+use Rattle.paxos_letter.specs.declared.packet.Packet.TheVariants as packet
+use Rattle.step_law.specs.Heard.{old_vote, packets_of}
+use Rattle.step_law.specs.Hear.{known_from, send_all}
+use Rattle.step_law.proofs.VoteLemmas.{known-push}
+use Rattle.step_law.specs.Message.{Message, Whom, Only, Known, Promise}
+use Rattle.step_law.specs.State.{State, prefix_of}
+use Rattle.step_law.specs.declared.out.LearntRow.{LearntRow}
+use Rattle.replica_draft.specs.Draft.{Desk, Goes, Kept, LearnsNext, SendsOnly, done, drafted, entries_in, said_by, said_in, said_of, with_best}
+use Rattle.replica_draft.specs.declared.draft.Change.TheVariants.{Promised, Voted}
+use Rattle.replica_draft.specs.declared.draft.Draft.{Draft}
+
+-- a term hears of a ballot, whatever its votes
+pub with_best-after_ballot : (best : List Vote) (ballot : ℕ) (term : Term) → with_best best (after_ballot ballot term) ≡ after_ballot ballot (with_best best term)
+with_best-after_ballot best ballot (Follower ended) = refl
+with_best-after_ballot best ballot (Candidate own first heard votes) =
+    elim (cases_Bool (ltb own ballot)) [ inl ended ↦ rw ended refl | inr goes_on ↦ rw goes_on refl ]
+with_best-after_ballot best ballot (Leader own votes flight) =
+    elim (cases_Bool (ltb own ballot)) [ inl ended ↦ rw ended refl | inr goes_on ↦ rw goes_on refl ]
+
+-- a flight ends, whatever the votes
+pub with_best-after_advance : (best : List Vote) (prefix : ℕ) (term : Term) → with_best best (after_advance prefix term) ≡ after_advance prefix (with_best best term)
+with_best-after_advance best prefix (Follower ended) = refl
+with_best-after_advance best prefix (Candidate own first heard votes) = refl
+with_best-after_advance best prefix (Leader own votes None) = refl
+with_best-after_advance best prefix (Leader own votes (Some flight)) = refl
+
+-- nothing is stored, learned, sent or called
+pub done-quiet : (desk : Desk) (state : State) → record { state = state; deltas = desk.deltas ++ []; learnt = desk.learnt ++ []; said = desk.said ++ []; calls = desk.calls ++ [] } ≡ record desk { state = state }
+done-quiet desk state = rw (append-nil desk.deltas, append-nil desk.learnt, append-nil desk.said, append-nil desk.calls) refl
+
+pub drafted-observe : (kept : Kept) (old : Draft) (term : Term) (seen ballot : ℕ) → seen ≡ max old.seen ballot → term ≡ after_ballot ballot old.term
+    → drafted kept (record old { seen = seen; term = term }) ≡ done (Observe ballot ∷ []) (drafted kept old)
+unfolding after_act deltas_by learnt_by said_by calls_by
+drafted-observe kept old term seen ballot seen_is term_is =
+    rw (
+      seen_is,
+      term_is,
+      with_best-after_ballot (unwrap_or old.best kept.best) ballot old.term,
+      append-nil (drafted kept old).deltas,
+      append-nil (drafted kept old).learnt,
+      append-nil (drafted kept old).said,
+      append-nil (drafted kept old).calls,
+    ) refl
+
+pub drafted-pledge : (kept : Kept) (old : Draft) (ballot : ℕ) → old.change ≡ None
+    → drafted kept (record old { change = Some (Promised ballot) }) ≡ done (Pledge ballot ∷ []) (drafted kept old)
+unfolding after_act deltas_by learnt_by said_by calls_by
+drafted-pledge kept old ballot none = rw (none, append-nil old.learnt.items, append-nil (drafted kept old).said, append-nil (drafted kept old).calls) refl
+
+pub drafted-cast : (kept : Kept) (old : Draft) (vote : Vote) → old.change ≡ None
+    → drafted kept (record old { change = Some (Voted vote) }) ≡ done (Cast vote ∷ []) (drafted kept old)
+unfolding after_act deltas_by learnt_by said_by calls_by
+drafted-cast kept old vote none = rw (none, append-nil old.learnt.items, append-nil (drafted kept old).said, append-nil (drafted kept old).calls) refl
+
+-- an entry is learned, where its slot is the first that isn't
+pub drafted-learn : (kept : Kept) (old new : Draft) (slot : ℕ) (entry : Entry) → LearnsNext old new slot entry → slot ≡ prefix_of (drafted kept old).state
+    → drafted kept new ≡ done (Learn slot entry ∷ []) (drafted kept old)
+unfolding after_act deltas_by learnt_by said_by calls_by
+drafted-learn kept old new slot entry learns at =
+    rw (
+      learns.seen,
+      learns.term,
+      learns.sends,
+      learns.best,
+      learns.change,
+      learns.learnt,
+      learns.call,
+      with_best-after_advance (unwrap_or old.best kept.best) (slot + 1) old.term,
+      append-nil (drafted kept old).deltas,
+      append-nil (drafted kept old).said,
+      append-nil (drafted kept old).calls,
+    )
+    (rw (
+      map-append (λ (row : LearntRow). row.entry) old.learnt.items (record { slot = slot; entry = entry } ∷ []),
+      sym at,
+      append_assoc kept.learned (entries_in old.learnt.items) (entry ∷ []),
+    ) refl)
+
+-- packets are sent that spell a message
+pub drafted-send : (kept : Kept) (old new : Draft) (whom : Whom) (message : Message) → SendsOnly old new
+    → map said_in new.sends.items ≡ map said_in old.sends.items ++ map (λ (packet : Packet). (whom, packet)) (packets_of message)
+    → drafted kept new ≡ done (Send whom message ∷ []) (drafted kept old)
+unfolding after_act deltas_by learnt_by said_by calls_by
+drafted-send kept old new whom message only sends =
+    rw (only.seen, only.term, only.best, only.change, only.learnt, only.call, sends)
+    (rw (append-nil (drafted kept old).deltas, append-nil (drafted kept old).learnt, append-nil (drafted kept old).calls, append-nil (said_by (Send whom message))) refl)
+
+after_acts-append : (before after : List Act) (state : State) → after_acts (before ++ after) state ≡ after_acts after (after_acts before state)
+after_acts-append [] after state = refl
+after_acts-append (act ∷ before) after state = after_acts-append before after (after_act act state)
+
+-- a step goes on where some acts end
+pub done-append : (before after : List Act) (desk : Desk) → done (before ++ after) desk ≡ done after (done before desk)
+done-append before after desk =
+    rw (after_acts-append before after desk.state, flat_map-append deltas_by before after, flat_map-append learnt_by before after, flat_map-append said_by before after, flat_map-append calls_by before after)
+    (rw (append_assoc desk.deltas (deltas_of before) (deltas_of after), append_assoc desk.learnt (learnt_of before) (learnt_of after), append_assoc desk.said (said_of before) (said_of after), append_assoc desk.calls (calls_of before) (calls_of after)) refl)
+
+pub done-nil : (desk : Desk) → done [] desk ≡ desk
+done-nil desk = rw (append-nil desk.deltas, append-nil desk.learnt, append-nil desk.said, append-nil desk.calls) refl
+
+-- two parts of a draft, one after the other
+pub goes-on : (old middle new : Draft) (before after : List Act) → Goes old middle before → Goes middle new after → Goes old new (before ++ after)
+goes-on old middle new before after first second kept = second kept ∙ ap (done after) (first kept) ∙ sym (done-append before after (drafted kept old))
+
+-- of what holds where a call succeeded, what follows holds there too
+pub on_ok : {X E : Type 0} (result : Result X E) (P Q R : Type 0) → (P → Q → R) → OnOk result P → OnOk result Q → OnOk result R
+on_ok (Ok value) P Q R both first second = both first second
+on_ok (Err fault) P Q R both first second = tt
+
+-- one packet is sent, which spells a message
+pub sent-message : (old new : Draft) (whom : Whom) (message : Message) (packet : Packet) → packets_of message ≡ packet ∷ [] → SendsOnly old new
+    → map said_in new.sends.items ≡ map said_in old.sends.items ++ (whom, packet) ∷ [] → Goes old new (Send whom message ∷ [])
+sent-message old new whom message packet spelled only said kept =
+    drafted-send kept old new whom message only (rw spelled said)
+
+-- nothing but sends, twice
+pub sends-twice : (old middle new : Draft) → SendsOnly old middle → SendsOnly middle new → SendsOnly old new
+sends-twice old middle new first second =
+    record {
+      seen = second.seen ∙ first.seen;
+      term = second.term ∙ first.term;
+      best = second.best ∙ first.best;
+      change = second.change ∙ first.change;
+      learnt = second.learnt ∙ first.learnt;
+      call = second.call ∙ first.call;
+    }
+
+-- entries are told, and one more
+pub told-more : (old middle new : Draft) (to first : ℕ) (entries : List Entry) (entry : Entry) → Goes old middle (send_all to (known_from first entries))
+    → Goes middle new (Send (Only to) (Known (first + length entries) entry) ∷ []) → Goes old new (send_all to (known_from first (entries ++ entry ∷ [])))
+told-more old middle new to first entries entry before after =
+    rw (known-push first entries entry, map-append (Send (Only to)) (known_from first entries) (Known (first + length entries) entry ∷ []))
+    (goes-on old middle new (send_all to (known_from first entries)) (Send (Only to) (Known (first + length entries) entry) ∷ []) before after)
+
+-- entries are told, one after another, each at the place that it has among them
+pub told-next : (old middle new : Draft) (to first place : ℕ) (entries : List Entry) (none entry : Entry) → place < length entries → get_or entries place none ≡ entry
+    → Goes old middle (send_all to (known_from first (take place entries))) → Goes middle new (Send (Only to) (Known (first + place) entry) ∷ [])
+    → Goes old new (send_all to (known_from first (take (place + 1) entries)))
+told-next old middle new to first place entries none entry in_range is before after =
+    let count : length (take place entries) ≡ place = length-take-le place entries (omega (arith, in_range)) in
+    rw (take_more entries place none in_range, is)
+    (told-more old middle new to first (take place entries) entry before (rw count after))
+
+-- the entry of a row, among those that are left after the first ones
+pub learnt-entry : (rows : List LearntRow) (skip place : ℕ) (row : LearntRow) (none : Entry) → skip ≤ place → place < length rows
+    → get_or (drop skip (entries_in rows)) (place - skip) none ≡ (get_or rows place row).entry
+learnt-entry rows skip place row none past in_range =
+    let at : skip + (place - skip) ≡ place = omega (arith, past) in
+    get_or-drop skip (entries_in rows) (place - skip) none
+    ∙ rw at (get_or-map (λ (row : LearntRow). row.entry) rows place row none in_range)
+
+pub learnt-count : (rows : List LearntRow) (skip : ℕ) → length (drop skip (entries_in rows)) ≡ length rows - skip
+learnt-count rows skip = length-drop skip (entries_in rows) ∙ rw (length-map rows (λ (row : LearntRow). row.entry)) refl
+
+map_twice : {X Y Z : Type 0} (f : Y → Z) (g : X → Y) (xs : List X) → map f (map g xs) ≡ map (λ x. f (g x)) xs
+map_twice f g [] = refl
+map_twice f g (x ∷ xs) = ap (λ rest. f (g x) ∷ rest) (map_twice f g xs)
+
+-- a promise is sent, and then its votes
+pub promised : (kept : Kept) (old middle new : Draft) (to ballot slot : ℕ) (votes : List Vote) → SendsOnly old middle → SendsOnly middle new
+    → map said_in middle.sends.items ≡ map said_in old.sends.items ++ (Only to, packet.Promise ballot slot (length votes)) ∷ []
+    → map said_in new.sends.items ≡ map said_in middle.sends.items ++ map (λ vote. (Only to, old_vote ballot vote)) votes
+    → drafted kept new ≡ done (Send (Only to) (Promise ballot slot votes) ∷ []) (drafted kept old)
+unfolding packets_of
+promised kept old middle new to ballot slot votes one two first rest =
+    drafted-send kept old new (Only to) (Promise ballot slot votes) (sends-twice old middle new one two)
+    (rest ∙ rw (first, map_twice {Z = Whom × Packet} (λ (packet : Packet). (Only to, packet)) (old_vote ballot) votes) (append_assoc (map said_in old.sends.items) ((Only to, packet.Promise ballot slot (length votes)) ∷ []) (map (λ vote. (Only to, old_vote ballot vote)) votes)))

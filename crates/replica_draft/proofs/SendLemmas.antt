@@ -1,0 +1,203 @@
+-- Going over what is sent, and over the replicas that it goes to.
+use Rattle.std.proofs.Common.{◌≡◌, ◌≢◌, ℕ, zero, suc, ◌+◌, ◌<◌, ◌^◌, Bool, true, false, eqb, Some, None, List, [], ◌∷◌, ◌++◌, length, map, take, get_or, refl, sym, ◌∙◌, ap, inl, inr, subst, arith, if◌then◌else◌, add-one, append-nil}
+use Rattle.std.specs.Prelude.{⊤, IsTrue}
+use Rattle.std.specs.List.{AllByRecursion, AllZip, flat_map, range_with_len}
+use Rattle.std.proofs.lemmas.Bool.{cases_Bool, eqb-true, eqb-false}
+use Rattle.std.proofs.lemmas.List.{take_more}
+use Rattle.std.proofs.lemmas.List.Concat.{flat_map-append}
+use Rattle.paxos_letter.specs.Groups.{keep_groups, no_group}
+use Rattle.paxos_letter.specs.Letters.{IsLetter, Spells}
+use Rattle.paxos_letter.specs.Rules.{keeps_kind, keeps_members}
+use Rattle.paxos_letter.specs.Spelling.{fields_of}
+use Rattle.paxos_letter.specs.declared.packet.Packet.{Packet}
+use Rattle.paxos_letter.specs.declared.packet.Packet.TheVariants as packet
+use Rattle.paxos_letter.proofs.CallerLemmas.{BallotsKeep, RowKeeps, keeps_kind-packet, keeps_members-packet}
+use Rattle.step_law.specs.Act.{Act, Send}
+use Rattle.step_law.specs.Folds.{Addressed, letter_of, letters_of, sent_by, sent_to}
+use Rattle.step_law.specs.Heard.{packets_of}
+use Rattle.step_law.specs.Letters.{IsSpelled}
+use Rattle.step_law.specs.Message.{Message, Prepare, Promise, Accept, Accepted, Nack, Known, AskFrom, Snap, Lead, Mention, Whom, goes_to}
+use Rattle.step_law.specs.declared.out.OutLetter.{OutLetter}
+use Rattle.replica_draft.specs.Draft.{said_in, said_of, meant}
+use Rattle.replica_draft.specs.declared.draft.Sent.{Sent}
+use Rattle.replica_draft.specs.Letters.{packets_to, AllKeep, Carry, KeepGroups, HasCursor, HaveCursors, IsTold, AreSpoken}
+use Rattle.replica_draft.proofs.GroupLemmas.{told_to}
+use Rattle.replica_draft.proofs.LetterLemmas.{packets_to-said_of}
+
+-- ---- the packets to one replica
+
+-- the packets to a replica of what was gone over
+pub record Putting (me member : ℕ) (said : List (Whom × Packet)) (packets : List Packet) : Type 0 where
+  pub are : packets ≡ packets_to me member said
+  pub keep : AllKeep me packets
+
+pub Putting-none : (me member : ℕ) → Putting me member [] []
+Putting-none me member = record { are = refl; keep = record { kinds = tt; members_keep = tt } }
+
+all-push : {X : Type 0} (P : X → Type 0) (xs : List X) (x : X) → AllByRecursion P xs → P x → AllByRecursion P (xs ++ x ∷ [])
+all-push P [] x all here = (here, tt)
+all-push P (y ∷ ys) x all here = (all.0, all-push P ys x all.1 here)
+
+to_push : (me member : ℕ) (said : List (Whom × Packet)) (whom : Whom) (packet : Packet) → packets_to me member (said ++ (whom, packet) ∷ []) ≡ packets_to me member said ++ (if goes_to me whom member then packet ∷ [] else [])
+to_push me member [] whom packet = elim (cases_Bool (goes_to me whom member)) [ inl goes ↦ rw goes refl | inr other ↦ rw other refl ]
+to_push me member (first ∷ said) whom packet =
+    elim (cases_Bool (goes_to me first.0 member)) [
+      | inl goes ↦ rw goes (ap (λ (packets : List Packet). first.1 ∷ packets) (to_push me member said whom packet))
+      | inr other ↦ rw other (to_push me member said whom packet)
+    ]
+
+said-push : (sends : List Sent) (sent : Sent) → map said_in (sends ++ sent ∷ []) ≡ map said_in sends ++ (meant sent.target, sent.packet) ∷ []
+said-push [] sent = refl
+said-push (first ∷ sends) sent = ap (λ (said : List (Whom × Packet)). said_in first ∷ said) (said-push sends sent)
+
+said_more : (sends : List Sent) (at : ℕ) (sent : Sent) → at < length sends → sent ≡ get_or sends at sent → map said_in (take (at + 1) sends) ≡ map said_in (take at sends) ++ (meant sent.target, sent.packet) ∷ []
+said_more sends at sent below is =
+    ap (map said_in) (take_more sends at sent below ∙ ap (λ (s : Sent). take at sends ++ s ∷ []) (sym is)) ∙ said-push (take at sends) sent
+
+to_more : (me member : ℕ) (sends : List Sent) (at : ℕ) (sent : Sent) → at < length sends → sent ≡ get_or sends at sent
+    → packets_to me member (map said_in (take (at + 1) sends)) ≡ packets_to me member (map said_in (take at sends)) ++ (if goes_to me (meant sent.target) member then sent.packet ∷ [] else [])
+to_more me member sends at sent below is =
+    ap (packets_to me member) (said_more sends at sent below is) ∙ to_push me member (map said_in (take at sends)) (meant sent.target) sent.packet
+
+-- a row's counts have 32 bits
+abbrev pub CountsFit : Packet → Type 0
+CountsFit (packet.SnapRow slot row) = (row.launched < 2 ^ 32) × (row.voided < 2 ^ 32)
+CountsFit other = ⊤
+
+row_keeps : (sent : Packet) → HasCursor sent → CountsFit sent → RowKeeps sent
+row_keeps (packet.SnapRow slot row) cursor fit = (cursor, fit.0, fit.1)
+row_keeps other cursor fit = tt
+
+cursor_at : (sends : List Sent) (at : ℕ) (sent : Sent) → at < length sends → sent ≡ get_or sends at sent → HaveCursors (map said_in sends) → HasCursor sent.packet
+cursor_at [] at sent below is have = absurd (omega arith)
+cursor_at (first ∷ sends) zero sent below is have = subst (λ (s : Sent). HasCursor s.packet) (sym is) have.0
+cursor_at (first ∷ sends) (suc at) sent below is have = cursor_at sends at sent (omega (arith, below)) is have.1
+
+found : (goes : Bool) (sent it : Packet) → (if goes then Some sent else None) ≡ Some it → (goes ≡ true) × (it ≡ sent)
+found true sent it is = (refl, cc)
+found false sent it is = absurd cc
+
+not_found : (goes : Bool) (sent : Packet) → (if goes then Some sent else None) ≡ None → goes ≡ false
+not_found true sent is = absurd cc
+not_found false sent is = refl
+
+-- the packet goes there, and was put there
+pub Putting-next : (me member : ℕ) (sends : List Sent) (at : ℕ) (sent : Sent) (it : Packet) (now new : List Packet) → me < 7 → HaveCursors (map said_in sends) → at < length sends → sent ≡ get_or sends at sent
+    → (if goes_to me (meant sent.target) member then Some sent.packet else None) ≡ Some it → BallotsKeep 7 it → CountsFit it → new ≡ now ++ it ∷ []
+    → Putting me member (map said_in (take at sends)) now → Putting me member (map said_in (take (at + 1) sends)) new
+Putting-next me member sends at sent it now new few cursors below is goes ballots counts pushed putting =
+    let parts = found (goes_to me (meant sent.target) member) sent.packet it goes in
+    let more = rw parts.0 at (to_more me member sends at sent below is) in
+    let cursor : HasCursor it = subst HasCursor (sym parts.1) (cursor_at sends at sent below is cursors) in
+    record {
+      are = pushed ∙ ap (λ (packets : List Packet). packets ++ it ∷ []) putting.are ∙ ap (λ (last : Packet). packets_to me member (map said_in (take at sends)) ++ last ∷ []) parts.1 ∙ sym more;
+      keep = subst (AllKeep me) (sym pushed) (record {
+        kinds = all-push (λ packet. IsTrue (keeps_kind (fields_of me packet))) now it putting.keep.kinds (keeps_kind-packet me it (row_keeps it cursor counts));
+        members_keep = all-push (λ packet. IsTrue (keeps_members 7 me (fields_of me packet))) now it putting.keep.members_keep (keeps_members-packet 7 me it few ballots);
+      });
+    }
+
+-- it goes elsewhere
+pub Putting-skip : (me member : ℕ) (sends : List Sent) (at : ℕ) (sent : Sent) (now : List Packet) → at < length sends → sent ≡ get_or sends at sent → (if goes_to me (meant sent.target) member then Some sent.packet else None) ≡ None
+    → Putting me member (map said_in (take at sends)) now → Putting me member (map said_in (take (at + 1) sends)) now
+Putting-skip me member sends at sent now below is other putting =
+    let more = rw (not_found (goes_to me (meant sent.target) member) sent.packet other) at (to_more me member sends at sent below is) in
+    record { are = putting.are ∙ sym (append-nil _) ∙ sym more; keep = putting.keep }
+
+-- ---- the letters
+
+some_packets : (packets : List Packet) (count : ℕ) → count ≡ length packets → eqb count 0 ≡ false → packets ≢ []
+some_packets packets count is some none = eqb-false count 0 some (is ∙ ap length none)
+
+pub no_packets : (packets : List Packet) (count : ℕ) → count ≡ length packets → eqb count 0 ≡ true → packets ≡ []
+no_packets [] count is none = refl
+no_packets (first ∷ packets) count is none = let zero : count ≡ 0 = eqb-true count 0 none in absurd (omega (arith, is, zero))
+
+-- the packets to a replica are a letter, where there are any
+pub IsLetter-to : (me member : ℕ) (said : List (Whom × Packet)) (packets : List Packet) (count : ℕ) → packets ≡ packets_to me member said → AllKeep me packets → KeepGroups me said → count ≡ length packets → eqb count 0 ≡ false
+    → IsLetter 7 me packets
+IsLetter-to me member said packets count are keep groups is some =
+    record {
+      some = some_packets packets count is some;
+      kinds = keep.kinds;
+      members_keep = keep.members_keep;
+      groups = ap (λ (packets : List Packet). keep_groups no_group (map (fields_of me) packets)) are ∙ groups member;
+    }
+
+range_more : (from count : ℕ) → range_with_len from (suc count) ≡ range_with_len from count ++ (from + count) ∷ []
+range_more from zero = ap (λ (n : ℕ). n ∷ []) (omega arith)
+range_more from (suc count) =
+    ap (λ (rest : List ℕ). from ∷ rest) (range_more (from + 1) count ∙ ap (λ (n : ℕ). range_with_len (from + 1) count ++ n ∷ []) (omega arith))
+
+letter_for : (me : ℕ) (acts : List Act) (member : ℕ) → List Addressed
+letter_for me acts member = letter_of member (sent_to me member acts)
+
+letters_more : (me member : ℕ) (acts : List Act) → letters_of (record { me = me; members = member + 1 }) acts ≡ letters_of (record { me = me; members = member }) acts ++ letter_of member (sent_to me member acts)
+unfolding letter_for
+letters_more me member acts =
+    let last : range_with_len 0 (member + 1) ≡ range_with_len 0 member ++ member ∷ [] =
+    ap (range_with_len 0) (add-one member) ∙ range_more 0 member ∙ ap (λ (n : ℕ). range_with_len 0 member ++ n ∷ []) (omega arith) in
+    ap (flat_map (letter_for me acts)) last
+    ∙ flat_map-append (letter_for me acts) (range_with_len 0 member) (member ∷ [])
+    ∙ ap (λ (letters : List Addressed). flat_map (letter_for me acts) (range_with_len 0 member) ++ letters) (append-nil (letter_for me acts member))
+
+all_zip-append : {A B : Type 0} (R : A → B → Type 0) (xs ys : List A) (us vs : List B) → AllZip R xs us → AllZip R ys vs → AllZip R (xs ++ ys) (us ++ vs)
+all_zip-append R [] ys [] vs first rest = rest
+all_zip-append R [] ys (u ∷ us) vs first rest = absurd first
+all_zip-append R (x ∷ xs) ys [] vs first rest = absurd first
+all_zip-append R (x ∷ xs) ys (u ∷ us) vs first rest = (first.0, all_zip-append R xs ys us vs first.1 rest)
+
+one_letter : (me to : ℕ) (messages : List Message) (letter : OutLetter) → flat_map packets_of messages ≢ [] → letter.to ≡ to → Spells 7 me (flat_map packets_of messages) letter.bytes → AllZip (IsSpelled 7 me) (letter_of to messages) (letter ∷ [])
+one_letter me to [] letter some is spells = absurd (some refl)
+one_letter me to (message ∷ messages) letter some is spells = (record { to = is; spells = spells }, tt)
+
+some_packet : (message : Message) (rest : List Packet) → IsTold message → packets_of message ++ rest ≢ []
+unfolding packets_of
+some_packet (Prepare ballot slot) rest told none = absurd cc
+some_packet (Promise ballot slot votes) rest told none = absurd cc
+some_packet (Accept vote) rest told none = absurd cc
+some_packet (Accepted ballot slot) rest told none = absurd cc
+some_packet (Nack ballot promised) rest told none = absurd cc
+some_packet (Known slot entry) rest told none = absurd cc
+some_packet (AskFrom slot) rest told none = absurd cc
+some_packet (Snap slot rows) rest told none = absurd cc
+some_packet (Lead ballot slot) rest told none = absurd cc
+some_packet (Mention ballot) rest told none = absurd told
+
+no_letter : (me to : ℕ) (messages : List Message) → AllByRecursion IsTold messages → flat_map packets_of messages ≡ [] → AllZip (IsSpelled 7 me) (letter_of to messages) []
+no_letter me to [] told none = tt
+no_letter me to (message ∷ messages) told none = absurd (some_packet message (flat_map packets_of messages) told.0 none)
+
+all_told : (me member : ℕ) (acts : List Act) → AreSpoken acts → AllByRecursion IsTold (sent_to me member acts)
+unfolding sent_by
+all_told me member [] spoken = tt
+all_told me member (Send whom message ∷ acts) spoken =
+    let rest = all_told me member acts spoken.1 in
+    elim (cases_Bool (goes_to me whom member)) [ inl goes ↦ rw goes (spoken.0, rest) | inr other ↦ rw other rest ]
+all_told me member (act ∷ acts) spoken = all_told me member acts spoken.1
+
+told_so : (me member : ℕ) (said : List (Whom × Packet)) (acts : List Act) → said ≡ said_of acts → packets_to me member said ≡ told_to me member acts
+told_so me member said acts is = ap (packets_to me member) is ∙ packets_to-said_of me member acts
+
+pub Carry-none : (me : ℕ) (said : List (Whom × Packet)) → Carry (record { me = me; members = 0 }) said []
+Carry-none me said acts is spoken = tt
+
+pub Carry-next : (me member : ℕ) (said : List (Whom × Packet)) (packets : List Packet) (letters : List OutLetter) (letter : OutLetter) → packets ≡ packets_to me member said → letter.to ≡ member → Spells 7 me packets letter.bytes
+    → Carry (record { me = me; members = member }) said letters → Carry (record { me = me; members = member + 1 }) said (letters ++ letter ∷ [])
+Carry-next me member said packets letters letter are to spells carry acts is spoken =
+    let told : packets ≡ told_to me member acts = are ∙ told_so me member said acts is in
+    let spelled = subst (λ (packets : List Packet). Spells 7 me packets letter.bytes) told spells in
+    subst (λ (all : List Addressed). AllZip (IsSpelled 7 me) all (letters ++ letter ∷ [])) (sym (letters_more me member acts))
+    (all_zip-append (IsSpelled 7 me) (letters_of (record { me = me; members = member }) acts) (letter_of member (sent_to me member acts)) letters (letter ∷ [])
+    (carry acts is spoken)
+    (one_letter me member (sent_to me member acts) letter spelled.letter.some to spelled))
+
+pub Carry-skip : (me member : ℕ) (said : List (Whom × Packet)) (packets : List Packet) (letters : List OutLetter) → packets ≡ packets_to me member said → packets ≡ []
+    → Carry (record { me = me; members = member }) said letters → Carry (record { me = me; members = member + 1 }) said letters
+Carry-skip me member said packets letters are none carry acts is spoken =
+    let told : packets ≡ told_to me member acts = are ∙ told_so me member said acts is in
+    subst (λ (all : List Addressed). AllZip (IsSpelled 7 me) all letters) (sym (letters_more me member acts))
+    (subst (λ (rest : List OutLetter). AllZip (IsSpelled 7 me) (letters_of (record { me = me; members = member }) acts ++ letter_of member (sent_to me member acts)) rest) (append-nil letters)
+    (all_zip-append (IsSpelled 7 me) (letters_of (record { me = me; members = member }) acts) (letter_of member (sent_to me member acts)) letters []
+    (carry acts is spoken)
+    (no_letter me member (sent_to me member acts) (all_told me member acts spoken) (sym told ∙ none))))

@@ -1,0 +1,147 @@
+-- A step that is being planned, in the words of the protocol.
+use Rattle.std.specs.Prelude.{◌≡◌, ℕ, ◌+◌, Option, None, Some, List, [], ◌∷◌, ◌++◌, map, unwrap_or}
+use Rattle.std.specs.List.{flat_map}
+use Rattle.paxos_base.specs.Durable.{after_delta}
+use Rattle.paxos_base.specs.declared.durable.Delta.{Delta}
+use Rattle.paxos_base.specs.declared.durable.Delta.TheVariants.{Tried, Promised, Voted}
+use Rattle.paxos_base.specs.declared.durable.Durable.{Durable}
+use Rattle.paxos_base.specs.declared.entry.Entry.{Entry}
+use Rattle.paxos_base.specs.declared.entry.Vote.{Vote}
+use Rattle.paxos_letter.specs.declared.packet.Packet.{Packet}
+use Rattle.term_core.specs.Term.{after_advance}
+use Rattle.term_core.specs.declared.term.Term.{Term}
+use Rattle.term_core.specs.declared.term.Term.TheVariants.{Follower, Candidate, Leader}
+use Rattle.cluster_sched.specs.declared.row.SchedRow.{SchedRow}
+use Rattle.step_law.specs.Act.{Act, Send}
+use Rattle.step_law.specs.Folds.{after_acts, calls_of, deltas_of, learnt_of}
+use Rattle.step_law.specs.Heard.{packets_of}
+use Rattle.step_law.specs.Message.{Whom, Known, Only, Others, Outside}
+use Rattle.step_law.specs.State.{State}
+use Rattle.step_law.specs.declared.out.LearntRow.{LearntRow}
+use Rattle.replica_draft.specs.declared.draft.Change.{Change}
+use Rattle.replica_draft.specs.declared.draft.Change.TheVariants as change
+use Rattle.replica_draft.specs.declared.draft.Draft.{Draft}
+use Rattle.replica_draft.specs.declared.draft.Sent.{Sent}
+use Rattle.replica_draft.specs.declared.draft.Target.{Target}
+use Rattle.replica_draft.specs.declared.draft.Target.TheVariants as target
+
+-- what a draft doesn't change: what the replica keeps, has learned, and the votes that bind its term
+pub record Kept : Type 0 where
+  pub durable : Durable
+  pub learned : List Entry
+  pub best : List Vote
+
+-- a step so far: the state that it leads to, and what is to be stored, learned, sent and called
+pub record Desk : Type 0 where
+  pub state : State
+  pub deltas : List Delta
+  pub learnt : List LearntRow
+  pub said : List (Whom × Packet)
+  pub calls : List SchedRow
+
+-- to whom a packet goes, in the words of the protocol
+abbrev pub meant : Target → Whom
+meant (target.Only member) = Only member
+meant target.Others = Others
+meant (target.Outside set) = Outside set
+
+-- a packet that is sent
+abbrev pub said_in : Sent → Whom × Packet
+said_in sent = (meant sent.target, sent.packet)
+
+-- the packets of an act
+unfoldable pub said_by : Act → List (Whom × Packet)
+said_by (Send whom message) = map (λ (packet : Packet). (whom, packet)) (packets_of message)
+said_by act = []
+
+-- the packets of some acts, in order
+abbrev pub said_of : List Act → List (Whom × Packet)
+said_of acts = flat_map said_by acts
+
+-- a term with these votes
+abbrev pub with_best : List Vote → Term → Term
+with_best best (Follower ended) = Follower ended
+with_best best (Candidate ballot first heard none) = Candidate ballot first heard best
+with_best best (Leader ballot none flight) = Leader ballot best flight
+
+-- the change of what is on the disk that a change of a draft is
+abbrev pub delta_of : Change → Delta
+delta_of (change.Tried ballot) = Tried ballot
+delta_of (change.Promised ballot) = Promised ballot
+delta_of (change.Voted vote) = Voted vote
+
+-- what is kept after a change, where there is one
+abbrev pub durable_of : Option Change → Durable → Durable
+durable_of None kept = kept
+durable_of (Some change) kept = after_delta (delta_of change) kept
+
+-- the change, where there is one
+abbrev pub deltas_in : Option Change → List Delta
+deltas_in None = []
+deltas_in (Some change) = delta_of change ∷ []
+
+-- the call, where there is one
+abbrev pub calls_in : Option SchedRow → List SchedRow
+calls_in None = []
+calls_in (Some row) = row ∷ []
+
+-- the entries that a draft has learned
+abbrev pub entries_in : List LearntRow → List Entry
+entries_in rows = map (λ (row : LearntRow). row.entry) rows
+
+-- what a draft stands for
+abbrev pub drafted : Kept → Draft → Desk
+drafted kept draft =
+    record {
+      state = record {
+        kept = durable_of draft.change kept.durable;
+        learned = kept.learned ++ entries_in draft.learnt.items;
+        term = with_best (unwrap_or draft.best kept.best) draft.term;
+        seen = draft.seen;
+      };
+      deltas = deltas_in draft.change;
+      learnt = draft.learnt.items;
+      said = map said_in draft.sends.items;
+      calls = calls_in draft.call;
+    }
+
+-- a step with some acts more
+abbrev pub done : List Act → Desk → Desk
+done acts desk =
+    record {
+      state = after_acts acts desk.state;
+      deltas = desk.deltas ++ deltas_of acts;
+      learnt = desk.learnt ++ learnt_of acts;
+      said = desk.said ++ said_of acts;
+      calls = desk.calls ++ calls_of acts;
+    }
+
+-- a draft goes on by these acts, whatever replica it is of
+abbrev pub Goes : Draft → Draft → List Act → Type 0
+Goes old new acts = (kept : Kept) → drafted kept new ≡ done acts (drafted kept old)
+
+-- a draft is as it was, but for what is sent
+pub record SendsOnly (old new : Draft) : Type 0 where
+  pub seen : new.seen ≡ old.seen
+  pub term : new.term ≡ old.term
+  pub best : new.best ≡ old.best
+  pub change : new.change ≡ old.change
+  pub learnt : new.learnt.items ≡ old.learnt.items
+  pub call : new.call ≡ old.call
+
+-- a draft has learned an entry, and is else as it was; a flight below the next slot is over
+pub record LearnsNext (old new : Draft) (slot : ℕ) (entry : Entry) : Type 0 where
+  pub seen : new.seen ≡ old.seen
+  pub term : new.term ≡ after_advance (slot + 1) old.term
+  pub best : new.best ≡ old.best
+  pub change : new.change ≡ old.change
+  pub learnt : new.learnt.items ≡ old.learnt.items ++ record { slot = slot; entry = entry } ∷ []
+  pub sends : map said_in new.sends.items ≡ map said_in old.sends.items
+  pub call : new.call ≡ old.call
+
+-- a draft has learned an entry, and told all
+pub record Chooses (old new : Draft) (slot : ℕ) (entry : Entry) : Type 0 where
+  pub middle : Draft
+  pub learns : LearnsNext old middle slot entry
+  pub told : Goes middle new (Send Others (Known slot entry) ∷ [])
+  pub sends : SendsOnly middle new

@@ -1,0 +1,11 @@
+//! A step of a replica as far as it is planned: what becomes of the replica, and what is to be stored, learned, sent and
+//! called. Each verb of a draft is one act of the definition of a step, and the letters of a draft are those of its acts.
+#![tactic(auto)]
+
+mod draft;
+mod laws;
+mod letters;
+
+pub use draft::{Change, Draft, SendList, Sent, Target};
+pub use laws::acts_have_one_list_of_letters;
+pub use letters::{LetterList, write_letters};
