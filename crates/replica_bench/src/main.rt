@@ -1,0 +1,49 @@
+//! Measures the step of a replica: three replicas that hear each other's letters at once, over 10,000 launches of one job
+//! and of 1,000 jobs. What they did is written to standard output, and how long it took to standard error.
+#![tactic(auto)]
+
+mod group;
+mod runs;
+mod seat;
+
+use crate::group::Group;
+use crate::runs::{many_jobs, one_job, table_of};
+use anyhow::Result;
+use std::time::{Duration, Instant};
+
+fn main(rt: HostRuntime) -> Result<()> {
+    let alloc = rt.alloc();
+    measure(&rt, "1 job", one_job(alloc)?.as_str())?;
+    measure(&rt, "1,000 jobs", many_jobs(alloc)?.as_str())
+}
+
+// Measures the replicas of a run.
+fn measure(rt: &HostRuntime, name: &str, run: &str) -> Result<()> {
+    let table = table_of(rt.alloc(), run)?;
+    let mut group = Group::start(rt.alloc(), &table)?;
+    let start = Instant::now(rt)?;
+    group.run()?;
+    let took = start.elapsed(rt)?;
+    let done = group.done();
+    println!(rt; "{name}: {done}")?;
+    let rate = rate(done.steps, took);
+    eprintln!(rt; "{name}: {rate} steps a second")?;
+    measure_choice(rt, name, &group)
+}
+
+// Measures how the leader's launch table chooses when no job is due any more.
+fn measure_choice(rt: &HostRuntime, name: &str, group: &Group<'_>) -> Result<()> {
+    let start = Instant::now(rt)?;
+    let rests = group.rests();
+    let took = start.elapsed(rt)?;
+    println!(rt; "{name}: at rest in {rests} minutes")?;
+    let rate = rate(rests, took);
+    eprintln!(rt; "{name}: {rate} choices a second")?;
+    Ok(())
+}
+
+// How many in a second.
+fn rate(count: u64, took: Duration) -> u64 {
+    let micros = u64::try_from(took.as_micros()).unwrap_or(u64::MAX);
+    count.saturating_mul(1_000_000) / micros.max(1)
+}
