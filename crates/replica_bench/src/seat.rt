@@ -23,7 +23,8 @@ pub struct Seat<'a> {
 
 impl<'a> Model for Seat<'a> {
     ghost use Rattle.due_set.specs.Table.{Table};
-    ghost use Rattle.replica_core.specs.Step.{IsOfTable, ReplicaState};
+    ghost use Rattle.replica_core.specs.Replica.{ReplicaState};
+    ghost use Rattle.replica_core.specs.Step.{IsOfTable};
 
     ghost Value = { Table × ReplicaState };
 
@@ -56,7 +57,7 @@ impl<'a> Seat<'a> {
         if !is_inside(self.table, &input) {
             bail!("the tick is outside the window");
         }
-        if !self.replica.is_small(self.table) {
+        if !self.replica.is_small() {
             bail!("the replica is not small");
         }
         match self.replica.step(self.table, input) {

@@ -51,8 +51,7 @@ IsSpoken act = ⊤
 abbrev pub AreSpoken : List Act → Type 0
 AreSpoken acts = AllByRecursion IsSpoken acts
 
--- The letters are those of some acts. That their ballots are of the replica's own members follows only where all ballots of its state are:
--- here they are of one of seven members, as each ballot is.
+-- The letters are those of some acts. Each ballot in them is of one of seven members; a disk doesn't say of how many its ballots are.
 abbrev pub AreLettersFrom : Identity → List Act → List OutLetter → Type 0
 AreLettersFrom self acts letters = AllZip (IsSpelled 7 self.me) (letters_of self acts) letters
 
