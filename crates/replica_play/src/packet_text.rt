@@ -1,0 +1,146 @@
+//! Entries, packets and letters in words.
+use crate::text::Text;
+use cron_io::OutOfMemory;
+use paxos_base::{Ballot, Entry, Kind};
+use paxos_letter::{LetterFault, Packet};
+use zone_minutes::Minute;
+
+/// The word for how a launch ends.
+pub fn word_of(kind: Kind) -> &'static str {
+    match kind {
+        Kind::Launch => "launch",
+        Kind::Void => "void",
+    }
+}
+
+impl Text {
+    /// Appends words, and an entry behind them.
+    pub fn put_entry(&mut self, words: &str, entry: &Entry) -> Result<(), OutOfMemory> {
+        self.put(words)?;
+        match entry {
+            Entry::Noop => self.put("noop"),
+            Entry::Start { job, at, now } => self.put_start(*job, *at, *now),
+            Entry::End { job, at, kind } => {
+                self.put_launch("end job ", *job, *at)?;
+                self.put(" ")?;
+                self.put(word_of(*kind))
+            }
+        }
+    }
+
+    // Appends the start of a launch, and when it was decided where that is another minute.
+    fn put_start(&mut self, job: u32, at: i64, now: i64) -> Result<(), OutOfMemory> {
+        self.put_launch("start job ", job, at)?;
+        if at == now {
+            return Ok(());
+        }
+        self.put_stamp(" decided ", Minute(now))
+    }
+
+    // Appends words, and a job and when its launch is due behind them.
+    fn put_launch(&mut self, words: &str, job: u32, at: i64) -> Result<(), OutOfMemory> {
+        self.put_number(words, u64::from(job))?;
+        self.put_stamp(" ", Minute(at))
+    }
+
+    /// Appends words, a ballot, words and a slot.
+    pub fn put_place(
+        &mut self,
+        words: &str,
+        ballot: Ballot,
+        between: &str,
+        slot: u64,
+    ) -> Result<(), OutOfMemory> {
+        self.put_ballot(words, ballot)?;
+        self.put_number(between, slot)
+    }
+
+    // Appends a packet.
+    fn put_packet(&mut self, packet: &Packet) -> Result<(), OutOfMemory> {
+        match packet {
+            Packet::Prepare { ballot, slot } => {
+                self.put_place("prepare ", *ballot, " from ", *slot)
+            }
+            Packet::Promise {
+                ballot,
+                slot,
+                count,
+            } => {
+                self.put_place("promise ", *ballot, " from ", *slot)?;
+                self.put_number(", votes ", *count)
+            }
+            Packet::OldVote {
+                slot,
+                cast,
+                entry,
+                ..
+            } => {
+                self.put_place("vote ", *cast, " at ", *slot)?;
+                self.put_entry(" ", entry)
+            }
+            Packet::Nack { ballot, promised } => {
+                self.put_ballot("nack ", *ballot)?;
+                self.put_ballot(", promised ", *promised)
+            }
+            _ => self.put_later_packet(packet),
+        }
+    }
+
+    // Appends a packet that comes after the promises.
+    fn put_later_packet(&mut self, packet: &Packet) -> Result<(), OutOfMemory> {
+        match packet {
+            Packet::Accept {
+                ballot,
+                slot,
+                entry,
+            } => {
+                self.put_place("accept ", *ballot, " at ", *slot)?;
+                self.put_entry(" ", entry)
+            }
+            Packet::Accepted { ballot, slot } => {
+                self.put_place("accepted ", *ballot, " at ", *slot)
+            }
+            Packet::Known { slot, entry } => {
+                self.put_number("known ", *slot)?;
+                self.put_entry(" ", entry)
+            }
+            Packet::AskFrom { slot } => self.put_number("ask from ", *slot),
+            Packet::Lead { ballot, slot } => self.put_place("lead ", *ballot, " up to ", *slot),
+            // A replica sends no rows of its launch table yet.
+            _ => self.put("rows"),
+        }
+    }
+
+    /// Appends the line of a letter: its number, to whom it goes, and its packets.
+    pub fn put_letter(
+        &mut self,
+        number: u64,
+        to: u8,
+        packets: &[Packet],
+    ) -> Result<(), OutOfMemory> {
+        self.put_number("  letter ", number)?;
+        self.put_number(" to ", u64::from(to))?;
+        let mut mark = ": ";
+        for packet in packets {
+            self.put(mark)?;
+            self.put_packet(packet)?;
+            mark = "; ";
+        }
+        self.put("\n")
+    }
+
+    /// Appends the line of a fault of a letter: the rule, and the packet that breaks it.
+    pub fn put_letter_fault(&mut self, fault: LetterFault) -> Result<(), OutOfMemory> {
+        let (rule, packet) = match fault {
+            LetterFault::BadLength { packet } => ("BadLength", packet),
+            LetterFault::BadKind { packet } => ("BadKind", packet),
+            LetterFault::NotZero { packet } => ("NotZero", packet),
+            LetterFault::BadMember { packet } => ("BadMember", packet),
+            LetterFault::BadGroup { packet } => ("BadGroup", packet),
+        };
+        self.put("  fault Letter(")?;
+        self.put(rule)?;
+        self.put_number(" { packet: ", packet)?;
+        self.put(" })\n")
+    }
+}

@@ -1,0 +1,77 @@
+//! What comes of a step in words: changes of the disk, entries that are learned, calls, and the term.
+use crate::packet_text::word_of;
+use crate::text::Text;
+use cluster_sched::SchedRow;
+use cron_io::OutOfMemory;
+use paxos_base::Delta;
+use replica_core::LearntRow;
+use term_core::{Flight, Term};
+use zone_minutes::Minute;
+
+impl Text {
+    /// Appends the line of a change of the disk behind words, or that there is none.
+    pub fn put_change(&mut self, words: &str, delta: &Option<Delta>) -> Result<(), OutOfMemory> {
+        self.put(words)?;
+        match delta {
+            Some(delta) => self.put_delta(delta)?,
+            None => self.put("nothing")?,
+        }
+        self.put("\n")
+    }
+
+    // Appends a change of the disk.
+    fn put_delta(&mut self, delta: &Delta) -> Result<(), OutOfMemory> {
+        match delta {
+            Delta::Tried(ballot) => self.put_ballot("tried ", *ballot),
+            Delta::Promised(ballot) => self.put_ballot("promised ", *ballot),
+            Delta::Voted(vote) => {
+                self.put_place("voted ", vote.ballot, " at ", vote.slot)?;
+                self.put_entry(" ", &vote.entry)
+            }
+            Delta::Base { slot, .. } => self.put_number("base ", *slot),
+        }
+    }
+
+    /// Appends the lines of the entries that a step learns.
+    pub fn put_learnt(&mut self, rows: &[LearntRow]) -> Result<(), OutOfMemory> {
+        for row in rows {
+            self.put_number("  learned ", row.slot)?;
+            self.put_entry(": ", &row.entry)?;
+            self.put("\n")?;
+        }
+        Ok(())
+    }
+
+    /// Appends the line of a call of the scheduler.
+    pub fn put_call(&mut self, row: &SchedRow) -> Result<(), OutOfMemory> {
+        self.put_number("  call job ", u64::from(row.name.job))?;
+        self.put_stamp(" at ", Minute(row.name.at))?;
+        self.put(" ")?;
+        self.put(word_of(row.kind))?;
+        self.put_stamp(" now ", row.now)?;
+        self.put("\n")
+    }
+
+    /// Appends the line of a replica's term.
+    pub fn put_term(&mut self, member: u8, term: &Term) -> Result<(), OutOfMemory> {
+        self.put_number("  ", u64::from(member))?;
+        match term {
+            Term::Follower { ended: None } => self.put(": follower")?,
+            Term::Follower { ended: Some(by) } => self.put_ballot(": follower, ended by ", *by)?,
+            Term::Candidate { ballot, .. } => self.put_ballot(": candidate ", *ballot)?,
+            Term::Leader { ballot, flight, .. } => {
+                self.put_ballot(": leader ", *ballot)?;
+                self.put_flight(flight)?;
+            }
+        }
+        self.put("\n")
+    }
+
+    // Appends at which slot a leader's proposal waits for votes, where one does.
+    fn put_flight(&mut self, flight: &Option<Flight>) -> Result<(), OutOfMemory> {
+        match flight {
+            Some(flight) => self.put_number(" flight at ", flight.slot),
+            None => Ok(()),
+        }
+    }
+}
