@@ -26,7 +26,7 @@ pub enum PlayFault {
     NoCall,
     OutsideHour,
     BeyondBounds,
-    BadDisk,
+    BadStart,
     TooManyLetters,
 }
 
@@ -54,8 +54,8 @@ impl PlayFault {
             PlayFault::NoCall => "the replica has called for no launch",
             PlayFault::OutsideHour => "the stamp is outside the hour from 2024-03-31T00:00Z on",
             PlayFault::BeyondBounds => "the replica's numbers are beyond its bounds",
-            PlayFault::BadDisk => "no replica starts with such a disk",
-            PlayFault::TooManyLetters => "there are more than 1,000 letters",
+            PlayFault::BadStart => "no replica starts so",
+            PlayFault::TooManyLetters => "there are 1,000 letters or more",
         }
     }
 }

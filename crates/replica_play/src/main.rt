@@ -4,17 +4,17 @@
 //! one.
 #![tactic(auto)]
 
+mod cluster;
 mod command;
 mod disk;
 mod fault;
+mod host;
 mod hour;
 mod made_up;
 mod packet_text;
 mod parse;
-mod play;
+mod running;
 mod scenario;
-mod seat;
-mod seated;
 mod step_text;
 mod text;
 

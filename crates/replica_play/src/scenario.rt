@@ -1,8 +1,8 @@
 //! The lines of a scenario.
+use crate::cluster::Cluster;
 use crate::fault::{PlayFault, Stop};
 use crate::hour::hour_table;
 use crate::parse::command_of;
-use crate::play::Play;
 use cron_io::{Sink, Source, read_all, write_all};
 use std::alloc::Global;
 use std::str;
@@ -10,7 +10,7 @@ use std::str;
 // The input's longest length, in bytes.
 const LIMIT: u32 = 1 << 20;
 
-impl Play<'_> {
+impl Cluster<'_> {
     // Writes a line that stays as it is, and behind a command what comes of it. Every other line is passed over.
     fn play_line(&mut self, line: &str) -> Result<(), PlayFault> {
         let command = line.strip_prefix("> ");
@@ -19,31 +19,32 @@ impl Play<'_> {
             self.text().put("\n")?;
         }
         match command {
-            Some(text) => self.obey(command_of(text)?),
+            Some(text) => self.run(command_of(text)?),
             None => Ok(()),
         }
     }
 }
 
 // Plays a line, and writes at once what it comes to, also where it can't be played to its end.
-fn tell_line<K: Sink>(play: &mut Play<'_>, line: &str, sink: &mut K) -> Result<(), PlayFault> {
-    let result = play.play_line(line);
-    write_all(sink, play.text().bytes())?;
-    play.text().clear();
+fn tell_line<K: Sink>(
+    cluster: &mut Cluster<'_>,
+    line: &str,
+    sink: &mut K,
+) -> Result<(), PlayFault> {
+    let result = cluster.play_line(line);
+    write_all(sink, cluster.text().bytes())?;
+    cluster.text().clear();
     result
 }
 
 // Plays the lines of a text.
 fn play_text<K: Sink>(alloc: Global, text: &str, sink: &mut K) -> Result<(), Stop> {
-    let table = match hour_table(alloc) {
-        Ok(table) => table,
-        Err(fault) => return Err(Stop::from(PlayFault::from(fault))),
-    };
-    let mut play = Play::new(alloc, &table);
+    let table = hour_table(alloc).map_err(PlayFault::from)?;
+    let mut cluster = Cluster::new(alloc, &table);
     let mut number = 0usize;
     for line in text.lines() {
         number = number.saturating_add(1);
-        if let Err(fault) = tell_line(&mut play, line, sink) {
+        if let Err(fault) = tell_line(&mut cluster, line, sink) {
             return Err(Stop {
                 line: number,
                 fault,
@@ -63,10 +64,7 @@ pub fn play_all<S: Source, K: Sink>(
     source: &mut S,
     sink: &mut K,
 ) -> Result<(), Stop> {
-    let bytes = match read_all(alloc, source, LIMIT) {
-        Ok(bytes) => bytes,
-        Err(fault) => return Err(Stop::from(PlayFault::from(fault))),
-    };
+    let bytes = read_all(alloc, source, LIMIT).map_err(PlayFault::from)?;
     match str::from_utf8(&bytes) {
         Ok(text) => play_text(alloc, text, sink),
         Err(_) => Err(Stop::from(PlayFault::NotText)),

@@ -9,27 +9,27 @@ use term_core::{Flight, Term};
 use zone_minutes::Minute;
 
 impl Text {
-    /// Appends the line of a change of the disk behind words, or that there is none.
-    pub fn put_change(&mut self, words: &str, delta: &Option<Delta>) -> Result<(), OutOfMemory> {
-        self.put(words)?;
+    /// Appends the line of what a step that is planned would change on the disk.
+    pub fn put_plan(&mut self, delta: &Option<Delta>) -> Result<(), OutOfMemory> {
         match delta {
-            Some(delta) => self.put_delta(delta)?,
-            None => self.put("nothing")?,
+            Some(delta) => self.put_delta("  plans ", delta),
+            None => self.put("  plans nothing\n"),
         }
-        self.put("\n")
     }
 
-    // Appends a change of the disk.
-    fn put_delta(&mut self, delta: &Delta) -> Result<(), OutOfMemory> {
+    /// Appends the line of a change of the disk behind words.
+    pub fn put_delta(&mut self, words: &str, delta: &Delta) -> Result<(), OutOfMemory> {
+        self.put(words)?;
         match delta {
-            Delta::Tried(ballot) => self.put_ballot("tried ", *ballot),
-            Delta::Promised(ballot) => self.put_ballot("promised ", *ballot),
+            Delta::Tried(ballot) => self.put_ballot("tried ", *ballot)?,
+            Delta::Promised(ballot) => self.put_ballot("promised ", *ballot)?,
             Delta::Voted(vote) => {
                 self.put_place("voted ", vote.ballot, " at ", vote.slot)?;
-                self.put_entry(" ", &vote.entry)
+                self.put_entry(" ", &vote.entry)?;
             }
-            Delta::Base { slot, .. } => self.put_number("base ", *slot),
+            Delta::Base { slot, .. } => self.put_number("base ", *slot)?,
         }
+        self.put("\n")
     }
 
     /// Appends the lines of the entries that a step learns.

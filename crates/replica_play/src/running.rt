@@ -1,6 +1,7 @@
-ghost use Rattle.std.specs.Prelude.{OnOk};
+ghost use Rattle.std.specs.Prelude.{◌<◌, ◌≤◌, ◌^◌, IsTrue, IfOk, OnOk, length};
+ghost use Rattle.paxos_base.specs.Rows.{RowsStand};
 ghost use Rattle.replica_core.specs.Replica.{IsSmall};
-ghost use Rattle.replica_core.specs.Step.{IsInputInside};
+ghost use Rattle.replica_core.specs.Step.{IsAlike, IsInputInside, Steps};
 
 use crate::fault::{PlayFault, Refusal};
 use crate::text::Text;
@@ -12,47 +13,66 @@ use term_core::Term;
 
 /// A replica that runs, and the table of jobs that it is one of.
 #[derive(Drop)]
-pub struct Seated<'a> {
+pub struct Running<'a> {
     table: &'a JobTable,
     replica: Replica,
 }
 
-impl<'a> Model for Seated<'a> {
+impl<'a> Model for Running<'a> {
     ghost use Rattle.due_set.specs.Table.{Table};
     ghost use Rattle.replica_core.specs.Step.{IsOfTable, ReplicaState};
 
     ghost Value = { Table × ReplicaState };
 
-    ghost view = { λ seated. (seated.table.now, seated.replica) };
+    ghost view = { λ running. (running.table.now, running.replica) };
 
-    ghost invariant = { λ seated. IsOfTable seated.table.now seated.replica };
+    ghost invariant = { λ running. IsOfTable running.table.now running.replica };
 }
 
-impl<'a> Seated<'a> {
+// Whether a replica starts so: it is one of the members, and its disk is one of the table's.
+fn may_start(me: u8, members: u8, table: &JobTable, durable: &Durable) -> bool
+    ensures me { IsTrue result → me < members }
+    ensures few { IsTrue result → members ≤ 7 }
+    ensures rows { IsTrue result → RowsStand durable.now.rows (length table.now.jobs) }
+    ensures tried { IsTrue result → durable.now.tried < 2 ^ 61 }
+{
+    members <= 7
+        && me < members
+        && durable.tried < 1 << 61
+        && rows_stand(&durable.rows, table.jobs(), table.versions())
+}
+
+// Whether a tick is at a minute of the table's window.
+fn is_inside(table: &JobTable, input: &Input<'_>) -> bool
+    ensures { IsTrue result → IsInputInside table.now input.now }
+{
+    match input {
+        Input::Tick { now } => table.window().contains(*now),
+        Input::Campaign | Input::Hear { .. } | Input::Answer { .. } => true,
+    }
+}
+
+impl<'a> Running<'a> {
     /// A replica that starts with what is on its disk.
     pub fn start(
         me: u8,
         members: u8,
         table: &'a JobTable,
         durable: Durable,
-    ) -> Result<Seated<'a>, PlayFault> {
-        if me >= members || members > 7 {
-            return Err(PlayFault::BadMember);
-        }
-        if durable.tried >= 1 << 61 {
-            return Err(PlayFault::BadDisk);
-        }
-        if !rows_stand(&durable.rows, table.jobs(), table.versions()) {
-            return Err(PlayFault::BadDisk);
+    ) -> Result<Running<'a>, PlayFault> {
+        if !may_start(me, members, table, &durable) {
+            return Err(PlayFault::BadStart);
         }
         let replica = Replica::start(me, members, table, durable)?;
-        Ok(Seated { table, replica })
+        Ok(Running { table, replica })
     }
 
     /// An equal one.
-    pub fn copy(&self) -> Result<Seated<'a>, PlayFault> {
+    pub fn copy(&self) -> Result<Running<'a>, PlayFault>
+        ensures { IfOk result (λ copy. IsAlike copy.1 self.now.1) }
+    {
         let replica = self.replica.copy()?;
-        Ok(Seated {
+        Ok(Running {
             table: self.table,
             replica,
         })
@@ -68,9 +88,7 @@ impl<'a> Seated<'a> {
         ensures inside { OnOk result (IsInputInside self.now.0 input.now) }
         ensures small { OnOk result (IsSmall self.now.1.state self.now.1.machine.rows) }
     {
-        if let Input::Tick { now } = input
-            && !self.table.window().contains(*now)
-        {
+        if !is_inside(self.table, input) {
             return Err(PlayFault::OutsideHour);
         }
         if self.replica.is_small(self.table) {
@@ -81,7 +99,9 @@ impl<'a> Seated<'a> {
     }
 
     /// A step of the replica.
-    pub fn step(&mut self, input: Input<'_>) -> Result<StepOut, Refusal> {
+    pub fn step(&mut self, input: Input<'_>) -> Result<StepOut, Refusal>
+        ensures { IfOk result (λ out. Steps self.old.0 input.entry self.old.1 self.new.1 out) }
+    {
         self.test(&input)?;
         Ok(self.replica.step(self.table, input)?)
     }
@@ -90,7 +110,7 @@ impl<'a> Seated<'a> {
     pub fn plan(&mut self, input: Input<'_>, text: &mut Text) -> Result<(), Refusal> {
         self.test(&input)?;
         let planned = self.replica.plan(self.table, input)?;
-        text.put_change("  plans ", &planned.delta())?;
+        text.put_plan(&planned.delta())?;
         Ok(())
     }
 
@@ -98,7 +118,7 @@ impl<'a> Seated<'a> {
     pub fn complete(&mut self, input: Input<'_>, text: &mut Text) -> Result<StepOut, Refusal> {
         self.test(&input)?;
         let planned = self.replica.plan(self.table, input)?;
-        text.put_change("  plans ", &planned.delta())?;
+        text.put_plan(&planned.delta())?;
         Ok(self.replica.complete(self.table, planned))
     }
 }

@@ -3,16 +3,17 @@ ghost use Rattle.std.specs.Prelude.{◌≤◌};
 
 use crate::command::{Command, Event, Extent};
 use crate::fault::PlayFault;
+use crate::host::Host;
 use crate::made_up::letter_bytes;
-use crate::seat::Seat;
 use crate::text::Text;
+use cluster_sched::SchedRow;
 use due_set::JobTable;
 use paxos_base::Kind;
 use paxos_letter::{LetterBytes, read_letter};
 use replica_core::{Input, LetterList, OutLetter, StepOut};
 use std::alloc::Global;
 
-// How many letters a scenario has at most where all are delivered.
+// How many letters are too many where all are delivered.
 const LETTERS: usize = 1000;
 
 // The kind of a packet that no packet is of.
@@ -28,21 +29,21 @@ struct Posted {
 
 /// The replicas of a scenario and their letters, which are numbered from 0.
 #[derive(Drop)]
-pub struct Play<'a> {
+pub struct Cluster<'a> {
     alloc: Global,
     table: &'a JobTable,
-    seats: Vec<Seat<'a>>,
+    hosts: Vec<Host<'a>>,
     posted: Vec<Posted>,
     text: Text,
 }
 
-impl<'a> Play<'a> {
+impl<'a> Cluster<'a> {
     /// No replicas: a scenario begins by starting some.
-    pub fn new(alloc: Global, table: &'a JobTable) -> Play<'a> {
-        Play {
+    pub fn new(alloc: Global, table: &'a JobTable) -> Cluster<'a> {
+        Cluster {
             alloc,
             table,
-            seats: Vec::new(alloc),
+            hosts: Vec::new(alloc),
             posted: Vec::new(alloc),
             text: Text::new(alloc),
         }
@@ -54,10 +55,10 @@ impl<'a> Play<'a> {
     }
 
     /// Carries a command out, and writes what comes of it.
-    pub fn obey(&mut self, command: Command<'_>) -> Result<(), PlayFault> {
+    pub fn run(&mut self, command: Command<'_>) -> Result<(), PlayFault> {
         match command {
             Command::Start { members } => self.start(members),
-            Command::Step { extent, event } => self.happen(extent, event),
+            Command::Step { extent, event } => self.handle(extent, event),
             Command::DeliverAll => self.deliver_all(),
             Command::Drop { letter } => self.lose(letter),
             Command::DropAll => {
@@ -77,37 +78,37 @@ impl<'a> Play<'a> {
     fn members(&self) -> u8
         ensures { result ≤ 7 }
     {
-        self.seats.len().min(7) as u8
+        self.hosts.len().min(7) as u8
     }
 
     // Begins a scenario of so many replicas.
     fn start(&mut self, members: u8) -> Result<(), PlayFault> {
-        self.seats.clear();
+        self.hosts.clear();
         self.posted.clear();
         for me in 0..members {
-            let seat = Seat::new(self.alloc, self.table, me, members)?;
-            self.seats.push(seat)?;
+            let host = Host::new(self.alloc, self.table, me, members)?;
+            self.hosts.push(host)?;
         }
         Ok(())
     }
 
     fn stop(&mut self, member: u8) -> Result<(), PlayFault> {
-        let seat = self.seats.get_mut(usize::from(member));
-        seat.ok_or(PlayFault::BadMember)?.stop();
+        let host = self.hosts.get_mut(usize::from(member));
+        host.ok_or(PlayFault::BadMember)?.stop();
         Ok(())
     }
 
     fn restart(&mut self, member: u8) -> Result<(), PlayFault> {
-        let seat = self.seats.get_mut(usize::from(member));
-        seat.ok_or(PlayFault::BadMember)?.start()
+        let host = self.hosts.get_mut(usize::from(member));
+        host.ok_or(PlayFault::BadMember)?.start()
     }
 
     fn copy(&mut self, member: u8) -> Result<(), PlayFault> {
-        let seat = self.seats.get_mut(usize::from(member));
-        seat.ok_or(PlayFault::BadMember)?.copy()
+        let host = self.hosts.get_mut(usize::from(member));
+        host.ok_or(PlayFault::BadMember)?.copy()
     }
 
-    fn happen(&mut self, extent: Extent, event: Event) -> Result<(), PlayFault> {
+    fn handle(&mut self, extent: Extent, event: Event) -> Result<(), PlayFault> {
         match event {
             Event::Campaign { member } => self.step(extent, member, Input::Campaign),
             Event::Tick { member, now } => self.step(extent, member, Input::Tick { now }),
@@ -117,16 +118,16 @@ impl<'a> Play<'a> {
     }
 
     fn step(&mut self, extent: Extent, member: u8, input: Input<'_>) -> Result<(), PlayFault> {
-        let seat = self.seats.get_mut(usize::from(member));
-        let seat = seat.ok_or(PlayFault::BadMember)?;
-        let out = seat.take(extent, input, &mut self.text)?;
+        let host = self.hosts.get_mut(usize::from(member));
+        let host = host.ok_or(PlayFault::BadMember)?;
+        let out = host.take(extent, input, &mut self.text)?;
         self.tell(member, out)
     }
 
     // The replica's last call is answered so.
     fn answer(&mut self, extent: Extent, member: u8, kind: Kind) -> Result<(), PlayFault> {
-        let seat = self.seats.get(usize::from(member));
-        let name = seat.ok_or(PlayFault::BadMember)?.called()?;
+        let host = self.hosts.get(usize::from(member));
+        let name = host.ok_or(PlayFault::BadMember)?.last_call()?;
         let input = Input::Answer {
             job: name.job,
             at: name.at,
@@ -151,11 +152,11 @@ impl<'a> Play<'a> {
     fn deliver(&mut self, extent: Extent, number: usize) -> Result<(), PlayFault> {
         let letter = self.posted.get_mut(number).ok_or(PlayFault::NoLetter)?;
         let to = letter.to;
-        let seat = self.seats.get_mut(usize::from(to));
-        let seat = seat.ok_or(PlayFault::BadMember)?;
+        let host = self.hosts.get_mut(usize::from(to));
+        let host = host.ok_or(PlayFault::BadMember)?;
         if !matches!(extent, Extent::Plan) {
             letter.waits = false;
-            if seat.is_stopped() {
+            if host.is_stopped() {
                 self.text.put_number("  letter ", number as u64)?;
                 self.text.put(" is lost\n")?;
                 return Ok(());
@@ -167,7 +168,7 @@ impl<'a> Play<'a> {
         let input = Input::Hear {
             bytes: &letter.bytes,
         };
-        let out = seat.take(extent, input, &mut self.text)?;
+        let out = host.take(extent, input, &mut self.text)?;
         self.tell(to, out)
     }
 
@@ -236,22 +237,34 @@ impl<'a> Play<'a> {
     // Writes what comes of a step, where one was taken, and carries it out. At last the replica's term is written.
     fn tell(&mut self, member: u8, out: Option<StepOut>) -> Result<(), PlayFault> {
         if let Some(out) = out {
-            self.carry_out(member, out)?;
+            self.apply(member, out)?;
         }
-        let seat = self.seats.get(usize::from(member));
-        seat.ok_or(PlayFault::BadMember)?.tell_term(&mut self.text)
+        let host = self.hosts.get(usize::from(member));
+        host.ok_or(PlayFault::BadMember)?.tell_term(&mut self.text)
     }
 
-    fn carry_out(&mut self, member: u8, out: StepOut) -> Result<(), PlayFault> {
-        let seat = self.seats.get_mut(usize::from(member));
-        let seat = seat.ok_or(PlayFault::BadMember)?;
-        seat.store(out.delta, &mut self.text)?;
-        self.post_all(out.letters)?;
-        self.text.put_learnt(&out.learnt.items)?;
-        if let Some(row) = out.call {
-            let seat = self.seats.get_mut(usize::from(member));
-            seat.ok_or(PlayFault::BadMember)?.call(row, &mut self.text)?;
+    fn apply(&mut self, member: u8, out: StepOut) -> Result<(), PlayFault> {
+        let StepOut {
+            delta,
+            letters,
+            learnt,
+            call,
+        } = out;
+        let host = self.hosts.get_mut(usize::from(member));
+        let host = host.ok_or(PlayFault::BadMember)?;
+        if let Some(delta) = delta {
+            host.store(delta, &mut self.text)?;
         }
-        Ok(())
+        self.post_all(letters)?;
+        self.text.put_learnt(&learnt.items)?;
+        match call {
+            Some(row) => self.call(member, row),
+            None => Ok(()),
+        }
+    }
+
+    fn call(&mut self, member: u8, row: SchedRow) -> Result<(), PlayFault> {
+        let host = self.hosts.get_mut(usize::from(member));
+        host.ok_or(PlayFault::BadMember)?.call(row, &mut self.text)
     }
 }

@@ -2,7 +2,7 @@ use crate::command::Extent;
 use crate::disk::{copy_of, store};
 use crate::fault::{PlayFault, Refusal};
 use crate::hour::empty_disk;
-use crate::seated::Seated;
+use crate::running::Running;
 use crate::text::Text;
 use cluster_sched::{Name, SchedRow};
 use due_set::JobTable;
@@ -10,26 +10,26 @@ use paxos_base::{Delta, Durable};
 use replica_core::{Input, StepOut};
 use std::alloc::Global;
 
-/// A replica while it runs, what is on its disk, and the launch that it has called last.
+/// What is on the disk of a replica, the replica while it runs, and the launch that it has called last.
 #[derive(Drop)]
-pub struct Seat<'a> {
+pub struct Host<'a> {
     me: u8,
     members: u8,
     table: &'a JobTable,
     durable: Durable,
-    replica: Option<Seated<'a>>,
+    replica: Option<Running<'a>>,
     call: Option<Name>,
 }
 
-impl<'a> Seat<'a> {
+impl<'a> Host<'a> {
     /// A replica that starts for the first time.
     pub fn new(
         alloc: Global,
         table: &'a JobTable,
         me: u8,
         members: u8,
-    ) -> Result<Seat<'a>, PlayFault> {
-        let mut seat = Seat {
+    ) -> Result<Host<'a>, PlayFault> {
+        let mut host = Host {
             me,
             members,
             table,
@@ -37,14 +37,14 @@ impl<'a> Seat<'a> {
             replica: None,
             call: None,
         };
-        seat.start()?;
-        Ok(seat)
+        host.start()?;
+        Ok(host)
     }
 
     /// Starts the replica with what is on its disk.
     pub fn start(&mut self) -> Result<(), PlayFault> {
         let durable = copy_of(&self.durable)?;
-        let replica = Seated::start(self.me, self.members, self.table, durable)?;
+        let replica = Running::start(self.me, self.members, self.table, durable)?;
         self.replica = Some(replica);
         self.call = None;
         Ok(())
@@ -55,6 +55,7 @@ impl<'a> Seat<'a> {
         self.replica = None;
     }
 
+    /// Whether no replica runs.
     pub fn is_stopped(&self) -> bool {
         self.replica.is_none()
     }
@@ -68,7 +69,7 @@ impl<'a> Seat<'a> {
     }
 
     /// The launch that the replica has called last.
-    pub fn called(&self) -> Result<Name, PlayFault> {
+    pub fn last_call(&self) -> Result<Name, PlayFault> {
         self.call.ok_or(PlayFault::NoCall)
     }
 
@@ -80,7 +81,7 @@ impl<'a> Seat<'a> {
         input: Input<'_>,
         text: &mut Text,
     ) -> Result<Option<StepOut>, PlayFault> {
-        match self.go(extent, input, text) {
+        match self.attempt(extent, input, text) {
             Ok(out) => Ok(out),
             Err(Refusal::Letter(fault)) => {
                 text.put_letter_fault(fault)?;
@@ -90,7 +91,8 @@ impl<'a> Seat<'a> {
         }
     }
 
-    fn go(
+    // A step, or why there is none.
+    fn attempt(
         &mut self,
         extent: Extent,
         input: Input<'_>,
@@ -108,13 +110,9 @@ impl<'a> Seat<'a> {
     }
 
     /// Stores what a step changes on the disk, and writes it.
-    pub fn store(&mut self, delta: Option<Delta>, text: &mut Text) -> Result<(), PlayFault> {
-        if delta.is_some() {
-            text.put_change("  delta ", &delta)?;
-        }
-        if let Some(delta) = delta {
-            store(&mut self.durable, delta)?;
-        }
+    pub fn store(&mut self, delta: Delta, text: &mut Text) -> Result<(), PlayFault> {
+        text.put_delta("  delta ", &delta)?;
+        store(&mut self.durable, delta)?;
         Ok(())
     }
 
