@@ -20,7 +20,8 @@ pub struct Running<'a> {
 
 impl<'a> Model for Running<'a> {
     ghost use Rattle.due_set.specs.Table.{Table};
-    ghost use Rattle.replica_core.specs.Step.{IsOfTable, ReplicaState};
+    ghost use Rattle.replica_core.specs.Replica.{ReplicaState};
+    ghost use Rattle.replica_core.specs.Step.{IsOfTable};
 
     ghost Value = { Table × ReplicaState };
 
@@ -91,7 +92,7 @@ impl<'a> Running<'a> {
         if !is_inside(self.table, input) {
             return Err(PlayFault::OutsideHour);
         }
-        if self.replica.is_small(self.table) {
+        if self.replica.is_small() {
             Ok(())
         } else {
             Err(PlayFault::BeyondBounds)
