@@ -1,6 +1,6 @@
 //! Three replicas that hear each other's letters at once, the first of which leads.
+use crate::fault::BenchFault;
 use crate::seat::{MEMBERS, Seat};
-use anyhow::{Result, bail};
 use due_set::JobTable;
 use replica_core::{Input, LetterList, StepOut};
 use std::alloc::Global;
@@ -42,7 +42,7 @@ pub struct Group<'a> {
 
 impl<'a> Group<'a> {
     /// Replicas before their first step.
-    pub fn start(alloc: Global, table: &'a JobTable) -> Result<Group<'a>> {
+    pub fn start(alloc: Global, table: &'a JobTable) -> Result<Group<'a>, BenchFault> {
         let mut seats = Vec::new(alloc);
         for me in 0..MEMBERS {
             seats.push(Seat::start(alloc, me, table)?)?;
@@ -69,7 +69,7 @@ impl<'a> Group<'a> {
     }
 
     /// The first replica stands for leader, and leads from the first minute of the window to the last one.
-    pub fn run(&mut self) -> Result<()> {
+    pub fn run(&mut self) -> Result<(), BenchFault> {
         self.lead(Input::Campaign)?;
         let window = self.table.window();
         for now in window.from.0..window.until.0 {
@@ -79,7 +79,7 @@ impl<'a> Group<'a> {
     }
 
     // Ticks at a minute until there is nothing more to do.
-    fn minute(&mut self, now: Minute) -> Result<()> {
+    fn minute(&mut self, now: Minute) -> Result<(), BenchFault> {
         for _ in 0..MOST_STEPS {
             let out = self.lead(Input::Tick { now })?;
             if let Some(row) = out.call {
@@ -90,18 +90,18 @@ impl<'a> Group<'a> {
                 return Ok(());
             }
         }
-        bail!("the minute has no end")
+        Err(BenchFault::NoEnd)
     }
 
     // A step of the leader, and those of all that come of it.
-    fn lead(&mut self, input: Input<'_>) -> Result<StepOut> {
+    fn lead(&mut self, input: Input<'_>) -> Result<StepOut, BenchFault> {
         let mut out = self.step(0, input)?;
         self.deliver(&mut out.letters)?;
         Ok(out)
     }
 
     // Delivers letters, and those that come of them, in turn.
-    fn deliver(&mut self, letters: &mut LetterList) -> Result<()> {
+    fn deliver(&mut self, letters: &mut LetterList) -> Result<(), BenchFault> {
         for place in 0..MOST_LETTERS {
             let Some(letter) = letters.items.get(place) else {
                 return Ok(());
@@ -111,13 +111,13 @@ impl<'a> Group<'a> {
             letters.items.append(&mut answers.items)?;
             self.done.letters = self.done.letters.saturating_add(1);
         }
-        bail!("the letters have no end")
+        Err(BenchFault::NoEnd)
     }
 
     // A step of a replica.
-    fn step(&mut self, member: u8, input: Input<'_>) -> Result<StepOut> {
+    fn step(&mut self, member: u8, input: Input<'_>) -> Result<StepOut, BenchFault> {
         let Some(seat) = self.seats.get_mut(usize::from(member)) else {
-            bail!("there is no such replica");
+            return Err(BenchFault::NoReplica);
         };
         self.done.steps = self.done.steps.saturating_add(1);
         seat.step(input)

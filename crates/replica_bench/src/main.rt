@@ -1,29 +1,31 @@
 //! Measures the step of a replica: three replicas that hear each other's letters at once, over 10,000 launches of one job
-//! and of 1,000 jobs. What they did is written to standard output, and how long it took to standard error.
+//! and of 1,000 jobs. What they did is written to standard output, and how much they did in a second of the processor to
+//! standard error.
 #![tactic(auto)]
 
+mod fault;
 mod group;
 mod runs;
 mod seat;
 
+use crate::fault::BenchFault;
 use crate::group::Group;
 use crate::runs::{many_jobs, one_job, table_of};
-use anyhow::Result;
-use std::time::{Duration, Instant};
+use std::time::{CpuClock, Duration};
 
-fn main(rt: HostRuntime) -> Result<()> {
+fn main(rt: HostRuntime) -> Result<(), BenchFault> {
     let alloc = rt.alloc();
     measure(&rt, "1 job", one_job(alloc)?.as_str())?;
     measure(&rt, "1,000 jobs", many_jobs(alloc)?.as_str())
 }
 
 // Measures the replicas of a run.
-fn measure(rt: &HostRuntime, name: &str, run: &str) -> Result<()> {
+fn measure(rt: &HostRuntime, name: &str, run: &str) -> Result<(), BenchFault> {
     let table = table_of(rt.alloc(), run)?;
     let mut group = Group::start(rt.alloc(), &table)?;
-    let start = Instant::now(rt)?;
+    let start = rt.thread_cpu_time()?;
     group.run()?;
-    let took = start.elapsed(rt)?;
+    let took = rt.thread_cpu_time()?.saturating_sub(start);
     let done = group.done();
     println!(rt; "{name}: {done}")?;
     let rate = rate(done.steps, took);
@@ -32,10 +34,10 @@ fn measure(rt: &HostRuntime, name: &str, run: &str) -> Result<()> {
 }
 
 // Measures how the leader's launch table chooses when no job is due any more.
-fn measure_choice(rt: &HostRuntime, name: &str, group: &Group<'_>) -> Result<()> {
-    let start = Instant::now(rt)?;
+fn measure_choice(rt: &HostRuntime, name: &str, group: &Group<'_>) -> Result<(), BenchFault> {
+    let start = rt.thread_cpu_time()?;
     let rests = group.rests();
-    let took = start.elapsed(rt)?;
+    let took = rt.thread_cpu_time()?.saturating_sub(start);
     println!(rt; "{name}: at rest in {rests} minutes")?;
     let rate = rate(rests, took);
     eprintln!(rt; "{name}: {rate} choices a second")?;

@@ -1,5 +1,5 @@
 //! The runs that are measured, as run files, in which one replica is named so far. Each has 10,000 launches.
-use anyhow::{Result, bail};
+use crate::fault::BenchFault;
 use due_set::JobTable;
 use job_table::build_table;
 use run_text::read_run;
@@ -30,15 +30,15 @@ pub fn many_jobs(alloc: Global) -> Result<String, AllocError> {
 }
 
 /// The table of a run's jobs.
-pub fn table_of(alloc: Global, text: &str) -> Result<JobTable> {
+pub fn table_of(alloc: Global, text: &str) -> Result<JobTable, BenchFault> {
     if text.len() >= 1 << 32 {
-        bail!("the run is too long");
+        return Err(BenchFault::NoTable);
     }
     let Ok(run) = read_run(alloc, text) else {
-        bail!("the run is not read");
+        return Err(BenchFault::NoTable);
     };
     match build_table(alloc, &run) {
         Ok(table) => Ok(table),
-        Err(_) => bail!("the run has no table"),
+        Err(_) => Err(BenchFault::NoTable),
     }
 }

@@ -2,7 +2,7 @@
 ghost use Rattle.std.specs.Prelude.{◌↔◌, IsTrue};
 ghost use Rattle.replica_core.specs.Step.{IsInputInside};
 
-use anyhow::{Result, bail};
+use crate::fault::BenchFault;
 use due_set::JobTable;
 use launch_machine::{Intent, Machine};
 use paxos_base::{Durable, VoteList};
@@ -35,9 +35,9 @@ impl<'a> Model for Seat<'a> {
 
 impl<'a> Seat<'a> {
     /// A replica that starts for the first time.
-    pub fn start(alloc: Global, me: u8, table: &'a JobTable) -> Result<Seat<'a>> {
+    pub fn start(alloc: Global, me: u8, table: &'a JobTable) -> Result<Seat<'a>, BenchFault> {
         if me >= MEMBERS {
-            bail!("there is no such replica");
+            return Err(BenchFault::NoReplica);
         }
         let durable = Durable {
             tried: 0,
@@ -53,16 +53,16 @@ impl<'a> Seat<'a> {
     }
 
     /// A step of the replica. There is none where its numbers are too large, or a tick is outside the window.
-    pub fn step(&mut self, input: Input<'_>) -> Result<StepOut> {
+    pub fn step(&mut self, input: Input<'_>) -> Result<StepOut, BenchFault> {
         if !is_inside(self.table, &input) {
-            bail!("the tick is outside the window");
+            return Err(BenchFault::NoStep);
         }
         if !self.replica.is_small() {
-            bail!("the replica is not small");
+            return Err(BenchFault::NoStep);
         }
         match self.replica.step(self.table, input) {
             Ok(out) => Ok(out),
-            Err(_) => bail!("the step was refused"),
+            Err(_) => Err(BenchFault::RefusedStep),
         }
     }
 
