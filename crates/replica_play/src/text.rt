@@ -13,16 +13,19 @@ pub struct Text {
 }
 
 impl Text {
+    /// An empty text.
     pub fn new(alloc: Global) -> Text {
         Text {
             written: String::new(alloc),
         }
     }
 
+    /// Its bytes.
     pub fn bytes(&self) -> &[u8] {
         self.written.as_bytes()
     }
 
+    /// Begins anew.
     pub fn clear(&mut self) {
         self.written.clear();
     }
