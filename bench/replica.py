@@ -4,8 +4,8 @@
 Usage: bench/replica.py [PROGRAM]
 
 PROGRAM is the built binary, crates/replica_bench/out/replica_bench by default. Each line has what was measured and how many
-a second: the steps of three replicas that hear each other's letters at once, over 10,000 launches of one job and of 1,000
-jobs, and the choices of a launch table in which no job is due any more.
+a second of the processor: the steps of three replicas that hear each other's letters at once, over 10,000 launches of one
+job and of 1,000 jobs, and the choices of a launch table in which no job is due any more.
 """
 import os
 import re
