@@ -1,3 +1,5 @@
 pub mod CalendarLemmas
+pub mod RunLemmas
+pub mod SameZone
 pub mod StampLemmas
 pub mod ZoneLemmas

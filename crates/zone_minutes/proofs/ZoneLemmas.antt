@@ -1,4 +1,4 @@
--- Local time at a fixed offset and in UTC.
+-- Local time at a fixed offset, in UTC, and of one source.
 use Rattle.std.proofs.Common.{◌≡◌, refl, sym, ◌∙◌, arith, ℤ, pos, ◌+ℤ◌, ◌*ℤ◌}
 use Rattle.std.specs.Int.{int_div_euclid}
 use Rattle.jiff.specs.Words.{fixed_zone}
@@ -6,9 +6,9 @@ use Rattle.jiff.specs.Types.{TimeZone, UTC}
 use Rattle.jiff.proofs.ZoneFacts.{offset_at-fixed_zone, offset_at-UTC}
 use Rattle.jiff_core.proofs.SignedLemmas.{signed_arith}
 use Rattle.jiff_core.specs.declared.offset.Offset.{Offset}
-use Rattle.zone_minutes.specs.Zone.{Source, FixedOffset, local_of, minute_nanos, IsFixedZone, IsLocal, IsOffsetInRange, IsOffsetMinutes, IsReadable, IsReadAs, source_of}
-use Rattle.zone_minutes.specs.declared.zone.ZoneSource.{ZoneSource}
-use Rattle.zone_minutes.specs.declared.zone.ZoneSource.TheVariants.{Fixed}
+use Rattle.jiff.specs.Words.{offset_at}
+use Rattle.zone_minutes.specs.Zone.{Source, FixedOffset, PosixRule, TzifFile, local_of, minute_nanos, IsFixedZone, IsOffsetMinutes, IsReadable, IsReadAs}
+use Rattle.zone_minutes.proofs.SameZone.{offset_at-rule, offset_at-table}
 
 whole_minutes : (t minutes : ℤ) → int_div_euclid (t *ℤ pos 60 +ℤ minutes *ℤ pos 60) (pos 60) ≡ t +ℤ minutes
 whole_minutes t minutes = omega (arith, signed_arith)
@@ -24,9 +24,16 @@ pub local_of-UTC : (t : ℤ) → local_of UTC t ≡ t
 unfolding local_of
 local_of-UTC t = rw (offset_at-UTC (minute_nanos t)) (omega (arith, signed_arith))
 
+-- zones with one offset at an instant have one local time then
+local_of-offset : (a b : TimeZone) (t : ℤ) → offset_at a (minute_nanos t) ≡ offset_at b (minute_nanos t) → local_of a t ≡ local_of b t
+unfolding local_of
+local_of-offset a b t same = rw same refl
+
 -- zones that a source may be read as have the same local time
 pub local_of-same : (source : Source) (a b : TimeZone) (t : ℤ) → IsReadAs source a → IsReadAs source b → local_of a t ≡ local_of b t
 local_of-same (FixedOffset minutes) a b t in_a in_b = local_of-fixed minutes t a in_a ∙ sym (local_of-fixed minutes t b in_b)
+local_of-same (PosixRule text) a b t in_a in_b = local_of-offset a b t (offset_at-rule text a b (minute_nanos t) in_a in_b)
+local_of-same (TzifFile bytes) a b t in_a in_b = local_of-offset a b t (offset_at-table bytes a b (minute_nanos t) in_a in_b)
 
 -- `jiff` reads each offset of the range
 pub IsReadable-fixed : (minutes : ℤ) → IsOffsetMinutes minutes → IsReadable (FixedOffset minutes)
@@ -34,13 +41,3 @@ IsReadable-fixed minutes h =
     let offset : Offset = record { seconds = minutes *ℤ pos 60; in_range = (omega (arith, signed_arith), omega (arith, signed_arith)) } in
     let read : IsFixedZone minutes (fixed_zone offset) = record { offset = offset; is = refl; seconds = refl } in
     (fixed_zone offset, read)
-
--- and so each source that is in range
-pub IsReadable-source : (zone : ZoneSource) → IsOffsetInRange zone → IsReadable (source_of zone)
-IsReadable-source (Fixed minutes) h = IsReadable-fixed minutes h
-
--- the sum of an instant and an offset is the local time at that offset
-pub IsLocal-fixed : (minutes t : ℤ) → IsOffsetMinutes minutes → IsLocal (FixedOffset minutes) t (t +ℤ minutes)
-IsLocal-fixed minutes t h =
-    let readable = IsReadable-fixed minutes h in
-    record { zone = readable.0; read = readable.1; is = sym (local_of-fixed minutes t readable.0 readable.1) }

@@ -1,5 +1,6 @@
 pub mod Calendar
 pub mod Civil
+pub mod Run
 pub mod Stamp
 pub mod Window
 pub mod Zone

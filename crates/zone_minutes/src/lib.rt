@@ -2,7 +2,10 @@
 #![tactic(auto)]
 
 mod civil;
+mod listing;
 mod minute;
+mod run;
+mod source;
 mod stamp;
 #[cfg(test)]
 mod tests;
@@ -13,7 +16,6 @@ pub use minute::{Minute, Window};
 pub use stamp::{
     read_stamp, stamps_differ, stamps_have_one_length, write_basic_stamp, write_stamp,
 };
-pub use zone::{
-    ZoneFault, ZoneRuns, ZoneSource, fixed_offset_is_added, utc_is_its_own_local_time,
-    zones_read_alike,
-};
+pub use run::Run;
+pub use source::{ZoneFault, ZoneSource};
+pub use zone::{ZoneRuns, fixed_offset_is_added, utc_is_its_own_local_time, zones_read_alike};

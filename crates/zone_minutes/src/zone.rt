@@ -1,90 +1,62 @@
-ghost use Rattle.std.specs.Prelude.{◌≡◌, ◌↔◌, IsTrue, ℤ, codes, Some, pos, ◌+ℤ◌, ◌-ℤ◌, ◌≤ℤ◌, ◌<ℤ◌, IfOk, OnOk};
+ghost use Rattle.std.specs.Prelude.{◌≡◌, ◌<◌, ◌≤◌, ℤ, pos, ◌+ℤ◌, ◌-ℤ◌, ◌≤ℤ◌, ◌<ℤ◌, int_le, IfOk, OnOk, IsErrOf};
 ghost use Rattle.jiff.specs.Types.{TimeZone, UTC};
 ghost use Rattle.zone_minutes.specs.Civil.{IsCalendarMinute};
+ghost use Rattle.zone_minutes.specs.Run.{AreRunsOver, IsRunAt, first_known};
 ghost use Rattle.zone_minutes.specs.Window.{IsWithinLimits};
-ghost use Rattle.zone_minutes.specs.Zone.{Source, FixedOffset, source_of, local_of, IsLocal, IsReadable, IsReadAs, IsOffsetInRange};
+ghost use Rattle.zone_minutes.specs.Zone.{Source, FixedOffset, source_of, local_of, IsLocal, IsReadable, IsReadAs, IsOffsetInRange, IsRefused};
 
+use crate::listing::{list_runs, make_run};
 use crate::minute::{Minute, Window};
+use crate::run::Run;
+use crate::source::{KeptSource, ZoneFault, ZoneSource, read_rule, read_table};
+use jiff::tz::TimeZone as JiffZone;
 use std::alloc::Global;
-use std::error::Error;
-use std::fmt;
 use std::marker::Model;
 
-/// What a zone's offsets come from.
-#[derive(Clone, Copy, Debug, PartialEq, Eq)]
-pub enum ZoneSource {
-    /// One offset at every instant: minutes east of UTC, from -720 to 840.
-    Fixed { minutes: i16 },
-}
-
-// -12:00 and +14:00, in minutes.
-const WESTERNMOST: i16 = -720;
-
-const EASTERNMOST: i16 = 840;
-
-impl ZoneSource {
-    /// Whether a fixed offset is from -12:00 to +14:00.
-    pub fn is_in_range(&self) -> bool
-        ensures { IsTrue result ↔ IsOffsetInRange self.now }
-    {
-        let ZoneSource::Fixed { minutes } = *self;
-        WESTERNMOST <= minutes && minutes <= EASTERNMOST
-    }
-}
-
-/// Why a zone was not built.
-#[derive(Clone, Copy, Debug, PartialEq, Eq)]
-pub enum ZoneFault {
-    /// Memory ran out.
-    OutOfMemory,
-}
-
-impl fmt::Display for ZoneFault {
-    ghost output = { λ _. Some (codes "out of memory") };
-
-    fn fmt<W: fmt::Write>(&self, f: &mut fmt::Formatter<W>) -> fmt::Result {
-        match self {
-            ZoneFault::OutOfMemory => write!(f, "out of memory"),
-        }
-    }
-}
-
-impl Error for ZoneFault {}
+// How many minutes before a window a zone's offsets are known.
+const BEFORE: i64 = 180;
 
 /// A zone's offsets over a window of instants, and over the 180 minutes before it.
 #[derive(Debug, Drop)]
 pub struct ZoneRuns {
-    /// Minutes east of UTC.
-    minutes: i16,
+    source: KeptSource,
     window: Window,
+    runs: Vec<Run>,
 }
 
 impl Model for ZoneRuns {
+    ghost use Rattle.zone_minutes.specs.Run.{AreRunsOver};
     ghost use Rattle.zone_minutes.specs.Window.{IsWithinLimits};
-    ghost use Rattle.zone_minutes.specs.Zone.{Zone, FixedOffset, IsOffsetMinutes};
+    ghost use Rattle.zone_minutes.specs.Zone.{Zone, kept_source, zone_over};
 
     ghost Value = { Zone };
 
-    ghost view = { λ runs. record {
-      source = FixedOffset runs.minutes;
-      from = runs.window.from.0;
-      until = runs.window.until.0;
-    } };
+    ghost view = { λ zone. zone_over (kept_source zone.source) zone.window };
 
-    ghost invariant = { λ runs. IsOffsetMinutes runs.minutes × IsWithinLimits runs.window };
+    ghost invariant = { λ zone. IsWithinLimits zone.window × AreRunsOver (kept_source zone.source) zone.window zone.runs.items };
 }
 
 impl ZoneRuns {
-    /// The zone's offsets over the window. Only memory can be wanting.
-    pub fn build(_alloc: Global, zone: &ZoneSource, window: Window) -> Result<ZoneRuns, ZoneFault>
+    /// The zone's offsets over the window.
+    pub fn build(
+        alloc: Global,
+        zone: &ZoneSource<'_>,
+        window: Window,
+    ) -> Result<ZoneRuns, ZoneFault>
         requires window { IsWithinLimits window }
         requires offset { IsOffsetInRange zone.now }
         ensures read { OnOk result (IsReadable (source_of zone.now)) }
         ensures built { IfOk result (λ runs. runs
             ≡ record { source = source_of zone.now; from = window.from.0; until = window.until.0 }) }
+        ensures refused { IsErrOf result ZoneFault.BadZone → IsRefused (source_of zone.now) }
     {
-        let ZoneSource::Fixed { minutes } = *zone;
-        Ok(ZoneRuns { minutes, window })
+        let source = KeptSource::new(alloc, zone)?;
+        let runs = runs_over(alloc, zone, window)?;
+        Ok(ZoneRuns {
+            source,
+            window,
+            runs,
+        })
     }
 
     /// The civil minute of an instant: minutes since 1970-01-01 00:00 on the zone's clocks.
@@ -94,8 +66,62 @@ impl ZoneRuns {
         ensures local { IsLocal self.now.source t.0 result }
         ensures range { IsCalendarMinute result }
     {
-        t.0 + i64::from(self.minutes)
+        t.0 + i64::from(self.run_at(t).ahead)
     }
+
+    /// The run that the instant lies in: from the last change of the clocks up to the instant, or from 180 minutes before
+    /// the window, to the next change or the window's end.
+    pub fn run_at(&self, t: Minute) -> Run
+        requires since { (self.now.from -ℤ pos 180) ≤ℤ t.0 }
+        requires before { t.0 <ℤ self.now.until }
+        ensures run { IsRunAt self.now t.0 result }
+        ensures read { IsReadable self.now.source }
+        ensures limits { (pos 525_600 ≤ℤ self.now.from) × (self.now.until ≤ℤ pos 120_968_640) }
+    {
+        let at = self.runs.as_slice().partition_point(
+            |run: &Run| -> bool
+                ensures { result ≡ int_le run.now.until.0 t.0 }
+            { run.until.0 <= t.0 },
+        );
+        self.runs[at]
+    }
+}
+
+// The source's runs over the window and the 180 minutes before it.
+fn runs_over(alloc: Global, zone: &ZoneSource<'_>, window: Window) -> Result<Vec<Run>, ZoneFault>
+    requires window { IsWithinLimits window }
+    requires offset { IsOffsetInRange zone.now }
+    ensures built { IfOk result (λ runs. AreRunsOver (source_of zone.now) window runs.items) }
+    ensures refused { IsErrOf result ZoneFault.BadZone → IsRefused (source_of zone.now) }
+{
+    let from = first_known(window);
+    let until = end_of(window);
+    match *zone {
+        ZoneSource::Fixed { minutes } => Ok(vec![in alloc; make_run(from, until, minutes)]?),
+        ZoneSource::Posix(text) => Ok(list_runs(alloc, &read_rule(text)?, from, until)?),
+        ZoneSource::Tzif(bytes) => {
+            let table = read_table(alloc, bytes)?;
+            Ok(list_runs(alloc, &JiffZone::tzif(&table), from, until)?)
+        }
+    }
+}
+
+// The number of the first instant at which the offsets are known.
+fn first_known(window: Window) -> u32
+    requires { IsWithinLimits window }
+    ensures first { pos result ≡ first_known window }
+    ensures range { result < 120_968_640 }
+{
+    (window.from.0 - BEFORE) as u32
+}
+
+// The number of the window's end.
+fn end_of(window: Window) -> u32
+    requires { IsWithinLimits window }
+    ensures end { pos result ≡ window.until.0 }
+    ensures range { result ≤ 120_968_640 }
+{
+    window.until.0 as u32
 }
 
 /// Zones that a source may be read as have the same local time at each instant.

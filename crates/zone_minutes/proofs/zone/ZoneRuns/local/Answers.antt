@@ -1,16 +1,17 @@
-use Rattle.std.proofs.Common.{◌≡◌, ap, arith, ◌+ℤ◌, w64, to_z, of_z}
+use Rattle.std.proofs.Common.{◌≡◌, arith, ◌+ℤ◌, FitsSigned, w16, w64, to_z, of_z, ◌∙◌}
+use Rattle.std.proofs.lemmas.Int.{to_z-of_z}
 use Rattle.jiff_core.proofs.SignedLemmas.{signed_arith}
-use Rattle.zone_minutes.specs.Zone.{Zone}
-use Rattle.zone_minutes.proofs.ZoneLemmas.{IsLocal-fixed}
+use Rattle.zone_minutes.proofs.RunLemmas.{IsLocal-run}
 use Rattle.zone_minutes.proofs.zone.ZoneRuns.local.Goals as goal
 
 pub returns-clause-local : goal.returns-clause-local
 returns-clause-local c =
     let t = c.args.t.0 in
-    let minutes = c.self.inside.minutes in
-    let offset = c.from.ensures in
-    let limits = c.self.invariant.1 in
-    let from : c.self.inside.window.from.0 ≡ c.args.self.now.from = ap (λ (zone : Zone). zone.from) c.self.view_is in
-    let until : c.self.inside.window.until.0 ≡ c.args.self.now.until = ap (λ (zone : Zone). zone.until) c.self.view_is in
-    let sum : to_z w64 (of_z w64 (to_z w64 (of_z w64 t) +ℤ to_z w64 (of_z w64 c.from.result))) ≡ t +ℤ minutes = omega (arith, signed_arith, from, until, limits.since, limits.until) in
-    rw (sum, ← c.self.view_is) (IsLocal-fixed minutes t c.self.invariant.0)
+    let run = c.run_at.result in
+    let limits = c.run_at.ensures.limits in
+    let is_run = c.run_at.ensures.run in
+    let small = run.ahead_in in
+    let fits : FitsSigned w16 run.ahead = omega (arith, signed_arith) in
+    let ahead : c.from.result ≡ run.ahead = c.from.ensures ∙ to_z-of_z w16 run.ahead fits in
+    let sum : to_z w64 (of_z w64 (to_z w64 (of_z w64 t) +ℤ to_z w64 (of_z w64 c.from.result))) ≡ t +ℤ run.ahead = omega (arith, signed_arith) in
+    rw sum (IsLocal-run c.args.self.now t run c.run_at.ensures.read is_run)
