@@ -7,4 +7,5 @@ pub mod FrontLemmas
 pub mod HourLemmas
 pub mod Rising
 pub mod SoundLemmas
+pub mod SteadyLemmas
 pub mod TableLemmas

@@ -113,8 +113,8 @@ pub fn skips_match(fields: &Fields, zone: &ZoneRuns, at: Minute) -> bool
     false
 }
 
-// Whether the fields match the local time of the instant.
-fn matches_shown(fields: &Fields, zone: &ZoneRuns, at: Minute) -> bool
+/// Whether the fields match the local time of the instant.
+pub fn matches_shown(fields: &Fields, zone: &ZoneRuns, at: Minute) -> bool
     requires since { zone.now.from ≤ℤ at.0 }
     requires before { at.0 <ℤ zone.now.until }
     ensures read { IsReadable zone.now.source }

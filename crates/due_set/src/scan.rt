@@ -1,11 +1,13 @@
 //! The due instants of an entry, looked for minute by minute in the days and hours that match, with all others passed over.
-ghost use Rattle.std.specs.Prelude.{◌≡◌, ◌<◌, ◌≤◌, ℕ, ℤ, pos, ◌+ℤ◌, ◌≤ℤ◌, ◌<ℤ◌, IfSome, IfNone, ◌↔◌};
+//! Where the clocks were put forward or back less than 180 minutes before, each minute is looked at.
+ghost use Rattle.std.specs.Prelude.{◌≡◌, ◌<◌, ◌≤◌, ℕ, ℤ, pos, ◌+ℤ◌, ◌≤ℤ◌, ◌<ℤ◌, IfSome, IfNone, IsTrue, ◌↔◌};
 ghost use Rattle.zone_minutes.specs.Civil.{day_number};
 ghost use Rattle.zone_minutes.specs.Window.{IsInWindow, IsWithinLimits};
 ghost use Rattle.due_set.specs.Due.{AreOfOneDay, AreOfOneHour, IsFirstDue, IsNotDueIn, hour_number};
+ghost use Rattle.due_set.specs.Steady.{AreOfOneRun, AreSteady};
 ghost use Rattle.due_set.specs.Table.{IsAfter, instant_of};
 
-use crate::due::{is_due, matches_date, matches_hour};
+use crate::due::{is_due, matches_date, matches_hour, matches_shown};
 use cron_fields::Fields;
 use zone_minutes::{Minute, Window, ZoneRuns};
 
@@ -55,6 +57,30 @@ fn end_of(window: Window) -> u32
     window.until.0 as u32
 }
 
+// The end of the instant's run of steady clocks, or another end that is sooner.
+fn run_end(zone: &ZoneRuns, minute: u32, end: u32) -> u32
+    requires range { end ≤ 120_968_640 }
+    requires since { zone.now.from ≤ℤ pos minute }
+    requires before { minute < end }
+    requires until { pos end ≤ℤ zone.now.until }
+    ensures later { minute < result }
+    ensures end { result ≤ end }
+    ensures run { AreOfOneRun zone.now.source (pos minute) (pos result) }
+{
+    let run = zone.run_at(Minute(i64::from(minute)));
+    end.min(run.until.0 as u32)
+}
+
+// Whether the clocks were neither put forward nor back from 179 minutes before an instant up to another.
+fn are_steady(zone: &ZoneRuns, first: u32, until: u32) -> bool
+    requires since { zone.now.from ≤ℤ pos first }
+    requires before { pos first <ℤ zone.now.until }
+    ensures { IsTrue result → AreSteady zone.now.source (pos first) (pos until) }
+{
+    let run = zone.run_at(Minute(i64::from(first)));
+    run.from.0 + 179 <= i64::from(first) && i64::from(until) <= run.until.0
+}
+
 // How many minutes of the day are left, this one too.
 fn rest_of_day(minute: i64) -> u32
     ensures some { 0 < result }
@@ -64,7 +90,7 @@ fn rest_of_day(minute: i64) -> u32
     1440 - minute.rem_euclid(1440) as u32
 }
 
-// The end of the instant's local day, or another end that is sooner.
+// The end of the instant's local day, or of its run, or another end that is sooner.
 fn day_end(zone: &ZoneRuns, minute: u32, end: u32) -> u32
     requires range { end ≤ 120_968_640 }
     requires since { zone.now.from ≤ℤ pos minute }
@@ -74,8 +100,20 @@ fn day_end(zone: &ZoneRuns, minute: u32, end: u32) -> u32
     ensures end { result ≤ end }
     ensures day { AreOfOneDay zone.now.source (pos minute) (pos result) }
 {
+    let run_end = run_end(zone, minute, end);
     let shown = zone.local(Minute(i64::from(minute)));
-    end.min(minute + rest_of_day(shown))
+    run_end.min(minute + rest_of_day(shown))
+}
+
+// Whether the clocks are steady over a local day whose date the fields don't match, so that no instant of it is due.
+fn is_passed_day(fields: &Fields, zone: &ZoneRuns, first: u32, until: u32) -> bool
+    requires since { zone.now.from ≤ℤ pos first }
+    requires before { pos first <ℤ zone.now.until }
+    requires day { AreOfOneDay zone.now.source (pos first) (pos until) }
+    ensures { IsTrue result → IsNotDueIn fields.now zone.now.source (pos first) (pos until) }
+{
+    are_steady(zone, first, until)
+        && !matches_date(fields, zone.local(Minute(i64::from(first))))
 }
 
 // The first instant from one on and before another at which the entry is due, where both are of one local day.
@@ -89,7 +127,7 @@ fn first_due_of_day(fields: &Fields, zone: &ZoneRuns, first: u32, until: u32) ->
     ensures before { IfSome result (λ t. t.0 <ℤ pos until) }
     ensures none { IfNone result (IsNotDueIn fields.now zone.now.source (pos first) (pos until)) }
 {
-    if !matches_date(fields, zone.local(Minute(i64::from(first)))) {
+    if is_passed_day(fields, zone, first, until) {
         return None;
     }
     let mut minute = first;
@@ -112,7 +150,7 @@ fn rest_of_hour(minute: i64) -> u32
     60 - minute.rem_euclid(60) as u32
 }
 
-// The end of the instant's local hour, or another end that is sooner.
+// The end of the instant's local hour, or of its run, or another end that is sooner.
 fn hour_end(zone: &ZoneRuns, minute: u32, end: u32) -> u32
     requires range { end ≤ 120_968_640 }
     requires since { zone.now.from ≤ℤ pos minute }
@@ -122,8 +160,9 @@ fn hour_end(zone: &ZoneRuns, minute: u32, end: u32) -> u32
     ensures end { result ≤ end }
     ensures hour { AreOfOneHour zone.now.source (pos minute) (pos result) }
 {
+    let run_end = run_end(zone, minute, end);
     let shown = zone.local(Minute(i64::from(minute)));
-    end.min(minute + rest_of_hour(shown))
+    run_end.min(minute + rest_of_hour(shown))
 }
 
 // The first instant from one on and before another at which the entry is due, where both are of one local hour.
@@ -137,12 +176,53 @@ fn first_due_of_hour(fields: &Fields, zone: &ZoneRuns, first: u32, until: u32) -
     ensures before { IfSome result (λ t. t.0 <ℤ pos until) }
     ensures none { IfNone result (IsNotDueIn fields.now zone.now.source (pos first) (pos until)) }
 {
+    if !are_steady(zone, first, until) {
+        return first_due_by_minute(fields, zone, first, until);
+    }
     if !matches_hour(fields, zone.local(Minute(i64::from(first)))) {
         return None;
     }
+    first_match(fields, zone, first, until)
+}
+
+// The first instant from one on and before another at which the entry is due, each looked at for itself.
+fn first_due_by_minute(
+    fields: &Fields,
+    zone: &ZoneRuns,
+    first: u32,
+    until: u32,
+) -> Option<Minute>
+    requires range { until ≤ 120_968_640 }
+    requires since { zone.now.from ≤ℤ pos first }
+    requires some { first < until }
+    requires until { pos until ≤ℤ zone.now.until }
+    ensures found { IfSome result (λ t. IsFirstDue fields.now zone.now.source (pos first) t.0) }
+    ensures before { IfSome result (λ t. t.0 <ℤ pos until) }
+    ensures none { IfNone result (IsNotDueIn fields.now zone.now.source (pos first) (pos until)) }
+{
     for minute in first..until {
         let at = Minute(i64::from(minute));
         if is_due(fields, zone, at) {
+            return Some(at);
+        }
+    }
+    None
+}
+
+// The same where the clocks are steady: the first instant whose local time the fields match.
+fn first_match(fields: &Fields, zone: &ZoneRuns, first: u32, until: u32) -> Option<Minute>
+    requires range { until ≤ 120_968_640 }
+    requires since { zone.now.from ≤ℤ pos first }
+    requires some { first < until }
+    requires until { pos until ≤ℤ zone.now.until }
+    requires steady { AreSteady zone.now.source (pos first) (pos until) }
+    ensures found { IfSome result (λ t. IsFirstDue fields.now zone.now.source (pos first) t.0) }
+    ensures before { IfSome result (λ t. t.0 <ℤ pos until) }
+    ensures none { IfNone result (IsNotDueIn fields.now zone.now.source (pos first) (pos until)) }
+{
+    for minute in first..until {
+        let at = Minute(i64::from(minute));
+        if matches_shown(fields, zone, at) {
             return Some(at);
         }
     }

@@ -21,6 +21,8 @@ fn build_utc(alloc: Global, window: Window) -> Result<ZoneRuns, OutOfMemory>
     match ZoneRuns::build(alloc, &ZoneSource::Fixed { minutes: 0 }, window) {
         Ok(zone) => Ok(zone),
         Err(ZoneFault::OutOfMemory) => Err(OutOfMemory),
+        // A fixed offset is never refused.
+        Err(ZoneFault::BadZone) => unreachable!(),
     }
 }
 

@@ -238,6 +238,7 @@ IsRun-same source a b start end run in_a in_b is =
     either : (P Q R : Type 0) → (Q → R) → P ⊎ Q → P ⊎ R
     either P Q R f (inl p) = inl p
     either P Q R f (inr q) = inr (f q)
+
     change : (t : ℤ) → IsChange a t → IsChange b t
     change t changed same =
         changed (local_of-same source a b t in_a in_b ∙ same ∙ ap (λ (u : ℤ). u +ℤ pos 1) (sym (local_of-same source a b (t -ℤ pos 1) in_a in_b)))

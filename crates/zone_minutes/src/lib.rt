@@ -10,12 +10,14 @@ mod stamp;
 #[cfg(test)]
 mod tests;
 mod zone;
+#[cfg(test)]
+mod zone_tests;
 
 pub use civil::{Civil, civil_of, day_of, number_of, weekday_of};
 pub use minute::{Minute, Window};
+pub use run::Run;
+pub use source::{ZoneFault, ZoneSource};
 pub use stamp::{
     read_stamp, stamps_differ, stamps_have_one_length, write_basic_stamp, write_stamp,
 };
-pub use run::Run;
-pub use source::{ZoneFault, ZoneSource};
 pub use zone::{ZoneRuns, fixed_offset_is_added, utc_is_its_own_local_time, zones_read_alike};

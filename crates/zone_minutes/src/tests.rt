@@ -1,3 +1,7 @@
+ghost use Rattle.std.specs.Prelude.{◌≡◌, IfSome};
+ghost use Rattle.zone_minutes.specs.Civil.{IsCalendarMinute};
+ghost use Rattle.zone_minutes.specs.Window.{IsWithinLimits};
+
 use crate::{
     Minute, Window, ZoneRuns, ZoneSource, civil_of, day_of, fixed_offset_is_added, read_stamp,
     stamps_differ, stamps_have_one_length, utc_is_its_own_local_time, weekday_of,
@@ -132,6 +136,20 @@ const OFFSETS: [(i16, [Shown; 3]); 6] = [
     (840, [(31, 11, 30), (31, 14, 30), (31, 14, 59)]),
 ];
 
+/// The local time of an instant, if it is known.
+pub fn local_in(zone: &ZoneRuns, window: Window, at: Minute) -> Option<i64>
+    requires limits { IsWithinLimits window }
+    requires from { zone.now.from ≡ window.from.0 }
+    requires until { zone.now.until ≡ window.until.0 }
+    ensures { IfSome result IsCalendarMinute }
+{
+    if window.from.0 - 180 <= at.0 && at < window.until {
+        Some(zone.local(at))
+    } else {
+        None
+    }
+}
+
 #[test]
 fn fixed_offsets(rt: HostRuntime) -> Result<(), Fail> {
     let window = Window {
@@ -147,7 +165,8 @@ fn fixed_offsets(rt: HostRuntime) -> Result<(), Fail> {
         // The first is 180 minutes before the window, and the last is its last minute.
         let instants = [28_530_570, 28_530_750, 28_530_779];
         for (at, (day, hour, minute)) in instants.into_iter().zip(shown) {
-            let civil = civil_of(zone.local(Minute(at)));
+            let local = local_in(&zone, window, Minute(at)).ok_or("not in the window")?;
+            let civil = civil_of(local);
             assert_eq!(rt; (civil.year, civil.month), (2024, 3), "{minutes} {at}");
             assert_eq!(rt;
                 (civil.day, civil.hour, civil.minute),

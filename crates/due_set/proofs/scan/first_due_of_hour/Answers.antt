@@ -4,14 +4,7 @@ use Rattle.cron_fields.specs.FieldSet.{Has}
 use Rattle.zone_minutes.specs.Civil.{civil_at}
 use Rattle.zone_minutes.specs.Zone.{IsLocal}
 use Rattle.due_set.proofs.HourLemmas.{IsNotDueIn-hour}
-use Rattle.due_set.proofs.TableLemmas.{IsNotDueIn-next}
 use Rattle.due_set.proofs.scan.first_due_of_hour.Goals as goal
-
-pub loop-minute-preserved : goal.loop-minute-preserved
-loop-minute-preserved c =
-    let at_is : to_z w64 (of_z w64 c.from-in-loop-minute.result) ≡ pos c.loop-minute.minute = omega (arith, ints) in
-    IsNotDueIn-next c.args.fields.now c.args.zone.now.source (pos c.args.first) _ c.loop-minute.minute c.loop-minute.invariant at_is
-    (λ due. let found = c.is_due.ensures.1 due in let not = c.if-is_due.false in cc (found, not))
 
 pub returns-then-not-matches_hour-clause-none : goal.returns-then-not-matches_hour-clause-none
 returns-then-not-matches_hour-clause-none c =
@@ -20,5 +13,6 @@ returns-then-not-matches_hour-clause-none c =
     let local : IsLocal c.args.zone.now.source (pos c.args.first) c.local.result =
     subst (λ (t : ℤ). IsLocal c.args.zone.now.source t c.local.result) at_is c.local.ensures.local in
     let tells : IsTrue c.matches_hour.result ↔ Has c.args.fields.now.hour (civil_at c.local.result).hour = simp to_z-of_z at c.matches_hour.ensures in
-    IsNotDueIn-hour c.args.fields.now c.args.zone.now.source (pos c.args.first) (pos c.args.until) c.local.result c.requires.hour local
+    let steady = c.are_steady.ensures (cc (c.if-not-are_steady.false)) in
+    IsNotDueIn-hour c.args.fields.now c.args.zone.now.source (pos c.args.first) (pos c.args.until) c.local.result steady c.requires.hour local
     (λ m. let found = tells.1 m in let not = c.if-not-matches_hour.true in cc (found, not))

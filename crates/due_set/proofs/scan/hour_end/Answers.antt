@@ -2,6 +2,7 @@ use Rattle.std.proofs.Common.{◌≡◌, ℕ, ◌<◌, ℤ, pos, ◌+ℤ◌, Fit
 use Rattle.std.proofs.lemmas.Int.{ints, to_z-of_z}
 use Rattle.zone_minutes.specs.Zone.{IsLocal}
 use Rattle.due_set.specs.Due.{hour_number}
+use Rattle.due_set.specs.Steady.{AreOfOneRun}
 use Rattle.due_set.proofs.HourLemmas.{AreOfOneHour-from}
 use Rattle.due_set.proofs.scan.hour_end.Goals as goal
 
@@ -12,4 +13,6 @@ returns-clause-hour c =
     let local : IsLocal c.args.zone.now.source (pos c.args.minute) c.local-shown.result =
     subst (λ (t : ℤ). IsLocal c.args.zone.now.source t c.local-shown.result) at_is c.local-shown.ensures.local in
     let same : (k : ℕ) → k < c.rest_of_hour.result → hour_number (c.local-shown.result +ℤ pos k) ≡ hour_number c.local-shown.result = simp to_z-of_z at c.rest_of_hour.ensures.same in
-    AreOfOneHour-from c.args.zone.now.source (pos c.args.minute) (pos c.min.result) c.local-shown.result c.rest_of_hour.result local same (omega (arith, ints))
+    let run : AreOfOneRun c.args.zone.now.source (pos c.args.minute) (pos c.min.result) =
+    λ z read t since lt. c.run_end-run_end.ensures.run z read t since (omega (arith, ints)) in
+    AreOfOneHour-from c.args.zone.now.source (pos c.args.minute) (pos c.min.result) c.local-shown.result c.rest_of_hour.result run local same (omega (arith, ints))
