@@ -2,6 +2,8 @@
 #![tactic(auto)]
 
 mod call;
+#[cfg(test)]
+mod change_tests;
 mod due;
 mod job;
 mod laws;

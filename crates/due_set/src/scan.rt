@@ -112,8 +112,7 @@ fn is_passed_day(fields: &Fields, zone: &ZoneRuns, first: u32, until: u32) -> bo
     requires day { AreOfOneDay zone.now.source (pos first) (pos until) }
     ensures { IsTrue result → IsNotDueIn fields.now zone.now.source (pos first) (pos until) }
 {
-    are_steady(zone, first, until)
-        && !matches_date(fields, zone.local(Minute(i64::from(first))))
+    are_steady(zone, first, until) && !matches_date(fields, zone.local(Minute(i64::from(first))))
 }
 
 // The first instant from one on and before another at which the entry is due, where both are of one local day.
@@ -186,12 +185,7 @@ fn first_due_of_hour(fields: &Fields, zone: &ZoneRuns, first: u32, until: u32) -
 }
 
 // The first instant from one on and before another at which the entry is due, each looked at for itself.
-fn first_due_by_minute(
-    fields: &Fields,
-    zone: &ZoneRuns,
-    first: u32,
-    until: u32,
-) -> Option<Minute>
+fn first_due_by_minute(fields: &Fields, zone: &ZoneRuns, first: u32, until: u32) -> Option<Minute>
     requires range { until ≤ 120_968_640 }
     requires since { zone.now.from ≤ℤ pos first }
     requires some { first < until }

@@ -15,7 +15,7 @@ use std::test::Fail;
 use zone_minutes::{Minute, Window, ZoneRuns, ZoneSource, read_stamp};
 
 // The window of two stamps, if it is within the limits.
-fn window_of(from: &str, until: &str) -> Option<Window>
+pub fn window_of(from: &str, until: &str) -> Option<Window>
     ensures { IfSome result IsWithinLimits }
 {
     let window = Window {
@@ -42,7 +42,7 @@ fn field_of(kind: FieldKind, text: &str) -> Option<FieldSet> {
     }
 }
 
-fn fields_of(entry: [&str; 5]) -> Option<Fields> {
+pub fn fields_of(entry: [&str; 5]) -> Option<Fields> {
     let [minute, hour, month_day, month, week_day] = entry;
     Some(Fields {
         minute: field_of(FieldKind::Minute, minute)?,
@@ -53,25 +53,38 @@ fn fields_of(entry: [&str; 5]) -> Option<Fields> {
     })
 }
 
-// A table of one job, at a grace of five minutes, with clocks so many minutes ahead of UTC. An anacron job is none.
-fn table_of(alloc: Global, window: Window, minutes: i16, kind: JobKind) -> Result<JobTable, Fail>
+// A table of one job, at a grace of five minutes, in a zone. An anacron job is none.
+pub fn table_in(
+    alloc: Global,
+    window: Window,
+    source: &ZoneSource<'_>,
+    kind: JobKind,
+) -> Result<JobTable, Fail>
     requires limits { IsWithinLimits window }
     requires plain { IsAnacron kind → ⊥ }
     ensures { IfOk result (λ table. (table.window ≡ window) × (length table.jobs ≡ 1)) }
 {
-    let source = ZoneSource::Fixed { minutes };
     if !source.is_in_range() {
         return Err(Fail::from("no offset"));
     }
     let mut zones = Vec::new(alloc);
-    zones.push(ZoneRuns::build(alloc, &source, window)?)?;
+    zones.push(ZoneRuns::build(alloc, source, window)?)?;
     let mut jobs = Vec::new(alloc);
     jobs.push(JobSpec::new(alloc, "alice:1", 0, kind)?)?;
     Ok(JobTable::assemble(window, 5, zones, jobs))
 }
 
+// The same with clocks so many minutes ahead of UTC.
+fn table_of(alloc: Global, window: Window, minutes: i16, kind: JobKind) -> Result<JobTable, Fail>
+    requires limits { IsWithinLimits window }
+    requires plain { IsAnacron kind → ⊥ }
+    ensures { IfOk result (λ table. (table.window ≡ window) × (length table.jobs ≡ 1)) }
+{
+    table_in(alloc, window, &ZoneSource::Fixed { minutes }, kind)
+}
+
 // Whether the table's first job is due at these instants, and then no more.
-fn is_due_in_turn(table: &JobTable, stamps: &[&str]) -> bool
+pub fn is_due_in_turn(table: &JobTable, stamps: &[&str]) -> bool
     requires { 0 < length table.now.jobs }
 {
     let mut last = None;
@@ -98,7 +111,7 @@ fn instant_in(table: &JobTable, number: i64) -> Option<Minute>
 }
 
 // Whether the instants that are found in turn are those at which the table's first job is due, each minute asked.
-fn finds_each_due_minute(table: &JobTable) -> bool
+pub fn finds_each_due_minute(table: &JobTable) -> bool
     requires { 0 < length table.now.jobs }
 {
     let window = table.window();

@@ -1,6 +1,5 @@
 //! Zones by rules and by files.
 ghost use Rattle.std.specs.Prelude.{◌≡◌, ◌+ℤ◌, ◌-ℤ◌, pos, IfOk};
-ghost use Rattle.jiff_core.specs.Calendar.{IsBetween};
 ghost use Rattle.zone_minutes.specs.Civil.{IsCalendarMinute};
 ghost use Rattle.zone_minutes.specs.Zone.{IsOffsetInRange};
 ghost use Rattle.zone_minutes.specs.Window.{IsWithinLimits};
@@ -177,11 +176,11 @@ fn runs_of_a_rule(rt: HostRuntime) -> Result<(), Fail> {
 }
 
 /// The local time by a question to `jiff` at the minute.
-fn plain_local(zone: &TimeZone<'_>, minute: i64) -> i64
-    requires { IsBetween (pos 0) (pos 120_968_640) minute }
-{
-    let instant = Timestamp::from_second(minute * 60).unwrap();
-    (minute * 60 + i64::from(zone.to_offset(instant).seconds())).div_euclid(60)
+fn plain_local(zone: &TimeZone<'_>, minute: i64) -> Option<i64> {
+    let second = minute.checked_mul(60)?;
+    let offset = zone.to_offset(Timestamp::from_second(second).ok()?);
+    let shown = second.checked_add(i64::from(offset.seconds()))?;
+    Some(shown.div_euclid(60))
 }
 
 #[test]
@@ -191,7 +190,7 @@ fn runs_tell_what_each_minute_tells(rt: HostRuntime) -> Result<(), Fail> {
         let zone = ZoneRuns::build(rt.alloc(), &ZoneSource::Posix(rule), window)?;
         let plain = TimeZone::posix(rule)?;
         for minute in window.from.0 - 180..window.until.0 {
-            let local = local_in(&zone, window, Minute(minute)).ok_or("not in the window")?;
+            let local = local_in(&zone, window, Minute(minute));
             assert_eq!(rt; local, plain_local(&plain, minute), "{rule} {minute}");
         }
     }
