@@ -1,5 +1,5 @@
 -- Two zones that `jiff` reads one source as give the same offset at each instant.
-use Rattle.std.proofs.Common.{◌≡◌, ℕ, zero, suc, ◌+◌, ◌-◌, ◌==◌, Bool, true, false, if◌then◌else◌, cond, int_le, List, [], ◌∷◌, map, length, get_or, vec_len, Option, Some, None, option_map, Ok, ℤ, pos, refl, sym, ap, ◌∙◌, arith}
+use Rattle.std.proofs.Common.{◌≡◌, ℕ, zero, suc, ◌+◌, ◌-◌, ◌==◌, Bool, true, false, if◌then◌else◌, cond, int_le, List, [], ◌∷◌, map, length, get_or, vec_len, Option, Some, None, option_map, ℤ, pos, refl, sym, ap, ◌∙◌}
 use Rattle.std.specs.List.{prefix_len}
 use Rattle.std.proofs.lemmas.List.{length-map}
 use Rattle.jiff.specs.Types.{TimeZone, UTC, Unknown, Fixed, Posix, Tzif}
@@ -12,14 +12,14 @@ use Rattle.jiff_tz.specs.PosixText.{DstText, TzText, dst_view, tz_view}
 use Rattle.jiff_tz.specs.Tzif.{count_at, floor_second, no_transition, rule_after, transition_at, type_after, tzif_view}
 use Rattle.jiff_tz.specs.Tzif as Table
 use Rattle.jiff_tz.specs.TzifReader.{TzifText}
-use Rattle.jiff_tz.specs.TzifText.{TransitionText, TypeText, transition_text, type_view}
+use Rattle.jiff_tz.specs.TzifText.{TransitionText, transition_text}
 use Rattle.jiff_tz.specs.Year.{year_of_nanos}
 use Rattle.jiff_tz.specs.declared.posix.DayTime.{DayTime}
 use Rattle.jiff_tz.specs.declared.posix.Dst.{Dst}
 use Rattle.jiff_tz.specs.declared.posix.TimeZone.{TimeZone as PosixZone}
 use Rattle.jiff_tz.specs.declared.tzif.Tzif.{Tzif as TableZone}
 use Rattle.jiff_tz.specs.declared.tzif.transition.Transition.{Transition}
-use Rattle.zone_minutes.specs.Zone.{IsTable, IsTableZone}
+use Rattle.zone_minutes.specs.Zone.{IsTableZone}
 
 -- a rule's moment is its day and its time
 rule_nanos-same : (y seconds : ℤ) (a b : DayTime) → a.date ≡ b.date → a.time ≡ b.time → rule_nanos y a seconds ≡ rule_nanos y b seconds

@@ -3,7 +3,7 @@ use Rattle.std.specs.Int.{int_div_euclid}
 use Rattle.std.proofs.lemmas.Int.{to_z-of_z}
 use Rattle.jiff.specs.Words.{plain_zone, offset_at}
 use Rattle.jiff_core.proofs.SignedLemmas.{signed_arith}
-use Rattle.zone_minutes.specs.Zone.{local_of, minute_nanos}
+use Rattle.zone_minutes.specs.Zone.{minute_nanos}
 use Rattle.zone_minutes.proofs.RunLemmas.{local_of-ahead}
 use Rattle.zone_minutes.proofs.listing.ahead_at.Goals as goal
 

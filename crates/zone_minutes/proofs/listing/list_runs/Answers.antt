@@ -1,9 +1,9 @@
-use Rattle.std.proofs.Common.{◌≡◌, ◌≢◌, List, [], ◌∷◌, ◌++◌, Vec, Global, ℤ, pos, ◌+ℤ◌, ◌+◌, FitsSigned, w16, to_z, of_z, sym, ap, ◌∙◌, arith, subst}
+use Rattle.std.proofs.Common.{◌≡◌, ◌≢◌, [], ◌∷◌, ◌++◌, Vec, Global, ℤ, pos, ◌+ℤ◌, FitsSigned, w16, to_z, of_z, sym, ap, ◌∙◌, arith}
 use Rattle.std.proofs.lemmas.Int.{to_z-of_z, of_z-to_z}
 use Rattle.jiff.specs.Words.{plain_zone}
 use Rattle.jiff_core.proofs.SignedLemmas.{signed_arith}
 use Rattle.zone_minutes.specs.declared.run.Run.{Run}
-use Rattle.zone_minutes.proofs.RunLemmas.{IsListed, IsListed-first, IsListed-same, IsListed-change, IsListed-end}
+use Rattle.zone_minutes.proofs.RunLemmas.{IsListed-same, IsListed-change, IsListed-end}
 use Rattle.zone_minutes.proofs.listing.list_runs.Goals as goal
 use Rattle.zone_minutes.proofs.listing.list_runs.Goals.{then-next-ahead+in_ok-push, else-next-ahead}
 

@@ -1,4 +1,4 @@
-use Rattle.std.proofs.Common.{◌≡◌, ◌<◌, pos, sym, ap, ◌∙◌, arith, FitsSigned, w16}
+use Rattle.std.proofs.Common.{◌<◌, ◌∙◌, arith, FitsSigned, w16}
 use Rattle.std.proofs.lemmas.Int.{to_z-of_z}
 use Rattle.jiff.specs.Words.{plain_zone}
 use Rattle.jiff_core.proofs.SignedLemmas.{signed_arith}

@@ -2,7 +2,7 @@ use Rattle.std.proofs.Common.{rules, of_calls, ◌≡◌, length, ap, arith}
 use Rattle.std.proofs.lemmas.Fn.{always_returns_same}
 use Rattle.jiff_core.proofs.SignedLemmas.{signed_arith}
 use Rattle.zone_minutes.specs.Zone.{Zone, kept_source}
-use Rattle.zone_minutes.proofs.RunLemmas.{has_ended, IsPlaceOf, IsPlaceOf-found, IsRunAt-place}
+use Rattle.zone_minutes.proofs.RunLemmas.{has_ended, IsPlaceOf-found, IsRunAt-place}
 use Rattle.zone_minutes.proofs.zone.ZoneRuns.run_at.Goals as goal
 
 pub index-requires : goal.index-requires
