@@ -1,9 +1,15 @@
--- A run: how many replicas there are, a window of time, and the tables of jobs.
-use Rattle.std.specs.Prelude.{ℕ, List, ◌++◌, ◌∷◌, [], map}
+-- A run: how many replicas there are, a window of time, the zones under their names, and the tables of jobs.
+use Rattle.std.specs.Prelude.{ℕ, List, ◌++◌, ◌∷◌, [], map, Result, Ok, Err}
+use Rattle.hex.specs.Hex.{decode_of}
+use Rattle.hex.specs.declared.error.FromHexError.{FromHexError}
+use Rattle.zone_minutes.specs.Zone.{Source, FixedOffset, PosixRule, TzifFile}
 use Rattle.zone_minutes.specs.declared.minute.Window.{Window}
 use Rattle.crontab_text.specs.Lines.{lines_of}
 use Rattle.run_text.specs.declared.run.SectionKind.{SectionKind}
 use Rattle.run_text.specs.declared.run.Section.{Section as SectionText}
+use Rattle.run_text.specs.declared.run.ZoneText.{ZoneText}
+use Rattle.run_text.specs.declared.run.ZoneText.TheVariants.{Fixed, Posix, Hex}
+use Rattle.run_text.specs.declared.run.ZoneLine.{ZoneLine}
 use Rattle.run_text.specs.declared.run.RunFile.{RunFile}
 
 -- a table of jobs: where it begins in the run file, what it is, under which label and in which zone, and its lines
@@ -14,16 +20,23 @@ pub record Section : Type 0 where
   pub zone : List ℕ
   pub lines : List (List ℕ)
 
+-- a zone under its name: where it stands in the run file, and where its offsets come from
+pub record NamedZone : Type 0 where
+  pub line : ℕ
+  pub name : List ℕ
+  pub source : Source
+
 -- what a run file says
 pub record Run : Type 0 where
   pub members : ℕ
   pub window : Window
   pub grace : ℕ
+  pub zones : List NamedZone
   pub sections : List Section
 
 -- a run of no job
 abbrev pub run_with : ℕ → Window → ℕ → Run
-run_with members window grace = record { members = members; window = window; grace = grace; sections = [] }
+run_with members window grace = record { members = members; window = window; grace = grace; zones = []; sections = [] }
 
 -- the section with more lines at its end
 abbrev pub with_lines : Section → List (List ℕ) → Section
@@ -50,6 +63,24 @@ abbrev pub section_of : SectionText → Section
 section_of section =
     record { line = section.line; kind = section.kind; label = section.label.now; zone = section.zone.now; lines = lines_of section.text.now }
 
+-- the bytes that hexadecimal digits stand for, two digits a byte; none, where they stand for none
+abbrev pub bytes_or_none : Result (List ℕ) FromHexError → List ℕ
+bytes_or_none (Ok bytes) = bytes
+bytes_or_none (Err fault) = []
+
+abbrev pub source_of : ZoneText → Source
+source_of (Fixed minutes) = FixedOffset minutes
+source_of (Posix text) = PosixRule text.now
+source_of (Hex digits) = TzifFile (bytes_or_none (decode_of digits.now))
+
+abbrev pub zone_of : ZoneLine → NamedZone
+zone_of zone = record { line = zone.line; name = zone.name.now; source = source_of zone.source }
+
 abbrev pub run_of : RunFile → Run
-run_of run =
-    record { members = run.members; window = run.window; grace = run.grace; sections = map section_of run.sections.items }
+run_of run = record {
+  members = run.members;
+  window = run.window;
+  grace = run.grace;
+  zones = map zone_of run.zones.items;
+  sections = map section_of run.sections.items;
+}

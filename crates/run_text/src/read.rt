@@ -29,6 +29,7 @@ pub fn read_run(alloc: Global, text: &str) -> Result<RunFile<'_>, RunFault>
         members: head.members,
         window: head.window,
         grace: head.grace,
+        zones: Vec::new(alloc),
         sections,
     })
 }

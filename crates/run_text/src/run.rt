@@ -38,6 +38,26 @@ pub struct Section<'a> {
     pub text: &'a str,
 }
 
+/// What a zone line says of the zone's offsets.
+#[derive(Clone, Copy, Debug, PartialEq, Eq)]
+pub enum ZoneText<'a> {
+    /// One offset at every instant: minutes east of UTC, from -720 to 840.
+    Fixed { minutes: i16 },
+    /// A TZ rule of POSIX.
+    Posix(&'a str),
+    /// The bytes of a TZif file (RFC 8536), as hexadecimal digits in any case.
+    Hex(&'a str),
+}
+
+/// A zone of a run file, under its name.
+#[derive(Clone, Copy, Debug, PartialEq, Eq)]
+pub struct ZoneLine<'a> {
+    /// The number of its line, from 1.
+    pub line: u32,
+    pub name: &'a str,
+    pub source: ZoneText<'a>,
+}
+
 /// What a run file says. Its texts are parts of the file's text.
 #[derive(Debug, Drop)]
 pub struct RunFile<'a> {
@@ -46,5 +66,7 @@ pub struct RunFile<'a> {
     pub window: Window,
     /// Minutes, from 0 to 525,600.
     pub grace: u32,
+    /// The zones that its sections and its tables may name, beside `UTC`.
+    pub zones: Vec<ZoneLine<'a>>,
     pub sections: Vec<Section<'a>>,
 }
