@@ -2,4 +2,5 @@ pub mod CalendarLemmas
 pub mod RunLemmas
 pub mod SameZone
 pub mod StampLemmas
+pub mod VerdictLemmas
 pub mod ZoneLemmas

@@ -27,7 +27,7 @@ unfolding rule_nanos
 rule_nanos-same y seconds a b date time = rw (date, time) refl
 
 -- daylight saving time that says the same is in force from the same instant to the same
-utc_window-same : (y : ℤ) (a b : Dst) (p q : Offset) → dst_view a ≡ dst_view b → p.seconds ≡ q.seconds → utc_window a y p ≡ utc_window b y q
+pub utc_window-same : (y : ℤ) (a b : Dst) (p q : Offset) → dst_view a ≡ dst_view b → p.seconds ≡ q.seconds → utc_window a y p ≡ utc_window b y q
 unfolding utc_window
 utc_window-same y a b p q same seconds =
     let ahead : a.offset.seconds ≡ b.offset.seconds = ap (λ (d : DstText). d.seconds) same in

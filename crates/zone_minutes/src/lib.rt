@@ -20,4 +20,7 @@ pub use source::{ZoneFault, ZoneSource};
 pub use stamp::{
     read_stamp, stamps_differ, stamps_have_one_length, write_basic_stamp, write_stamp,
 };
-pub use zone::{ZoneRuns, fixed_offset_is_added, utc_is_its_own_local_time, zones_read_alike};
+pub use zone::{
+    ZoneRuns, fixed_offset_is_added, no_source_is_read_and_refused, utc_is_its_own_local_time,
+    zones_read_alike,
+};

@@ -140,3 +140,8 @@ pub fn fixed_offset_is_added()
 pub fn utc_is_its_own_local_time()
     ensures { (t : ℤ) → local_of UTC t ≡ t }
 {}
+
+/// No source is one that `jiff` reads and also one that it refuses.
+pub fn no_source_is_read_and_refused()
+    ensures { (source : Source) → IsReadable source → IsRefused source → ⊥ }
+{}
