@@ -1,6 +1,6 @@
 #!/usr/bin/env python3
-"""Measures the built program: on four run files, beside `cat` of the same report, and on a fifth that it reads and
-refuses at its last line, beside `wc -l` of the same file.
+"""Measures the built program: on run files, beside `cat` of the same report, and on a long one that it reads and refuses
+at its last line, beside `wc -l` of the same file.
 
 Usage: bench/bench.py [PROGRAM]
 
@@ -22,10 +22,34 @@ READING_TRIES = 40
 READING_BYTES = 1_048_000
 
 
+# TZ rules of POSIX, as the zones of tzdata end.
+RULES = [
+    "CET-1CEST,M3.5.0,M10.5.0/3",
+    "EST5EDT,M3.2.0,M11.1.0",
+    "<+1030>-10:30<+11>-11,M10.1.0,M4.1.0",
+    "NZST-12NZDT,M9.5.0,M4.1.0/3",
+    "<-04>4<-03>,M9.1.6/24,M4.1.6/24",
+    "IST-1GMT0,M10.5.0,M3.5.0/1",
+    "EET-2EEST,M3.4.4/50,M10.4.4/50",
+    "<+1245>-12:45<+1345>,M9.5.0/2:45,M4.1.0/3:45",
+]
+
+
 def run_file(start, end, entries):
     """The text of a run file over one crontab."""
     head = ["cronrun 1", "replicas 1", f"window {start} {end}", "grace 0", f"crontab bench UTC {len(entries)}"]
     return "\n".join(head + entries + ["script", "end", ""])
+
+
+def zone_file(start, end, zones, entries):
+    """The text of a run file with so many zones, and the entries dealt out to them."""
+    head = ["cronrun 1", "replicas 1", f"window {start} {end}", "grace 0"]
+    head += [f"zone Zone{k} posix {RULES[k % len(RULES)]}" for k in range(zones)]
+    tables = []
+    for k in range(zones):
+        own = entries[k::zones]
+        tables += [f"crontab bench{k} Zone{k} {len(own)}", *own]
+    return "\n".join(head + tables + ["script", "end", ""])
 
 
 def runs():
@@ -41,6 +65,14 @@ def runs():
     yield "400 days, 1,000 jobs of 17 or 18 launches", run_file(*year, many)
     yield "10 days, 1,000 jobs of 20 launches", run_file(*ten_days, twice_a_day)
     yield "10 days, 1,000 jobs that are never due", run_file(*ten_days, never)
+    # A Monday that is 1 or 29 February: both in 2016.
+    leap = ("2016-01-01T00:00Z", "2017-02-04T00:00Z")
+    yield "400 days, one job of 2 launches", run_file(*leap, ["0 0 */28 2 mon rare"])
+    weekly = [f"{k % 60} {k % 24} * * {k % 7} job {k}" for k in range(340)]
+    yield "400 days, one zone, no job", zone_file(*year, 1, [])
+    yield "400 days, 32 zones, no job", zone_file(*year, 32, [])
+    yield "400 days, 32 zones, 1,000 jobs that are never due", zone_file(*year, 32, never)
+    yield "400 days, 32 zones, 340 weekly jobs of 57 or 58 launches", zone_file(*year, 32, weekly)
 
 
 def entry(number):
