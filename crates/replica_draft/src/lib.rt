@@ -1,5 +1,6 @@
 //! A step of a replica as far as it is planned: what becomes of the replica, and what is to be stored, learned, sent and
-//! called. Each verb of a draft is one act of the definition of a step, and the letters of a draft are those of its acts.
+//! called. Each verb of a draft is one act of the definition of a step, or a few, as its contract says; the letters of a draft
+//! are those of its acts.
 #![tactic(auto)]
 
 mod draft;
