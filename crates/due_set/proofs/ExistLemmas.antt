@@ -16,8 +16,8 @@ use Rattle.due_set.specs.Table.{Table, Job, IsAfter, IsBuiltFor, IsJobDue, IsJob
 use Rattle.due_set.specs.declared.job.JobKind.{JobKind}
 use Rattle.due_set.specs.declared.job.JobKind.TheVariants.{Crontab, Anacron, Never}
 use Rattle.due_set.proofs.DecideLemmas.{IsDecided, IsLeastBelow, decided_both, decided_due, decided_inside, decided_like, decided_lt, least_below}
-use Rattle.due_set.proofs.DayLemmas.{gap_of}
 use Rattle.due_set.proofs.Rising.{Contains-none, IsRising-push}
+use Rattle.due_set.proofs.SteadyLemmas.{gap_of}
 use Rattle.due_set.proofs.TableLemmas.{All-slice_get, IsCrontabIn, IsJobDue-from, IsJobDue-in, same_job}
 
 -- two zones whose clocks show the same

@@ -1,11 +1,11 @@
 pub mod CountLemmas
-pub mod DayLemmas
 pub mod DecideLemmas
 pub mod DueLemmas
 pub mod ExistLemmas
 pub mod FrontLemmas
-pub mod HourLemmas
+pub mod MatchingLemmas
 pub mod Rising
 pub mod SoundLemmas
 pub mod SteadyLemmas
 pub mod TableLemmas
+pub mod TimeLemmas

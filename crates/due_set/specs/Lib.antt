@@ -1,4 +1,5 @@
 pub mod Calls
 pub mod Due
+pub mod Matching
 pub mod Steady
 pub mod Table

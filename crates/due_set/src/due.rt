@@ -28,12 +28,12 @@ pub fn matches_date(fields: &Fields, minute: i64) -> bool
     fields.matches_date(civil.month, civil.day, weekday_of(day_of(minute)))
 }
 
-/// Whether the hour field has a civil minute's hour.
-pub fn matches_hour(fields: &Fields, minute: i64) -> bool
+/// Whether the month field has a civil minute's month.
+pub fn matches_month(fields: &Fields, minute: i64) -> bool
     requires { IsCalendarMinute minute }
-    ensures { IsTrue result ↔ Has fields.now.hour (civil_at minute).hour }
+    ensures { IsTrue result ↔ Has fields.now.month (civil_at minute).month }
 {
-    fields.hour.has(civil_of(minute).hour)
+    fields.month.has(civil_of(minute).month)
 }
 
 // The instant some minutes before another.

@@ -7,6 +7,7 @@ mod change_tests;
 mod due;
 mod job;
 mod laws;
+mod matching;
 mod scan;
 mod sound;
 mod table;

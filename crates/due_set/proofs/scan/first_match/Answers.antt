@@ -1,29 +1,24 @@
-use Rattle.std.proofs.Common.{◌≡◌, ℤ, pos, sym, subst, to_z, of_z, w64, arith}
-use Rattle.std.proofs.lemmas.Int.{ints}
-use Rattle.due_set.specs.Due.{IsDueIn, IsNotDueIn}
-use Rattle.due_set.proofs.SteadyLemmas.{IsDueIn-matching, IsDueIn-unmatching}
-use Rattle.due_set.proofs.TableLemmas.{IsNotDueIn-next}
+use Rattle.std.proofs.Common.{◌≡◌, ◌-◌, ℤ, pos, ◌+ℤ◌, ◌<ℤ◌, FitsSigned, to_z, of_z, w64, arith}
+use Rattle.std.proofs.lemmas.Int.{ints, to_z-of_z}
+use Rattle.due_set.specs.Matching.{IsFirstMatch, MatchNoneOf}
+use Rattle.due_set.proofs.SteadyLemmas.{IsFirstDue-matching, IsNotDueIn-unmatching}
 use Rattle.due_set.proofs.scan.first_match.Goals as goal
 
-pub loop-minute-preserved : goal.loop-minute-preserved
-loop-minute-preserved c =
-    let at_is : to_z w64 (of_z w64 c.from.result) ≡ pos c.loop-minute.minute = omega (arith, ints) in
-    IsNotDueIn-next c.args.fields.now c.args.zone.now.source (pos c.args.first) _ c.loop-minute.minute c.loop-minute.invariant at_is
-    (IsDueIn-unmatching c.args.fields.now c.args.zone.now.source (pos c.args.first) (pos c.args.until) _ c.requires.steady (omega (arith, ints)) (omega (arith, ints))
-    (λ z read m. let found = (c.matches_shown.ensures.matches z read).1 m in let not = c.if-matches_shown.false in cc (found, not)))
+pub returns-in_err-steps-clause-none : goal.returns-in_err-steps-clause-none
+returns-in_err-steps-clause-none c =
+    let shown : ℤ = c.local_of-shown.result in
+    let fits : FitsSigned w64 shown = omega (arith, ints) in
+    let none : MatchNoneOf c.args.fields.now shown (c.args.until - c.args.first) = simp to_z-of_z at c.in_err-steps.ensures.none in
+    let until_is : pos c.args.until ≡ pos c.args.first +ℤ pos (c.args.until - c.args.first) = omega (arith, ints) in
+    rw c.from_residual.ensures (IsNotDueIn-unmatching c.args.fields.now c.args.zone.now.source (pos c.args.first) (pos c.args.until) shown (c.args.until - c.args.first) c.requires.steady c.local_of-shown.ensures.local until_is none)
 
-pub returns-then-matches_shown-clause-found : goal.returns-then-matches_shown-clause-found
-returns-then-matches_shown-clause-found c =
-    let fields = c.args.fields.now in
-    let source = c.args.zone.now.source in
-    let first = pos c.args.first in
-    let t = to_z w64 (of_z w64 c.from.result) in
-    let at_is : t ≡ pos c.loop-minute.minute = omega (arith, ints) in
-    let readable = c.matches_shown.ensures.read in
-    let m = (c.matches_shown.ensures.matches readable.0 readable.1).0 c.if-matches_shown.true in
-    let due : IsDueIn fields source t = IsDueIn-matching fields source first (pos c.args.until) t c.requires.steady (omega (arith, ints)) (omega (arith, ints)) readable m in
-    record {
-      due = due;
-      since = omega (arith, ints);
-      none_before = subst (λ (u : ℤ). IsNotDueIn fields source first u) (sym at_is) c.loop-minute.invariant;
-    }
+pub returns-clause-found : goal.returns-clause-found
+returns-clause-found c =
+    let shown : ℤ = c.local_of-shown.result in
+    let fits : FitsSigned w64 shown = omega (arith, ints) in
+    let steps = c.in_ok-steps.steps in
+    let at : ℤ = to_z w64 (of_z w64 c.from.result) in
+    let first : IsFirstMatch c.args.fields.now shown steps = simp to_z-of_z at c.in_ok-steps.ensures.found in
+    let at_is : at ≡ pos c.args.first +ℤ pos steps = omega (arith, ints) in
+    let before : at <ℤ pos c.args.until = omega (arith, ints, c.in_ok-steps.ensures.before) in
+    IsFirstDue-matching c.args.fields.now c.args.zone.now.source (pos c.args.first) (pos c.args.until) shown at steps c.requires.steady c.local_of-shown.ensures.local at_is before first

@@ -1,6 +1,0 @@
-use Rattle.std.proofs.Common.{pos}
-use Rattle.due_set.specs.Due.{IsNotDueIn}
-use Rattle.due_set.proofs.scan.first_match.Given as goal
-
-abbrev pub invariant-loop-minute : goal.invariant-loop-minute
-invariant-loop-minute l = IsNotDueIn l.fields l.zone.source (pos l.first) (pos l.minute)
