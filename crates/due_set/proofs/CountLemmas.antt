@@ -1,51 +1,119 @@
--- A job's due instants, counted from one to the next.
-use Rattle.std.proofs.Common.{◌≡◌, ℕ, ◌+◌, ◌<◌, List, [], ◌∷◌, ◌++◌, length, Option, None, Some, ℤ, pos, negsuc, ◌+ℤ◌, ◌-ℤ◌, ◌<ℤ◌, ◌≤ℤ◌, ◌⊎◌, inl, inr, refl, sym, subst, arith, length-append}
-use Rattle.std.specs.Prelude.{Contains, unsigned_abs}
-use Rattle.std.proofs.lemmas.Int.{ints}
+-- An entry's due instants, counted from one to the next.
+use Rattle.std.proofs.Common.{◌≡◌, ℕ, ◌+◌, ◌<◌, List, [], ◌∷◌, ◌++◌, length, Option, Some, ℤ, pos, negsuc, ◌+ℤ◌, ◌-ℤ◌, ◌<ℤ◌, ◌≤ℤ◌, inl, inr, refl, sym, ap, ◌∙◌, subst, arith, length-append}
+use Rattle.std.specs.Prelude.{Contains, slice_get, unsigned_abs}
+use Rattle.std.proofs.lemmas.Int.{ints, by_lt_z}
 use Rattle.std.proofs.lemmas.List.Elements.{Contains-append_left, Contains-push, Contains-push_cases}
-use Rattle.zone_minutes.specs.Window.{IsInWindow}
-use Rattle.zone_minutes.specs.declared.minute.Minute.{Minute}
+use Rattle.cron_fields.specs.declared.field.Fields.{Fields}
+use Rattle.zone_minutes.specs.Zone.{Source, Zone}
 use Rattle.zone_minutes.specs.declared.minute.Window.{Window}
-use Rattle.due_set.specs.Due.{IsRising}
-use Rattle.due_set.specs.Table.{Table, IsAfter, IsJobDue, IsNextDue, instant_of}
+use Rattle.due_set.specs.Due.{IsDueIn, IsFirstDue, IsNotDueIn}
+use Rattle.due_set.specs.Table.{Job, Table, IsDueList, IsJobDueList, IsNextDue}
+use Rattle.due_set.specs.declared.job.JobKind.TheVariants.{Crontab}
 use Rattle.due_set.proofs.Rising.{Contains-none, IsRising-push}
-use Rattle.due_set.proofs.TableLemmas.{IsCount, cases_ltℤ}
+use Rattle.due_set.proofs.TableLemmas.{IsCrontabIn, IsJobDue-from, IsJobDue-in, same_job}
 
--- how many minutes of the window have passed, the last one too
-abbrev pub passed_of : Window → Option Minute → ℤ
-passed_of window None = pos 0
-passed_of window (Some last) = last.0 -ℤ window.from.0 +ℤ pos 1
-
--- how many are left
-abbrev pub left_of : Window → Option Minute → ℕ
-left_of window last = unsigned_abs (window.until.0 -ℤ window.from.0 -ℤ passed_of window last)
-
--- so many due instants of the job are counted, up to the last one
-pub record CountsTo (table : Table) (number : ℕ) (last : Option Minute) (count : ℕ) : Type 0 where
+-- so many due instants are counted, up to an instant that is outside
+pub record CountsTo (fields : Fields) (source : Source) (from until : ℤ) (minute count : ℕ) : Type 0 where
   pub instants : List ℤ
-  pub rising : IsRising instants
-  pub sound : (t : ℤ) → Contains instants t → IsJobDue table number t
-  pub passed : (t : ℤ) → Contains instants t → IsAfter (instant_of last) t → ⊥
-  pub complete : (t : ℤ) → IsJobDue table number t → (IsAfter (instant_of last) t → ⊥) → Contains instants t
+  pub listed : IsDueList fields source from (pos minute) instants
   pub is : count ≡ length instants
-  pub few : pos count ≤ℤ passed_of table.window last
+  pub few : (from +ℤ pos count) ≤ℤ pos minute
+  pub within : pos minute ≤ℤ until
 
-pub CountsTo-start : (table : Table) (number : ℕ) → CountsTo table number None 0
-CountsTo-start table number = record {
+pub CountsTo-start : (fields : Fields) (source : Source) (from until : ℤ) (minute : ℕ) → pos minute ≡ from → from <ℤ until → CountsTo fields source from until minute 0
+CountsTo-start fields source from until minute minute_is ordered = record {
   instants = [];
-  rising = tt;
-  sound = λ t h. absurd (Contains-none t h);
-  passed = λ t h. absurd (Contains-none t h);
-  complete = λ t due not. absurd (not tt);
+  listed = record {
+    rising = tt;
+    since = λ t h. absurd (Contains-none t h);
+    before = λ t h. absurd (Contains-none t h);
+    sound = λ t h. absurd (Contains-none t h);
+    complete = λ t since lt due. absurd (omega (arith, ints));
+  };
   is = refl;
   few = omega (arith, ints);
+  within = omega (arith, ints);
 }
 
--- a later instant leaves fewer minutes
-passed_more : (window : Window) (last : Option Minute) (t : ℤ) → IsInWindow window t → IsAfter (instant_of last) t
-    → passed_of window last <ℤ (t -ℤ window.from.0 +ℤ pos 1)
-passed_more window None t inside after = let since : window.from.0 ≤ℤ t = inside.since in omega (arith, ints)
-passed_more window (Some last) t inside after = let later : last.0 <ℤ t = after in omega (arith, ints)
+both_ways : (a b : ℤ) → a ≤ℤ b → b ≤ℤ a → a ≡ b
+both_ways a b le ge = omega (arith, ints)
+
+-- the next due instant is counted
+pub CountsTo-next : (fields : Fields) (source : Source) (from until at : ℤ) (minute count next : ℕ) → CountsTo fields source from until minute count
+    → IsFirstDue fields source (pos minute) at → at <ℤ until → pos next ≡ at +ℤ pos 1 → CountsTo fields source from until next (count + 1)
+CountsTo-next fields source from until at minute count next known first lt next_is =
+    let xs : List ℤ = known.instants in
+    let listed = known.listed in
+    let few : (from +ℤ pos count) ≤ℤ pos minute = known.few in
+    let since : pos minute ≤ℤ at = first.since in
+    let sooner : (u : ℤ) → Contains xs u → u <ℤ at = λ u h. let before : u <ℤ pos minute = listed.before u h in omega (arith, ints) in
+    record {
+      instants = xs ++ at ∷ [];
+      listed = record {
+        rising = IsRising-push xs at listed.rising sooner;
+        since = λ u h. elim (Contains-push_cases xs at u h) [
+          | inl had ↦ listed.since u had
+          | inr e ↦ subst (λ (v : ℤ). from ≤ℤ v) e (omega (arith, ints))
+        ];
+        before = λ u h. elim (Contains-push_cases xs at u h) [
+          | inl had ↦ let before : u <ℤ at = sooner u had in omega (arith, ints)
+          | inr e ↦ subst (λ (v : ℤ). v <ℤ pos next) e (omega (arith, ints))
+        ];
+        sound = λ u h. elim (Contains-push_cases xs at u h) [
+          | inl had ↦ listed.sound u had
+          | inr e ↦ subst (IsDueIn fields source) e first.due
+        ];
+        complete = λ u back before due.
+            by_lt_z u (pos minute)
+            (λ counted. Contains-append_left xs (at ∷ []) u (listed.complete u back counted due))
+            (λ later. by_lt_z u at
+            (λ too_soon. absurd (first.none_before u later too_soon due))
+            (λ le. subst (Contains (xs ++ at ∷ [])) (both_ways at u le (omega (arith, ints))) (Contains-push xs at)));
+      };
+      is = omega (arith, length-append xs (at ∷ []), known.is);
+      few = omega (arith, ints);
+      within = omega (arith, ints);
+    }
+
+-- where no later instant is due, all are counted
+pub CountsTo-all : (fields : Fields) (source : Source) (from until : ℤ) (minute count : ℕ) → CountsTo fields source from until minute count
+    → IsNotDueIn fields source (pos minute) until → (instants : List ℤ) × IsDueList fields source from until instants × (count ≡ length instants)
+CountsTo-all fields source from until minute count known none =
+    let listed = known.listed in
+    let within : pos minute ≤ℤ until = known.within in (
+      known.instants,
+      record {
+        rising = listed.rising;
+        since = listed.since;
+        before = λ t h. let before : t <ℤ pos minute = listed.before t h in omega (arith, ints);
+        sound = listed.sound;
+        complete = λ t back before due. by_lt_z t (pos minute) (λ counted. listed.complete t back counted due) (λ later. absurd (none t later before due));
+      },
+      known.is,
+    )
+
+-- the list of a crontab job's due instants is that of its entry in the window
+pub IsJobDueList-entry : (table : Table) (number : ℕ) (job : Job) (fields : Fields) (source : Zone) (window : Window) (instants : List ℤ) → IsCrontabIn table number job fields source
+    → window ≡ table.window → IsDueList fields source.source window.from.0 window.until.0 instants → IsJobDueList table number instants
+IsJobDueList-entry table number job fields source window instants known window_is list =
+    let all : IsDueList fields source.source table.window.from.0 table.window.until.0 instants =
+    subst (λ (w : Window). IsDueList fields source.source w.from.0 w.until.0 instants) window_is list in
+    record {
+      rising = all.rising;
+      sound = λ t h. IsJobDue-from table number job fields source t known (record { since = all.since t h; before = all.before t h }) (all.sound t h);
+      complete = λ t due. all.complete t due.inside.since due.inside.before (IsJobDue-in table number job fields source t known due);
+    }
+
+-- a job that is no crontab's entry has none
+pub IsJobDueList-none : (table : Table) (number : ℕ) (job : Job) → slice_get table.jobs number ≡ Some job → ((fields : Fields) → job.kind ≡ Crontab fields → ⊥)
+    → IsJobDueList table number []
+IsJobDueList-none table number job is_job other = record {
+  rising = tt;
+  sound = λ t h. absurd (Contains-none t h);
+  complete = λ t due.
+      let jobs : due.job ≡ job = same_job table number due.job job due.is_in.is_job is_job in
+      absurd (other due.fields (ap (λ (j : Job). j.kind) (sym jobs) ∙ due.kind));
+}
 
 -- a smaller number that is not negative has a smaller size
 pub abs_below : (a b : ℤ) → pos 0 ≤ℤ a → a <ℤ b → unsigned_abs a < unsigned_abs b
@@ -53,78 +121,12 @@ abs_below (pos a) (pos b) nonneg lt = omega (arith, ints)
 abs_below (pos a) (negsuc b) nonneg lt = absurd (omega (arith, ints))
 abs_below (negsuc a) b nonneg lt = absurd (omega (arith, ints))
 
-pub left_falls : (table : Table) (number : ℕ) (last : Option Minute) (t : Minute) → IsNextDue table number (instant_of last) t.0
-    → left_of table.window (Some t) < left_of table.window last
-left_falls table number last t next =
-    let more : passed_of table.window last <ℤ (t.0 -ℤ table.window.from.0 +ℤ pos 1) = passed_more table.window last t.0 next.due.inside next.later in
-    let before : t.0 <ℤ table.window.until.0 = next.due.inside.before in
-    abs_below (table.window.until.0 -ℤ table.window.from.0 -ℤ (t.0 -ℤ table.window.from.0 +ℤ pos 1))
-    (table.window.until.0 -ℤ table.window.from.0 -ℤ passed_of table.window last) (omega (arith, ints)) (omega (arith, ints))
+-- how many minutes of the window are left, which fall
+abbrev pub left_of : ℤ → ℕ → ℕ
+left_of until minute = unsigned_abs (until -ℤ pos minute)
 
--- later than the last or not
-cases_after : (last : Option Minute) (t : ℤ) → IsAfter (instant_of last) t ⊎ (IsAfter (instant_of last) t → ⊥)
-cases_after None t = inl tt
-cases_after (Some last) t = elim (cases_ltℤ last.0 t) [ inl lt ↦ inl lt | inr le ↦ inr (not_both last.0 t le) ]
-  where
-    not_both : (a b : ℤ) → b ≤ℤ a → a <ℤ b → ⊥
-    not_both a b le lt = omega (arith, ints)
-
--- an instant that is counted isn't later than the last
-before_next : (last : Option Minute) (a t : ℤ) → (IsAfter (instant_of last) a → ⊥) → IsAfter (instant_of last) t → a <ℤ t
-before_next None a t not after = absurd (not tt)
-before_next (Some last) a t not after =
-    elim (cases_ltℤ last.0 a) [ inl lt ↦ absurd (not lt) | inr le ↦ let later : last.0 <ℤ t = after in omega (arith, ints) ]
-
-both_ways : (a b : ℤ) → a ≤ℤ b → b ≤ℤ a → a ≡ b
-both_ways a b le ge = omega (arith, ints)
-
-not_after : (a b : ℤ) → (a <ℤ b → ⊥) → b ≤ℤ a
-not_after a b not = elim (cases_ltℤ a b) [ inl lt ↦ absurd (not lt) | inr le ↦ le ]
-
-irreflexive : (a b : ℤ) → a <ℤ b → b <ℤ a → ⊥
-irreflexive a b lt gt = omega (arith, ints)
-
--- the next due instant is counted
-pub CountsTo-next : (table : Table) (number : ℕ) (last : Option Minute) (count : ℕ) (t : Minute) → CountsTo table number last count
-    → IsNextDue table number (instant_of last) t.0 → CountsTo table number (Some t) (count + 1)
-CountsTo-next table number last count t known next =
-    let xs : List ℤ = known.instants in
-    let more : passed_of table.window last <ℤ (t.0 -ℤ table.window.from.0 +ℤ pos 1) = passed_more table.window last t.0 next.due.inside next.later in
-    let few : pos count ≤ℤ passed_of table.window last = known.few in
-    let below : (u : ℤ) → Contains xs u → u <ℤ t.0 = λ u h. before_next last u t.0 (known.passed u h) next.later in
-    record {
-      instants = xs ++ t.0 ∷ [];
-      rising = IsRising-push xs t.0 known.rising below;
-      sound = λ u h. elim (Contains-push_cases xs t.0 u h) [
-        | inl had ↦ known.sound u had
-        | inr e ↦ subst (IsJobDue table number) e next.due
-      ];
-      passed = λ u h later. elim (Contains-push_cases xs t.0 u h) [
-        | inl had ↦ irreflexive t.0 u later (below u had)
-        | inr e ↦ irreflexive t.0 u later (subst (λ (v : ℤ). v <ℤ t.0) e (subst (λ (v : ℤ). t.0 <ℤ v) (sym e) later))
-      ];
-      complete = λ u due not. elim (cases_after last u) [
-        | inl after ↦
-            let same : t.0 ≡ u = both_ways t.0 u (next.least u due after) (not_after t.0 u not) in
-            subst (Contains (xs ++ t.0 ∷ [])) same (Contains-push xs t.0)
-        | inr earlier ↦ Contains-append_left xs (t.0 ∷ []) u (known.complete u due earlier)
-      ];
-      is = omega (arith, length-append xs (t.0 ∷ []), known.is);
-      few = omega (arith, ints);
-    }
-
--- where no later instant is due, all are counted
-pub CountsTo-all : (table : Table) (number : ℕ) (last : Option Minute) (count : ℕ) → CountsTo table number last count
-    → ((t : ℤ) → IsJobDue table number t → IsAfter (instant_of last) t → ⊥) → IsCount table number count
-CountsTo-all table number last count known none = record {
-  instants = known.instants;
-  listed = record {
-    rising = known.rising;
-    sound = known.sound;
-    complete = λ t due. known.complete t due (none t due);
-  };
-  is = known.is;
-}
+pub left_falls : (until at : ℤ) (minute next : ℕ) → pos minute ≤ℤ at → at <ℤ until → pos next ≡ at +ℤ pos 1 → left_of until next < left_of until minute
+left_falls until at minute next since lt next_is = abs_below (until -ℤ pos next) (until -ℤ pos minute) (omega (arith, ints)) (omega (arith, ints))
 
 -- after an instant a job has one next due instant
 pub IsNextDue-same : (table : Table) (number : ℕ) (before : Option ℤ) (a b : ℤ) → IsNextDue table number before a → IsNextDue table number before b → a ≡ b

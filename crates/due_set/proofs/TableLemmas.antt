@@ -156,13 +156,3 @@ nothing_next table number job fields source window before first result known win
 pub IsJobDueList-same : (table : Table) (number : ℕ) (a b : List ℤ) → IsJobDueList table number a → IsJobDueList table number b → a ≡ b
 IsJobDueList-same table number a b p q =
     IsRising-same a b p.rising q.rising (λ t. (λ h. q.complete t (p.sound t h), λ h. p.complete t (q.sound t h)))
-
--- a table's answer on the count of a job's due instants
-pub record IsCount (table : Table) (number count : ℕ) : Type 0 where
-  pub instants : List ℤ
-  pub listed : IsJobDueList table number instants
-  pub is : count ≡ length instants
-
-pub IsCount-of-each : (table : Table) (number count : ℕ) → IsCount table number count → (instants : List ℤ) → IsJobDueList table number instants → count ≡ length instants
-IsCount-of-each table number count known instants list =
-    known.is ∙ ap length (IsJobDueList-same table number known.instants instants known.listed list)

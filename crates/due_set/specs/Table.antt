@@ -3,10 +3,10 @@ use Rattle.std.specs.Prelude.{◌≡◌, ℕ, ◌≢◌, ◌<◌, ◌≤◌, Lis
 use Rattle.jiff.specs.Types.{TimeZone}
 use Rattle.cron_fields.specs.declared.field.Fields.{Fields}
 use Rattle.zone_minutes.specs.Window.{IsInWindow, IsWithinLimits}
-use Rattle.zone_minutes.specs.Zone.{Zone, FixedOffset, IsReadable, IsReadAs}
+use Rattle.zone_minutes.specs.Zone.{Source, Zone, FixedOffset, IsReadable, IsReadAs}
 use Rattle.zone_minutes.specs.declared.minute.Minute.{Minute}
 use Rattle.zone_minutes.specs.declared.minute.Window.{Window}
-use Rattle.due_set.specs.Due.{IsDue, IsRising}
+use Rattle.due_set.specs.Due.{IsDue, IsDueIn, IsRising}
 use Rattle.due_set.specs.declared.job.JobKind.{JobKind}
 use Rattle.due_set.specs.declared.job.JobKind.TheVariants.{Crontab, Anacron}
 use Rattle.due_set.specs.declared.job.JobSpec.{JobSpec}
@@ -97,6 +97,14 @@ pub record IsNextDue (table : Table) (number : ℕ) (before : Option ℤ) (insta
   pub due : IsJobDue table number instant
   pub later : IsAfter before instant
   pub least : (other : ℤ) → IsJobDue table number other → IsAfter before other → instant ≤ℤ other
+
+-- an entry's due instants from one on and before another, in order
+pub record IsDueList (fields : Fields) (source : Source) (from until : ℤ) (instants : List ℤ) : Type 0 where
+  pub rising : IsRising instants
+  pub since : (instant : ℤ) → Contains instants instant → from ≤ℤ instant
+  pub before : (instant : ℤ) → Contains instants instant → instant <ℤ until
+  pub sound : (instant : ℤ) → Contains instants instant → IsDueIn fields source instant
+  pub complete : (instant : ℤ) → from ≤ℤ instant → instant <ℤ until → IsDueIn fields source instant → Contains instants instant
 
 -- the job's due instants, in order
 pub record IsJobDueList (table : Table) (number : ℕ) (instants : List ℤ) : Type 0 where

@@ -1,11 +1,11 @@
 //! The due instants of an entry, found stretch by stretch. Where the clocks are steady the next one is found on the calendar;
 //! where they were put forward or back less than 180 minutes before, each minute is looked at.
-ghost use Rattle.std.specs.Prelude.{◌≡◌, ◌<◌, ◌≤◌, ℤ, pos, negsuc, ◌+ℤ◌, ◌≤ℤ◌, ◌<ℤ◌, IfSome, IfNone, IsTrue, ◌↔◌};
+ghost use Rattle.std.specs.Prelude.{◌≡◌, ◌<◌, ◌≤◌, List, length, ℤ, pos, negsuc, ◌+ℤ◌, ◌≤ℤ◌, ◌<ℤ◌, IfSome, IfNone, IsTrue, ◌↔◌};
 ghost use Rattle.zone_minutes.specs.Window.{IsInWindow, IsWithinLimits};
 ghost use Rattle.zone_minutes.specs.Zone.{IsLocal};
 ghost use Rattle.due_set.specs.Due.{IsFirstDue, IsNotDueIn};
 ghost use Rattle.due_set.specs.Steady.{AreSteady};
-ghost use Rattle.due_set.specs.Table.{IsAfter, instant_of};
+ghost use Rattle.due_set.specs.Table.{IsAfter, IsDueList, instant_of};
 
 use crate::due::is_due;
 use crate::matching::minutes_to_match;
@@ -50,6 +50,24 @@ pub fn next_due(fields: &Fields, zone: &ZoneRuns, first: u32, window: Window) ->
         minute = until;
     }
     None
+}
+
+/// At how many instants of the window the entry is due.
+pub fn count_due(fields: &Fields, zone: &ZoneRuns, window: Window) -> u32
+    requires limits { IsWithinLimits window }
+    requires from { zone.now.from ≡ window.from.0 }
+    requires until { zone.now.until ≡ window.until.0 }
+    ensures { (instants : List ℤ)
+        × IsDueList fields.now zone.now.source window.from.0 window.until.0 instants
+        × (result ≡ length instants) }
+{
+    let mut count = 0;
+    let mut minute = first_minute(window, None);
+    while let Some(at) = next_due(fields, zone, minute, window) {
+        count += 1;
+        minute = at.0 as u32 + 1;
+    }
+    count
 }
 
 // The number of the window's end.

@@ -214,13 +214,13 @@ impl JobTable {
         ensures list { (instants : List ℤ) × IsJobDueList self.now job instants × (result ≡ length instants) }
         ensures sound { IsSound self.now }
     {
-        let mut count = 0;
-        let mut last = None;
-        while let Some(t) = self.next_due(job, last) {
-            count += 1;
-            last = Some(t);
+        let spec = self.spec(job);
+        match spec.kind {
+            JobKind::Crontab { fields } => {
+                scan::count_due(&fields, self.zone(spec.zone), self.window())
+            }
+            JobKind::Anacron { .. } | JobKind::Never => 0,
         }
-        count
     }
 
     /// Whether the job's launch of the instant has come; of an anacron job, whether its date has.
