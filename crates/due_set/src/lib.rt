@@ -8,6 +8,8 @@ mod due;
 mod job;
 mod laws;
 mod matching;
+#[cfg(test)]
+mod row_tests;
 mod scan;
 mod sound;
 mod table;

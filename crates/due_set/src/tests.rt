@@ -130,7 +130,7 @@ pub fn finds_each_due_minute(table: &JobTable) -> bool
 }
 
 // Windows, minutes east of UTC, entries, and the job's due instants, by the calendar: October 13, 2024 was a Sunday.
-const DUE: [(&str, &str, i16, [&str; 5], &[&str]); 9] = [
+const DUE: [(&str, &str, i16, [&str; 5], &[&str]); 11] = [
     (
         "2024-03-31T00:00Z",
         "2024-03-31T01:00Z",
@@ -168,6 +168,28 @@ const DUE: [(&str, &str, i16, [&str; 5], &[&str]); 9] = [
         0,
         ["0", "0", "31", "2", "*"],
         &[],
+    ),
+    // One February in 400 days.
+    (
+        "2024-01-01T00:00Z",
+        "2025-02-04T00:00Z",
+        0,
+        ["0", "0", "29", "2", "*"],
+        &["2024-02-29T00:00Z"],
+    ),
+    // February 29, 2024, was a Thursday, and either day is enough.
+    (
+        "2024-01-01T00:00Z",
+        "2025-02-04T00:00Z",
+        0,
+        ["0", "0", "29", "2", "4"],
+        &[
+            "2024-02-01T00:00Z",
+            "2024-02-08T00:00Z",
+            "2024-02-15T00:00Z",
+            "2024-02-22T00:00Z",
+            "2024-02-29T00:00Z",
+        ],
     ),
     // 06:00 at +05:30
     (
