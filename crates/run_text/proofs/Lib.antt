@@ -1,7 +1,7 @@
 mod ListLemmas
 mod NumberLemmas
 mod PhraseLemmas
-mod RunLemmas
+mod PartLemmas
 mod SectionLemmas
 pub mod SoundLemmas
 mod StepLemmas
@@ -10,3 +10,5 @@ pub mod UniqueLemmas
 mod VariantLemmas
 mod WindowLemmas
 mod WordLemmas
+mod ZoneLemmas
+mod OffsetLemmas

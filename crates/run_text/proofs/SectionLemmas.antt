@@ -1,16 +1,23 @@
 -- A section, from the line that opens it to its last.
-use Rattle.std.proofs.Common.{ℕ, ◌+◌, ◌<◌, List, length, refl, ap, ◌∙◌, inl, inr, arith}
+use Rattle.std.proofs.Common.{◌≡◌, ℕ, ◌+◌, ◌<◌, List, ◌∷◌, length, refl, ap, ◌∙◌, inl, inr, arith}
 use Rattle.crontab_text.specs.Lines.{lines_of}
 use Rattle.run_text.specs.Follow.{Above, Sections, inside, OpensNone, whole}
 use Rattle.run_text.specs.Grammar.{IsSectionLine}
 use Rattle.run_text.specs.Run.{Run, opened}
-use Rattle.run_text.specs.Steps.{place_of, at_table, IsWhole, LeadsTo, RefusedFrom, PassesOpening, RefusesTable}
+use Rattle.run_text.specs.Steps.{place_of, at_table, IsWhole, LeadsTo, RefusedFrom, RefusesTable}
 use Rattle.run_text.specs.declared.opening.Opening.{Opening}
 use Rattle.run_text.specs.declared.reader.Reader.{Reader}
 use Rattle.run_text.specs.declared.refusal.Refusal.{Refusal}
 use Rattle.run_text.specs.declared.run.SectionKind.{SectionKind}
 use Rattle.run_text.proofs.PhraseLemmas.{one_opening, opening_word}
 use Rattle.run_text.proofs.StepLemmas.{one_line_at, wrong_line}
+
+-- the reader passed a line that opens a section, by its form
+pub record PassesOpening (old new : Reader) (opening : Opening) : Type 0 where
+  pub line : List ℕ
+  pub lines : lines_of old.rest.now ≡ line ∷ lines_of new.rest.now
+  pub number : new.number ≡ old.number + 1
+  pub is : IsSectionLine line opening.kind opening.label.now opening.zone.now opening.count
 
 -- what stands above a section's first line, by the number of the line that opens it
 abbrev at_number : ℕ → Opening → Run → Above
@@ -21,14 +28,14 @@ pub opening_leads : (old new : Reader) (opening : Opening) → PassesOpening old
     → (run : Run) → LeadsTo (place_of old (Sections run)) (place_of new (at_table new opening run))
 opening_leads old new opening passes is_whole run =
     one_line_at old new (Sections run) (at_table new opening run) passes.line passes.number passes.lines
-    (inr (record {
+    (inr (inr (record {
       kind = opening.kind;
       label = opening.label.now;
       zone = opening.zone.now;
       count = opening.count;
       opens = record { is = passes.is; whole = is_whole };
       next_is = ap (λ n. at_number n opening run) passes.number;
-    }))
+    })))
 
 -- no section opens where too few lines are left
 opens_none : (line : List ℕ) (kind : SectionKind) (label zone : List ℕ) (count behind : ℕ) → IsSectionLine line kind label zone count → behind < count → OpensNone behind line

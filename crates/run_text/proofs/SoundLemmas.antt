@@ -1,14 +1,18 @@
 -- What holds of each run that is read, line by line.
-use Rattle.std.proofs.Common.{◌≡◌, ℕ, zero, suc, ◌+◌, ◌≤◌, List, [], ◌∷◌, ◌++◌, length, sym, subst, inl, inr, arith, length-append}
+use Rattle.std.proofs.Common.{◌≡◌, ◌≢◌, ℕ, zero, suc, ◌+◌, ◌≤◌, List, [], ◌∷◌, ◌++◌, length, sym, subst, inl, inr, arith, length-append}
 use Rattle.std.specs.Prelude.{⊤}
 use Rattle.std.specs.List.{AllByRecursion}
+use Rattle.std.proofs.lemmas.List.{map-append, length-map}
 use Rattle.zone_minutes.specs.Window.{IsWithinLimits}
+use Rattle.zone_minutes.specs.Zone.{Source}
 use Rattle.crontab_text.specs.Lines.{lines_of}
 use Rattle.run_text.specs.Follow.{Above, Nothing, Version, Replicas, Times, Sections, Table, Script, End, inside, style_of, MayFollow}
 use Rattle.run_text.specs.Reading.{ReadsFrom, IsRunText}
-use Rattle.run_text.specs.Run.{Section, Run, opened, with_line, with_section}
-use Rattle.run_text.specs.Sound.{IsSoundSection, IsSoundRun}
+use Rattle.run_text.specs.Run.{NamedZone, Section, Run, opened, with_line, with_section, with_zone}
+use Rattle.run_text.specs.Sound.{IsSoundSection, IsSoundSource, IsSoundZone, AreDistinct, AreSoundZones, IsSoundRun}
 use Rattle.run_text.specs.Table.{Says}
+use Rattle.run_text.specs.Zones.{IsSourceText, fixed, posix, tzif, AddsZone, names_of}
+use Rattle.run_text.proofs.OffsetLemmas.{offset_in_range}
 
 -- what holds above the line of that number
 abbrev Good : ℕ → Above → Type 0
@@ -36,12 +40,49 @@ later_run : (number next : ℕ) (run : Run) → number ≤ next → IsSoundRun n
 later_run number next run le sound = record {
   limits = sound.limits;
   grace = sound.grace;
+  zones = sound.zones;
   sections = all_next (IsSoundSection number) (IsSoundSection next) run.sections (later_section number next le) sound.sections;
 }
 
 with_one_more : (number : ℕ) (run : Run) (section : Section) → IsSoundRun number run → IsSoundSection number section → IsSoundRun number (with_section run section)
 with_one_more number run section sound part =
-    record { limits = sound.limits; grace = sound.grace; sections = all_push (IsSoundSection number) run.sections section sound.sections part }
+    record { limits = sound.limits; grace = sound.grace; zones = sound.zones; sections = all_push (IsSoundSection number) run.sections section sound.sections part }
+
+-- no zone is named yet
+no_zones : AreSoundZones []
+no_zones = record { few = omega arith; each = tt; distinct = tt }
+
+sound_source : (kind text : List ℕ) (source : Source) → IsSourceText kind text source → IsSoundSource source
+sound_source kind text source (fixed is offset says source_is) = subst IsSoundSource (sym source_is) (offset_in_range text offset says)
+sound_source kind text source (posix is source_is) = subst IsSoundSource (sym source_is) tt
+sound_source kind text source (tzif is bytes decodes some source_is) = subst IsSoundSource (sym source_is) tt
+
+-- a new name stands behind names that differ
+distinct_push : (names : List (List ℕ)) (name : List ℕ) → AreDistinct names → AllByRecursion (λ other. other ≢ name) names → AreDistinct (names ++ name ∷ [])
+distinct_push [] name distinct new = (tt, tt)
+distinct_push (first ∷ names) name distinct new =
+    (all_push (λ other. other ≢ first) names name distinct.0 (λ same. new.0 (sym same)), distinct_push names name distinct.1 new.1)
+
+-- one zone more
+sound_zones : (zones : List NamedZone) (zone : NamedZone) (line : List ℕ) → AreSoundZones zones → AddsZone (names_of zones) line zone.name zone.source → AreSoundZones (zones ++ zone ∷ [])
+sound_zones zones zone line sound adds = record {
+  few = omega (arith, length-append zones (zone ∷ []), length-map zones (λ (z : NamedZone). z.name), adds.free.few);
+  each = all_push IsSoundZone zones zone sound.each (record {
+    named = adds.is.is_name;
+    no_utc = adds.free.no_utc;
+    source = sound_source adds.is.kind adds.is.text zone.source adds.is.is_source;
+  });
+  distinct = rw (map-append (λ (z : NamedZone). z.name) zones (zone ∷ [])) (distinct_push (names_of zones) zone.name sound.distinct adds.free.new);
+}
+
+with_zone_more : (next number : ℕ) (run : Run) (line name : List ℕ) (source : Source) → IsSoundRun next run → AddsZone (names_of run.zones) line name source
+    → IsSoundRun next (with_zone run (record { line = number; name = name; source = source }))
+with_zone_more next number run line name source sound adds = record {
+  limits = sound.limits;
+  grace = sound.grace;
+  zones = sound_zones run.zones (record { line = number; name = name; source = source }) line sound.zones adds;
+  sections = sound.sections;
+}
 
 good_inside : (number : ℕ) (run : Run) (section : Section) (left : ℕ) → IsSoundRun number run → IsSoundSection number section → Good number (inside run section left)
 good_inside number run section zero sound part = with_one_more number run section sound part
@@ -52,9 +93,11 @@ good_next number behind Nothing next line good may = subst (Good (number + 1)) (
 good_next number behind Version next line good may = subst (Good (number + 1)) (sym may.1) tt
 good_next number behind (Replicas members) next line good (window, is, next_is) = subst (Good (number + 1)) (sym next_is) is.limits
 good_next number behind (Times members window) next line good (grace, is, next_is) =
-    subst (Good (number + 1)) (sym next_is) (record { limits = good; grace = is.short; sections = tt })
+    subst (Good (number + 1)) (sym next_is) (record { limits = good; grace = is.short; zones = no_zones; sections = tt })
 good_next number behind (Sections run) next line good (inl may) = subst (Good (number + 1)) (sym may.1) (later_run number (number + 1) run (omega arith) good)
-good_next number behind (Sections run) next line good (inr start) =
+good_next number behind (Sections run) next line good (inr (inl names)) =
+    subst (Good (number + 1)) (sym names.next_is) (with_zone_more (number + 1) number run line names.name names.source (later_run number (number + 1) run (omega arith) good) names.adds)
+good_next number behind (Sections run) next line good (inr (inr start)) =
     let first : IsSoundSection (number + 1) (opened number start.kind start.label start.zone) = record { said = tt; within = omega arith } in
     subst (Good (number + 1)) (sym start.next_is)
     (good_inside (number + 1) run (opened number start.kind start.label start.zone) start.count (later_run number (number + 1) run (omega arith) good) first)

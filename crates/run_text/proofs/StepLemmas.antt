@@ -1,10 +1,10 @@
 -- Steps from a place between two lines to the next, and refusals there.
 use Rattle.std.proofs.Common.{◌≡◌, ℕ, ◌+◌, List, [], ◌∷◌, length, refl, sym, subst, inl, inr}
 use Rattle.crontab_text.specs.Lines.{lines_of}
-use Rattle.run_text.specs.Follow.{Above, End, Fault, MayFollow, Refuses, Misses}
+use Rattle.run_text.specs.Follow.{Above, End, Fault, whole, MayFollow, Refuses, Misses}
 use Rattle.run_text.specs.Reading.{ReadsFrom}
 use Rattle.run_text.specs.Run.{Run}
-use Rattle.run_text.specs.Steps.{Place, place_of, RefusedFrom, LeadsTo}
+use Rattle.run_text.specs.Steps.{Place, place_of, fault_of, RefusedFrom, LeadsTo}
 use Rattle.run_text.specs.declared.reader.Reader.{Reader}
 use Rattle.run_text.specs.declared.refusal.Refusal.{Refusal}
 
@@ -54,3 +54,7 @@ one_line_at old new above next line number_is is may =
 pub ends : (number : ℕ) (text : List ℕ) (run : Run) → text ≡ [] → ReadsFrom number (End run) (lines_of text) run
 unfolding lines_of
 ends number text run is = rw is refl
+
+-- a refusal of a whole line
+pub whole_fault : (refusal : Refusal) (cause : ℕ) → refusal.cause ≡ cause → refusal.place ≡ 0 → fault_of refusal ≡ whole cause
+whole_fault refusal cause cause_is place_is = rw (cause_is, place_is) refl

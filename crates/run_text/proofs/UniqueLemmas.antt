@@ -4,13 +4,15 @@ use Rattle.crontab_text.specs.Answers.{IsLineOf, IsLineFault, LineAnswer, Said, 
 use Rattle.crontab_text.specs.LineBody.{LineBody}
 use Rattle.crontab_text.specs.declared.answer.Style.{Style}
 use Rattle.crontab_text.proofs.AnswerLemmas.{same_answer}
-use Rattle.run_text.specs.Follow.{Above, Nothing, Version, Replicas, Times, Sections, Table, Script, End, style_of, MayFollow, StartsSection, Fault, Refuses, RefusesReplicas, RefusesBeforeScript, RefusesInScript, Misses}
+use Rattle.run_text.specs.Follow.{Above, Nothing, Version, Replicas, Times, Sections, Table, Script, End, style_of, MayFollow, NamesZone, StartsSection, Fault, Refuses, RefusesReplicas, RefusesBeforeScript, RefusesInScript, Misses}
 use Rattle.run_text.specs.Grammar.{replicas_line, first_word, HasSectionWord, HasLaterWord, IsCommandWord, round, campaign, stop, break, restart, cut, heal, drop, repeat, reverse, again, skew, fate, arrive, settle, walk, free}
 use Rattle.run_text.specs.Reading.{ReadsFrom, RefusesFrom}
 use Rattle.run_text.specs.Run.{Run}
 use Rattle.run_text.specs.declared.refusal.Refusal.{Refusal}
 use Rattle.run_text.proofs.PhraseLemmas.{one_replicas_line, one_grace_line, one_opening, opening_word}
 use Rattle.run_text.proofs.WindowLemmas.{one_window_line}
+use Rattle.run_text.proofs.ZoneLemmas.{zone_word, one_zone}
+use Rattle.run_text.specs.Zones.{HasZoneWord, names_of}
 
 -- two texts with another byte at a place
 at_differs : {a b : List ℕ} (place : ℕ) → a ≡ b → (get_or a place 0 ≡ get_or b place 0 → ⊥) → ⊥
@@ -22,14 +24,21 @@ script_no_section (inl is) = at_differs 0 is (λ e. omega arith)
 script_no_section (inr is) = at_differs 1 is (λ e. omega arith)
 
 script_no_later : HasLaterWord (codes "script") → ⊥
-script_no_later (inl is) = at_differs 0 is (λ e. omega arith)
-script_no_later (inr is) = at_differs 0 is (λ e. omega arith)
+script_no_later is = at_differs 0 is (λ e. omega arith)
+
+script_no_zone : HasZoneWord (codes "script") → ⊥
+script_no_zone is = at_differs 0 is (λ e. omega arith)
 
 section_no_later : (line : List ℕ) → HasSectionWord line → HasLaterWord line → ⊥
-section_no_later line (inl is) (inl other) = at_differs 0 (sym is ∙ other) (λ e. omega arith)
-section_no_later line (inl is) (inr other) = at_differs 0 (sym is ∙ other) (λ e. omega arith)
-section_no_later line (inr is) (inl other) = at_differs 0 (sym is ∙ other) (λ e. omega arith)
-section_no_later line (inr is) (inr other) = at_differs 0 (sym is ∙ other) (λ e. omega arith)
+section_no_later line (inl is) other = at_differs 0 (sym is ∙ other) (λ e. omega arith)
+section_no_later line (inr is) other = at_differs 0 (sym is ∙ other) (λ e. omega arith)
+
+section_no_zone : (line : List ℕ) → HasSectionWord line → HasZoneWord line → ⊥
+section_no_zone line (inl is) other = at_differs 0 (sym is ∙ other) (λ e. omega arith)
+section_no_zone line (inr is) other = at_differs 0 (sym is ∙ other) (λ e. omega arith)
+
+zone_no_later : (line : List ℕ) → HasZoneWord line → HasLaterWord line → ⊥
+zone_no_later line is other = at_differs 0 (sym is ∙ other) (λ e. omega arith)
 
 end_no_command : IsCommandWord (first_word (codes "end")) → ⊥
 end_no_command (round is) = at_differs 0 is (λ e. omega arith)
@@ -60,15 +69,33 @@ script_no_start : (number behind : ℕ) (run : Run) (line : List ℕ) (x : Above
 script_no_start number behind run line x is start =
     script_no_section (subst HasSectionWord is (opening_word line start.kind start.label start.zone start.count start.opens.is))
 
+script_no_name : (number : ℕ) (run : Run) (line : List ℕ) (x : Above) → line ≡ codes "script" → NamesZone number run line x → ⊥
+script_no_name number run line x is names =
+    script_no_zone (subst HasZoneWord is (zone_word line names.name names.source names.adds.is))
+
+name_no_start : (number behind : ℕ) (run : Run) (line : List ℕ) (x y : Above) → NamesZone number run line x → StartsSection number behind run line y → ⊥
+name_no_start number behind run line x y names start =
+    section_no_zone line (opening_word line start.kind start.label start.zone start.count start.opens.is) (zone_word line names.name names.source names.adds.is)
+
+next_of_name : (number : ℕ) (run : Run) (line : List ℕ) (x y : Above) → NamesZone number run line x → NamesZone number run line y → x ≡ y
+next_of_name number run line x y first second =
+    let same = one_zone line first.name second.name first.source second.source first.adds.is second.adds.is in
+    first.next_is ∙ rw (same.0, same.1) (sym second.next_is)
+
 pub one_next : (number behind : ℕ) (above : Above) (line : List ℕ) (x y : Above) → MayFollow number behind above line x → MayFollow number behind above line y → x ≡ y
 one_next number behind Nothing line x y p q = p.1 ∙ sym q.1
 one_next number behind Version line x y p q = p.1 ∙ sym q.1
 one_next number behind (Replicas members) line x y (a, is, next) (b, other, same) = next ∙ rw (one_window_line line a b is other) (sym same)
 one_next number behind (Times members window) line x y (a, is, next) (b, other, same) = next ∙ rw (one_grace_line line a b is other) (sym same)
 one_next number behind (Sections run) line x y (inl p) (inl q) = p.1 ∙ sym q.1
-one_next number behind (Sections run) line x y (inl p) (inr q) = absurd (script_no_start number behind run line y p.0 q)
-one_next number behind (Sections run) line x y (inr p) (inl q) = absurd (script_no_start number behind run line x q.0 p)
-one_next number behind (Sections run) line x y (inr p) (inr q) = next_of_start number behind run line x y p q
+one_next number behind (Sections run) line x y (inl p) (inr (inl q)) = absurd (script_no_name number run line y p.0 q)
+one_next number behind (Sections run) line x y (inl p) (inr (inr q)) = absurd (script_no_start number behind run line y p.0 q)
+one_next number behind (Sections run) line x y (inr (inl p)) (inl q) = absurd (script_no_name number run line x q.0 p)
+one_next number behind (Sections run) line x y (inr (inl p)) (inr (inl q)) = next_of_name number run line x y p q
+one_next number behind (Sections run) line x y (inr (inl p)) (inr (inr q)) = absurd (name_no_start number behind run line x y p q)
+one_next number behind (Sections run) line x y (inr (inr p)) (inl q) = absurd (script_no_start number behind run line x q.0 p)
+one_next number behind (Sections run) line x y (inr (inr p)) (inr (inl q)) = absurd (name_no_start number behind run line y x q p)
+one_next number behind (Sections run) line x y (inr (inr p)) (inr (inr q)) = next_of_start number behind run line x y p q
 one_next number behind (Table run section left) line x y p q = p.2 ∙ sym q.2
 one_next number behind (Script run) line x y p q = p.1 ∙ sym q.1
 one_next number behind (End run) line x y p q = absurd p
@@ -86,15 +113,33 @@ one_break style owner line f g first second =
     rw (cause, place) refl
 
 -- a line that may stand there isn't refused
-not_refused_before_script : (number behind : ℕ) (run : Run) (line : List ℕ) (next : Above) (fault : Fault) → MayFollow number behind (Sections run) line next → RefusesBeforeScript behind line fault → ⊥
-not_refused_before_script number behind run line next fault (inl p) (inl refused) = script_no_section (subst HasSectionWord p.0 refused.0)
-not_refused_before_script number behind run line next fault (inl p) (inr (inl refused)) = script_no_later (subst HasLaterWord p.0 refused.0)
-not_refused_before_script number behind run line next fault (inl p) (inr (inr refused)) = refused.2 p.0
-not_refused_before_script number behind run line next fault (inr p) (inl refused) = refused.1 p.kind p.label p.zone p.count p.opens
-not_refused_before_script number behind run line next fault (inr p) (inr (inl refused)) =
+start_not_refused : (number behind : ℕ) (known : List (List ℕ)) (run : Run) (line : List ℕ) (next : Above) (fault : Fault)
+    → StartsSection number behind run line next → RefusesBeforeScript behind known line fault → ⊥
+start_not_refused number behind known run line next fault p (inl refused) = refused.1 p.kind p.label p.zone p.count p.opens
+start_not_refused number behind known run line next fault p (inr (inl refused)) =
+    section_no_zone line (opening_word line p.kind p.label p.zone p.count p.opens.is) refused.0
+start_not_refused number behind known run line next fault p (inr (inr (inl refused))) =
     section_no_later line (opening_word line p.kind p.label p.zone p.count p.opens.is) refused.0
-not_refused_before_script number behind run line next fault (inr p) (inr (inr refused)) =
+start_not_refused number behind known run line next fault p (inr (inr (inr refused))) =
     refused.0 (opening_word line p.kind p.label p.zone p.count p.opens.is)
+
+name_not_refused : (number behind : ℕ) (run : Run) (line : List ℕ) (next : Above) (fault : Fault)
+    → NamesZone number run line next → RefusesBeforeScript behind (names_of run.zones) line fault → ⊥
+name_not_refused number behind run line next fault p (inl refused) = section_no_zone line refused.0 (zone_word line p.name p.source p.adds.is)
+name_not_refused number behind run line next fault p (inr (inl refused)) = refused.1 p.name p.source p.adds
+name_not_refused number behind run line next fault p (inr (inr (inl refused))) = zone_no_later line (zone_word line p.name p.source p.adds.is) refused.0
+name_not_refused number behind run line next fault p (inr (inr (inr refused))) = refused.1 (zone_word line p.name p.source p.adds.is)
+
+script_not_refused : (behind : ℕ) (known : List (List ℕ)) (line : List ℕ) (fault : Fault) → line ≡ codes "script" → RefusesBeforeScript behind known line fault → ⊥
+script_not_refused behind known line fault is (inl refused) = script_no_section (subst HasSectionWord is refused.0)
+script_not_refused behind known line fault is (inr (inl refused)) = script_no_zone (subst HasZoneWord is refused.0)
+script_not_refused behind known line fault is (inr (inr (inl refused))) = script_no_later (subst HasLaterWord is refused.0)
+script_not_refused behind known line fault is (inr (inr (inr refused))) = refused.3 is
+
+not_refused_before_script : (number behind : ℕ) (run : Run) (line : List ℕ) (next : Above) (fault : Fault) → MayFollow number behind (Sections run) line next → RefusesBeforeScript behind (names_of run.zones) line fault → ⊥
+not_refused_before_script number behind run line next fault (inl p) refused = script_not_refused behind (names_of run.zones) line fault p.0 refused
+not_refused_before_script number behind run line next fault (inr (inl p)) refused = name_not_refused number behind run line next fault p refused
+not_refused_before_script number behind run line next fault (inr (inr p)) refused = start_not_refused number behind (names_of run.zones) run line next fault p refused
 
 not_refused_replicas : (line : List ℕ) (fault : Fault) → line ≡ replicas_line 1 → RefusesReplicas line fault → ⊥
 not_refused_replicas line fault is (inl refused) = refused.0 1 (omega arith) (omega arith) is
@@ -122,16 +167,23 @@ one_replicas_fault line f g (inl first) (inr (members, some, few, is, fault)) = 
 one_replicas_fault line f g (inr (members, some, few, is, fault)) (inl second) = absurd (second.0 members (omega arith) few is)
 one_replicas_fault line f g (inr first) (inr second) = first.4 ∙ sym second.4
 
-one_fault_before_script : (behind : ℕ) (line : List ℕ) (f g : Fault) → RefusesBeforeScript behind line f → RefusesBeforeScript behind line g → f ≡ g
-one_fault_before_script behind line f g (inl p) (inl q) = p.2 ∙ sym q.2
-one_fault_before_script behind line f g (inl p) (inr (inl q)) = absurd (section_no_later line p.0 q.0)
-one_fault_before_script behind line f g (inl p) (inr (inr q)) = absurd (q.0 p.0)
-one_fault_before_script behind line f g (inr (inl p)) (inl q) = absurd (section_no_later line q.0 p.0)
-one_fault_before_script behind line f g (inr (inl p)) (inr (inl q)) = p.1 ∙ sym q.1
-one_fault_before_script behind line f g (inr (inl p)) (inr (inr q)) = absurd (q.1 p.0)
-one_fault_before_script behind line f g (inr (inr p)) (inl q) = absurd (p.0 q.0)
-one_fault_before_script behind line f g (inr (inr p)) (inr (inl q)) = absurd (p.1 q.0)
-one_fault_before_script behind line f g (inr (inr p)) (inr (inr q)) = p.3 ∙ sym q.3
+one_fault_before_script : (behind : ℕ) (known : List (List ℕ)) (line : List ℕ) (f g : Fault) → RefusesBeforeScript behind known line f → RefusesBeforeScript behind known line g → f ≡ g
+one_fault_before_script behind known line f g (inl p) (inl q) = p.2 ∙ sym q.2
+one_fault_before_script behind known line f g (inl p) (inr (inl q)) = absurd (section_no_zone line p.0 q.0)
+one_fault_before_script behind known line f g (inl p) (inr (inr (inl q))) = absurd (section_no_later line p.0 q.0)
+one_fault_before_script behind known line f g (inl p) (inr (inr (inr q))) = absurd (q.0 p.0)
+one_fault_before_script behind known line f g (inr (inl p)) (inl q) = absurd (section_no_zone line q.0 p.0)
+one_fault_before_script behind known line f g (inr (inl p)) (inr (inl q)) = p.2 ∙ sym q.2
+one_fault_before_script behind known line f g (inr (inl p)) (inr (inr (inl q))) = absurd (zone_no_later line p.0 q.0)
+one_fault_before_script behind known line f g (inr (inl p)) (inr (inr (inr q))) = absurd (q.1 p.0)
+one_fault_before_script behind known line f g (inr (inr (inl p))) (inl q) = absurd (section_no_later line q.0 p.0)
+one_fault_before_script behind known line f g (inr (inr (inl p))) (inr (inl q)) = absurd (zone_no_later line q.0 p.0)
+one_fault_before_script behind known line f g (inr (inr (inl p))) (inr (inr (inl q))) = p.1 ∙ sym q.1
+one_fault_before_script behind known line f g (inr (inr (inl p))) (inr (inr (inr q))) = absurd (q.2 p.0)
+one_fault_before_script behind known line f g (inr (inr (inr p))) (inl q) = absurd (p.0 q.0)
+one_fault_before_script behind known line f g (inr (inr (inr p))) (inr (inl q)) = absurd (p.1 q.0)
+one_fault_before_script behind known line f g (inr (inr (inr p))) (inr (inr (inl q))) = absurd (p.2 q.0)
+one_fault_before_script behind known line f g (inr (inr (inr p))) (inr (inr (inr q))) = p.4 ∙ sym q.4
 
 one_fault_in_script : (line : List ℕ) (f g : Fault) → RefusesInScript line f → RefusesInScript line g → f ≡ g
 one_fault_in_script line f g (inl p) (inl q) = p.1 ∙ sym q.1
@@ -144,7 +196,7 @@ one_fault number behind Nothing line f g p q = p.1 ∙ sym q.1
 one_fault number behind Version line f g p q = one_replicas_fault line f g p q
 one_fault number behind (Replicas members) line f g p q = p.1 ∙ sym q.1
 one_fault number behind (Times members window) line f g p q = p.1 ∙ sym q.1
-one_fault number behind (Sections run) line f g p q = one_fault_before_script behind line f g p q
+one_fault number behind (Sections run) line f g p q = one_fault_before_script behind (names_of run.zones) line f g p q
 one_fault number behind (Table run section left) line f g p q = one_break (style_of section.kind) section.label line f g p q
 one_fault number behind (Script run) line f g p q = one_fault_in_script line f g p q
 one_fault number behind (End run) line f g p q = p ∙ sym q

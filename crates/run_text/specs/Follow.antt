@@ -1,12 +1,14 @@
 -- Which line of a run file may follow which, and why another one may not.
 use Rattle.std.specs.Prelude.{◌≡◌, ◌≢◌, ◌⊎◌, ℕ, zero, suc, ◌≤◌, List, codes}
+use Rattle.zone_minutes.specs.Zone.{Source}
 use Rattle.zone_minutes.specs.declared.minute.Window.{Window}
 use Rattle.crontab_text.specs.Answers.{IsLineOf, IsLineFault}
 use Rattle.crontab_text.specs.LineBody.{LineBody}
 use Rattle.crontab_text.specs.declared.answer.Style.{Style}
 use Rattle.crontab_text.specs.declared.answer.Style.TheVariants as style
 use Rattle.run_text.specs.Grammar.{replicas_line, IsWindowLine, IsGraceLine, IsSectionLine, first_word, HasSectionWord, HasLaterWord, IsCommandWord}
-use Rattle.run_text.specs.Run.{Section, Run, run_with, opened, with_line, with_section}
+use Rattle.run_text.specs.Run.{Section, Run, run_with, opened, with_line, with_section, with_zone}
+use Rattle.run_text.specs.Zones.{AddsZone, AddsNone, HasZoneWord, names_of}
 use Rattle.run_text.specs.declared.run.SectionKind.{SectionKind}
 use Rattle.run_text.specs.declared.run.SectionKind.TheVariants.{User, System}
 
@@ -20,7 +22,7 @@ pub data Above : Type 0 where
   Replicas : (members : ℕ) → Above
   -- the window
   Times : (members : ℕ) → (window : Window) → Above
-  -- the head, and whole sections
+  -- the head, zones, and whole sections
   Sections : (run : Run) → Above
   -- and a section's first lines, of which so many are left behind the next one
   Table : (run : Run) → (section : Section) → (left : ℕ) → Above
@@ -57,6 +59,13 @@ pub record StartsSection (number behind : ℕ) (run : Run) (line : List ℕ) (ne
 abbrev pub OpensNone : (behind : ℕ) → List ℕ → Type 0
 OpensNone behind line = (kind : SectionKind) (label zone : List ℕ) (count : ℕ) → Opens behind line kind label zone count → ⊥
 
+-- the line names a zone, and what stands above the next line then
+pub record NamesZone (number : ℕ) (run : Run) (line : List ℕ) (next : Above) : Type 0 where
+  pub name : List ℕ
+  pub source : Source
+  pub adds : AddsZone (names_of run.zones) line name source
+  pub next_is : next ≡ Sections (with_zone run (record { line = number; name = name; source = source }))
+
 -- The line of that number, with so many lines behind it, may stand below these, and what stands above the next one then.
 abbrev pub MayFollow : (number behind : ℕ) → Above → List ℕ → Above → Type 0
 MayFollow number behind Nothing line next = (line ≡ codes "cronrun 1") × (next ≡ Version)
@@ -65,7 +74,7 @@ MayFollow number behind (Replicas members) line next = (window : Window) × IsWi
 MayFollow number behind (Times members window) line next =
     (grace : ℕ) × IsGraceLine line grace × (next ≡ Sections (run_with members window grace))
 MayFollow number behind (Sections run) line next =
-    ((line ≡ codes "script") × (next ≡ Script run)) ⊎ StartsSection number behind run line next
+    ((line ≡ codes "script") × (next ≡ Script run)) ⊎ (NamesZone number run line next ⊎ StartsSection number behind run line next)
 MayFollow number behind (Table run section left) line next =
     (body : LineBody) × IsLineOf (style_of section.kind) section.label line body × (next ≡ inside run (with_line section line) left)
 MayFollow number behind (Script run) line next = (line ≡ codes "end") × (next ≡ End run)
@@ -86,12 +95,14 @@ RefusesReplicas line fault =
     (((members : ℕ) → 1 ≤ members → members ≤ 7 → line ≢ replicas_line members) × (fault ≡ whole 26))
     ⊎ ((members : ℕ) × (2 ≤ members) × (members ≤ 7) × (line ≡ replicas_line members) × (fault ≡ whole 35))
 
--- Before the script: the line opens no section, or has no form yet, or is none that may stand there at all.
-abbrev pub RefusesBeforeScript : (behind : ℕ) → List ℕ → Fault → Type 0
-RefusesBeforeScript behind line fault =
+-- Before the script, below lines that gave these zones' names: the line opens no section, names no zone, has no form yet, or is none that may
+-- stand there at all.
+abbrev pub RefusesBeforeScript : (behind : ℕ) → (known : List (List ℕ)) → List ℕ → Fault → Type 0
+RefusesBeforeScript behind known line fault =
     (HasSectionWord line × OpensNone behind line × (fault ≡ whole 29))
+    ⊎ ((HasZoneWord line × AddsNone known line × (fault ≡ whole 34))
     ⊎ ((HasLaterWord line × (fault ≡ whole 35))
-    ⊎ ((HasSectionWord line → ⊥) × (HasLaterWord line → ⊥) × (line ≢ codes "script") × (fault ≡ whole 31)))
+    ⊎ ((HasSectionWord line → ⊥) × (HasZoneWord line → ⊥) × (HasLaterWord line → ⊥) × (line ≢ codes "script") × (fault ≡ whole 31))))
 
 -- in the script: the line is a command that has no form yet, or none at all
 abbrev pub RefusesInScript : List ℕ → Fault → Type 0
@@ -105,7 +116,7 @@ Refuses number behind Nothing line fault = (line ≢ codes "cronrun 1") × (faul
 Refuses number behind Version line fault = RefusesReplicas line fault
 Refuses number behind (Replicas members) line fault = ((window : Window) → IsWindowLine line window → ⊥) × (fault ≡ whole 27)
 Refuses number behind (Times members window) line fault = ((grace : ℕ) → IsGraceLine line grace → ⊥) × (fault ≡ whole 28)
-Refuses number behind (Sections run) line fault = RefusesBeforeScript behind line fault
+Refuses number behind (Sections run) line fault = RefusesBeforeScript behind (names_of run.zones) line fault
 Refuses number behind (Table run section left) line fault = IsLineFault (style_of section.kind) line fault.cause fault.place
 Refuses number behind (Script run) line fault = RefusesInScript line fault
 Refuses number behind (End run) line fault = fault ≡ whole 30

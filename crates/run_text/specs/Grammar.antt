@@ -67,9 +67,9 @@ first_word (c ∷ cs) = if c == 32 then [] else c ∷ first_word cs
 abbrev pub HasSectionWord : List ℕ → Type 0
 HasSectionWord line = (first_word line ≡ codes "crontab") ⊎ (first_word line ≡ codes "system")
 
--- the line's first word is that of a line before the script that has no form yet: a zone, or a table of anacron
+-- the line's first word is that of a line before the script that has no form yet: a table of anacron
 abbrev pub HasLaterWord : List ℕ → Type 0
-HasLaterWord line = (first_word line ≡ codes "zone") ⊎ (first_word line ≡ codes "anacrontab")
+HasLaterWord line = first_word line ≡ codes "anacrontab"
 
 -- a word of the script's commands, none of which has a form yet
 pub data IsCommandWord (word : List ℕ) : Type 0 where

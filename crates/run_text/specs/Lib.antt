@@ -6,3 +6,4 @@ pub mod Sound
 pub mod Steps
 pub mod Table
 pub mod Words
+pub mod Zones

@@ -1,11 +1,15 @@
 -- What a run file says, and for what it is refused. Relations on all its lines.
-use Rattle.std.specs.Prelude.{◌≡◌, ◌⊎◌, ℕ, ◌+◌, ◌<◌, ◌≤◌, ◌^◌, List, [], ◌∷◌, length, All}
+use Rattle.std.specs.Prelude.{◌≡◌, ◌⊎◌, ℕ, ◌+◌, ◌<◌, ◌≤◌, ◌^◌, List, [], ◌∷◌, length, All, Ok, ⊤}
+use Rattle.hex.specs.Hex.{decode_of}
 use Rattle.crontab_text.specs.Lines.{lines_of}
 use Rattle.run_text.specs.Follow.{Above, Nothing, End, MayFollow, Refuses, Misses}
 use Rattle.run_text.specs.Run.{Run, run_of}
 use Rattle.run_text.specs.declared.refusal.Refusal.{Refusal}
 use Rattle.run_text.specs.declared.run.RunFile.{RunFile}
 use Rattle.run_text.specs.declared.run.Section.{Section}
+use Rattle.run_text.specs.declared.run.ZoneLine.{ZoneLine}
+use Rattle.run_text.specs.declared.run.ZoneText.{ZoneText}
+use Rattle.run_text.specs.declared.run.ZoneText.TheVariants.{Fixed, Posix, Hex}
 
 -- The lines, the first of which has that number, may stand below these, one after another up to the last, and say this run.
 abbrev pub ReadsFrom : ℕ → Above → List (List ℕ) → Run → Type 0
@@ -36,9 +40,19 @@ HasReading text = ((run : Run) × IsRunText text run) ⊎ ((refusal : Refusal) �
 abbrev pub ArePartsOf : ℕ → List Section → Type 0
 ArePartsOf size sections = All (λ section. length section.text.now ≤ size) sections
 
+-- the hexadecimal digits of a zone stand for some bytes
+abbrev pub AreDigits : ZoneText → Type 0
+AreDigits (Fixed minutes) = ⊤
+AreDigits (Posix text) = ⊤
+AreDigits (Hex digits) = (bytes : List ℕ) × (decode_of digits.now ≡ Ok bytes)
+
+abbrev pub HasDigits : ZoneLine → Type 0
+HasDigits zone = AreDigits zone.source
+
 -- the run is one that is read from some text
 pub record IsReadRun (run : RunFile) : Type 0 where
   pub text : List ℕ
   pub short : length text < 2 ^ 32
   pub says : IsRunText text (run_of run)
   pub parts : ArePartsOf (length text) run.sections.items
+  pub digits : All HasDigits run.zones.items

@@ -58,6 +58,18 @@ with_sections run sections = record run { sections = run.sections ++ sections }
 abbrev pub with_section : Run → Section → Run
 with_section run section = with_sections run (section ∷ [])
 
+-- the run with more zones at its end
+abbrev pub with_zones : Run → List NamedZone → Run
+with_zones run zones = record run { zones = run.zones ++ zones }
+
+-- the run with a zone more at its end
+abbrev pub with_zone : Run → NamedZone → Run
+with_zone run zone = with_zones run (zone ∷ [])
+
+-- the run with more zones and more sections
+abbrev pub with_parts : Run → List NamedZone → List Section → Run
+with_parts run zones sections = with_sections (with_zones run zones) sections
+
 -- what the program's values of a run stand for
 abbrev pub section_of : SectionText → Section
 section_of section =

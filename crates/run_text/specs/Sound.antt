@@ -1,18 +1,45 @@
 -- What holds of each run that is read.
-use Rattle.std.specs.Prelude.{ℕ, ◌+◌, ◌<◌, ◌≤◌, length}
+use Rattle.std.specs.Prelude.{◌≢◌, ℕ, ◌+◌, ◌<◌, ◌≤◌, List, [], ◌∷◌, length, codes, ⊤}
 use Rattle.std.specs.List.{AllByRecursion}
 use Rattle.zone_minutes.specs.Window.{IsWithinLimits}
+use Rattle.zone_minutes.specs.Zone.{Source, FixedOffset, PosixRule, TzifFile, IsOffsetMinutes}
 use Rattle.run_text.specs.Follow.{style_of}
-use Rattle.run_text.specs.Run.{Section, Run}
+use Rattle.run_text.specs.Grammar.{IsZoneName}
+use Rattle.run_text.specs.Run.{NamedZone, Section, Run}
 use Rattle.run_text.specs.Table.{Says}
+use Rattle.run_text.specs.Zones.{names_of}
 
 -- each line of the section says something, and its last line has a number below this one
 pub record IsSoundSection (next : ℕ) (section : Section) : Type 0 where
   pub said : AllByRecursion (Says (style_of section.kind) section.label) section.lines
   pub within : section.line + length section.lines < next
 
--- the run's window and grace are within the limits, and so are its sections
+-- a fixed offset of the source is from -12:00 to +14:00
+abbrev pub IsSoundSource : Source → Type 0
+IsSoundSource (FixedOffset minutes) = IsOffsetMinutes minutes
+IsSoundSource (PosixRule text) = ⊤
+IsSoundSource (TzifFile bytes) = ⊤
+
+-- the zone has a name that isn't `UTC`, and its offset is within the limits
+pub record IsSoundZone (zone : NamedZone) : Type 0 where
+  pub named : IsZoneName zone.name
+  pub no_utc : zone.name ≢ codes "UTC"
+  pub source : IsSoundSource zone.source
+
+-- no name stands twice
+abbrev pub AreDistinct : List (List ℕ) → Type 0
+AreDistinct [] = ⊤
+AreDistinct (name ∷ names) = AllByRecursion (λ other. other ≢ name) names × AreDistinct names
+
+-- there are 32 zones at most, each of which is sound, under names of their own
+pub record AreSoundZones (zones : List NamedZone) : Type 0 where
+  pub few : length zones ≤ 32
+  pub each : AllByRecursion IsSoundZone zones
+  pub distinct : AreDistinct (names_of zones)
+
+-- the run's window and grace are within the limits, and so are its zones and its sections
 pub record IsSoundRun (next : ℕ) (run : Run) : Type 0 where
   pub limits : IsWithinLimits run.window
   pub grace : run.grace ≤ 525_600
+  pub zones : AreSoundZones run.zones
   pub sections : AllByRecursion (IsSoundSection next) run.sections

@@ -1,11 +1,15 @@
 -- Where a reader stands in a run file, and what it comes to from there.
-use Rattle.std.specs.Prelude.{◌≡◌, ◌⊎◌, ℕ, ◌+◌, ◌<◌, ◌≤◌, ◌^◌, List, ◌∷◌, length, ⊤}
+use Rattle.std.specs.Prelude.{◌≡◌, ◌⊎◌, ℕ, ◌+◌, ◌<◌, ◌≤◌, ◌^◌, List, [], ◌∷◌, ◌++◌, length, map, ⊤}
+use Rattle.std.specs.Borrow.{Bor}
 use Rattle.crontab_text.specs.Lines.{lines_of}
-use Rattle.run_text.specs.Follow.{Above, Nothing, Sections, inside}
-use Rattle.run_text.specs.Grammar.{IsSectionLine}
-use Rattle.run_text.specs.Reading.{ReadsFrom, RefusesFrom}
-use Rattle.run_text.specs.Run.{Run, section_of, opened, with_section}
+use Rattle.run_text.specs.Follow.{Above, Nothing, Sections, Fault, inside}
+use Rattle.run_text.specs.Reading.{ReadsFrom, RefusesFrom, HasDigits}
+use Rattle.run_text.specs.Run.{NamedZone, Run, section_of, zone_of, opened, with_section, with_zone, with_parts}
+use Rattle.run_text.specs.Zones.{names_of}
 use Rattle.run_text.specs.declared.opening.Opening.{Opening}
+use Rattle.run_text.specs.declared.part.Part.{Part}
+use Rattle.run_text.specs.declared.part.Part.TheVariants.{Zone as ZonePart, Section as SectionPart}
+use Rattle.run_text.specs.declared.parts.Parts.{Parts}
 use Rattle.run_text.specs.declared.reader.Reader.{Reader}
 use Rattle.run_text.specs.declared.refusal.Refusal.{Refusal}
 use Rattle.run_text.specs.declared.refusal.RunFault.{RunFault}
@@ -44,13 +48,6 @@ abbrev pub IfRefused : RunFault → (Refusal → Type 0) → Type 0
 IfRefused (Refused refusal) P = P refusal
 IfRefused OutOfMemory P = ⊤
 
--- the reader passed a line that opens a section, by its form
-pub record PassesOpening (old new : Reader) (opening : Opening) : Type 0 where
-  pub line : List ℕ
-  pub lines : lines_of old.rest.now ≡ line ∷ lines_of new.rest.now
-  pub number : new.number ≡ old.number + 1
-  pub is : IsSectionLine line opening.kind opening.label.now opening.zone.now opening.count
-
 -- what stands above the first line of a section, which a reader reads next
 abbrev pub at_table : Reader → Opening → Run → Above
 at_table reader opening run = inside run (opened reader.number opening.kind opening.label.now opening.zone.now) opening.count
@@ -69,3 +66,44 @@ abbrev pub RefusesTable : Reader → Opening → Refusal → Type 0
 RefusesTable reader opening refusal =
     ((length (lines_of reader.rest.now) < opening.count) × (refusal ≡ record { line = reader.number; cause = 29; place = 0 }))
     ⊎ (IsWhole reader opening × ((run : Run) → RefusedFrom (place_of reader (at_table reader opening run)) refusal))
+
+-- the fault that a refusal tells
+abbrev pub fault_of : Refusal → Fault
+fault_of refusal = record { cause = refusal.cause; place = refusal.place }
+
+-- the texts of some names
+abbrev pub texts_of : List (Bor (List ℕ)) → List (List ℕ)
+texts_of names = map (λ name. name.now) names
+
+-- these are the names of the zones
+abbrev pub HasNames : List (Bor (List ℕ)) → List NamedZone → Type 0
+HasNames names zones = names_of zones ≡ texts_of names
+
+-- the run with a part more
+abbrev pub with_part : Run → Part → Run
+with_part run (ZonePart zone) = with_zone run (zone_of zone)
+with_part run (SectionPart section) = with_section run (section_of section)
+
+-- the names with that of a part, if it has one
+abbrev pub names_with : List (Bor (List ℕ)) → Part → List (Bor (List ℕ))
+names_with names (ZonePart zone) = names ++ zone.name ∷ []
+names_with names (SectionPart section) = names
+
+-- the reader passed a part, below zones of these names, and keeps the names
+pub record PassesPart (old new : Reader) (before after : List (Bor (List ℕ))) (part : Part) : Type 0 where
+  pub leads : (run : Run) → HasNames before run.zones → LeadsTo (place_of old (Sections run)) (place_of new (Sections (with_part run part)))
+  pub names : after ≡ names_with before part
+
+-- the digits of a zone stand for some bytes, and the text of a section isn't longer than that
+abbrev pub IsPartOf : ℕ → Part → Type 0
+IsPartOf size (ZonePart zone) = HasDigits zone
+IsPartOf size (SectionPart section) = length section.text.now ≤ size
+
+-- the parts with this one more
+abbrev pub AddsPart : Parts → Parts → Part → Type 0
+AddsPart old new (ZonePart zone) = (new.zones.items ≡ old.zones.items ++ zone ∷ []) × (new.sections.items ≡ old.sections.items)
+AddsPart old new (SectionPart section) = (new.zones.items ≡ old.zones.items) × (new.sections.items ≡ old.sections.items ++ section ∷ [])
+
+-- the run with all these parts
+abbrev pub with_all : Run → Parts → Run
+with_all run parts = with_parts run (map zone_of parts.zones.items) (map section_of parts.sections.items)

@@ -4,14 +4,16 @@
 mod head;
 mod laws;
 mod opening;
+mod part;
+mod parts;
 mod read;
 mod reader;
 mod refusal;
 mod run;
 mod script;
-mod sections;
 mod table;
 mod words;
+mod zone;
 
 pub use laws::{a_text_has_a_reading, a_text_has_one_reading, each_run_is_sound};
 pub use read::read_run;
@@ -20,3 +22,5 @@ pub use run::{RunFile, Section, SectionKind, ZoneLine, ZoneText};
 
 #[cfg(test)]
 mod tests;
+#[cfg(test)]
+mod zone_tests;

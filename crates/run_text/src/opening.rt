@@ -1,12 +1,11 @@
-//! The line that opens a section, or the script.
-ghost use Rattle.std.specs.Prelude.{◌≡◌, ◌≢◌, ◌<◌, ℕ, List, length, codes, IfSome, IfNone, IfOk, IfErr, OnOk};
-ghost use Rattle.run_text.specs.Follow.{Sections, Script, OpensNone, RefusesBeforeScript, whole};
-ghost use Rattle.run_text.specs.Run.{Run};
-ghost use Rattle.run_text.specs.Steps.{place_of, LeadsTo, RefusedFrom, HasRoom, PassesOpening};
+//! The line that opens a section.
+ghost use Rattle.std.specs.Prelude.{◌≡◌, ◌≢◌, ℕ, List, codes, IfSome, IfNone, IfOk, IfErr};
+ghost use Rattle.run_text.specs.Follow.{OpensNone, RefusesBeforeScript, whole};
+ghost use Rattle.run_text.specs.Steps.{fault_of};
 ghost use Rattle.run_text.specs.Grammar.{section_word, IsSectionLine};
+ghost use Rattle.run_text.specs.Zones.{HasZoneWord};
 ghost use Rattle.run_text.specs.declared.run.SectionKind.{SectionKind};
 
-use crate::reader::Reader;
 use crate::refusal::Refusal;
 use crate::run::SectionKind;
 use crate::words::{has_later_word, has_section_word, is_label, is_zone_name, read_number};
@@ -24,30 +23,23 @@ pub struct Opening<'a> {
     pub count: u32,
 }
 
-/// Reads the line that opens a section, or else that opens the script: None.
-pub fn read_opening<'a>(reader: &mut Reader<'a>) -> Result<Option<Opening<'a>>, Refusal>
-    requires { HasRoom reader.old }
-    ensures section { IfOk result (λ read. IfSome read (PassesOpening reader.old reader.new)) }
-    ensures script { IfOk result (λ read. IfNone read ((run : Run) → LeadsTo (place_of reader.old (Sections run)) (place_of reader.new (Script run)))) }
-    ensures refused { IfErr result (λ refusal. (run : Run) → RefusedFrom (place_of reader.old (Sections run)) refusal) }
-    ensures room { OnOk result (HasRoom reader.new) }
-    ensures shorter { OnOk result (length reader.new.rest.now < length reader.old.rest.now) }
+/// Reads the line of that number, which opens neither a zone nor the script, as one that opens a section.
+pub fn read_opening(number: u32, line: &str) -> Result<Opening<'_>, Refusal>
+    ensures read { IfOk result (λ opening. IsSectionLine line.now opening.kind opening.label.now opening.zone.now opening.count) }
+    ensures line { IfErr result (λ refusal. refusal.line ≡ number) }
+    ensures refused { IfErr result (λ refusal. (behind : ℕ) (known : List (List ℕ)) → (HasZoneWord line.now → ⊥) → line.now ≢ codes "script"
+        → RefusesBeforeScript behind known line.now (fault_of refusal)) }
 {
-    let Some(line) = reader.next_line() else {
-        return Err(Refusal::of_line(reader.number, 31));
-    };
-    if line == "script" {
-        return Ok(None);
-    }
     match opening_of(line) {
-        Some(opening) => Ok(Some(opening)),
-        None => Err(Refusal::of_line(reader.number, cause_of(line))),
+        Some(opening) => Ok(opening),
+        None => Err(Refusal::of_line(number, cause_of(line))),
     }
 }
 
-// The cause of a line that opens neither.
+// The cause of a line that opens none of the three.
 fn cause_of(line: &str) -> u8
-    ensures { (behind : ℕ) → OpensNone behind line.now → line.now ≢ codes "script" → RefusesBeforeScript behind line.now (whole result) }
+    ensures { (behind : ℕ) (known : List (List ℕ)) → OpensNone behind line.now → (HasZoneWord line.now → ⊥) → line.now ≢ codes "script"
+        → RefusesBeforeScript behind known line.now (whole result) }
 {
     if has_section_word(line) {
         29

@@ -1,16 +1,16 @@
-ghost use Rattle.std.specs.Prelude.{◌<◌, ◌^◌, length, IfOk, IfErr, OnOk};
-ghost use Rattle.run_text.specs.Reading.{IsRunText, IsRefusedText, ArePartsOf};
+ghost use Rattle.std.specs.Prelude.{◌<◌, ◌^◌, length, IfOk, IfErr, OnOk, All};
+ghost use Rattle.run_text.specs.Reading.{IsRunText, IsRefusedText, ArePartsOf, HasDigits};
 ghost use Rattle.run_text.specs.Run.{Run, run_of};
 ghost use Rattle.run_text.specs.Steps.{IfRefused};
 
 use crate::head::read_head;
+use crate::parts::{pass_parts, read_parts};
 use crate::refusal::{Refusal, RunFault};
 use crate::run::RunFile;
 use crate::script::read_script;
-use crate::sections::{pass_sections, read_sections};
 use std::alloc::Global;
 
-/// Reads a run file: a head of four lines, tables of jobs, and a script, which has no command so far. The texts of the run
+/// Reads a run file: a head of four lines, zones and tables of jobs, and a script, which has no command so far. The texts of the run
 /// are parts of the file's text.
 ///
 /// # Errors
@@ -20,17 +20,18 @@ pub fn read_run(alloc: Global, text: &str) -> Result<RunFile<'_>, RunFault>
     requires { length text.now < 2 ^ 32 }
     ensures read { IfOk result (λ run. IsRunText text.now (run_of run)) }
     ensures parts { IfOk result (λ run. ArePartsOf (length text.now) run.sections.items) }
+    ensures digits { IfOk result (λ run. All HasDigits run.zones.items) }
     ensures refused { IfErr result (λ fault. IfRefused fault (IsRefusedText text.now)) }
 {
     let (head, mut reader) = read_head(text)?;
-    let sections = read_sections(alloc, &mut reader)?;
+    let parts = read_parts(alloc, &mut reader)?;
     read_script(&mut reader)?;
     Ok(RunFile {
         members: head.members,
         window: head.window,
         grace: head.grace,
-        zones: Vec::new(alloc),
-        sections,
+        zones: parts.zones,
+        sections: parts.sections,
     })
 }
 
@@ -41,7 +42,7 @@ pub fn pass_run(text: &str) -> Result<(), Refusal>
     ensures refused { IfErr result (IsRefusedText text.now) }
 {
     let (_, mut reader) = read_head(text)?;
-    pass_sections(&mut reader)?;
+    pass_parts(&mut reader)?;
     read_script(&mut reader)?;
     Ok(())
 }

@@ -2,6 +2,7 @@
 ghost use Rattle.std.specs.Prelude.{◌≡◌, ◌≢◌, ◌≤◌, ◌↔◌, ℕ, IsTrue, IfSome, IfNone, decimal};
 ghost use Rattle.run_text.specs.Grammar.{IsLabelStart, IsLabelByte, IsLabel, IsZoneByte, IsZoneName, first_word, HasSectionWord, HasLaterWord, IsCommandWord};
 ghost use Rattle.run_text.specs.Words.{MayBeginNumber};
+ghost use Rattle.run_text.specs.Zones.{HasZoneWord};
 
 // `parse` also takes a sign and leading zeros.
 fn may_begin_number(text: &str) -> bool
@@ -82,12 +83,18 @@ pub fn has_section_word(line: &str) -> bool
     word == "crontab" || word == "system"
 }
 
+/// Whether the line's first word is that of a zone's line.
+pub fn has_zone_word(line: &str) -> bool
+    ensures { IsTrue result ↔ HasZoneWord line.now }
+{
+    first_word(line) == "zone"
+}
+
 /// Whether the line's first word is that of a line before the script that has no form yet.
 pub fn has_later_word(line: &str) -> bool
     ensures { IsTrue result ↔ HasLaterWord line.now }
 {
-    let word = first_word(line);
-    word == "zone" || word == "anacrontab"
+    first_word(line) == "anacrontab"
 }
 
 /// Whether the line's first word is that of a command, none of which has a form yet.

@@ -1,9 +1,9 @@
-use Rattle.std.proofs.Common.{◌∙◌}
-use Rattle.run_text.specs.Follow.{Sections}
-use Rattle.run_text.proofs.StepLemmas.{missing_line}
+use Rattle.std.proofs.Common.{sym, subst}
+use Rattle.run_text.specs.Follow.{RefusesBeforeScript}
+use Rattle.run_text.proofs.StepLemmas.{whole_fault}
 use Rattle.run_text.proofs.opening.read_opening.Goals as goal
 
-pub returns-in_default-clause-refused : goal.returns-in_default-clause-refused
-returns-in_default-clause-refused c = λ run.
-    missing_line _ (Sections run) c.args.reader.now.rest.now c.of_line.result c.in_default.ensures.missing c.of_line.ensures.cause
-    (c.of_line.ensures.line ∙ c.in_default.ensures.number) c.of_line.ensures.place
+pub returns-in-None-clause-refused : goal.returns-in-None-clause-refused
+returns-in-None-clause-refused c = λ behind known no_zone no_script.
+    subst (RefusesBeforeScript behind known c.args.line.now) (sym (whole_fault c.of_line.result c.cause_of.result c.of_line.ensures.cause c.of_line.ensures.place))
+    (c.cause_of.ensures behind known (λ kind label zone count opens. c.in-None.ensures.none kind label zone count opens.is) no_zone no_script)
