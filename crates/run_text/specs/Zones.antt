@@ -16,15 +16,20 @@ pub record IsClockText (text : List ℕ) (total : ℕ) : Type 0 where
   pub below : minutes < 60
   pub total_is : total ≡ hours * 60 + minutes
 
--- the text is an offset in minutes, as +05:30: `+` is ahead of UTC, by 14 hours at most, and `-` behind it, by 12 at most
+-- the text is an offset in minutes, in the form of ISO 8601: a sign, and hours and minutes
 pub data IsOffsetText (text : List ℕ) (offset : ℤ) : Type 0 where
+  -- as +05:30, ahead of UTC by 14 hours at most
   ahead : (clock : List ℕ) (minutes : ℕ) → text ≡ 43 ∷ clock → IsClockText clock minutes → minutes ≤ 840 → offset ≡ pos minutes → IsOffsetText text offset
+  -- as -03:30, behind it by 12 hours at most
   behind : (clock : List ℕ) (minutes : ℕ) → text ≡ 45 ∷ clock → IsClockText clock minutes → minutes ≤ 720 → offset ≡ neg_ℤ (pos minutes) → IsOffsetText text offset
 
--- where the offsets come from: one offset, the text of a rule (POSIX TZ), or the hexadecimal text of a file (RFC 8536) of a byte at least
+-- Where the offsets come from. Whether a rule or a file can be read is found only when a zone is built from it.
 pub data IsSourceText (kind text : List ℕ) (source : Source) : Type 0 where
+  -- one offset at every instant
   fixed : kind ≡ codes "fixed" → (offset : ℤ) → IsOffsetText text offset → source ≡ FixedOffset offset → IsSourceText kind text source
+  -- a rule in the form of POSIX's TZ variable, which may also be empty here
   posix : kind ≡ codes "posix" → source ≡ PosixRule text → IsSourceText kind text source
+  -- a TZif file (RFC 8536), of a byte at least, in hexadecimal (base 16 of RFC 4648, in any case)
   tzif : kind ≡ codes "tzif" → (bytes : List ℕ) → decode_of text ≡ Ok bytes → 0 < length bytes → source ≡ TzifFile bytes → IsSourceText kind text source
 
 -- the text is an even number of hexadecimal digits in any case, and not empty

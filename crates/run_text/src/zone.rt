@@ -105,7 +105,7 @@ fn text_of<'a>(kind: &str, text: &'a str) -> Option<ZoneText<'a>>
     }
 }
 
-// +HH:MM or -HH:MM, from -12:00 to +14:00
+// +HH:MM, or -HH:MM, from -12:00 to +14:00
 fn offset_of(text: &str) -> Option<i16>
     ensures read { IfSome result (IsOffsetText text.now) }
     ensures none { IfNone result ((offset : ℤ) → IsOffsetText text.now offset → ⊥) }
@@ -154,7 +154,7 @@ fn number_of(text: &str) -> Option<u16>
     }
 }
 
-// An even number of hexadecimal digits, two at least
+// An even number of hexadecimal digits, two at least.
 fn is_hex_text(text: &str) -> bool
     ensures { IsTrue result ↔ IsHexText text.now }
 {
