@@ -12,11 +12,11 @@ use Rattle.std.proofs.lemmas.Slice.Eq.{bytes_eq-Decides}
 use Rattle.indexmap.specs.IndexMap.{insert_entry}
 use Rattle.due_set.specs.Table.{Job, job_of, AreNamesDistinct}
 use Rattle.due_set.specs.declared.job.JobSpec.{JobSpec}
-use Rattle.due_set.specs.declared.job.JobKind.{JobKind}
 use Rattle.job_table.specs.Jobs.{entry_job, HasJob}
+use Rattle.job_table.specs.declared.jobs.Timing.{Timing}
 
 -- what a look-up by a text finds is a job of that name
-pub found_job : (entries : List (String Global × JobKind)) (name : List ℕ) → is_some (lookup (λ k. bytes_eq name (string_bytes k)) entries) ≡ true → HasJob name (map entry_job entries)
+pub found_job : (entries : List (String Global × Timing)) (name : List ℕ) → is_some (lookup (λ k. bytes_eq name (string_bytes k)) entries) ≡ true → HasJob name (map entry_job entries)
 found_job [] name is = absurd (true≢false (sym is))
 found_job (entry ∷ entries) name is = by (bytes_eq name (string_bytes entry.0)) refl (found_job entries name) is
   where
@@ -28,7 +28,7 @@ found_job (entry ∷ entries) name is = by (bytes_eq name (string_bytes entry.0)
     by false e later found = inr (later found)
 
 -- a job of the name is found
-pub no_job : (entries : List (String Global × JobKind)) (name : List ℕ) → is_some (lookup (λ k. bytes_eq name (string_bytes k)) entries) ≡ false → HasJob name (map entry_job entries) → ⊥
+pub no_job : (entries : List (String Global × Timing)) (name : List ℕ) → is_some (lookup (λ k. bytes_eq name (string_bytes k)) entries) ≡ false → HasJob name (map entry_job entries) → ⊥
 no_job [] name is has = has
 no_job (entry ∷ entries) name is has = by (bytes_eq name (string_bytes entry.0)) refl (no_job entries name) is has
   where
@@ -41,13 +41,13 @@ no_job (entry ∷ entries) name is has = by (bytes_eq name (string_bytes entry.0
     by false e none found (inr later) = none found later
 
 -- a new name goes last
-pub insert_new : (entries : List (String Global × JobKind)) (name : String Global) (kind : JobKind) → (HasJob (string_bytes name) (map entry_job entries) → ⊥)
-    → insert_entry string_eq entries name kind ≡ entries ++ (name, kind) ∷ []
-insert_new [] name kind none = refl
-insert_new (entry ∷ entries) name kind none = by (string_eq name entry.0) refl (insert_new entries name kind (λ later. none (inr later)))
+pub insert_new : (entries : List (String Global × Timing)) (name : String Global) (timing : Timing) → (HasJob (string_bytes name) (map entry_job entries) → ⊥)
+    → insert_entry string_eq entries name timing ≡ entries ++ (name, timing) ∷ []
+insert_new [] name timing none = refl
+insert_new (entry ∷ entries) name timing none = by (string_eq name entry.0) refl (insert_new entries name timing (λ later. none (inr later)))
   where
-    by : (b : Bool) → string_eq name entry.0 ≡ b → insert_entry string_eq entries name kind ≡ entries ++ (name, kind) ∷ []
-        → cond b ((entry.0, kind) ∷ entries) (entry ∷ insert_entry string_eq entries name kind) ≡ entry ∷ (entries ++ (name, kind) ∷ [])
+    by : (b : Bool) → string_eq name entry.0 ≡ b → insert_entry string_eq entries name timing ≡ entries ++ (name, timing) ∷ []
+        → cond b ((entry.0, timing) ∷ entries) (entry ∷ insert_entry string_eq entries name timing) ≡ entry ∷ (entries ++ (name, timing) ∷ [])
     by true e later = absurd (none (inl (sym ((bytes_eq-Decides (string_bytes name) (string_bytes entry.0)).0 e))))
     by false e later = ap (λ rest. entry ∷ rest) later
 
@@ -63,9 +63,9 @@ same_job : (a b : Job) → a.name ≡ b.name → a.zone ≡ b.zone → a.kind �
 same_job a b names zones kinds = rw (names, zones, kinds) refl
 
 -- one entry more, as a job of a table
-pub next_spec : (entries : List (String Global × JobKind)) (place : ℕ) (entry : String Global × JobKind) (specs more : List JobSpec) (spec : JobSpec)
+pub next_spec : (entries : List (String Global × Timing)) (place : ℕ) (entry : String Global × Timing) (specs more : List JobSpec) (spec : JobSpec)
     → slice_get entries place ≡ Some entry → map job_of specs ≡ map entry_job (take place entries) → more ≡ specs ++ spec ∷ []
-    → spec.name ≡ string_bytes entry.0 → spec.zone ≡ 0 → spec.kind ≡ entry.1 → map job_of more ≡ map entry_job (take (place + 1) entries)
+    → spec.name ≡ string_bytes entry.0 → spec.zone ≡ entry.1.zone → spec.kind ≡ entry.1.kind → map job_of more ≡ map entry_job (take (place + 1) entries)
 next_spec entries place entry specs more spec found so_far is name zone kind =
     let within = slice_get_within entries place entry found in
     let here : get_or entries place entry ≡ entry = get_or_from_slice_get entries place entry entry found in

@@ -7,3 +7,4 @@ mod TableLemmas
 pub mod UniqueLemmas
 mod VariantLemmas
 mod VerdictLemmas
+mod ZoneLemmas

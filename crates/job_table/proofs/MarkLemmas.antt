@@ -1,5 +1,5 @@
 -- Marks that are collected one by one.
-use Rattle.std.proofs.Common.{◌≡◌, ℕ, List, [], ◌∷◌, ◌++◌, refl, ap, ◌∙◌, sym, subst, inl, inr, codes, append_assoc}
+use Rattle.std.proofs.Common.{◌≡◌, ℕ, List, [], ◌∷◌, ◌++◌, refl, ap, ◌∙◌, sym, subst, inl, inr, append_assoc}
 use Rattle.std.proofs.lemmas.List.{append-nil}
 use Rattle.due_set.specs.Table.{Job}
 use Rattle.due_set.specs.declared.job.JobKind.{JobKind}
@@ -7,66 +7,71 @@ use Rattle.run_text.specs.declared.refusal.Refusal.{Refusal}
 use Rattle.job_table.specs.Collect.{Collected, AddsMarks, RefusesMarks}
 use Rattle.job_table.specs.Jobs.{crontab_job, HasJob}
 use Rattle.job_table.specs.Marks.{Mark, MarksZone, MarksJob, BringsJob, IsMarkFault, AreSoundBehind, AreSound}
+use Rattle.run_text.specs.Run.{NamedZone}
+use Rattle.job_table.specs.Zones.{NamesZone}
 use Rattle.job_table.specs.Table.{jobs_of, at_line, HasLineAtFault}
 
-jobs_of-append : (xs ys : List Mark) → jobs_of (xs ++ ys) ≡ jobs_of xs ++ jobs_of ys
+pub jobs_of-append : (xs ys : List Mark) → jobs_of (xs ++ ys) ≡ jobs_of xs ++ jobs_of ys
 jobs_of-append [] ys = refl
 jobs_of-append (MarksZone line name ∷ xs) ys = jobs_of-append xs ys
-jobs_of-append (MarksJob line name kind ∷ xs) ys = ap (λ l. record { name = name; zone = 0; kind = kind } ∷ l) (jobs_of-append xs ys)
+jobs_of-append (MarksJob line name zone kind ∷ xs) ys = ap (λ l. record { name = name; zone = zone; kind = kind } ∷ l) (jobs_of-append xs ys)
 
 brought : (name : List ℕ) (marks : List Mark) → BringsJob name marks → HasJob name (jobs_of marks)
 brought name [] brings = brings
 brought name (MarksZone line zone ∷ marks) brings = brought name marks brings
-brought name (MarksJob line other kind ∷ marks) (inl same) = inl same
-brought name (MarksJob line other kind ∷ marks) (inr later) = inr (brought name marks later)
+brought name (MarksJob line other zone kind ∷ marks) (inl same) = inl same
+brought name (MarksJob line other zone kind ∷ marks) (inr later) = inr (brought name marks later)
 
 brings : (name : List ℕ) (marks : List Mark) → HasJob name (jobs_of marks) → BringsJob name marks
 brings name [] has = has
 brings name (MarksZone line zone ∷ marks) has = brings name marks has
-brings name (MarksJob line other kind ∷ marks) (inl same) = inl same
-brings name (MarksJob line other kind ∷ marks) (inr later) = inr (brings name marks later)
+brings name (MarksJob line other zone kind ∷ marks) (inl same) = inl same
+brings name (MarksJob line other zone kind ∷ marks) (inr later) = inr (brings name marks later)
 
 -- one mark more that isn't at fault
-sound_push : (before marks : List Mark) (mark : Mark) → AreSoundBehind before marks → ((line cause : ℕ) → IsMarkFault (before ++ marks) mark line cause → ⊥)
-    → AreSoundBehind before (marks ++ mark ∷ [])
-sound_push before [] mark sound none = (subst (λ b. (line cause : ℕ) → IsMarkFault b mark line cause → ⊥) (append-nil before) none, tt)
-sound_push before (m ∷ ms) mark sound none = (
+sound_push : (zones : List NamedZone) (before marks : List Mark) (mark : Mark) → AreSoundBehind zones before marks → ((line cause : ℕ) → IsMarkFault zones (before ++ marks) mark line cause → ⊥)
+    → AreSoundBehind zones before (marks ++ mark ∷ [])
+sound_push zones before [] mark sound none = (subst (λ b. (line cause : ℕ) → IsMarkFault zones b mark line cause → ⊥) (append-nil before) none, tt)
+sound_push zones before (m ∷ ms) mark sound none = (
   sound.0,
-  sound_push (before ++ m ∷ []) ms mark sound.1
-      (subst (λ b. (line cause : ℕ) → IsMarkFault b mark line cause → ⊥) (sym (append_assoc before (m ∷ []) ms)) none),
+  sound_push zones (before ++ m ∷ []) ms mark sound.1
+      (subst (λ b. (line cause : ℕ) → IsMarkFault zones b mark line cause → ⊥) (sym (append_assoc before (m ∷ []) ms)) none),
 )
 
 -- nothing more
-pub adds_none : (jobs : List Job) → AddsMarks jobs jobs []
-adds_none jobs marks collected = subst (λ m. Collected m jobs) (sym (append-nil marks)) collected
+pub adds_none : (zones : List NamedZone) (jobs : List Job) → AddsMarks zones jobs jobs []
+adds_none zones jobs marks collected = subst (λ m. Collected zones m jobs) (sym (append-nil marks)) collected
 
 -- a zone that is the run's
-pub adds_zone : (jobs : List Job) (at : ℕ) (name : List ℕ) → name ≡ codes "UTC" → AddsMarks jobs jobs (MarksZone at name ∷ [])
-adds_zone jobs at name is marks collected = record {
-  sound = sound_push [] marks (MarksZone at name) collected.sound (λ line cause fault. fault.0 is);
+pub adds_zone : (zones : List NamedZone) (jobs : List Job) (at : ℕ) (name : List ℕ) → NamesZone name zones → AddsMarks zones jobs jobs (MarksZone at name ∷ [])
+adds_zone zones jobs at name is marks collected = record {
+  sound = sound_push zones [] marks (MarksZone at name) collected.sound (λ line cause fault. fault.0 is);
   are = collected.are ∙ sym (jobs_of-append marks (MarksZone at name ∷ []) ∙ append-nil (jobs_of marks));
 }
 
 -- a job of a new name
-pub adds_job : (jobs : List Job) (at : ℕ) (name : List ℕ) (kind : JobKind) → (HasJob name jobs → ⊥) → AddsMarks jobs (jobs ++ crontab_job name kind ∷ []) (MarksJob at name kind ∷ [])
-adds_job jobs at name kind none marks collected = record {
-  sound = sound_push [] marks (MarksJob at name kind) collected.sound (λ line cause fault. none (subst (HasJob name) (sym collected.are) (brought name marks fault.0)));
-  are = ap (λ l. l ++ crontab_job name kind ∷ []) collected.are ∙ sym (jobs_of-append marks (MarksJob at name kind ∷ []));
+pub adds_job : (zones : List NamedZone) (jobs : List Job) (at : ℕ) (name : List ℕ) (zone : ℕ) (kind : JobKind) → (HasJob name jobs → ⊥)
+    → AddsMarks zones jobs (jobs ++ crontab_job name zone kind ∷ []) (MarksJob at name zone kind ∷ [])
+adds_job zones jobs at name zone kind none marks collected = record {
+  sound = sound_push zones [] marks (MarksJob at name zone kind) collected.sound (λ line cause fault. none (subst (HasJob name) (sym collected.are) (brought name marks fault.0)));
+  are = ap (λ l. l ++ crontab_job name zone kind ∷ []) collected.are ∙ sym (jobs_of-append marks (MarksJob at name zone kind ∷ []));
 }
 
-at_fault : (marks others : List Mark) (mark : Mark) (line cause : ℕ) (refusal : Refusal) → AreSound marks → IsMarkFault marks mark line cause → refusal ≡ at_line line cause
-    → HasLineAtFault ((marks ++ mark ∷ []) ++ others) refusal
-at_fault marks others mark line cause refusal sound fault is =
-    subst (HasLineAtFault ((marks ++ mark ∷ []) ++ others)) (sym is) (record {
+at_fault : (zones : List NamedZone) (marks others : List Mark) (mark : Mark) (line cause : ℕ) (refusal : Refusal) → AreSound zones marks → IsMarkFault zones marks mark line cause → refusal ≡ at_line line cause
+    → HasLineAtFault zones ((marks ++ mark ∷ []) ++ others) refusal
+at_fault zones marks others mark line cause refusal sound fault is =
+    subst (HasLineAtFault zones ((marks ++ mark ∷ []) ++ others)) (sym is) (record {
       first = record { before = marks; mark = mark; after = others; parts = append_assoc marks (mark ∷ []) others; sound = sound; here = fault };
       place = refl;
     })
 
 -- a zone that the run hasn't
-pub refuses_zone : (jobs : List Job) (at : ℕ) (name : List ℕ) (refusal : Refusal) → (name ≡ codes "UTC" → ⊥) → refusal ≡ at_line at 21 → RefusesMarks jobs (MarksZone at name ∷ []) refusal
-refuses_zone jobs at name refusal other is marks others collected = at_fault marks others (MarksZone at name) at 21 refusal collected.sound (other, refl, refl) is
+pub refuses_zone : (zones : List NamedZone) (jobs : List Job) (at : ℕ) (name : List ℕ) (refusal : Refusal) → (NamesZone name zones → ⊥) → refusal ≡ at_line at 21
+    → RefusesMarks zones jobs (MarksZone at name ∷ []) refusal
+refuses_zone zones jobs at name refusal other is marks others collected = at_fault zones marks others (MarksZone at name) at 21 refusal collected.sound (other, refl, refl) is
 
 -- a job whose name is there
-pub refuses_job : (jobs : List Job) (at : ℕ) (name : List ℕ) (kind : JobKind) (refusal : Refusal) → HasJob name jobs → refusal ≡ at_line at 22 → RefusesMarks jobs (MarksJob at name kind ∷ []) refusal
-refuses_job jobs at name kind refusal has is marks others collected =
-    at_fault marks others (MarksJob at name kind) at 22 refusal collected.sound (brings name marks (subst (HasJob name) collected.are has), refl, refl) is
+pub refuses_job : (zones : List NamedZone) (jobs : List Job) (at : ℕ) (name : List ℕ) (zone : ℕ) (kind : JobKind) (refusal : Refusal) → HasJob name jobs → refusal ≡ at_line at 22
+    → RefusesMarks zones jobs (MarksJob at name zone kind ∷ []) refusal
+refuses_job zones jobs at name zone kind refusal has is marks others collected =
+    at_fault zones marks others (MarksJob at name zone kind) at 22 refusal collected.sound (brings name marks (subst (HasJob name) collected.are has), refl, refl) is

@@ -10,49 +10,50 @@ use Rattle.crontab_text.proofs.LineLemmas.{lines_at_most}
 use Rattle.due_set.specs.Table.{Job}
 use Rattle.run_text.specs.Follow.{style_of}
 use Rattle.run_text.specs.Reading.{IsReadRun, ArePartsOf}
-use Rattle.run_text.specs.Run.{Section, Run, section_of, run_of}
+use Rattle.run_text.specs.Run.{NamedZone, Section, Run, section_of, zone_of, run_of}
 use Rattle.run_text.specs.Sound.{IsSoundSection}
 use Rattle.run_text.specs.declared.refusal.Refusal.{Refusal}
 use Rattle.run_text.specs.declared.run.RunFile.{RunFile}
 use Rattle.run_text.specs.declared.run.Section.{Section as SectionText}
+use Rattle.run_text.specs.declared.run.ZoneLine.{ZoneLine}
 use Rattle.run_text.proofs.SoundLemmas.{sound_run}
 use Rattle.job_table.specs.Collect.{Collected, AddsSection, RefusesSection, HasMarks, HasFaultyMarks}
 use Rattle.job_table.specs.Marks.{Mark, AreBodies, AreMarks, section_marks}
 use Rattle.job_table.proofs.SectionLemmas.{what_is_said}
 
 -- the marks of some sections are collected
-pub record SoFar (sections : List Section) (jobs : List Job) : Type 0 where
+pub record SoFar (zones : List NamedZone) (sections : List Section) (jobs : List Job) : Type 0 where
   pub marks : List Mark
-  pub are : AreMarks sections marks
-  pub collected : Collected marks jobs
+  pub are : AreMarks zones sections marks
+  pub collected : Collected zones marks jobs
 
-pub none_so_far : SoFar [] []
-none_so_far = record { marks = []; are = refl; collected = record { sound = tt; are = refl } }
+pub none_so_far : (zones : List NamedZone) → SoFar zones [] []
+none_so_far zones = record { marks = []; are = refl; collected = record { sound = tt; are = refl } }
 
-marks_append : (a b : List Section) (x y : List Mark) → AreMarks a x → AreMarks b y → AreMarks (a ++ b) (x ++ y)
-marks_append [] b x y first second = subst (AreMarks b) (sym (ap (λ m. m ++ y) first)) second
-marks_append (s ∷ a) b x y (bodies, others, said, rest, is) second =
-    (bodies, others ++ y, said, marks_append a b others y rest second, ap (λ m. m ++ y) is ∙ append_assoc (section_marks s bodies) others y)
+marks_append : (zones : List NamedZone) (a b : List Section) (x y : List Mark) → AreMarks zones a x → AreMarks zones b y → AreMarks zones (a ++ b) (x ++ y)
+marks_append zones [] b x y first second = subst (AreMarks zones b) (sym (ap (λ m. m ++ y) first)) second
+marks_append zones (s ∷ a) b x y (bodies, others, said, rest, is) second =
+    (bodies, others ++ y, said, marks_append zones a b others y rest second, ap (λ m. m ++ y) is ∙ append_assoc (section_marks zones s bodies) others y)
 
 -- the marks of a section alone
-one_section : (section : Section) (bodies : List LineBody) → AreBodies section bodies → AreMarks (section ∷ []) (section_marks section bodies)
-one_section section bodies said = (bodies, [], said, refl, sym (append-nil (section_marks section bodies)))
+one_section : (zones : List NamedZone) (section : Section) (bodies : List LineBody) → AreBodies section bodies → AreMarks zones (section ∷ []) (section_marks zones section bodies)
+one_section zones section bodies said = (bodies, [], said, refl, sym (append-nil (section_marks zones section bodies)))
 
 -- one section more
-pub more_so_far : (sections : List Section) (section : Section) (old new : List Job) → SoFar sections old → AddsSection old new section → SoFar (sections ++ section ∷ []) new
-more_so_far sections section old new so_far adds = record {
-  marks = so_far.marks ++ section_marks section adds.bodies;
-  are = marks_append sections (section ∷ []) so_far.marks (section_marks section adds.bodies) so_far.are (one_section section adds.bodies adds.are);
+pub more_so_far : (zones : List NamedZone) (sections : List Section) (section : Section) (old new : List Job) → SoFar zones sections old → AddsSection zones old new section → SoFar zones (sections ++ section ∷ []) new
+more_so_far zones sections section old new so_far adds = record {
+  marks = so_far.marks ++ section_marks zones section adds.bodies;
+  are = marks_append zones sections (section ∷ []) so_far.marks (section_marks zones section adds.bodies) so_far.are (one_section zones section adds.bodies adds.are);
   collected = adds.adds so_far.marks so_far.collected;
 }
 
 -- sound sections have marks
-marks_exist : (next : ℕ) (sections : List Section) → AllByRecursion (IsSoundSection next) sections → (marks : List Mark) × AreMarks sections marks
-marks_exist next [] all = ([], refl)
-marks_exist next (section ∷ sections) all =
+marks_exist : (zones : List NamedZone) (next : ℕ) (sections : List Section) → AllByRecursion (IsSoundSection next) sections → (marks : List Mark) × AreMarks zones sections marks
+marks_exist zones next [] all = ([], refl)
+marks_exist zones next (section ∷ sections) all =
     let (bodies, said) = what_is_said (style_of section.kind) section.label section.lines all.0.said in
-    let (others, are) = marks_exist next sections all.1 in
-    (section_marks section bodies ++ others, (bodies, others, said, are, refl))
+    let (others, are) = marks_exist zones next sections all.1 in
+    (section_marks zones section bodies ++ others, (bodies, others, said, are, refl))
 
 all_of_back : (P : Section → Type 0) (a b : List Section) → AllByRecursion P (a ++ b) → AllByRecursion P b
 all_of_back P [] b all = all
@@ -60,14 +61,14 @@ all_of_back P (x ∷ a) b all = all_of_back P a b all.1
 
 -- a section at fault, and the sections behind it
 pub refused_so_far : (next : ℕ) (run : Run) (front back : List Section) (section : Section) (jobs : List Job) (refusal : Refusal) → run.sections ≡ front ++ section ∷ back
-    → AllByRecursion (IsSoundSection next) run.sections → SoFar front jobs → RefusesSection jobs section refusal → HasFaultyMarks run refusal
+    → AllByRecursion (IsSoundSection next) run.sections → SoFar run.zones front jobs → RefusesSection run.zones jobs section refusal → HasFaultyMarks run refusal
 refused_so_far next run front back section jobs refusal are all so_far refuses =
-    let (others, others_are) = marks_exist next back (all_of_back (IsSoundSection next) front (section ∷ back) (subst (AllByRecursion (IsSoundSection next)) are all)).1 in
+    let (others, others_are) = marks_exist run.zones next back (all_of_back (IsSoundSection next) front (section ∷ back) (subst (AllByRecursion (IsSoundSection next)) are all)).1 in
     record {
-      marks = (so_far.marks ++ section_marks section refuses.bodies) ++ others;
-      are = subst (λ s. AreMarks s ((so_far.marks ++ section_marks section refuses.bodies) ++ others)) (sym are)
-          (subst (AreMarks (front ++ section ∷ back)) (sym (append_assoc so_far.marks (section_marks section refuses.bodies) others))
-          (marks_append front (section ∷ back) so_far.marks (section_marks section refuses.bodies ++ others) so_far.are (refuses.bodies, others, refuses.are, others_are, refl)));
+      marks = (so_far.marks ++ section_marks run.zones section refuses.bodies) ++ others;
+      are = subst (λ s. AreMarks run.zones s ((so_far.marks ++ section_marks run.zones section refuses.bodies) ++ others)) (sym are)
+          (subst (AreMarks run.zones (front ++ section ∷ back)) (sym (append_assoc so_far.marks (section_marks run.zones section refuses.bodies) others))
+          (marks_append run.zones front (section ∷ back) so_far.marks (section_marks run.zones section refuses.bodies ++ others) so_far.are (refuses.bodies, others, refuses.are, others_are, refl)));
       fault = refuses.refuses so_far.marks others so_far.collected;
     }
 
@@ -117,27 +118,32 @@ one_more items i d lt =
     take_more (map section_of items) i (section_of d) inside ∙ ap (λ s. take i (map section_of items) ++ s ∷ []) (get_or-map section_of items i d)
 
 -- the next section of a run
-pub next_so_far : (run : RunFile) (items : List SectionText) (i : ℕ) (d : SectionText) (old new : List Job) → items ≡ run.sections.items → i < length items
-    → SoFar (take i (map section_of run.sections.items)) old → AddsSection old new (section_of (get_or items i d)) → SoFar (take (i + 1) (map section_of run.sections.items)) new
-next_so_far run items i d old new same lt so_far adds =
-    let here = subst (λ l. SoFar (take i (map section_of l)) old) (sym same) so_far in
-    subst (λ l. SoFar (take (i + 1) (map section_of l)) new) same
-    (subst (λ l. SoFar l new) (sym (one_more items i d lt)) (more_so_far (take i (map section_of items)) (section_of (get_or items i d)) old new here adds))
+pub next_so_far : (run : RunFile) (items : List SectionText) (named : List ZoneLine) (i : ℕ) (d : SectionText) (old new : List Job) → items ≡ run.sections.items → named ≡ run.zones.items → i < length items
+    → SoFar (map zone_of run.zones.items) (take i (map section_of run.sections.items)) old → AddsSection (map zone_of named) old new (section_of (get_or items i d))
+    → SoFar (map zone_of run.zones.items) (take (i + 1) (map section_of run.sections.items)) new
+next_so_far run items named i d old new same zones_are lt so_far adds =
+    let zones = map zone_of run.zones.items in
+    let here = subst (λ l. SoFar zones (take i (map section_of l)) old) (sym same) so_far in
+    let added = subst (λ l. AddsSection (map zone_of l) old new (section_of (get_or items i d))) zones_are adds in
+    subst (λ l. SoFar zones (take (i + 1) (map section_of l)) new) same
+    (subst (λ l. SoFar zones l new) (sym (one_more items i d lt)) (more_so_far zones (take i (map section_of items)) (section_of (get_or items i d)) old new here added))
 
 -- a section of a run at fault
-pub section_refused : (run : RunFile) (items : List SectionText) (i : ℕ) (d : SectionText) (jobs : List Job) (refusal : Refusal) → IsReadRun run → items ≡ run.sections.items → i < length items
-    → SoFar (take i (map section_of run.sections.items)) jobs → RefusesSection jobs (section_of (get_or items i d)) refusal → HasFaultyMarks (run_of run) refusal
+section_refused : (run : RunFile) (items : List SectionText) (i : ℕ) (d : SectionText) (jobs : List Job) (refusal : Refusal) → IsReadRun run → items ≡ run.sections.items → i < length items
+    → SoFar (map zone_of run.zones.items) (take i (map section_of run.sections.items)) jobs → RefusesSection (map zone_of run.zones.items) jobs (section_of (get_or items i d)) refusal → HasFaultyMarks (run_of run) refusal
 section_refused run items i d jobs refusal read same lt so_far refuses =
-    let here = subst (λ l. SoFar (take i (map section_of l)) jobs) (sym same) so_far in
+    let here = subst (λ l. SoFar (map zone_of run.zones.items) (take i (map section_of l)) jobs) (sym same) so_far in
     refused_so_far (1 + length (lines_of read.text)) (run_of run) (take i (map section_of items)) (drop (suc i) (map section_of items)) (section_of (get_or items i d)) jobs refusal
     (ap (map section_of) (sym same) ∙ parted items i d lt) (sections_sound run read) here refuses
 
-pub section_refused_at : (run : RunFile) (items : List SectionText) (i : ℕ) (d : SectionText) (jobs : List Job) → IsReadRun run → items ≡ run.sections.items → i < length items
-    → SoFar (take i (map section_of run.sections.items)) jobs → (refusal : Refusal) → RefusesSection jobs (section_of (get_or items i d)) refusal → HasFaultyMarks (run_of run) refusal
-section_refused_at run items i d jobs read same lt so_far refusal refuses = section_refused run items i d jobs refusal read same lt so_far refuses
+pub section_refused_at : (run : RunFile) (items : List SectionText) (named : List ZoneLine) (i : ℕ) (d : SectionText) (jobs : List Job) → IsReadRun run → items ≡ run.sections.items → named ≡ run.zones.items
+    → i < length items → SoFar (map zone_of run.zones.items) (take i (map section_of run.sections.items)) jobs → (refusal : Refusal) → RefusesSection (map zone_of named) jobs (section_of (get_or items i d)) refusal
+    → HasFaultyMarks (run_of run) refusal
+section_refused_at run items named i d jobs read same zones_are lt so_far refusal refuses =
+    section_refused run items i d jobs refusal read same lt so_far (subst (λ l. RefusesSection (map zone_of l) jobs (section_of (get_or items i d)) refusal) zones_are refuses)
 
 -- all sections
-pub all_marks : (run : RunFile) (i : ℕ) (jobs : List Job) → length run.sections.items ≤ i → SoFar (take i (map section_of run.sections.items)) jobs → HasMarks (run_of run) jobs
+pub all_marks : (run : RunFile) (i : ℕ) (jobs : List Job) → length run.sections.items ≤ i → SoFar (map zone_of run.zones.items) (take i (map section_of run.sections.items)) jobs → HasMarks (run_of run) jobs
 all_marks run i jobs all so_far =
     let whole : take i (map section_of run.sections.items) ≡ map section_of run.sections.items = take_all i (map section_of run.sections.items) (omega (arith, length-map run.sections.items section_of)) in
-    record { marks = so_far.marks; are = subst (λ l. AreMarks l so_far.marks) whole so_far.are; collected = so_far.collected }
+    record { marks = so_far.marks; are = subst (λ l. AreMarks (map zone_of run.zones.items) l so_far.marks) whole so_far.are; collected = so_far.collected }

@@ -2,16 +2,20 @@
 use Rattle.std.proofs.Common.{◌≡◌, ◌⊎◌, ℕ, ◌≤◌, List, [], ◌∷◌, ◌++◌, length, refl, ap, ◌∙◌, sym, subst, inl, inr, arith, append_assoc}
 use Rattle.std.specs.List.{AllZip}
 use Rattle.std.proofs.lemmas.List.{append-nil}
+use Rattle.std.proofs.lemmas.List.Elements.{All-head, All-tail}
 use Rattle.crontab_text.specs.Answers.{IsLineOf, LineAnswer, Said}
 use Rattle.crontab_text.specs.LineBody.{LineBody}
 use Rattle.crontab_text.specs.declared.answer.Style.{Style}
 use Rattle.crontab_text.proofs.AnswerLemmas.{same_answer}
 use Rattle.due_set.specs.Table.{Table}
 use Rattle.run_text.specs.Follow.{style_of}
-use Rattle.run_text.specs.Run.{Section, Run}
+use Rattle.run_text.specs.Run.{NamedZone, Section, Run}
 use Rattle.run_text.specs.declared.refusal.Refusal.{Refusal}
 use Rattle.job_table.specs.Marks.{Mark, MarksZone, MarksJob, AreMarks, section_marks, IsMarkFault, AreSoundBehind, AreSound, IsFirstMarkFault}
-use Rattle.job_table.specs.Table.{jobs_of, table_of, IsDueCount, IsTableOf, IsRefusedRun, HasLineAtFault, HasTooManyJobs, HasTooManyDue}
+use Rattle.job_table.specs.Table.{jobs_of, table_of, at_line, AreMarksRefused, HasBadZone, IsDueCount, IsTableOf, IsRefusedRun}
+use Rattle.job_table.specs.Zones.{AreReadable}
+use Rattle.zone_minutes.specs.Zone.{IsReadable, IsRefused}
+use Rattle.zone_minutes.proofs.VerdictLemmas.{not_refused as not_read_and_refused}
 use Rattle.job_table.proofs.DueCountLemmas.{CountsFirst, counts_at_least}
 
 same_body : (style : Style) (owner line : List ℕ) (a b : LineBody) → IsLineOf style owner line a → IsLineOf style owner line b → a ≡ b
@@ -30,60 +34,60 @@ same_bodies style owner (l ∷ ls) (a ∷ as') (b ∷ bs) first second =
     rw (head, tail) refl
 
 -- a run has one list of marks
-same_marks : (sections : List Section) (a b : List Mark) → AreMarks sections a → AreMarks sections b → a ≡ b
-same_marks [] a b first second = first ∙ sym second
-same_marks (section ∷ sections) a b (x, m, said, rest, is) (y, n, other, more, same) =
+same_marks : (zones : List NamedZone) (sections : List Section) (a b : List Mark) → AreMarks zones sections a → AreMarks zones sections b → a ≡ b
+same_marks zones [] a b first second = first ∙ sym second
+same_marks zones (section ∷ sections) a b (x, m, said, rest, is) (y, n, other, more, same) =
     let bodies = same_bodies (style_of section.kind) section.label section.lines x y said other in
-    let others = same_marks sections m n rest more in
-    is ∙ ap (λ l. section_marks section l ++ m) bodies ∙ ap (λ l. section_marks section y ++ l) others ∙ sym same
+    let others = same_marks zones sections m n rest more in
+    is ∙ ap (λ l. section_marks zones section l ++ m) bodies ∙ ap (λ l. section_marks zones section y ++ l) others ∙ sym same
 
 -- a mark at fault has one fault
 record SameFault (l m c d : ℕ) : Type 0 where
   line : l ≡ m
   cause : c ≡ d
 
-same_fault : (before : List Mark) (mark : Mark) (l m c d : ℕ) → IsMarkFault before mark l c → IsMarkFault before mark m d → SameFault l m c d
-same_fault before (MarksZone at name) l m c d first second = record { line = first.1 ∙ sym second.1; cause = first.2 ∙ sym second.2 }
-same_fault before (MarksJob at name kind) l m c d first second = record { line = first.1 ∙ sym second.1; cause = first.2 ∙ sym second.2 }
+same_fault : (zones : List NamedZone) (before : List Mark) (mark : Mark) (l m c d : ℕ) → IsMarkFault zones before mark l c → IsMarkFault zones before mark m d → SameFault l m c d
+same_fault zones before (MarksZone at name) l m c d first second = record { line = first.1 ∙ sym second.1; cause = first.2 ∙ sym second.2 }
+same_fault zones before (MarksJob at name zone kind) l m c d first second = record { line = first.1 ∙ sym second.1; cause = first.2 ∙ sym second.2 }
 
 -- the first mark at fault is one
-first_fault : (pre front other after rest : List Mark) (x y : Mark) (l m c d : ℕ) → front ++ x ∷ after ≡ other ++ y ∷ rest
-    → AreSoundBehind pre front → AreSoundBehind pre other → IsMarkFault (pre ++ front) x l c → IsMarkFault (pre ++ other) y m d → SameFault l m c d
-first_fault pre [] [] after rest x y l m c d is sound also first second =
+first_fault : (zones : List NamedZone) (pre front other after rest : List Mark) (x y : Mark) (l m c d : ℕ) → front ++ x ∷ after ≡ other ++ y ∷ rest
+    → AreSoundBehind zones pre front → AreSoundBehind zones pre other → IsMarkFault zones (pre ++ front) x l c → IsMarkFault zones (pre ++ other) y m d → SameFault l m c d
+first_fault zones pre [] [] after rest x y l m c d is sound also first second =
     let same : x ≡ y = cc in
-    same_fault (pre ++ []) y l m c d (subst (λ z. IsMarkFault (pre ++ []) z l c) same first) second
-first_fault pre [] (z ∷ other) after rest x y l m c d is sound also first second =
+    same_fault zones (pre ++ []) y l m c d (subst (λ z. IsMarkFault zones (pre ++ []) z l c) same first) second
+first_fault zones pre [] (z ∷ other) after rest x y l m c d is sound also first second =
     let same : x ≡ z = cc in
-    absurd (also.0 l c (subst (λ b. IsMarkFault b z l c) (append-nil pre) (subst (λ w. IsMarkFault (pre ++ []) w l c) same first)))
-first_fault pre (z ∷ front) [] after rest x y l m c d is sound also first second =
+    absurd (also.0 l c (subst (λ b. IsMarkFault zones b z l c) (append-nil pre) (subst (λ w. IsMarkFault zones (pre ++ []) w l c) same first)))
+first_fault zones pre (z ∷ front) [] after rest x y l m c d is sound also first second =
     let same : y ≡ z = cc in
-    absurd (sound.0 m d (subst (λ b. IsMarkFault b z m d) (append-nil pre) (subst (λ w. IsMarkFault (pre ++ []) w m d) same second)))
-first_fault pre (z ∷ front) (w ∷ other) after rest x y l m c d is sound also first second =
+    absurd (sound.0 m d (subst (λ b. IsMarkFault zones b z m d) (append-nil pre) (subst (λ w. IsMarkFault zones (pre ++ []) w m d) same second)))
+first_fault zones pre (z ∷ front) (w ∷ other) after rest x y l m c d is sound also first second =
     let same : w ≡ z = cc in
     let tails : front ++ x ∷ after ≡ other ++ y ∷ rest = cc in
-    first_fault (pre ++ z ∷ []) front other after rest x y l m c d tails sound.1 (subst (λ u. AreSoundBehind (pre ++ u ∷ []) other) same also.1)
-    (subst (λ b. IsMarkFault b x l c) (sym (append_assoc pre (z ∷ []) front)) first)
-    (subst (λ b. IsMarkFault b y m d) (sym (append_assoc pre (z ∷ []) other)) (subst (λ u. IsMarkFault (pre ++ u ∷ other) y m d) same second))
+    first_fault zones (pre ++ z ∷ []) front other after rest x y l m c d tails sound.1 (subst (λ u. AreSoundBehind zones (pre ++ u ∷ []) other) same also.1)
+    (subst (λ b. IsMarkFault zones b x l c) (sym (append_assoc pre (z ∷ []) front)) first)
+    (subst (λ b. IsMarkFault zones b y m d) (sym (append_assoc pre (z ∷ []) other)) (subst (λ u. IsMarkFault zones (pre ++ u ∷ other) y m d) same second))
 
 -- no mark is at fault among some that are sound
-no_fault : (pre marks front after : List Mark) (x : Mark) (l c : ℕ) → marks ≡ front ++ x ∷ after → AreSoundBehind pre marks → IsMarkFault (pre ++ front) x l c → ⊥
-no_fault pre [] [] after x l c is sound fault = cc
-no_fault pre [] (z ∷ front) after x l c is sound fault = cc
-no_fault pre (m ∷ marks) [] after x l c is sound fault =
+no_fault : (zones : List NamedZone) (pre marks front after : List Mark) (x : Mark) (l c : ℕ) → marks ≡ front ++ x ∷ after → AreSoundBehind zones pre marks → IsMarkFault zones (pre ++ front) x l c → ⊥
+no_fault zones pre [] [] after x l c is sound fault = cc
+no_fault zones pre [] (z ∷ front) after x l c is sound fault = cc
+no_fault zones pre (m ∷ marks) [] after x l c is sound fault =
     let same : x ≡ m = cc in
-    sound.0 l c (subst (λ b. IsMarkFault b m l c) (append-nil pre) (subst (λ w. IsMarkFault (pre ++ []) w l c) same fault))
-no_fault pre (m ∷ marks) (z ∷ front) after x l c is sound fault =
+    sound.0 l c (subst (λ b. IsMarkFault zones b m l c) (append-nil pre) (subst (λ w. IsMarkFault zones (pre ++ []) w l c) same fault))
+no_fault zones pre (m ∷ marks) (z ∷ front) after x l c is sound fault =
     let same : z ≡ m = cc in
     let tails : marks ≡ front ++ x ∷ after = cc in
-    no_fault (pre ++ m ∷ []) marks front after x l c tails sound.1
-    (subst (λ b. IsMarkFault b x l c) (sym (append_assoc pre (m ∷ []) front)) (subst (λ u. IsMarkFault (pre ++ u ∷ front) x l c) same fault))
+    no_fault zones (pre ++ m ∷ []) marks front after x l c tails sound.1
+    (subst (λ b. IsMarkFault zones b x l c) (sym (append_assoc pre (m ∷ []) front)) (subst (λ u. IsMarkFault zones (pre ++ u ∷ front) x l c) same fault))
 
-sound_or_fault : (marks : List Mark) (line cause : ℕ) → AreSound marks → IsFirstMarkFault marks line cause → ⊥
-sound_or_fault marks line cause sound first = no_fault [] marks first.before first.after first.mark line cause first.parts sound first.here
+sound_or_fault : (zones : List NamedZone) (marks : List Mark) (line cause : ℕ) → AreSound zones marks → IsFirstMarkFault zones marks line cause → ⊥
+sound_or_fault zones marks line cause sound first = no_fault zones [] marks first.before first.after first.mark line cause first.parts sound first.here
 
-one_line_fault : (marks : List Mark) (l m c d : ℕ) → IsFirstMarkFault marks l c → IsFirstMarkFault marks m d → SameFault l m c d
-one_line_fault marks l m c d first second =
-    first_fault [] first.before second.before first.after second.after first.mark second.mark l m c d (sym first.parts ∙ second.parts) first.sound second.sound first.here second.here
+one_line_fault : (zones : List NamedZone) (marks : List Mark) (l m c d : ℕ) → IsFirstMarkFault zones marks l c → IsFirstMarkFault zones marks m d → SameFault l m c d
+one_line_fault zones marks l m c d first second =
+    first_fault zones [] first.before second.before first.after second.after first.mark second.mark l m c d (sym first.parts ∙ second.parts) first.sound second.sound first.here second.here
 
 -- a table has one count of due instants
 counts_first : (table : Table) (count : ℕ) → IsDueCount table count → CountsFirst table (length table.jobs) count
@@ -100,37 +104,67 @@ same_refusal a b line cause place = rw (line, cause, place) refl
 
 pub one_table : (run : Run) (a b : Table) → IsTableOf run a → IsTableOf run b → a ≡ b
 one_table run a b first second =
-    first.is ∙ ap (table_of run) (same_marks run.sections first.marks second.marks first.are second.are) ∙ sym second.is
+    first.is ∙ ap (table_of run) (same_marks run.zones run.sections first.marks second.marks first.are second.are) ∙ sym second.is
+
+-- a zone among some that are read
+readable_at : (before after : List NamedZone) (zone : NamedZone) → AreReadable (before ++ zone ∷ after) → IsReadable zone.source
+readable_at [] after zone readable = All-head (λ (zone : NamedZone). IsReadable zone.source) zone after readable
+readable_at (z ∷ before) after zone readable = readable_at before after zone (All-tail (λ (zone : NamedZone). IsReadable zone.source) z (before ++ zone ∷ after) readable)
+
+-- the first zone that is refused is one
+first_refused : (before other after rest : List NamedZone) (x y : NamedZone) → before ++ x ∷ after ≡ other ++ y ∷ rest
+    → AreReadable before → AreReadable other → IsRefused x.source → IsRefused y.source → x ≡ y
+first_refused [] [] after rest x y is readable also refused too = cc
+first_refused [] (z ∷ other) after rest x y is readable also refused too =
+    let same : x ≡ z = cc in
+    absurd (not_read_and_refused z.source (All-head (λ (zone : NamedZone). IsReadable zone.source) z other also) (subst (λ (w : NamedZone). IsRefused w.source) same refused))
+first_refused (z ∷ before) [] after rest x y is readable also refused too =
+    let same : y ≡ z = cc in
+    absurd (not_read_and_refused z.source (All-head (λ (zone : NamedZone). IsReadable zone.source) z before readable) (subst (λ (w : NamedZone). IsRefused w.source) same too))
+first_refused (z ∷ before) (w ∷ other) after rest x y is readable also refused too =
+    let tails : before ++ x ∷ after ≡ other ++ y ∷ rest = cc in
+    first_refused before other after rest x y tails (All-tail (λ (zone : NamedZone). IsReadable zone.source) z before readable) (All-tail (λ (zone : NamedZone). IsReadable zone.source) w other also) refused too
+
+-- a zone that is refused isn't one of some that are read
+not_read : (zones : List NamedZone) (refusal : Refusal) → AreReadable zones → HasBadZone zones refusal → ⊥
+not_read zones refusal readable bad =
+    not_read_and_refused bad.zone.source (readable_at bad.before bad.after bad.zone (subst AreReadable bad.parts readable)) bad.refused
 
 -- the verdicts on one list of marks
-not_refused : (run : Run) (marks : List Mark) (count : ℕ) (refusal : Refusal) → AreSound marks → length (jobs_of marks) ≤ 1000 → IsDueCount (table_of run marks) count → count ≤ 20_000
-    → (HasLineAtFault marks refusal ⊎ (HasTooManyJobs marks refusal ⊎ HasTooManyDue run marks refusal)) → ⊥
-not_refused run marks count refusal sound few counted few_due (inl fault) = sound_or_fault marks refusal.line refusal.cause sound fault.first
+not_refused : (run : Run) (marks : List Mark) (count : ℕ) (refusal : Refusal) → AreSound run.zones marks → length (jobs_of marks) ≤ 1000 → IsDueCount (table_of run marks) count → count ≤ 20_000
+    → AreMarksRefused run marks refusal → ⊥
+not_refused run marks count refusal sound few counted few_due (inl fault) = sound_or_fault run.zones marks refusal.line refusal.cause sound fault.first
 not_refused run marks count refusal sound few counted few_due (inr (inl many)) = omega (arith, many.many, few)
 not_refused run marks count refusal sound few counted few_due (inr (inr many)) =
     let same = one_count (table_of run marks) count many.count counted many.counted in omega (arith, many.many, few_due, same)
 
 pub not_refused_run : (run : Run) (table : Table) (refusal : Refusal) → IsTableOf run table → IsRefusedRun run refusal → ⊥
-not_refused_run run table refusal is refused =
-    let same = same_marks run.sections refused.marks is.marks refused.are is.are in
+not_refused_run run table refusal is (inl bad) = not_read run.zones refusal is.readable bad
+not_refused_run run table refusal is (inr refused) =
+    let same = same_marks run.zones run.sections refused.marks is.marks refused.are is.are in
     not_refused run is.marks is.count refusal is.sound is.few_jobs (subst (λ t. IsDueCount t is.count) is.is is.counted) is.few_due
-    (subst (λ m. HasLineAtFault m refusal ⊎ (HasTooManyJobs m refusal ⊎ HasTooManyDue run m refusal)) same refused.why)
+    (subst (λ m. AreMarksRefused run m refusal) same refused.why)
 
-one_why : (run : Run) (marks : List Mark) (a b : Refusal)
-    → (HasLineAtFault marks a ⊎ (HasTooManyJobs marks a ⊎ HasTooManyDue run marks a))
-    → (HasLineAtFault marks b ⊎ (HasTooManyJobs marks b ⊎ HasTooManyDue run marks b)) → a ≡ b
+one_why : (run : Run) (marks : List Mark) (a b : Refusal) → AreMarksRefused run marks a → AreMarksRefused run marks b → a ≡ b
 one_why run marks a b (inl p) (inl q) =
-    let same = one_line_fault marks a.line b.line a.cause b.cause p.first q.first in same_refusal a b same.line same.cause (p.place ∙ sym q.place)
-one_why run marks a b (inl p) (inr (inl q)) = absurd (sound_or_fault marks a.line a.cause q.sound p.first)
-one_why run marks a b (inl p) (inr (inr q)) = absurd (sound_or_fault marks a.line a.cause q.sound p.first)
-one_why run marks a b (inr (inl p)) (inl q) = absurd (sound_or_fault marks b.line b.cause p.sound q.first)
+    let same = one_line_fault run.zones marks a.line b.line a.cause b.cause p.first q.first in same_refusal a b same.line same.cause (p.place ∙ sym q.place)
+one_why run marks a b (inl p) (inr (inl q)) = absurd (sound_or_fault run.zones marks a.line a.cause q.sound p.first)
+one_why run marks a b (inl p) (inr (inr q)) = absurd (sound_or_fault run.zones marks a.line a.cause q.sound p.first)
+one_why run marks a b (inr (inl p)) (inl q) = absurd (sound_or_fault run.zones marks b.line b.cause p.sound q.first)
 one_why run marks a b (inr (inl p)) (inr (inl q)) = p.is ∙ sym q.is
 one_why run marks a b (inr (inl p)) (inr (inr q)) = absurd (omega (arith, p.many, q.few))
-one_why run marks a b (inr (inr p)) (inl q) = absurd (sound_or_fault marks b.line b.cause p.sound q.first)
+one_why run marks a b (inr (inr p)) (inl q) = absurd (sound_or_fault run.zones marks b.line b.cause p.sound q.first)
 one_why run marks a b (inr (inr p)) (inr (inl q)) = absurd (omega (arith, q.many, p.few))
 one_why run marks a b (inr (inr p)) (inr (inr q)) = p.is ∙ sym q.is
 
+one_bad_zone : (zones : List NamedZone) (a b : Refusal) → HasBadZone zones a → HasBadZone zones b → a ≡ b
+one_bad_zone zones a b first second =
+    first.is ∙ ap (λ (zone : NamedZone). at_line zone.line 32) (first_refused first.before second.before first.after second.after first.zone second.zone (sym first.parts ∙ second.parts) first.readable second.readable first.refused second.refused) ∙ sym second.is
+
 pub one_refused_run : (run : Run) (a b : Refusal) → IsRefusedRun run a → IsRefusedRun run b → a ≡ b
-one_refused_run run a b first second =
-    let same = same_marks run.sections first.marks second.marks first.are second.are in
-    one_why run second.marks a b (subst (λ m. HasLineAtFault m a ⊎ (HasTooManyJobs m a ⊎ HasTooManyDue run m a)) same first.why) second.why
+one_refused_run run a b (inl first) (inl second) = one_bad_zone run.zones a b first second
+one_refused_run run a b (inl first) (inr second) = absurd (not_read run.zones a second.readable first)
+one_refused_run run a b (inr first) (inl second) = absurd (not_read run.zones b first.readable second)
+one_refused_run run a b (inr first) (inr second) =
+    let same = same_marks run.zones run.sections first.marks second.marks first.are second.are in
+    one_why run second.marks a b (subst (λ m. AreMarksRefused run m a) same first.why) second.why

@@ -1,28 +1,31 @@
 -- Marks that are collected, and the jobs that they have brought.
-use Rattle.std.specs.Prelude.{◌≡◌, ℕ, ◌+◌, Bool, true, false, List, [], ◌∷◌, ◌++◌, codes}
+use Rattle.std.specs.Prelude.{◌≡◌, ℕ, ◌+◌, Bool, true, false, List, [], ◌∷◌, ◌++◌, if◌then◌else◌, codes, bytes_eq}
 use Rattle.crontab_text.specs.LineBody.{LineBody, BlankBody, CommentBody, AssignBody, EntryBody, NickBody}
 use Rattle.due_set.specs.Table.{Job}
 use Rattle.run_text.specs.declared.refusal.Refusal.{Refusal}
-use Rattle.run_text.specs.Run.{Section, Run}
+use Rattle.run_text.specs.Run.{NamedZone, Section, Run}
 use Rattle.job_table.specs.Marks.{Mark, marks_from, section_marks, AreBodies, AreMarks, AreSound}
 use Rattle.job_table.specs.Table.{jobs_of, at_line, HasLineAtFault}
+use Rattle.job_table.specs.declared.collect.Above.{Above}
+use Rattle.job_table.specs.Zones.{NamesZone, zone_number}
 
 -- none of the marks is at fault, and these are the jobs that they bring
-pub record Collected (marks : List Mark) (jobs : List Job) : Type 0 where
-  pub sound : AreSound marks
+pub record Collected (zones : List NamedZone) (marks : List Mark) (jobs : List Job) : Type 0 where
+  pub sound : AreSound zones marks
   pub are : jobs ≡ jobs_of marks
 
 -- some marks more are collected, whatever the marks before them were
-abbrev pub AddsMarks : (old new : List Job) → List Mark → Type 0
-AddsMarks old new more = (marks : List Mark) → Collected marks old → Collected (marks ++ more) new
+abbrev pub AddsMarks : List NamedZone → (old new : List Job) → List Mark → Type 0
+AddsMarks zones old new more = (marks : List Mark) → Collected zones marks old → Collected zones (marks ++ more) new
 
 -- some marks more have one at fault, whatever the marks before and behind them are
-abbrev pub RefusesMarks : (old : List Job) → List Mark → Refusal → Type 0
-RefusesMarks old more refusal = (marks others : List Mark) → Collected marks old → HasLineAtFault ((marks ++ more) ++ others) refusal
+abbrev pub RefusesMarks : List NamedZone → (old : List Job) → List Mark → Refusal → Type 0
+RefusesMarks zones old more refusal =
+    (marks others : List Mark) → Collected zones marks old → HasLineAtFault zones ((marks ++ more) ++ others) refusal
 
 -- the marks of one line
-abbrev pub line_marks : (label : List ℕ) → (line number : ℕ) → LineBody → List Mark
-line_marks label line number body = marks_from label line number (body ∷ [])
+abbrev pub line_marks : List NamedZone → (label : List ℕ) → (zone line number : ℕ) → LineBody → List Mark
+line_marks zones label zone line number body = marks_from zones label zone line number (body ∷ [])
 
 -- the line is an entry
 abbrev pub is_entry : LineBody → Bool
@@ -32,26 +35,39 @@ is_entry (AssignBody name value) = false
 is_entry (EntryBody fields user command) = true
 is_entry (NickBody fields user command) = true
 
--- the name is no zone's, which is the line's fault
-abbrev pub NamesNoZone : List ℕ → ℕ → Refusal → Type 0
-NamesNoZone name line refusal = (name ≡ codes "UTC" → ⊥) × (refusal ≡ at_line line 21)
-
--- the marks of a section are collected
-pub record AddsSection (old new : List Job) (section : Section) : Type 0 where
-  pub bodies : List LineBody
-  pub are : AreBodies section bodies
-  pub adds : AddsMarks old new (section_marks section bodies)
-
--- one of the marks of a section is at fault
-pub record RefusesSection (old : List Job) (section : Section) (refusal : Refusal) : Type 0 where
-  pub bodies : List LineBody
-  pub are : AreBodies section bodies
-  pub refuses : RefusesMarks old (section_marks section bodies) refusal
+-- the number of the zone in force below a line, where that of this number is in force at it
+abbrev pub zone_below : List NamedZone → ℕ → LineBody → ℕ
+zone_below zones zone BlankBody = zone
+zone_below zones zone CommentBody = zone
+zone_below zones zone (AssignBody name value) = if bytes_eq name (codes "CRON_TZ") then zone_number value zones else zone
+zone_below zones zone (EntryBody fields user command) = zone
+zone_below zones zone (NickBody fields user command) = zone
 
 -- one entry, or none
 abbrev pub entries_of : Bool → ℕ
 entries_of true = 1
 entries_of false = 0
+
+-- what stands above the next line, where this stands above a line that says so
+pub record IsBelow (zones : List NamedZone) (above : Above) (body : LineBody) (below : Above) : Type 0 where
+  pub entries : below.entries ≡ above.entries + entries_of (is_entry body)
+  pub zone : below.zone ≡ zone_below zones above.zone body
+
+-- the name is no zone's, which is the line's fault
+abbrev pub NamesNoZone : List NamedZone → List ℕ → ℕ → Refusal → Type 0
+NamesNoZone zones name line refusal = (NamesZone name zones → ⊥) × (refusal ≡ at_line line 21)
+
+-- the marks of a section are collected
+pub record AddsSection (zones : List NamedZone) (old new : List Job) (section : Section) : Type 0 where
+  pub bodies : List LineBody
+  pub are : AreBodies section bodies
+  pub adds : AddsMarks zones old new (section_marks zones section bodies)
+
+-- one of the marks of a section is at fault
+pub record RefusesSection (zones : List NamedZone) (old : List Job) (section : Section) (refusal : Refusal) : Type 0 where
+  pub bodies : List LineBody
+  pub are : AreBodies section bodies
+  pub refuses : RefusesMarks zones old (section_marks zones section bodies) refusal
 
 -- how many of the lines are entries
 abbrev pub entries_in : List LineBody → ℕ
@@ -61,11 +77,11 @@ entries_in (body ∷ bodies) = entries_of (is_entry body) + entries_in bodies
 -- the run's marks have these jobs, and none of them is at fault
 pub record HasMarks (run : Run) (jobs : List Job) : Type 0 where
   pub marks : List Mark
-  pub are : AreMarks run.sections marks
-  pub collected : Collected marks jobs
+  pub are : AreMarks run.zones run.sections marks
+  pub collected : Collected run.zones marks jobs
 
 -- one of the run's marks is at fault
 pub record HasFaultyMarks (run : Run) (refusal : Refusal) : Type 0 where
   pub marks : List Mark
-  pub are : AreMarks run.sections marks
-  pub fault : HasLineAtFault marks refusal
+  pub are : AreMarks run.zones run.sections marks
+  pub fault : HasLineAtFault run.zones marks refusal

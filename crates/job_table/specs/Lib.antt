@@ -2,3 +2,4 @@ pub mod Collect
 pub mod Jobs
 pub mod Marks
 pub mod Table
+pub mod Zones

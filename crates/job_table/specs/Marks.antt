@@ -7,12 +7,13 @@ use Rattle.crontab_text.specs.LineBody.{LineBody, BlankBody, CommentBody, Assign
 use Rattle.due_set.specs.declared.job.JobKind.{JobKind}
 use Rattle.due_set.specs.declared.job.JobKind.TheVariants.{Crontab, Never}
 use Rattle.run_text.specs.Follow.{style_of}
-use Rattle.run_text.specs.Run.{Section}
+use Rattle.run_text.specs.Run.{NamedZone, Section}
+use Rattle.job_table.specs.Zones.{NamesZone, zone_number}
 
--- a line that names a zone, or a line that brings a job: by its number in the run file
+-- a line that names a zone, or a line that brings a job, which runs by the zone of that number: by its number in the run file
 pub data Mark : Type 0 where
   MarksZone : (line : ℕ) → (name : List ℕ) → Mark
-  MarksJob : (line : ℕ) → (name : List ℕ) → (kind : JobKind) → Mark
+  MarksJob : (line : ℕ) → (name : List ℕ) → (zone : ℕ) → (kind : JobKind) → Mark
 
 -- the name of a crontab's job: LABEL:k, with k from 1
 abbrev pub job_name : List ℕ → ℕ → List ℕ
@@ -23,61 +24,62 @@ abbrev pub kind_of : Option Fields → JobKind
 kind_of None = Never
 kind_of (Some fields) = Crontab fields
 
--- The marks of a table's lines, from the line of that number on, where so many entries stand from the first to the next one.
--- `CRON_TZ` names the zone of the entries below it (crontab(5) of cronie).
-abbrev pub marks_from : (label : List ℕ) → (line count : ℕ) → List LineBody → List Mark
-marks_from label line count [] = []
-marks_from label line count (BlankBody ∷ bodies) = marks_from label (line + 1) count bodies
-marks_from label line count (CommentBody ∷ bodies) = marks_from label (line + 1) count bodies
-marks_from label line count (AssignBody name value ∷ bodies) =
-    if bytes_eq name (codes "CRON_TZ") then MarksZone line value ∷ marks_from label (line + 1) count bodies
-    else marks_from label (line + 1) count bodies
-marks_from label line count (EntryBody fields user command ∷ bodies) =
-    MarksJob line (job_name label count) (Crontab fields) ∷ marks_from label (line + 1) (count + 1) bodies
-marks_from label line count (NickBody fields user command ∷ bodies) =
-    MarksJob line (job_name label count) (kind_of fields) ∷ marks_from label (line + 1) (count + 1) bodies
+-- The marks of a table's lines, from the line of that number on, where so many entries stand from the first to the next one, and
+-- the zone of that number is in force. `CRON_TZ` names the zone of the entries below it, up to the section's end (crontab(5) of
+-- cronie).
+abbrev pub marks_from : List NamedZone → (label : List ℕ) → (zone line count : ℕ) → List LineBody → List Mark
+marks_from zones label zone line count [] = []
+marks_from zones label zone line count (BlankBody ∷ bodies) = marks_from zones label zone (line + 1) count bodies
+marks_from zones label zone line count (CommentBody ∷ bodies) = marks_from zones label zone (line + 1) count bodies
+marks_from zones label zone line count (AssignBody name value ∷ bodies) =
+    if bytes_eq name (codes "CRON_TZ") then MarksZone line value ∷ marks_from zones label (zone_number value zones) (line + 1) count bodies
+    else marks_from zones label zone (line + 1) count bodies
+marks_from zones label zone line count (EntryBody fields user command ∷ bodies) =
+    MarksJob line (job_name label count) zone (Crontab fields) ∷ marks_from zones label zone (line + 1) (count + 1) bodies
+marks_from zones label zone line count (NickBody fields user command ∷ bodies) =
+    MarksJob line (job_name label count) zone (kind_of fields) ∷ marks_from zones label zone (line + 1) (count + 1) bodies
 
 -- the marks of a section: the line that opens it names the zone of its first entries
-abbrev pub section_marks : Section → List LineBody → List Mark
-section_marks section bodies = MarksZone section.line section.zone ∷ marks_from section.label (section.line + 1) 1 bodies
+abbrev pub section_marks : List NamedZone → Section → List LineBody → List Mark
+section_marks zones section bodies =
+    MarksZone section.line section.zone ∷ marks_from zones section.label (zone_number section.zone zones) (section.line + 1) 1 bodies
 
 -- what each line of the section says
 abbrev pub AreBodies : Section → List LineBody → Type 0
 AreBodies section bodies = AllZip (IsLineOf (style_of section.kind) section.label) section.lines bodies
 
 -- the marks of some sections, in the order of the lines
-abbrev pub AreMarks : List Section → List Mark → Type 0
-AreMarks [] marks = marks ≡ []
-AreMarks (section ∷ sections) marks =
-    (bodies : List LineBody) × (others : List Mark) × AreBodies section bodies × AreMarks sections others × (marks ≡ section_marks section bodies ++ others)
+abbrev pub AreMarks : List NamedZone → List Section → List Mark → Type 0
+AreMarks zones [] marks = marks ≡ []
+AreMarks zones (section ∷ sections) marks =
+    (bodies : List LineBody) × (others : List Mark) × AreBodies section bodies × AreMarks zones sections others × (marks ≡ section_marks zones section bodies ++ others)
 
 -- one of the marks brings a job of the name
 abbrev pub BringsJob : List ℕ → List Mark → Type 0
 BringsJob name [] = ⊥
 BringsJob name (MarksZone line zone ∷ marks) = BringsJob name marks
-BringsJob name (MarksJob line other kind ∷ marks) = (other ≡ name) ⊎ BringsJob name marks
+BringsJob name (MarksJob line other zone kind ∷ marks) = (other ≡ name) ⊎ BringsJob name marks
 
--- a mark is at fault behind some others: its zone isn't one of the run's, of which there is UTC alone so far, or a job of its
--- name is there already
-abbrev pub IsMarkFault : (before : List Mark) → Mark → (line cause : ℕ) → Type 0
-IsMarkFault before (MarksZone at name) line cause = (name ≡ codes "UTC" → ⊥) × (line ≡ at) × (cause ≡ 21)
-IsMarkFault before (MarksJob at name kind) line cause = BringsJob name before × (line ≡ at) × (cause ≡ 22)
+-- a mark is at fault behind some others: its zone is neither UTC nor one of the run's, or a job of its name is there already
+abbrev pub IsMarkFault : List NamedZone → (before : List Mark) → Mark → (line cause : ℕ) → Type 0
+IsMarkFault zones before (MarksZone at name) line cause = (NamesZone name zones → ⊥) × (line ≡ at) × (cause ≡ 21)
+IsMarkFault zones before (MarksJob at name zone kind) line cause = BringsJob name before × (line ≡ at) × (cause ≡ 22)
 
 -- none of the marks, which stand behind some others, is at fault
-abbrev pub AreSoundBehind : List Mark → List Mark → Type 0
-AreSoundBehind before [] = Unit {0}
-AreSoundBehind before (mark ∷ marks) =
-    ((line cause : ℕ) → IsMarkFault before mark line cause → ⊥) × AreSoundBehind (before ++ mark ∷ []) marks
+abbrev pub AreSoundBehind : List NamedZone → List Mark → List Mark → Type 0
+AreSoundBehind zones before [] = Unit {0}
+AreSoundBehind zones before (mark ∷ marks) =
+    ((line cause : ℕ) → IsMarkFault zones before mark line cause → ⊥) × AreSoundBehind zones (before ++ mark ∷ []) marks
 
 -- none of the marks is at fault
-abbrev pub AreSound : List Mark → Type 0
-AreSound marks = AreSoundBehind [] marks
+abbrev pub AreSound : List NamedZone → List Mark → Type 0
+AreSound zones marks = AreSoundBehind zones [] marks
 
 -- the first mark at fault
-pub record IsFirstMarkFault (marks : List Mark) (line cause : ℕ) : Type 0 where
+pub record IsFirstMarkFault (zones : List NamedZone) (marks : List Mark) (line cause : ℕ) : Type 0 where
   pub before : List Mark
   pub mark : Mark
   pub after : List Mark
   pub parts : marks ≡ before ++ mark ∷ after
-  pub sound : AreSound before
-  pub here : IsMarkFault before mark line cause
+  pub sound : AreSound zones before
+  pub here : IsMarkFault zones before mark line cause

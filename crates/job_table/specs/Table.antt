@@ -1,19 +1,22 @@
 -- The table of a run's jobs, and for what a run has none.
-use Rattle.std.specs.Prelude.{◌≡◌, ◌⊎◌, ℕ, ◌<◌, ◌≤◌, List, [], ◌∷◌, length, sum_by, ℤ, Some, slice_get}
-use Rattle.due_set.specs.Table.{Job, Table, IsJobDueList, utc_over}
-use Rattle.run_text.specs.Run.{Run}
+use Rattle.std.specs.Prelude.{◌≡◌, ◌⊎◌, ℕ, ◌<◌, ◌≤◌, List, [], ◌∷◌, ◌++◌, length, sum_by, ℤ, Some, slice_get}
+use Rattle.due_set.specs.Table.{Job, Table, IsJobDueList}
+use Rattle.run_text.specs.Run.{NamedZone, Run}
 use Rattle.run_text.specs.declared.refusal.Refusal.{Refusal}
+use Rattle.zone_minutes.specs.Zone.{IsRefused}
 use Rattle.job_table.specs.Marks.{Mark, MarksZone, MarksJob, AreMarks, AreSound, IsFirstMarkFault}
+use Rattle.job_table.specs.Zones.{AreReadable, zones_over}
 
--- the jobs that marks bring, in order. They all run by UTC, which is the only zone so far.
+-- the jobs that marks bring, in order
 abbrev pub jobs_of : List Mark → List Job
 jobs_of [] = []
 jobs_of (MarksZone line name ∷ marks) = jobs_of marks
-jobs_of (MarksJob line name kind ∷ marks) = record { name = name; zone = 0; kind = kind } ∷ jobs_of marks
+jobs_of (MarksJob line name zone kind ∷ marks) = record { name = name; zone = zone; kind = kind } ∷ jobs_of marks
 
 -- the table of a run with these marks
 abbrev pub table_of : Run → List Mark → Table
-table_of run marks = record { window = run.window; grace = run.grace; zones = utc_over run.window ∷ []; jobs = jobs_of marks }
+table_of run marks =
+    record { window = run.window; grace = run.grace; zones = zones_over run.window run.zones; jobs = jobs_of marks }
 
 -- how many due instants the jobs of a table have in all
 pub record IsDueCount (table : Table) (count : ℕ) : Type 0 where
@@ -22,11 +25,12 @@ pub record IsDueCount (table : Table) (count : ℕ) : Type 0 where
   pub each : (job : ℕ) (instants : List ℤ) → slice_get lists job ≡ Some instants → IsJobDueList table job instants
   pub sum : count ≡ sum_by length lists
 
--- the run's tables have these jobs: no line is at fault, and there aren't too many jobs or due instants
+-- the run's tables have these jobs: `jiff` reads each zone, no line is at fault, and there aren't too many jobs or due instants
 pub record IsTableOf (run : Run) (table : Table) : Type 0 where
+  pub readable : AreReadable run.zones
   pub marks : List Mark
-  pub are : AreMarks run.sections marks
-  pub sound : AreSound marks
+  pub are : AreMarks run.zones run.sections marks
+  pub sound : AreSound run.zones marks
   pub few_jobs : length (jobs_of marks) ≤ 1000
   pub is : table ≡ table_of run marks
   pub count : ℕ
@@ -41,28 +45,48 @@ at_line line cause = record { line = line; cause = cause; place = 0 }
 abbrev pub whole_run : ℕ → Refusal
 whole_run cause = at_line 0 cause
 
+-- `jiff` refuses a zone, and reads those before it: the first such line is at fault
+pub record HasBadZone (zones : List NamedZone) (refusal : Refusal) : Type 0 where
+  pub before : List NamedZone
+  pub zone : NamedZone
+  pub after : List NamedZone
+  pub parts : zones ≡ before ++ zone ∷ after
+  pub readable : AreReadable before
+  pub refused : IsRefused zone.source
+  pub is : refusal ≡ at_line zone.line 32
+
+-- the first line at fault, by its number
+pub record HasLineAtFault (zones : List NamedZone) (marks : List Mark) (refusal : Refusal) : Type 0 where
+  pub first : IsFirstMarkFault zones marks refusal.line refusal.cause
+  pub place : refusal.place ≡ 0
+
 -- there are more than 1,000 jobs
-pub record HasTooManyJobs (marks : List Mark) (refusal : Refusal) : Type 0 where
-  pub sound : AreSound marks
+pub record HasTooManyJobs (zones : List NamedZone) (marks : List Mark) (refusal : Refusal) : Type 0 where
+  pub sound : AreSound zones marks
   pub many : 1000 < length (jobs_of marks)
   pub is : refusal ≡ whole_run 23
 
 -- there are more than 20,000 due instants
 pub record HasTooManyDue (run : Run) (marks : List Mark) (refusal : Refusal) : Type 0 where
-  pub sound : AreSound marks
+  pub sound : AreSound run.zones marks
   pub few : length (jobs_of marks) ≤ 1000
   pub count : ℕ
   pub counted : IsDueCount (table_of run marks) count
   pub many : 20_000 < count
   pub is : refusal ≡ whole_run 24
 
--- the first line at fault, by its number
-pub record HasLineAtFault (marks : List Mark) (refusal : Refusal) : Type 0 where
-  pub first : IsFirstMarkFault marks refusal.line refusal.cause
-  pub place : refusal.place ≡ 0
+-- the tables of a run with these marks are refused
+abbrev pub AreMarksRefused : Run → List Mark → Refusal → Type 0
+AreMarksRefused run marks refusal =
+    HasLineAtFault run.zones marks refusal ⊎ (HasTooManyJobs run.zones marks refusal ⊎ HasTooManyDue run marks refusal)
+
+-- `jiff` reads each zone, and the run's tables are refused
+pub record HasBadTables (run : Run) (refusal : Refusal) : Type 0 where
+  pub readable : AreReadable run.zones
+  pub marks : List Mark
+  pub are : AreMarks run.zones run.sections marks
+  pub why : AreMarksRefused run marks refusal
 
 -- for what a run has no table
-pub record IsRefusedRun (run : Run) (refusal : Refusal) : Type 0 where
-  pub marks : List Mark
-  pub are : AreMarks run.sections marks
-  pub why : HasLineAtFault marks refusal ⊎ (HasTooManyJobs marks refusal ⊎ HasTooManyDue run marks refusal)
+abbrev pub IsRefusedRun : Run → Refusal → Type 0
+IsRefusedRun run refusal = HasBadZone run.zones refusal ⊎ HasBadTables run refusal

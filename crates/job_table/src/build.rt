@@ -6,6 +6,7 @@ ghost use Rattle.job_table.specs.Table.{IsTableOf, IsRefusedRun};
 
 use crate::collect::collect;
 use crate::due::count_due;
+use crate::zones::build_zones;
 use due_set::JobTable;
 use run_text::{Refusal, RunFault, RunFile};
 use std::alloc::Global;
@@ -17,19 +18,21 @@ const MOST_JOBS: usize = 1000;
 ///
 /// # Errors
 ///
-/// The first line that names no zone of the run (cause 21), or brings a job whose name is there (22); more than 1,000
-/// jobs (23), or more than 20,000 due instants (24), for which no line is to blame; or want of memory.
+/// The first zone line that `jiff` refuses (cause 32); or else the first line that names no zone of the run (21), or brings
+/// a job whose name is there (22); more than 1,000 jobs (23), or more than 20,000 due instants (24), for which no line is to
+/// blame; or want of memory.
 pub fn build_table(alloc: Global, run: &RunFile<'_>) -> Result<JobTable, RunFault>
     requires { IsReadRun run.now }
     ensures table { IfOk result (IsTableOf (run_of run.now)) }
     ensures refused { IfErr result (λ fault. IfRefused fault (IsRefusedRun (run_of run.now))) }
 {
+    let zones = build_zones(alloc, run)?;
     let jobs = collect(alloc, run)?;
     if jobs.len() > MOST_JOBS {
         return Err(RunFault::Refused(Refusal::of_line(0, 23)));
     }
     let specs = jobs.specs(alloc)?;
-    let table = JobTable::in_utc(alloc, run.window, run.grace, specs)?;
+    let table = JobTable::assemble(run.window, run.grace, zones, specs);
     match count_due(&table) {
         Some(_) => Ok(table),
         None => Err(RunFault::Refused(Refusal::of_line(0, 24))),

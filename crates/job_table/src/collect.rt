@@ -1,50 +1,69 @@
 //! The jobs of a run, collected line by line.
-ghost use Rattle.std.specs.Prelude.{◌≡◌, ◌∷◌, [], ◌++◌, ◌+◌, ◌<◌, ◌^◌, ℕ, List, length, codes, Ok, IfErr, OnOk, IfOk, IsOk};
+ghost use Rattle.std.specs.Prelude.{◌≡◌, ◌∷◌, [], ◌++◌, ◌+◌, ◌<◌, ◌≤◌, ◌^◌, ℕ, List, length, map, Ok, IfErr, OnOk, IfOk, IsOk};
 ghost use Rattle.std.specs.List.{AllByRecursion};
-ghost use Rattle.crontab_text.specs.LineBody.{LineBody, AssignBody, body_of};
+ghost use Rattle.crontab_text.specs.LineBody.{AssignBody, body_of};
 ghost use Rattle.crontab_text.specs.Lines.{lines_of};
 ghost use Rattle.due_set.specs.Table.{Job};
 ghost use Rattle.run_text.specs.Follow.{style_of};
 ghost use Rattle.run_text.specs.Reading.{IsReadRun};
-ghost use Rattle.run_text.specs.Run.{section_of, run_of};
+ghost use Rattle.run_text.specs.Run.{section_of, run_of, zone_of};
 ghost use Rattle.run_text.specs.Steps.{IfRefused};
 ghost use Rattle.run_text.specs.Table.{Says};
-ghost use Rattle.job_table.specs.Collect.{is_entry, AddsMarks, RefusesMarks, AddsSection, RefusesSection, line_marks, NamesNoZone, HasMarks, HasFaultyMarks};
+ghost use Rattle.job_table.specs.Collect.{AddsMarks, RefusesMarks, AddsSection, RefusesSection, IsBelow, line_marks, zone_below, NamesNoZone, HasMarks, HasFaultyMarks};
 ghost use Rattle.job_table.specs.Jobs.{crontab_job, HasJob};
 ghost use Rattle.job_table.specs.Marks.{kind_of, job_name};
 ghost use Rattle.job_table.specs.Table.{at_line};
+ghost use Rattle.job_table.specs.Zones.{NamesZone, zone_number};
 
-use crate::jobs::Jobs;
+use crate::jobs::{Jobs, Timing};
+use crate::zones::zone_number;
 use cron_fields::Fields;
 use crontab_text::{Body, Line, LineFault, Lines};
 use due_set::JobKind;
-use run_text::{Refusal, RunFault, RunFile, Section};
+use run_text::{Refusal, RunFault, RunFile, Section, ZoneLine};
 use std::alloc::Global;
 
-// Whether the zone is one of the run's. So far there is UTC alone.
-fn check_zone(name: &str, line: u32) -> Result<(), Refusal>
-    ensures ok { OnOk result (name.now ≡ codes "UTC") }
-    ensures refused { IfErr result (NamesNoZone name.now line) }
+// What stands above a line in its section.
+#[derive(Clone, Copy, Debug, PartialEq, Eq)]
+pub struct Above {
+    /// How many entries.
+    pub entries: u32,
+    /// The number of the zone in force.
+    pub zone: u16,
+}
+
+// The number of the zone of a name, which the line names.
+fn find_zone(zones: &[ZoneLine<'_>], name: &str, line: u32) -> Result<u16, Refusal>
+    requires { length zones.now ≤ 32 }
+    ensures number { IfOk result (λ number. number ≡ zone_number name.now (map zone_of zones.now)) }
+    ensures named { OnOk result (NamesZone name.now (map zone_of zones.now)) }
+    ensures refused { IfErr result (NamesNoZone (map zone_of zones.now) name.now line) }
 {
-    if name == "UTC" {
-        Ok(())
-    } else {
-        Err(Refusal::of_line(line, 21))
+    match zone_number(zones, name) {
+        Some(number) => Ok(number),
+        None => Err(Refusal::of_line(line, 21)),
     }
 }
 
-// Checks a variable that is set: `CRON_TZ` names a zone.
-fn check_variable(name: &str, value: &str, line: u32) -> Result<(), Refusal>
+// The number of the zone in force below a variable that is set: `CRON_TZ` names a zone.
+fn set_variable(
+    zones: &[ZoneLine<'_>],
+    zone: u16,
+    name: &str,
+    value: &str,
+    line: u32,
+) -> Result<u16, Refusal>
+    requires { length zones.now ≤ 32 }
+    ensures below { IfOk result (λ below. below ≡ zone_below (map zone_of zones.now) zone (AssignBody name.now value.now)) }
     ensures ok { OnOk result ((label : List ℕ) (number : ℕ) (jobs : List Job)
-        → AddsMarks jobs jobs (line_marks label line number (AssignBody name.now value.now))) }
+        → AddsMarks (map zone_of zones.now) jobs jobs (line_marks (map zone_of zones.now) label zone line number (AssignBody name.now value.now))) }
     ensures refused { IfErr result (λ refusal. (label : List ℕ) (number : ℕ) (jobs : List Job)
-        → RefusesMarks jobs (line_marks label line number (AssignBody name.now value.now)) refusal) }
+        → RefusesMarks (map zone_of zones.now) jobs (line_marks (map zone_of zones.now) label zone line number (AssignBody name.now value.now)) refusal) }
 {
     if name == "CRON_TZ" {
-        check_zone(value, line)?;
-        return Ok(());
+        return find_zone(zones, value, line);
     }
-    Ok(())
+    Ok(zone)
 }
 
 // When an entry under a nickname runs.
@@ -63,49 +82,70 @@ fn add_job(
     jobs: &mut Jobs,
     label: &str,
     number: u32,
-    kind: JobKind,
+    timing: Timing,
     line: u32,
 ) -> Result<(), RunFault>
-    ensures added { OnOk result (jobs.new ≡ jobs.old ++ crontab_job (job_name label.now number) kind ∷ []) }
+    ensures added { OnOk result (jobs.new ≡ jobs.old ++ crontab_job (job_name label.now number) timing.zone timing.kind ∷ []) }
     ensures new { OnOk result (HasJob (job_name label.now number) jobs.old → ⊥) }
     ensures refused { IfErr result (λ fault. IfRefused fault (λ refusal.
         HasJob (job_name label.now number) jobs.old × (refusal ≡ at_line line 22))) }
 {
     let name = format!(in alloc; "{label}:{number}")?;
-    if jobs.add(name, kind)? {
+    if jobs.add(name, timing)? {
         Ok(())
     } else {
         Err(RunFault::Refused(Refusal::of_line(line, 22)))
     }
 }
 
-// Takes over what a line says, and tells whether it is an entry: the one of that number in its section.
-fn add_line(
+// Adds the job of a line below some others, and tells what stands above the next line.
+fn add_entry(
     alloc: Global,
     jobs: &mut Jobs,
     label: &str,
-    number: u32,
+    above: Above,
+    kind: JobKind,
+    line: u32,
+) -> Result<Above, RunFault>
+    requires { above.entries + 1 < 2 ^ 32 }
+    ensures below { IfOk result (λ below. (below.entries ≡ above.entries + 1) × (below.zone ≡ above.zone)) }
+    ensures added { OnOk result (jobs.new ≡ jobs.old ++ crontab_job (job_name label.now (above.entries + 1)) above.zone kind ∷ []) }
+    ensures new { OnOk result (HasJob (job_name label.now (above.entries + 1)) jobs.old → ⊥) }
+    ensures refused { IfErr result (λ fault. IfRefused fault (λ refusal.
+        HasJob (job_name label.now (above.entries + 1)) jobs.old × (refusal ≡ at_line line 22))) }
+{
+    let entries = above.entries + 1;
+    let zone = above.zone;
+    add_job(alloc, jobs, label, entries, Timing { zone, kind }, line)?;
+    Ok(Above { entries, zone })
+}
+
+// Takes over what a line says, and tells what stands above the next one.
+fn add_line(
+    alloc: Global,
+    zones: &[ZoneLine<'_>],
+    jobs: &mut Jobs,
+    label: &str,
+    above: Above,
     at: u32,
     body: Body<'_>,
-) -> Result<bool, RunFault>
-    ensures entry { IfOk result (λ entry. entry ≡ is_entry (body_of body.entry)) }
-    ensures added { OnOk result (AddsMarks jobs.old jobs.new (line_marks label.now at number (body_of body.entry))) }
-    ensures refused { IfErr result (λ fault. IfRefused fault (RefusesMarks jobs.old (line_marks label.now at number (body_of body.entry)))) }
+) -> Result<Above, RunFault>
+    requires zones { length zones.now ≤ 32 }
+    requires entries { above.entries + 1 < 2 ^ 32 }
+    ensures below { IfOk result (IsBelow (map zone_of zones.now) above (body_of body.entry)) }
+    ensures added { OnOk result (AddsMarks (map zone_of zones.now) jobs.old jobs.new (line_marks (map zone_of zones.now) label.now above.zone at (above.entries + 1) (body_of body.entry))) }
+    ensures refused { IfErr result (λ fault. IfRefused fault (RefusesMarks (map zone_of zones.now) jobs.old (line_marks (map zone_of zones.now) label.now above.zone at (above.entries + 1) (body_of body.entry)))) }
 {
     match body {
-        Body::Blank | Body::Comment => Ok(false),
+        Body::Blank | Body::Comment => Ok(above),
         Body::Assign { name, value } => {
-            check_variable(name, value, at)?;
-            Ok(false)
+            let zone = set_variable(zones, above.zone, name, value, at)?;
+            Ok(Above { zone, ..above })
         }
         Body::Entry { fields, .. } => {
-            add_job(alloc, jobs, label, number, JobKind::Crontab { fields }, at)?;
-            Ok(true)
+            add_entry(alloc, jobs, label, above, JobKind::Crontab { fields }, at)
         }
-        Body::Nick { fields, .. } => {
-            add_job(alloc, jobs, label, number, kind_of(fields), at)?;
-            Ok(true)
-        }
+        Body::Nick { fields, .. } => add_entry(alloc, jobs, label, above, kind_of(fields), at),
     }
 }
 
@@ -114,22 +154,26 @@ fn add_line(
 /// # Errors
 ///
 /// The first line that names no zone of the run, or brings a job whose name is there; or want of memory.
-pub fn add_section(alloc: Global, jobs: &mut Jobs, section: &Section<'_>) -> Result<(), RunFault>
+pub fn add_section(
+    alloc: Global,
+    zones: &[ZoneLine<'_>],
+    jobs: &mut Jobs,
+    section: &Section<'_>,
+) -> Result<(), RunFault>
+    requires zones { length zones.now ≤ 32 }
     requires said { AllByRecursion (Says (style_of section.now.kind) section.now.label.now) (lines_of section.now.text.now) }
     requires text { length section.now.text.now < 2 ^ 32 }
     requires lines { section.now.line + length (lines_of section.now.text.now) < 2 ^ 32 }
-    ensures added { OnOk result (AddsSection jobs.old jobs.new (section_of section.now)) }
-    ensures refused { IfErr result (λ fault. IfRefused fault (RefusesSection jobs.old (section_of section.now))) }
+    ensures added { OnOk result (AddsSection (map zone_of zones.now) jobs.old jobs.new (section_of section.now)) }
+    ensures refused { IfErr result (λ fault. IfRefused fault (RefusesSection (map zone_of zones.now) jobs.old (section_of section.now))) }
 {
-    check_zone(section.zone, section.line)?;
+    let zone = find_zone(zones, section.zone, section.line)?;
     let mut lines = Lines::new(section.text, section.kind.style(), section.label);
-    let mut entries = 0;
+    let mut above = Above { entries: 0, zone };
     'lines: while let Some(read) = lines.next() {
         let line = said(read);
         let at = section.line + line.number;
-        if add_line(alloc, jobs, section.label, entries + 1, at, line.body)? {
-            entries += 1;
-        }
+        above = add_line(alloc, zones, jobs, section.label, above, at, line.body)?;
     }
     Ok(())
 }
@@ -157,7 +201,7 @@ pub fn collect(alloc: Global, run: &RunFile<'_>) -> Result<Jobs, RunFault>
 {
     let mut jobs = Jobs::new(alloc);
     for section in &run.sections {
-        add_section(alloc, &mut jobs, section)?;
+        add_section(alloc, run.zones.as_slice(), &mut jobs, section)?;
     }
     Ok(jobs)
 }

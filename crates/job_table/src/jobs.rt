@@ -8,10 +8,18 @@ use indexmap::IndexMap;
 use std::alloc::Global;
 use std::marker::Model;
 
+/// When a job runs, and by which zone.
+#[derive(Clone, Copy, Debug, PartialEq, Eq)]
+pub struct Timing {
+    /// The number of its zone in the table, from 0.
+    pub zone: u16,
+    pub kind: JobKind,
+}
+
 /// The jobs so far, each under its name, in the order in which they came.
 #[derive(Debug, Drop)]
 pub struct Jobs {
-    kinds: IndexMap<String, JobKind>,
+    timings: IndexMap<String, Timing>,
 }
 
 impl Model for Jobs {
@@ -21,9 +29,9 @@ impl Model for Jobs {
 
     ghost Value = { List Job };
 
-    ghost view = { λ jobs. map entry_job jobs.kinds.entries };
+    ghost view = { λ jobs. map entry_job jobs.timings.entries };
 
-    ghost invariant = { λ jobs. AreNamesDistinct (map entry_job jobs.kinds.entries) };
+    ghost invariant = { λ jobs. AreNamesDistinct (map entry_job jobs.timings.entries) };
 }
 
 impl Jobs {
@@ -32,7 +40,7 @@ impl Jobs {
         ensures { result ≡ [] }
     {
         Jobs {
-            kinds: IndexMap::new(alloc),
+            timings: IndexMap::new(alloc),
         }
     }
 
@@ -40,37 +48,37 @@ impl Jobs {
     pub fn len(&self) -> usize
         ensures { result ≡ length self.now }
     {
-        self.kinds.len()
+        self.timings.len()
     }
 
     /// Adds a job, and tells whether it is there. A job whose name is there already isn't added.
-    pub fn add(&mut self, name: String, kind: JobKind) -> Result<bool, OutOfMemory>
-        ensures { IfOk result (Adds self.old self.new (crontab_job (string_bytes name) kind)) }
+    pub fn add(&mut self, name: String, timing: Timing) -> Result<bool, OutOfMemory>
+        ensures { IfOk result (Adds self.old self.new (crontab_job (string_bytes name) timing.zone timing.kind)) }
     {
-        if self.kinds.contains_key(name.as_str()) {
+        if self.timings.contains_key(name.as_str()) {
             return Ok(false);
         }
-        self.kinds.insert(name, kind)?;
+        self.timings.insert(name, timing)?;
         Ok(true)
     }
 
-    /// The jobs as those of a table whose one zone is UTC.
+    /// The jobs as those of a table.
     pub fn specs(&self, alloc: Global) -> Result<Vec<JobSpec>, OutOfMemory>
         ensures specs { IfOk result (λ specs. map job_of specs.items ≡ self.now) }
         ensures distinct { AreNamesDistinct self.now }
     {
-        specs_of(alloc, &self.kinds)
+        specs_of(alloc, &self.timings)
     }
 }
 
-// The jobs of a map as those of a table whose one zone is UTC.
-fn specs_of(alloc: Global, kinds: &IndexMap<String, JobKind>) -> Result<Vec<JobSpec>, OutOfMemory>
-    ensures { IfOk result (λ specs. map job_of specs.items ≡ map entry_job kinds.now.entries) }
+// The jobs of a map as those of a table.
+fn specs_of(alloc: Global, timings: &IndexMap<String, Timing>) -> Result<Vec<JobSpec>, OutOfMemory>
+    ensures { IfOk result (λ specs. map job_of specs.items ≡ map entry_job timings.now.entries) }
 {
     let mut specs = Vec::new(alloc);
-    for place in 0..kinds.len() {
-        let (name, kind) = kinds.get_index(place).unwrap();
-        specs.push(JobSpec::new(alloc, name.as_str(), 0, *kind)?)?;
+    for place in 0..timings.len() {
+        let (name, timing) = timings.get_index(place).unwrap();
+        specs.push(JobSpec::new(alloc, name.as_str(), timing.zone, timing.kind)?)?;
     }
     Ok(specs)
 }

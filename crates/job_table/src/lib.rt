@@ -6,6 +6,7 @@ mod collect;
 mod due;
 mod jobs;
 mod laws;
+mod zones;
 
 pub use build::build_table;
 pub use laws::a_run_has_one_verdict;

@@ -4,4 +4,4 @@ use Rattle.job_table.specs.Jobs.{entry_job}
 use Rattle.job_table.proofs.jobs.specs_of.Given as goal
 
 abbrev pub invariant-loop-place : goal.invariant-loop-place
-invariant-loop-place l = map job_of l.specs.items ≡ map entry_job (take l.place l.kinds.entries)
+invariant-loop-place l = map job_of l.specs.items ≡ map entry_job (take l.place l.timings.entries)
