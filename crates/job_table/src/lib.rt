@@ -13,3 +13,5 @@ pub use laws::a_run_has_one_verdict;
 
 #[cfg(test)]
 mod tests;
+#[cfg(test)]
+mod zone_tests;

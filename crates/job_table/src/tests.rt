@@ -19,7 +19,7 @@ fn short(text: &str) -> Option<&str>
 }
 
 // The table of a run file of one replica without grace.
-fn table_of(alloc: Global, window: &str, sections: &str) -> Result<JobTable, Fail> {
+pub(crate) fn table_of(alloc: Global, window: &str, sections: &str) -> Result<JobTable, Fail> {
     let text = format!(in alloc;
         "cronrun 1\nreplicas 1\nwindow {window}\ngrace 0\n{sections}script\nend\n"
     )?;
@@ -30,7 +30,11 @@ fn table_of(alloc: Global, window: &str, sections: &str) -> Result<JobTable, Fai
 }
 
 // Line, cause and place for which a run file has no table.
-fn refusal_of(alloc: Global, window: &str, sections: &str) -> Result<(u32, u8, u32), Fail> {
+pub(crate) fn refusal_of(
+    alloc: Global,
+    window: &str,
+    sections: &str,
+) -> Result<(u32, u8, u32), Fail> {
     let text = format!(in alloc;
         "cronrun 1\nreplicas 1\nwindow {window}\ngrace 0\n{sections}script\nend\n"
     )?;
