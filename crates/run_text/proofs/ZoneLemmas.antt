@@ -1,14 +1,13 @@
 -- The line that names a zone.
-use Rattle.std.proofs.Common.{◌≡◌, ◌≢◌, ℕ, ◌+◌, ◌*◌, ◌%◌, ◌<◌, ◌≤◌, List, [], ◌∷◌, ◌++◌, length, get_or, true, Ok, All, ℤ, refl, ap, ◌∙◌, sym, subst, arith, rules, codes}
-use Rattle.std.specs.List.{AllByRecursion, AllPass}
+use Rattle.std.proofs.Common.{◌≡◌, ◌≢◌, ℕ, ◌<◌, List, ◌∷◌, ◌++◌, length, get_or, true, Ok, ℤ, refl, ap, ◌∙◌, sym, arith, rules, codes}
 use Rattle.std.proofs.lemmas.List.Elements.{All-from_recursion, recursion_from_All}
 use Rattle.std.proofs.lemmas.List.{append_cancel_left}
 use Rattle.hex.specs.Hex.{decode_of, is_hex_digit}
 use Rattle.hex.proofs.HexLemmas.{decode_of-ok, decode_of-digits, decode_of-same}
-use Rattle.zone_minutes.specs.Zone.{Source, FixedOffset, PosixRule, TzifFile}
+use Rattle.zone_minutes.specs.Zone.{Source, FixedOffset, TzifFile}
 use Rattle.run_text.specs.Grammar.{IsZoneName}
 use Rattle.run_text.specs.Run.{bytes_or_none}
-use Rattle.run_text.specs.Zones.{IsOffsetText, IsSourceText, fixed, posix, tzif, IsHexText, zone_line, IsZoneLine, HasZoneWord}
+use Rattle.run_text.specs.Zones.{IsOffsetText, IsSourceText, fixed, posix, tzif, IsHexText, IsZoneLine, HasZoneWord}
 use Rattle.run_text.proofs.ListLemmas.{Lacks}
 use Rattle.run_text.proofs.OffsetLemmas.{one_offset}
 use Rattle.run_text.proofs.PhraseLemmas.{IsCutAtSpace, same_space, zone_no_space}

@@ -1,7 +1,6 @@
 use Rattle.std.proofs.Common.{◌≡◌, ◌≢◌, ◌<◌, length, sym, subst, codes, arith, rules}
 use Rattle.std.proofs.lemmas.Bool.Decides.{nat_tests}
 use Rattle.std.proofs.lemmas.Grind.{common_steps}
-use Rattle.std.specs.List.{AllByRecursion}
 use Rattle.run_text.proofs.PartLemmas.{free_name, free_few, free_new, New}
 use Rattle.run_text.proofs.zone.is_free.Goals as goal
 
