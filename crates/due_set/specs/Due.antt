@@ -1,6 +1,5 @@
 -- When a crontab entry is due. The form at clock changes is this project's own reading of cron(8) of cronie.
 use Rattle.std.specs.Prelude.{◌≡◌, ◌≢◌, ◌⊎◌, List, [], ◌∷◌, ℤ, pos, ◌-ℤ◌, ◌<ℤ◌, ◌≤ℤ◌, MatchBool, ⊤}
-use Rattle.std.specs.Int.{int_div_euclid}
 use Rattle.std.specs.List.{AllByRecursion}
 use Rattle.jiff.specs.Types.{TimeZone}
 use Rattle.cron_fields.specs.Match.{MatchesDate, MatchesTime, is_frequent}
@@ -49,22 +48,6 @@ IsDueIn fields source instant = (zone : TimeZone) × IsReadAs source zone × IsD
 abbrev pub IsNotDueIn : Fields → Source → ℤ → ℤ → Type 0
 IsNotDueIn fields source from until =
     (instant : ℤ) → from ≤ℤ instant → instant <ℤ until → IsDueIn fields source instant → ⊥
-
--- the instants from one on and before another are of one local day
-abbrev pub AreOfOneDay : Source → ℤ → ℤ → Type 0
-AreOfOneDay source from until =
-    (zone : TimeZone) → IsReadAs source zone → (instant : ℤ) → from ≤ℤ instant → instant <ℤ until
-    → day_number (local_of zone instant) ≡ day_number (local_of zone from)
-
--- the number of a civil minute's hour, counted from 1970-01-01 00:00
-abbrev pub hour_number : ℤ → ℤ
-hour_number minute = int_div_euclid minute (pos 60)
-
--- the instants from one on and before another are of one hour of one local day
-abbrev pub AreOfOneHour : Source → ℤ → ℤ → Type 0
-AreOfOneHour source from until =
-    (zone : TimeZone) → IsReadAs source zone → (instant : ℤ) → from ≤ℤ instant → instant <ℤ until
-    → hour_number (local_of zone instant) ≡ hour_number (local_of zone from)
 
 -- the least due instant from one on
 pub record IsFirstDue (fields : Fields) (source : Source) (from instant : ℤ) : Type 0 where
