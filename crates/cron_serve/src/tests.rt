@@ -132,7 +132,7 @@ launch a:1@20240331T0546Z
 end
 ";
 
-// The line of a zone that isn't named, and one whose form is of a later time.
+// The line of a zone that isn't named, one whose name is taken, and one whose rule is none.
 const FOREIGN_ZONE: &str = "cronrun 1
 replicas 1
 window 2024-03-31T00:00Z 2024-03-31T01:00Z
@@ -148,7 +148,17 @@ const ZONE_LINE: &str = "cronrun 1
 replicas 1
 window 2024-03-31T00:00Z 2024-03-31T01:00Z
 grace 0
+zone UTC fixed +05:30
+script
+end
+";
+
+const ZONE_RULE: &str = "cronrun 1
+replicas 1
+window 2024-03-31T00:00Z 2024-03-31T01:00Z
+grace 0
 zone I fixed +05:30
+zone J posix no rule
 script
 end
 ";
@@ -245,7 +255,8 @@ fn runs_have_their_reports(rt: HostRuntime) -> Result<(), Fail> {
 #[test]
 fn refusals_have_their_notes(rt: HostRuntime) -> Result<(), Fail> {
     for (input, note) in [
-        (ZONE_LINE, "cron_cluster: line 5: cause 35 at 0\n"),
+        (ZONE_LINE, "cron_cluster: line 5: cause 34 at 0\n"),
+        (ZONE_RULE, "cron_cluster: line 6: cause 32 at 0\n"),
         (FOREIGN_ZONE, "cron_cluster: line 6: cause 21 at 0\n"),
         (ONE_LABEL, "cron_cluster: line 8: cause 22 at 0\n"),
         (CUT, "cron_cluster: line 8: cause 31 at 0\n"),
