@@ -99,7 +99,7 @@ equals_is_no_blank : IsBlank 61 → ⊥
 equals_is_no_blank (inl space) = omega (arith, space)
 equals_is_no_blank (inr tab) = omega (arith, tab)
 
-ends_name : (between behind : List ℕ) → AllByRecursion IsBlank between → MayBeginWith IsNoNameByte (between ++ 61 ∷ behind)
+pub ends_name : (between behind : List ℕ) → AllByRecursion IsBlank between → MayBeginWith IsNoNameByte (between ++ 61 ∷ behind)
 ends_name [] behind all = no_name_byte 61 (inr refl)
 ends_name (c ∷ cs) behind all = no_name_byte c (inl all.0)
 

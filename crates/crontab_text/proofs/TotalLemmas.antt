@@ -142,7 +142,7 @@ assignment_or_not text =
     ]
 
 -- a text ends with a command, or the command is at fault
-some_command : (text : List ℕ) → ((command : List ℕ) × EndsWithCommand text command) ⊎ ((cause : ℕ) × (left : ℕ) × IsCommandFault text cause left)
+pub some_command : (text : List ℕ) → ((command : List ℕ) × EndsWithCommand text command) ⊎ ((cause : ℕ) × (left : ℕ) × IsCommandFault text cause left)
 some_command text = let (command, skips) = some_skip text in judge command skips
   where
     above : (n : ℕ) → (n ≤ 1000 → ⊥) → 1000 < n

@@ -19,14 +19,14 @@ abbrev pub SameFault : (c d l m : ℕ) → Type 0
 SameFault c d l m = (c ≡ d) × (l ≡ m)
 
 -- commands
-same_command : (text a b : List ℕ) → EndsWithCommand text a → EndsWithCommand text b → a ≡ b
+pub same_command : (text a b : List ℕ) → EndsWithCommand text a → EndsWithCommand text b → a ≡ b
 same_command text a b first second = same_skip text a b first.skips second.skips
 
 no_bad_command : (command : List ℕ) (c l : ℕ) → IsCommand command → IsBadCommand command c l → ⊥
 no_bad_command command c l is (inl none) = omega (arith, is.some, ap length none.0)
 no_bad_command command c l is (inr long) = omega (arith, is.short, long.0)
 
-command_or_fault : (text a : List ℕ) (c l : ℕ) → EndsWithCommand text a → IsCommandFault text c l → ⊥
+pub command_or_fault : (text a : List ℕ) (c l : ℕ) → EndsWithCommand text a → IsCommandFault text c l → ⊥
 command_or_fault text a c l is fault =
     no_bad_command fault.command c l (subst IsCommand (same_skip text a fault.command is.skips fault.skips) is.is) fault.is
 
@@ -36,7 +36,7 @@ same_bad_command command c d l m (inl p) (inr q) = absurd (omega (arith, q.0, ap
 same_bad_command command c d l m (inr p) (inl q) = absurd (omega (arith, p.0, ap length q.0))
 same_bad_command command c d l m (inr p) (inr q) = (p.1 ∙ sym q.1, p.2 ∙ sym q.2)
 
-same_command_fault : (text : List ℕ) (c d l m : ℕ) → IsCommandFault text c l → IsCommandFault text d m → SameFault c d l m
+pub same_command_fault : (text : List ℕ) (c d l m : ℕ) → IsCommandFault text c l → IsCommandFault text d m → SameFault c d l m
 same_command_fault text c d l m first second =
     let same = same_skip text first.command second.command first.skips second.skips in
     same_bad_command second.command c d l m (subst (λ t. IsBadCommand t c l) same first.is) second.is

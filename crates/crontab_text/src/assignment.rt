@@ -25,8 +25,8 @@ fn value_of(text: &str) -> &str
     unquote(drop_blanks(skip_blanks(text)))
 }
 
-// What is inside the quotes round a text; a text without matched quotes stays.
-fn unquote(text: &str) -> &str
+/// What is inside the quotes round a text; a text without matched quotes stays.
+pub fn unquote(text: &str) -> &str
     ensures { IsUnquoted text.now result.now }
 {
     if is_quoted(text) {
@@ -46,8 +46,8 @@ fn is_quoted(text: &str) -> bool
     }
 }
 
-// A text up to the first byte that can't stand in a name, and from there on.
-fn cut_behind_name(text: &str) -> (&str, &str)
+/// A text up to the first byte that can't stand in a name, and from there on.
+pub fn cut_behind_name(text: &str) -> (&str, &str)
     ensures { IsCutAt IsNoNameByte text.now result.0.now result.1.now }
 {
     match first_other(text) {
@@ -64,8 +64,8 @@ fn first_other(text: &str) -> Option<usize>
     text.as_bytes().iter().position(|byte| !is_name_byte(*byte))
 }
 
-// Whether name bytes begin with one that may begin a name.
-fn is_name(text: &str) -> bool
+/// Whether name bytes begin with one that may begin a name.
+pub fn is_name(text: &str) -> bool
     requires { LacksAny IsNoNameByte text.now }
     ensures { IsTrue result ↔ IsName text.now }
 {

@@ -73,8 +73,8 @@ pub fn check_tail(style: Style, tail: &Tail<'_>) -> Result<(), Fault>
     }
 }
 
-// Whether a command has 1 to 1,000 bytes.
-fn check_command(command: &str) -> Result<(), Fault>
+/// Whether a command has 1 to 1,000 bytes.
+pub fn check_command(command: &str) -> Result<(), Fault>
     ensures good { OnOk result (IsCommand command.now) }
     ensures bad { IfErr result (λ fault. IsBadCommand command.now fault.cause fault.left) }
 {
