@@ -1,0 +1,9 @@
+pub mod SpacedLemmas
+pub mod NumberLemmas
+pub mod LogicalLemmas
+pub mod SettingLemmas
+pub mod SettingsLemmas
+pub mod ChoiceLemmas
+pub mod JobLemmas
+pub mod AnswerLemmas
+pub mod ReaderLemmas

@@ -1,0 +1,11 @@
+pub mod Answers
+pub mod Job
+pub mod Limits
+pub mod LineBody
+pub mod LogicalLines
+pub mod Number
+pub mod Reader
+pub mod Setting
+pub mod Settings
+pub mod Spaced
+pub mod TableReader

@@ -1,0 +1,46 @@
+ghost use Rattle.std.specs.Prelude.{◌≡◌, ◌<◌, ◌∷◌, [], ℕ, List, Result, false, length};
+ghost use Rattle.std.specs.List.{AllByRecursion};
+ghost use Rattle.crontab_text.specs.Lines.{lines_of};
+ghost use Rattle.crontab_text.specs.declared.answer.LineFault.{LineFault};
+ghost use Rattle.anacron_text.specs.Answers.{AreAnswers, AreAnswersBelow, IsAnswer, LineAnswer};
+ghost use Rattle.anacron_text.specs.LogicalLines.{BeginsWithLogicalLine, is_continued, logical_lines};
+ghost use Rattle.anacron_text.specs.Reader.{ReadsLine, answer_of};
+ghost use Rattle.anacron_text.specs.TableReader.{TableReader, rest_of};
+ghost use Rattle.anacron_text.specs.declared.answer.AnaLine.{AnaLine};
+ghost use Rattle.anacron_text.specs.declared.settings.Settings.{Settings};
+
+/// A law: each line says one thing, or breaks one rule first at one place, and never both.
+pub fn a_line_has_one_reading()
+    ensures some { (settings : Settings) (line : List ℕ)
+        → (answer : LineAnswer) × IsAnswer settings line answer }
+    ensures one { (settings : Settings) (line : List ℕ) (a b : LineAnswer)
+        → IsAnswer settings line a → IsAnswer settings line b → a ≡ b }
+{}
+
+/// A law: the logical lines of a text are the one that it begins with, and those of what is behind it. An empty text has
+/// none, each other text begins with one, and where no line is continued they are the lines of the text.
+pub fn a_text_is_its_logical_lines()
+    ensures none { logical_lines [] ≡ [] }
+    ensures next { (text line after : List ℕ)
+        → BeginsWithLogicalLine text line after → logical_lines text ≡ line ∷ logical_lines after }
+    ensures some { (text : List ℕ) → 0 < length text
+        → (line : List ℕ) × (after : List ℕ) × BeginsWithLogicalLine text line after }
+    ensures plain { (text : List ℕ) → AllByRecursion (λ line. is_continued line ≡ false) (lines_of text)
+        → logical_lines text ≡ lines_of text }
+{}
+
+/// A law: each table has one list of answers.
+pub fn a_table_has_one_list_of_answers()
+    ensures some { (text : List ℕ) → (answers : List LineAnswer) × AreAnswers text answers }
+    ensures one { (text : List ℕ) (a b : List LineAnswer) → AreAnswers text a → AreAnswers text b → a ≡ b }
+{}
+
+/// A law: the answer that a reader hands out stands before the answers to the rest of its table, and at the end there
+/// are none. So the answers that the calls hand out, in order, are those of the table.
+pub fn answers_come_in_order()
+    ensures next { (old new : TableReader) (handed : Result AnaLine LineFault) (answers : List LineAnswer)
+        → ReadsLine old new handed
+        → AreAnswersBelow (logical_lines (rest_of new)) new.settings answers
+        → AreAnswersBelow (logical_lines (rest_of old)) old.settings (answer_of handed ∷ answers) }
+    ensures end { (settings : Settings) → AreAnswersBelow (logical_lines []) settings [] }
+{}
