@@ -1,0 +1,5 @@
+pub mod ClimbLemmas
+pub mod DescentLemmas
+pub mod LeafLemmas
+pub mod LesserLemmas
+pub mod NodeLemmas
