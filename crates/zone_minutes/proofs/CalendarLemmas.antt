@@ -165,7 +165,7 @@ civil_at-injective a b in_a in_b e =
     same_minute a b (sym day_a.number ∙ ap (λ (c : Civil). days_from_civil c.year c.month c.day) e ∙ day_b.number) (omega arith)
 
 -- no day before 0000-01-01 is in a year from 0 on
-day_since : (year : ℤ) (month day : ℕ) → IsCivilDate year month day → pos 0 ≤ℤ year → negsuc 719_527 ≤ℤ days_from_civil year month day
+pub day_since : (year : ℤ) (month day : ℕ) → IsCivilDate year month day → pos 0 ≤ℤ year → negsuc 719_527 ≤ℤ days_from_civil year month day
 day_since year month day civil since =
     by_lt_z (pos 0) year
     (λ lt. omega (arith, signed_arith, IsDayAfter-first.number, days_from_civil-day_count, day_count-lt_year (pos 0) 1 1 year month day ((omega (arith, signed_arith), omega (arith, signed_arith)), (omega arith, omega arith), (omega arith, omega arith)) civil.2.0 lt))

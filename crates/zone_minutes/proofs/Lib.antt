@@ -1,4 +1,5 @@
 pub mod CalendarLemmas
+pub mod MonthLemmas
 pub mod RunLemmas
 pub mod SameZone
 pub mod StampLemmas

@@ -1,14 +1,15 @@
 -- Stamps: each digit and mark at its place, and one stamp for each instant.
-use Rattle.std.proofs.Common.{◌≡◌, ℕ, zero, suc, ◌+◌, ◌*◌, ◌/◌, ◌%◌, ◌<◌, ◌≤◌, List, [], ◌∷◌, ◌++◌, length, get_or, drop, refl, sym, ap, subst, ◌∙◌, arith, ℤ, pos, unsigned_abs}
-use Rattle.std.proofs.Math.Seq.{drop-cons}
+use Rattle.std.proofs.Common.{◌≡◌, ◌↔◌, ℕ, zero, suc, ◌+◌, ◌*◌, ◌/◌, ◌%◌, ◌<◌, ◌≤◌, List, [], ◌∷◌, ◌++◌, codes, length, get_or, take, drop, refl, sym, ap, subst, ◌∙◌, arith, length-append, ℤ, pos, ◌*ℤ◌, unsigned_abs}
+use Rattle.std.proofs.Math.Seq.{drop-cons, take-append_seam}
+use Rattle.std.specs.Int.{int_rem_euclid}
 use Rattle.std.proofs.lemmas.List.{drop_all}
 use Rattle.std.proofs.lemmas.Str.Ascii.{IsAscii-nil, IsAscii-cons}
 use Rattle.std.specs.Str.{IsAscii}
 use Rattle.jiff_core.proofs.SignedLemmas.{signed_arith, one_part}
 use Rattle.jiff_core.proofs.CalendarLemmas.{days_in_month_bounds}
 use Rattle.zone_minutes.proofs.CalendarLemmas.{civil_at-is, civil_at-injective}
-use Rattle.zone_minutes.specs.Civil.{civil_at, IsCalendarMinute}
-use Rattle.zone_minutes.specs.Stamp.{two_digits, extended_text, basic_text, stamp_text, basic_stamp_text, IsStampable, HasTwoDigits, HasMarks}
+use Rattle.zone_minutes.specs.Civil.{civil_at, day_number, minute_of_day, IsCalendarDay, IsCalendarMinute}
+use Rattle.zone_minutes.specs.Stamp.{two_digits, extended_text, basic_text, stamp_text, basic_stamp_text, date_text, IsStampable, HasTwoDigits, HasMarks}
 use Rattle.zone_minutes.specs.declared.civil.Civil.{Civil}
 
 -- the n elements from that place on, one by one
@@ -137,6 +138,84 @@ length-stamp_text at = refl
 pub length-basic_stamp_text : (at : ℤ) → length (basic_stamp_text at) ≡ 14
 unfolding basic_stamp_text
 length-basic_stamp_text at = refl
+
+pub length-date_text : (day : ℤ) → length (date_text day) ≡ 10
+unfolding date_text
+length-date_text day = refl
+
+-- the time of day of a stamp: what it has after the date
+abbrev pub clock_text : ℤ → List ℕ
+clock_text at = (84 ∷ two_digits (minute_of_day at / 60)) ++ (58 ∷ two_digits (minute_of_day at % 60)) ++ 90 ∷ []
+
+-- a stamp is the date of its day, and the time of day
+pub stamp_text-parts : (at : ℤ) → stamp_text at ≡ date_text (day_number at) ++ clock_text at
+unfolding stamp_text date_text
+stamp_text-parts at = refl
+
+abbrev pub with_marks : List ℕ → List ℕ
+with_marks xs =
+    get_or xs 0 0 ∷ get_or xs 1 0 ∷ get_or xs 2 0 ∷ get_or xs 3 0 ∷ 45 ∷ get_or xs 4 0 ∷ get_or xs 5 0 ∷ 45 ∷ get_or xs 6 0 ∷ get_or xs 7 0
+    ∷ get_or xs 8 0 ∷ get_or xs 9 0 ∷ get_or xs 10 0 ∷ 58 ∷ get_or xs 11 0 ∷ get_or xs 12 0 ∷ get_or xs 13 0 ∷ []
+
+abbrev without_marks : List ℕ → List ℕ
+without_marks xs =
+    get_or xs 0 0 ∷ get_or xs 1 0 ∷ get_or xs 2 0 ∷ get_or xs 3 0 ∷ get_or xs 5 0 ∷ get_or xs 6 0 ∷ get_or xs 8 0 ∷ get_or xs 9 0
+    ∷ get_or xs 10 0 ∷ get_or xs 11 0 ∷ get_or xs 12 0 ∷ get_or xs 14 0 ∷ get_or xs 15 0 ∷ get_or xs 16 0 ∷ []
+
+-- of 14 bytes these are a stamp's, with the marks just where they are without
+pub stamp_with_marks : (basic : List ℕ) → length basic ≡ 14 → (at : ℤ) → (basic ≡ basic_stamp_text at) ↔ (with_marks basic ≡ stamp_text at)
+unfolding stamp_text basic_stamp_text elements
+stamp_with_marks basic long at = (there, back)
+  where
+    there : basic ≡ basic_stamp_text at → with_marks basic ≡ stamp_text at
+    there e = ap with_marks e
+
+    back : with_marks basic ≡ stamp_text at → basic ≡ basic_stamp_text at
+    back e = drop-elements basic 14 0 long ∙ ap without_marks e
+
+-- ten bytes one by one, before the time of day with which a day begins
+pub midnight_bytes : (bytes : List ℕ) → length bytes ≡ 10
+    → get_or bytes 0 0 ∷ get_or bytes 1 0 ∷ get_or bytes 2 0 ∷ get_or bytes 3 0 ∷ get_or bytes 4 0 ∷ get_or bytes 5 0 ∷ get_or bytes 6 0 ∷ get_or bytes 7 0 ∷ get_or bytes 8 0 ∷ get_or bytes 9 0 ∷ codes "T00:00Z" ≡ bytes ++ codes "T00:00Z"
+unfolding elements
+midnight_bytes bytes long = ap (λ date. date ++ codes "T00:00Z") (sym (drop-elements bytes 10 0 long))
+
+-- the minute with which a day begins
+pub midnight_in : (day : ℤ) → IsCalendarDay day → IsCalendarMinute (day *ℤ pos 1440)
+midnight_in day h = (omega (arith, signed_arith), omega (arith, signed_arith))
+
+midnight_day : (day : ℤ) → day_number (day *ℤ pos 1440) ≡ day
+midnight_day day = omega (arith, signed_arith)
+
+midnight_clock : (day : ℤ) → minute_of_day (day *ℤ pos 1440) ≡ 0
+midnight_clock day = omega (arith, signed_arith, one_part (int_rem_euclid (day *ℤ pos 1440) (pos 1440)))
+
+-- the stamp of that minute
+pub stamp_text-midnight : (day : ℤ) → stamp_text (day *ℤ pos 1440) ≡ date_text day ++ codes "T00:00Z"
+stamp_text-midnight day =
+    let clock : clock_text (day *ℤ pos 1440) ≡ codes "T00:00Z" = rw (midnight_clock day) refl in
+    stamp_text-parts (day *ℤ pos 1440) ∙ rw (midnight_day day, clock) refl
+
+-- its first ten bytes
+pub date_text-front : (day : ℤ) → take 10 (stamp_text (day *ℤ pos 1440)) ≡ date_text day
+date_text-front day =
+    ap (take 10) (stamp_text-midnight day) ∙ ap (λ n. take n (date_text day ++ codes "T00:00Z")) (sym (length-date_text day)) ∙ take-append_seam (date_text day) (codes "T00:00Z")
+
+-- two days of the calendar have two dates
+pub date_text-injective : (a b : ℤ) → IsCalendarDay a → IsCalendarDay b → date_text a ≡ date_text b → a ≡ b
+date_text-injective a b in_a in_b e =
+    let stamps : stamp_text (a *ℤ pos 1440) ≡ stamp_text (b *ℤ pos 1440) = stamp_text-midnight a ∙ ap (λ date. date ++ codes "T00:00Z") e ∙ sym (stamp_text-midnight b) in
+    let same = stamp_text-injective (a *ℤ pos 1440) (b *ℤ pos 1440) (midnight_in a in_a) (midnight_in b in_b) stamps in
+    omega (arith, signed_arith, same)
+
+-- bytes before that time of day are the date of the stamp's day
+pub date_text-of_midnight : (bytes : List ℕ) (at : ℤ) → bytes ++ codes "T00:00Z" ≡ stamp_text at → bytes ≡ date_text (day_number at)
+date_text-of_midnight bytes at e =
+    let date = date_text (day_number at) in
+    let all : length (bytes ++ codes "T00:00Z") ≡ 17 = ap length e ∙ length-stamp_text at in
+    let long : length bytes ≡ 10 = omega (arith, length-append bytes (codes "T00:00Z")) in
+    let whole : bytes ++ codes "T00:00Z" ≡ date ++ clock_text at = e ∙ stamp_text-parts at in
+    sym (take-append_seam bytes (codes "T00:00Z")) ∙ ap (take (length bytes)) whole
+    ∙ ap (λ n. take n (date ++ clock_text at)) (long ∙ sym (length-date_text (day_number at))) ∙ take-append_seam date (clock_text at)
 
 -- the same as `IsAscii`, as a record, so that antt finds the list
 record AsciiBytes (bytes : List ℕ) : Type 0 where

@@ -1,21 +1,20 @@
 -- No source is both read and refused.
-use Rattle.std.proofs.Common.{◌≡◌, ◌⊎◌, inl, inr, ℕ, ◌<◌, ◌-◌, Bool, true, false, if◌then◌else◌, List, length, map, get_or, Option, Some, None, option_map, Ok, Err, IfSome, ℤ, refl, sym, ap, ◌∙◌}
-use Rattle.jiff.specs.Types.{TimeZone, UTC, Unknown, Fixed, Posix, Tzif, TzifFault}
+use Rattle.std.proofs.Common.{◌≡◌, inl, inr, ℕ, ◌-◌, Bool, true, false, if◌then◌else◌, List, length, map, get_or, Option, Some, None, option_map, IfSome, ℤ, refl, sym, ap, ◌∙◌}
+use Rattle.jiff.specs.Types.{TimeZone, UTC, Unknown, Fixed, Posix, Tzif}
 use Rattle.jiff.specs.Placed.{IsPosixZone}
-use Rattle.jiff.specs.Words.{read_whole}
 use Rattle.jiff_tz.specs.Abbreviation.{abbreviation_text}
 use Rattle.jiff_tz.specs.PosixRule.{utc_window, in_window, dst_at_by, match_some, std_info, dst_info, info_at}
 use Rattle.jiff_tz.specs.PosixText.{DstText, TzText, dst_view, tz_view}
-use Rattle.jiff_tz.specs.Tzif.{HasBadRule, tzif_view}
+use Rattle.jiff_tz.specs.Tzif.{tzif_view}
 use Rattle.jiff_tz.specs.TzifAgree.{RowAgrees, FooterAgrees}
-use Rattle.jiff_tz.specs.TzifReader.{TzifText, read_tzif}
+use Rattle.jiff_tz.specs.TzifReader.{TzifText}
 use Rattle.jiff_tz.specs.TzifText.{TransitionText, transition_text, no_row}
 use Rattle.jiff_tz.specs.Year.{year_of_nanos}
 use Rattle.jiff_tz.specs.declared.info.OffsetInfo.{OffsetInfo}
 use Rattle.jiff_tz.specs.declared.posix.Dst.{Dst}
 use Rattle.jiff_tz.specs.declared.posix.TimeZone.{TimeZone as PosixZone}
 use Rattle.jiff_tz.specs.declared.tzif.Tzif.{Tzif as Table}
-use Rattle.zone_minutes.specs.Zone.{Source, FixedOffset, PosixRule, TzifFile, IsReadAs, IsReadable, IsRefused, IsTable, IsTableZone}
+use Rattle.zone_minutes.specs.Zone.{Source, FixedOffset, PosixRule, TzifFile, IsReadable, IsRefused, IsTable, IsTableZone}
 use Rattle.zone_minutes.proofs.SameZone.{utc_window-same}
 
 -- the same offset, flag and abbreviation

@@ -1,5 +1,5 @@
 -- The proleptic Gregorian calendar as one day after another. The year before 1 is 0.
-use Rattle.std.specs.Prelude.{ℕ, zero, suc, ◌+◌, nat_lt, if◌then◌else◌, ℤ, pos, ◌+ℤ◌, unsigned_abs}
+use Rattle.std.specs.Prelude.{◌≡◌, ◌⊎◌, ℕ, zero, suc, ◌+◌, ◌<◌, nat_lt, if◌then◌else◌, ℤ, pos, ◌+ℤ◌, unsigned_abs}
 use Rattle.jiff_core.specs.Calendar.{days_in_month}
 
 -- a day of the calendar, in a year from 0 on
@@ -28,3 +28,7 @@ date_after (suc days) = next_date (date_after days)
 -- the date of a day number, counted from 1970-01-01, which is 719,528 days after 0000-01-01
 abbrev pub date_of_day : ℤ → Date
 date_of_day day = date_after (unsigned_abs (day +ℤ pos 719528))
+
+-- the second date is in a later month than the first: in a later year, or in a later month of the same year
+abbrev pub IsInLaterMonth : Date → Date → Type 0
+IsInLaterMonth a b = (a.year < b.year) ⊎ ((a.year ≡ b.year) × (a.month < b.month))

@@ -1,5 +1,7 @@
--- The texts of a civil minute, by ISO 8601: extended, as 2024-03-31T01:00Z, and basic, as 20240331T0100Z.
+-- The texts of a civil minute, by ISO 8601: extended, as 2024-03-31T01:00Z, and basic, as 20240331T0100Z. The text of a day
+-- is 2024-03-31.
 use Rattle.std.specs.Prelude.{ℕ, ◌+◌, ◌/◌, ◌%◌, ◌<◌, List, [], ◌∷◌, ◌++◌, ℤ, pos, ◌≤ℤ◌, unsigned_abs, ◌≡◌, length, slice_index}
+use Rattle.zone_minutes.specs.Calendar.{Date, date_of_day}
 use Rattle.zone_minutes.specs.Civil.{civil_at}
 use Rattle.zone_minutes.specs.declared.civil.Civil.{Civil}
 
@@ -30,6 +32,14 @@ stamp_text instant = extended_text (civil_at instant)
 -- the stamp of an instant as names have it, with no marks between the numbers
 unfoldable pub basic_stamp_text : ℤ → List ℕ
 basic_stamp_text instant = basic_text (civil_at instant)
+
+-- YYYY-MM-DD
+abbrev pub calendar_text : Date → List ℕ
+calendar_text date = four_digits date.year ++ (45 ∷ two_digits date.month) ++ 45 ∷ two_digits date.day
+
+-- the text of a day number, which is that of its date
+unfoldable pub date_text : ℤ → List ℕ
+date_text day = calendar_text (date_of_day day)
 
 -- a civil time whose numbers have as many digits as a stamp has
 pub record IsStampable (civil : Civil) : Type 0 where

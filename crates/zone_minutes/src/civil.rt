@@ -1,6 +1,7 @@
-ghost use Rattle.std.specs.Prelude.{◌≡◌, ◌≢◌, ◌<◌, ℤ, IfSome, IfNone};
+ghost use Rattle.std.specs.Prelude.{◌≡◌, ◌≢◌, ◌↔◌, ◌<◌, ◌<ℤ◌, ◌≤ℤ◌, ℤ, IfSome, IfNone};
 ghost use Rattle.jiff_core.specs.Calendar.{days_from_civil, IsCivilDate, IsEpochDay};
-ghost use Rattle.zone_minutes.specs.Civil.{civil_at, day_number, weekday_of, IsCalendarMinute, IsCalendarDay};
+ghost use Rattle.zone_minutes.specs.Calendar.{date_of_day, IsInLaterMonth};
+ghost use Rattle.zone_minutes.specs.Civil.{civil_at, day_number, first_of_month, first_of_year, weekday_of, IsCalendarMinute, IsCalendarDay};
 
 use jiff_core::civil::Date;
 
@@ -76,3 +77,34 @@ pub fn weekday_of(day: i64) -> u8
     // Day 0, 1970-01-01, was a Thursday.
     (day + 4).rem_euclid(7) as u8
 }
+
+/// The day number of the first day of a day's month.
+pub fn first_of_month(day: i64) -> i64
+    requires { IsCalendarDay day }
+    ensures first { result ≡ first_of_month day }
+    ensures range { IsCalendarDay result }
+    ensures before { result ≤ℤ day }
+{
+    let date = Date::from_unix_epoch_day(day).unwrap();
+    day - i64::from(date.day - 1)
+}
+
+/// The day number of the first day of a day's year.
+pub fn first_of_year(day: i64) -> i64
+    requires { IsCalendarDay day }
+    ensures first { result ≡ first_of_year day }
+    ensures range { IsCalendarDay result }
+    ensures before { result ≤ℤ day }
+{
+    let date = Date::from_unix_epoch_day(day).unwrap();
+    day - i64::from(date.day_of_year() - 1)
+}
+
+/// A day lies before the first day of another's month just where that month is later than its own, and before the first
+/// day of another's year just where that year is later than its own.
+pub fn a_later_month_begins_later()
+    ensures month { (a b : ℤ) → IsCalendarDay a → IsCalendarDay b
+        → (a <ℤ first_of_month b) ↔ IsInLaterMonth (date_of_day a) (date_of_day b) }
+    ensures year { (a b : ℤ) → IsCalendarDay a → IsCalendarDay b
+        → (a <ℤ first_of_year b) ↔ ((date_of_day a).year < (date_of_day b).year) }
+{}

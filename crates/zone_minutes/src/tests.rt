@@ -3,9 +3,10 @@ ghost use Rattle.zone_minutes.specs.Civil.{IsCalendarMinute};
 ghost use Rattle.zone_minutes.specs.Window.{IsWithinLimits};
 
 use crate::{
-    Minute, Window, ZoneRuns, ZoneSource, civil_of, day_of, fixed_offset_is_added, read_stamp,
+    Minute, Window, ZoneRuns, ZoneSource, a_later_month_begins_later, civil_of, day_of,
+    first_of_month, first_of_year, fixed_offset_is_added, read_basic_stamp, read_date, read_stamp,
     stamps_differ, stamps_have_one_length, utc_is_its_own_local_time, weekday_of,
-    write_basic_stamp, write_stamp, zones_read_alike,
+    write_basic_stamp, write_date, write_stamp, zones_read_alike,
 };
 use std::test::Fail;
 
@@ -63,6 +64,7 @@ fn stamps(rt: HostRuntime) -> Result<(), Fail> {
     for (stamp, number, basic, weekday) in STAMPS {
         let at = read_stamp(stamp).ok_or("no stamp")?;
         assert_eq!(rt; at, Minute(number), "{stamp}");
+        assert_eq!(rt; read_basic_stamp(basic), Some(at), "{stamp}");
         assert_eq!(rt; weekday_of(day_of(at.0)), weekday, "{stamp}");
         let mut text = String::new(rt.alloc());
         write_stamp(at, &mut text)?;
@@ -72,11 +74,74 @@ fn stamps(rt: HostRuntime) -> Result<(), Fail> {
     for text in NO_STAMPS {
         assert_eq!(rt; read_stamp(text), None, "{text}");
     }
+    assert_eq!(rt; read_basic_stamp("2024-03-31T01:00Z"), None);
+    assert_eq!(rt; read_basic_stamp("20230229T0100Z"), None);
+    Ok(())
+}
+
+/// Dates with the day numbers of the day, of the first of its month and of the first of its year, by Python's `datetime`, and
+/// in the year 0 by the calendar's period of 400 years.
+const DATES: [(&str, [i64; 3]); 15] = [
+    ("1970-01-01", [0, 0, 0]),
+    ("1969-12-31", [-1, -31, -365]),
+    ("1970-12-31", [364, 334, 0]),
+    ("2000-02-29", [11_016, 10_988, 10_957]),
+    ("2023-02-28", [19_416, 19_389, 19_358]),
+    ("2024-02-29", [19_782, 19_754, 19_723]),
+    ("2024-03-01", [19_783, 19_783, 19_723]),
+    ("2024-04-30", [19_843, 19_814, 19_723]),
+    ("2024-12-31", [20_088, 20_058, 19_723]),
+    ("2025-01-01", [20_089, 20_089, 20_089]),
+    ("2100-02-28", [47_540, 47_513, 47_482]),
+    ("2199-12-31", [84_005, 83_975, 83_641]),
+    ("9999-12-31", [2_932_896, 2_932_866, 2_932_532]),
+    ("0000-01-01", [-719_528, -719_528, -719_528]),
+    ("0000-12-31", [-719_163, -719_193, -719_528]),
+];
+
+const NO_DATES: [&str; 17] = [
+    "",
+    "2023-02-29",
+    "2100-02-29",
+    "2024-02-30",
+    "2024-04-31",
+    "2024-13-01",
+    "2024-00-01",
+    "2024-01-00",
+    "2024-1-01",
+    "2024-01-1",
+    "2024-01-011",
+    " 2024-01-01",
+    "2024/01-01",
+    "2024-01/01",
+    "20240101",
+    "-024-01-01",
+    "2024-01-01T00:00Z",
+];
+
+/// The day numbers of a date, of the first of its month and of the first of its year.
+fn days_of(date: &str) -> Option<[i64; 3]> {
+    let day = read_date(date)?;
+    Some([day, first_of_month(day), first_of_year(day)])
+}
+
+#[test]
+fn dates(rt: HostRuntime) -> Result<(), Fail> {
+    for (date, days) in DATES {
+        assert_eq!(rt; days_of(date), Some(days), "{date}");
+        let day = read_date(date).ok_or("no date")?;
+        let mut text = String::new(rt.alloc());
+        write_date(day, &mut text)?;
+        assert_eq!(rt; text.strip_prefix(date), Some(""), "{date}");
+    }
+    for text in NO_DATES {
+        assert_eq!(rt; read_date(text), None, "{text}");
+    }
     Ok(())
 }
 
 #[test]
-fn dates(rt: HostRuntime) {
+fn civil_times(rt: HostRuntime) {
     let civil = civil_of(28_530_780);
     assert_eq!(rt; (civil.year, civil.month, civil.day), (2024, 3, 31));
     assert_eq!(rt; (civil.hour, civil.minute), (1, 0));
@@ -193,6 +258,7 @@ fn offsets_beyond_the_range(rt: HostRuntime) {
 fn laws(_rt: HostRuntime) {
     stamps_differ();
     stamps_have_one_length();
+    a_later_month_begins_later();
     zones_read_alike();
     fixed_offset_is_added();
     utc_is_its_own_local_time();
