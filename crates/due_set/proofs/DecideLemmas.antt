@@ -32,7 +32,7 @@ decided_both P Q (inl p) (inl q) = inl (p, q)
 decided_both P Q (inl p) (inr not) = inr (λ both. not both.1)
 decided_both P Q (inr not) q = inr (λ both. not both.0)
 
-decided_either : (P Q : Type 0) → IsDecided P → IsDecided Q → IsDecided (P ⊎ Q)
+pub decided_either : (P Q : Type 0) → IsDecided P → IsDecided Q → IsDecided (P ⊎ Q)
 decided_either P Q (inl p) q = inl (inl p)
 decided_either P Q (inr not) (inl q) = inl (inr q)
 decided_either P Q (inr not) (inr none) = inr (neither not none)

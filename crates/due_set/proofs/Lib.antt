@@ -1,9 +1,11 @@
 pub mod CountLemmas
+pub mod DayLemmas
 pub mod DecideLemmas
 pub mod DueLemmas
 pub mod ExistLemmas
 pub mod FrontLemmas
 pub mod MatchingLemmas
+pub mod OpenLemmas
 pub mod Rising
 pub mod SoundLemmas
 pub mod SteadyLemmas

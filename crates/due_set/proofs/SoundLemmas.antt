@@ -39,18 +39,13 @@ on_time_of_kind (Crontab fields) zone grace at now plain = (λ h. h, λ h. h)
 on_time_of_kind (Anacron period first last) zone grace at now plain = absurd (plain tt)
 on_time_of_kind Never zone grace at now plain = (λ h. h, λ h. h)
 
--- no job of a table is an anacron job
-plain_of : (table : Table) (number : ℕ) (job : Job) (zone : TimeZone) → IsSound table → IsJobIn table number job zone → IsAnacron job.kind → ⊥
-plain_of table number job zone sound is_in = All-slice_get (λ j. IsAnacron j.kind → ⊥) table.jobs number job sound.plain is_in.is_job
-
-pub comes_at_instant : (table : Table) (number : ℕ) (job : Job) (zone : TimeZone) (at now : ℤ) → IsSound table → IsJobIn table number job zone
+pub comes_at_instant : (table : Table) (number : ℕ) (job : Job) (zone : TimeZone) (at now : ℤ) → IsJobIn table number job zone → (IsAnacron job.kind → ⊥)
     → (HasCome job.kind zone at now ↔ (at ≤ℤ now))
-comes_at_instant table number job zone at now sound is_in = come_of_kind job.kind zone at now (plain_of table number job zone sound is_in)
+comes_at_instant table number job zone at now is_in plain = come_of_kind job.kind zone at now plain
 
-pub on_time_in_grace : (table : Table) (number : ℕ) (job : Job) (zone : TimeZone) (at now : ℤ) → IsSound table → IsJobIn table number job zone
+pub on_time_in_grace : (table : Table) (number : ℕ) (job : Job) (zone : TimeZone) (at now : ℤ) → IsJobIn table number job zone → (IsAnacron job.kind → ⊥)
     → (IsOnTime job.kind zone table.grace at now ↔ (now ≤ℤ (at +ℤ pos table.grace)))
-on_time_in_grace table number job zone at now sound is_in =
-    on_time_of_kind job.kind zone table.grace at now (plain_of table number job zone sound is_in)
+on_time_in_grace table number job zone at now is_in plain = on_time_of_kind job.kind zone table.grace at now plain
 
 -- what stands at a place of a list
 at_place : {X : Type 0} (xs : List X) (i : ℕ) → i < length xs → (x : X) × (slice_get xs i ≡ Some x)

@@ -11,7 +11,7 @@ use Rattle.zone_minutes.specs.Zone.{Zone, Source, IsReadAs}
 use Rattle.zone_minutes.specs.declared.minute.Minute.{Minute}
 use Rattle.zone_minutes.specs.declared.minute.Window.{Window}
 use Rattle.due_set.specs.Due.{IsDue, IsDueIn, IsFirstDue, IsNotDueIn}
-use Rattle.due_set.specs.Table.{IsJobDueList, Job, Table, job_of, AreZonesBelow, IsAfter, IsJobDue, IsNextDue}
+use Rattle.due_set.specs.Table.{IsJobDueList, Job, Table, job_of, AreZonesBelow, IsAfter, IsAnacron, IsJobDue, IsNextDue, IsRunByPeriod}
 use Rattle.due_set.specs.declared.job.JobKind.TheVariants.{Crontab}
 use Rattle.due_set.specs.declared.job.JobSpec.{JobSpec}
 use Rattle.due_set.proofs.Rising.{IsRising-same}
@@ -49,6 +49,10 @@ IsJobDue-from table number job fields source t known inside (zone, read, due) = 
 -- a job's number says the job
 pub same_job : (table : Table) (number : ℕ) (a b : Job) → slice_get table.jobs number ≡ Some a → slice_get table.jobs number ≡ Some b → a ≡ b
 same_job table number a b p q = cc
+
+-- whether a job runs by its period is said by its kind
+pub IsRunByPeriod-kind : (table : Table) (number : ℕ) (job : Job) → slice_get table.jobs number ≡ Some job → IsRunByPeriod table number → IsAnacron job.kind
+IsRunByPeriod-kind table number job is_job (other, is_other, is) = subst (λ (j : Job). IsAnacron j.kind) (same_job table number other job is_other is_job) is
 
 pub IsJobDue-in : (table : Table) (number : ℕ) (job : Job) (fields : Fields) (source : Zone) (t : ℤ) → IsCrontabIn table number job fields source
     → IsJobDue table number t → IsDueIn fields source.source t

@@ -1,5 +1,5 @@
 -- When a crontab entry is due. The form at clock changes is this project's own reading of cron(8) of cronie.
-use Rattle.std.specs.Prelude.{◌≡◌, ◌≢◌, ◌⊎◌, List, [], ◌∷◌, ℤ, pos, ◌-ℤ◌, ◌<ℤ◌, ◌≤ℤ◌, MatchBool, ⊤}
+use Rattle.std.specs.Prelude.{◌≢◌, ◌⊎◌, List, [], ◌∷◌, ℤ, pos, ◌-ℤ◌, ◌<ℤ◌, ◌≤ℤ◌, MatchBool, ⊤}
 use Rattle.std.specs.List.{AllByRecursion}
 use Rattle.jiff.specs.Types.{TimeZone}
 use Rattle.cron_fields.specs.Match.{MatchesDate, MatchesTime, is_frequent}

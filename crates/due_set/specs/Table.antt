@@ -1,5 +1,5 @@
 -- What a table says of its jobs.
-use Rattle.std.specs.Prelude.{◌≡◌, ℕ, ◌≢◌, ◌<◌, ◌≤◌, List, length, All, AllPairs, Option, None, Some, ℤ, pos, ◌<ℤ◌, ◌≤ℤ◌, slice_get, Contains, ⊤}
+use Rattle.std.specs.Prelude.{◌≡◌, ℕ, ◌≢◌, ◌<◌, ◌≤◌, List, length, All, AllPairs, Option, None, Some, ℤ, pos, ◌-ℤ◌, ◌<ℤ◌, ◌≤ℤ◌, ◌+◌, ◌/◌, unsigned_abs, slice_get, Contains, ⊤}
 use Rattle.jiff.specs.Types.{TimeZone}
 use Rattle.cron_fields.specs.declared.field.Fields.{Fields}
 use Rattle.zone_minutes.specs.Window.{IsInWindow, IsWithinLimits}
@@ -33,6 +33,10 @@ abbrev pub IsAnacron : JobKind → Type 0
 IsAnacron (Anacron period first last) = ⊤
 IsAnacron kind = ⊥
 
+-- the job of the table runs once in a period
+abbrev pub IsRunByPeriod : Table → ℕ → Type 0
+IsRunByPeriod table number = (job : Job) × (slice_get table.jobs number ≡ Some job) × IsAnacron job.kind
+
 -- the zone was built for the window: `jiff` reads it, and its offsets are known at the window's instants
 pub record IsBuiltFor (window : Window) (zone : Zone) : Type 0 where
   pub from : zone.from ≡ window.from.0
@@ -51,7 +55,7 @@ AreNamesDistinct jobs = AllPairs (λ a b. a.name ≢ b.name) jobs
 abbrev pub AreZonesBelow : ℕ → List Job → Type 0
 AreZonesBelow count jobs = All (λ job. job.zone < count) jobs
 
--- what holds of each table: grace of at most a year, at most 1,000 jobs, and no anacron job
+-- what holds of each table: grace of at most a year, and at most 1,000 jobs, each of a name of its own
 pub record IsSound (table : Table) : Type 0 where
   pub limits : IsWithinLimits table.window
   pub grace : table.grace ≤ 525_600
@@ -59,7 +63,6 @@ pub record IsSound (table : Table) : Type 0 where
   pub zone_numbers : AreZonesBelow (length table.zones) table.jobs
   pub few : length table.jobs ≤ 1000
   pub distinct : AreNamesDistinct table.jobs
-  pub plain : All (λ job. IsAnacron job.kind → ⊥) table.jobs
 
 -- a job of the table and its zone, as `jiff` reads it
 pub record IsJobIn (table : Table) (number : ℕ) (job : Job) (zone : TimeZone) : Type 0 where
@@ -111,6 +114,15 @@ pub record IsJobDueList (table : Table) (number : ℕ) (instants : List ℤ) : T
   pub rising : IsRising instants
   pub sound : (instant : ℤ) → Contains instants instant → IsJobDue table number instant
   pub complete : (instant : ℤ) → IsJobDue table number instant → Contains instants instant
+
+-- how many days a job of a period counts as: those of the window, and three more
+abbrev pub days_counted : Window → ℕ
+days_counted window = unsigned_abs (window.until.0 -ℤ window.from.0) / 1440 + 3
+
+-- how much a job takes of the limit on due instants: as many as it has; one that runs by its period, a day's share of the window
+abbrev pub IsShare : Table → ℕ → JobKind → ℕ → Type 0
+IsShare table number (Anacron period first last) share = share ≡ days_counted table.window
+IsShare table number kind share = (instants : List ℤ) × IsJobDueList table number instants × (share ≡ length instants)
 
 -- The instants are the first of the job's due instants, none left out: they rise, each is due, and each due instant that isn't
 -- after one of them is among them.

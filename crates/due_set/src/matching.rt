@@ -39,8 +39,8 @@ fn later(minute: i64, steps: u32) -> i64
     minute + i64::from(steps)
 }
 
-// The number, if it is below another.
-fn below(number: u32, end: u32) -> Option<u32>
+/// The number, if it is below another.
+pub fn below(number: u32, end: u32) -> Option<u32>
     ensures some { IfSome result (λ same. (same ≡ number) × (same < end)) }
     ensures none { IfNone result (end ≤ number) }
 {
@@ -122,8 +122,8 @@ fn minutes_passed_over(fields: &Fields, minute: i64) -> u32
     }
 }
 
-// How many minutes are left of a civil minute's day, with the minute itself.
-fn minutes_of_day(minute: i64) -> u32
+/// How many minutes are left of a civil minute's day, with the minute itself.
+pub fn minutes_of_day(minute: i64) -> u32
     ensures rest { result ≡ rest_of_day minute }
     ensures some { 0 < result }
     ensures day { result ≤ 1440 }

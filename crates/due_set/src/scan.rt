@@ -70,8 +70,8 @@ pub fn count_due(fields: &Fields, zone: &ZoneRuns, window: Window) -> u32
     count
 }
 
-// The number of the window's end.
-fn end_of(window: Window) -> u32
+/// The number of the window's end.
+pub fn end_of(window: Window) -> u32
     requires { IsWithinLimits window }
     ensures end { pos result ≡ window.until.0 }
     ensures range { result ≤ 120_968_640 }
@@ -170,8 +170,8 @@ fn first_match(fields: &Fields, zone: &ZoneRuns, first: u32, until: u32) -> Opti
     Some(Minute(i64::from(first + steps)))
 }
 
-// The civil minute of an instant.
-fn local_of(zone: &ZoneRuns, at: u32) -> i64
+/// The civil minute of an instant.
+pub fn local_of(zone: &ZoneRuns, at: u32) -> i64
     requires range { at < 120_968_640 }
     requires since { zone.now.from ≤ℤ pos at }
     requires before { pos at <ℤ zone.now.until }

@@ -1,9 +1,11 @@
 ghost use Rattle.std.specs.Prelude.{◌≡◌, ◌<◌, ◌≤◌, ◌↔◌, ℤ, List, [], ◌∷◌, length, map, All, IsTrue, IsSomeAnd, IfSome, IfNone, IfOk, slice_get, Some};
 ghost use Rattle.jiff.specs.Types.{TimeZone};
 ghost use Rattle.zone_minutes.specs.Window.{IsInWindow, IsWithinLimits};
+ghost use Rattle.due_set.specs.Anacron.{IsFirstOpening, IsJobOpen};
 ghost use Rattle.due_set.specs.Calls.{HasCome, IsOnTime};
-ghost use Rattle.due_set.specs.Table.{Job, Table, job_of, instant_of, IsAfter, IsAnacron, IsBuiltFor, IsJobDue, IsJobDueList, IsJobIn, IsJobRead, IsNextDue, IsSound, AreNamesDistinct, AreZonesBelow, utc_over};
+ghost use Rattle.due_set.specs.Table.{Job, Table, job_of, instant_of, IsAfter, IsBuiltFor, IsJobDue, IsJobIn, IsJobRead, IsNextDue, IsRunByPeriod, IsShare, IsSound, AreNamesDistinct, AreZonesBelow, days_counted, utc_over};
 
+use crate::anacron::{Opening, first_opening, open_date};
 use crate::call::{Kind2, has_come, is_on_time};
 use crate::job::{JobKind, JobSpec};
 use crate::{due, scan};
@@ -24,6 +26,14 @@ fn build_utc(alloc: Global, window: Window) -> Result<ZoneRuns, OutOfMemory>
         // A fixed offset is never refused.
         Err(ZoneFault::BadZone) => unreachable!(),
     }
+}
+
+// How many days a job that runs by its period counts as.
+fn days_counted(window: Window) -> u32
+    requires { IsWithinLimits window }
+    ensures { result ≡ days_counted window }
+{
+    (window.until.0 - window.from.0) as u32 / 1440 + 3
 }
 
 // A table doesn't change during a run.
@@ -74,7 +84,6 @@ impl JobTable {
         requires zone_numbers { AreZonesBelow (length zones.items) (map job_of jobs.items) }
         requires few { length jobs.items ≤ 1000 }
         requires distinct { AreNamesDistinct (map job_of jobs.items) }
-        requires plain { All (λ job. IsAnacron job.kind → ⊥) (map job_of jobs.items) }
         ensures table { result
             ≡ record { window = window; grace = grace; zones = zones.items; jobs = map job_of jobs.items } }
         ensures sound { IsSound result }
@@ -99,7 +108,6 @@ impl JobTable {
         requires zone_numbers { AreZonesBelow 1 (map job_of jobs.items) }
         requires few { length jobs.items ≤ 1000 }
         requires distinct { AreNamesDistinct (map job_of jobs.items) }
-        requires plain { All (λ job. IsAnacron job.kind → ⊥) (map job_of jobs.items) }
         ensures table { IfOk result (λ table. table ≡ record {
           window = window;
           grace = grace;
@@ -160,7 +168,7 @@ impl JobTable {
     /// The job runs once in a period.
     pub fn is_anacron(&self, job: u32) -> bool
         requires { job < length self.now.jobs }
-        ensures { IsSomeAnd (slice_get self.now.jobs job) (λ j. IsTrue result ↔ IsAnacron j.kind) }
+        ensures { IsTrue result ↔ IsRunByPeriod self.now job }
     {
         match self.spec(job).kind {
             JobKind::Anacron { .. } => true,
@@ -207,11 +215,11 @@ impl JobTable {
         }
     }
 
-    /// How many due instants the job has in the window.
+    /// How much the job takes of the limit on due instants: as many as it has in the window; one that runs by its period
+    /// takes the days of the window, and three more.
     pub fn count_due(&self, job: u32) -> u32
         requires { job < length self.now.jobs }
-        ensures count { (instants : List ℤ) → IsJobDueList self.now job instants → result ≡ length instants }
-        ensures list { (instants : List ℤ) × IsJobDueList self.now job instants × (result ≡ length instants) }
+        ensures share { IsSomeAnd (slice_get self.now.jobs job) (λ j. IsShare self.now job j.kind result) }
         ensures sound { IsSound self.now }
     {
         let spec = self.spec(job);
@@ -219,8 +227,41 @@ impl JobTable {
             JobKind::Crontab { fields } => {
                 scan::count_due(&fields, self.zone(spec.zone), self.window())
             }
-            JobKind::Anacron { .. } | JobKind::Never => 0,
+            JobKind::Anacron { .. } => days_counted(self.window()),
+            JobKind::Never => 0,
         }
+    }
+
+    /// The date on which the job may open at an instant of the window, by the date of its last launch and the date last
+    /// opened, if it runs by its period.
+    pub fn anacron_open(
+        &self,
+        job: u32,
+        last: Option<i64>,
+        cursor: Option<i64>,
+        now: Minute,
+    ) -> Option<i64>
+        requires job { job < length self.now.jobs }
+        requires inside { IsInWindow self.now.window now.0 }
+        ensures found { IfSome result (IsJobOpen self.now job last cursor now.0) }
+        ensures none { IfNone result ((date : ℤ) → IsJobOpen self.now job last cursor now.0 date → ⊥) }
+        ensures sound { IsSound self.now }
+    {
+        let spec = self.spec(job);
+        let opening = Opening::of(&spec.kind, last, cursor)?;
+        open_date(&opening, self.zone(spec.zone), now)
+    }
+
+    /// The first instant of the window at which the job may open, by these dates.
+    pub fn first_opening(&self, job: u32, last: Option<i64>, cursor: Option<i64>) -> Option<Minute>
+        requires job { job < length self.now.jobs }
+        ensures found { IfSome result (λ t. IsFirstOpening self.now job last cursor t.0) }
+        ensures none { IfNone result ((now date : ℤ) → IsJobOpen self.now job last cursor now date → ⊥) }
+        ensures sound { IsSound self.now }
+    {
+        let spec = self.spec(job);
+        let opening = Opening::of(&spec.kind, last, cursor)?;
+        first_opening(&opening, self.zone(spec.zone), self.window())
     }
 
     /// Whether the job's launch of the instant has come; of an anacron job, whether its date has.

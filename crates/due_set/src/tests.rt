@@ -1,6 +1,5 @@
 ghost use Rattle.std.specs.Prelude.{◌≡◌, ◌<◌, length, IfOk, IfSome};
 ghost use Rattle.zone_minutes.specs.Window.{IsInWindow, IsWithinLimits};
-ghost use Rattle.due_set.specs.Table.{IsAnacron};
 
 use crate::call::{has_come, is_on_time};
 use crate::{
@@ -53,15 +52,14 @@ pub fn fields_of(entry: [&str; 5]) -> Option<Fields> {
     })
 }
 
-// A table of one job, at a grace of five minutes, in a zone. An anacron job is none.
+// A table of one job, at a grace of five minutes, in a zone.
 pub fn table_in(
     alloc: Global,
     window: Window,
     source: &ZoneSource<'_>,
     kind: JobKind,
 ) -> Result<JobTable, Fail>
-    requires limits { IsWithinLimits window }
-    requires plain { IsAnacron kind → ⊥ }
+    requires { IsWithinLimits window }
     ensures { IfOk result (λ table. (table.window ≡ window) × (length table.jobs ≡ 1)) }
 {
     if !source.is_in_range() {
@@ -76,8 +74,7 @@ pub fn table_in(
 
 // The same with clocks so many minutes ahead of UTC.
 fn table_of(alloc: Global, window: Window, minutes: i16, kind: JobKind) -> Result<JobTable, Fail>
-    requires limits { IsWithinLimits window }
-    requires plain { IsAnacron kind → ⊥ }
+    requires { IsWithinLimits window }
     ensures { IfOk result (λ table. (table.window ≡ window) × (length table.jobs ≡ 1)) }
 {
     table_in(alloc, window, &ZoneSource::Fixed { minutes }, kind)
