@@ -1,72 +1,176 @@
 -- The texts of names: their parts, and one text for each name.
-use Rattle.std.proofs.Common.{◌≡◌, ℕ, ℤ, suc, ◌<◌, ◌+◌, ◌-◌, List, [], ◌∷◌, ◌++◌, length, get_or, take, drop, Option, None, Some, inl, inr, sym, ap, ◌∙◌, arith, append_assoc, length-append, length-drop}
-use Rattle.std.proofs.lemmas.List.{take-append-drop}
-use Rattle.std.specs.Prelude.{slice_get, IsSomeAnd}
-use Rattle.std.proofs.Math.Seq.{take-append_seam, drop-append_seam}
+use Rattle.std.proofs.Common.{◌≡◌, ◌↔◌, Bool, true, false, true≢false, ℕ, ℤ, pos, negsuc, ◌+ℤ◌, ◌-ℤ◌, ◌≤ℤ◌, ◌<ℤ◌, ◌<◌, ◌+◌, List, [], ◌∷◌, ◌++◌, length, get_or, drop, Option, None, Some, MatchOption, inl, inr, refl, sym, ap, ◌∙◌, arith, length-append, to_z, of_z, w64, FitsSigned}
+use Rattle.std.proofs.Math.Seq.{get_or-append_seam}
+use Rattle.std.proofs.lemmas.List.{get_or_default, take-append-drop}
+use Rattle.std.proofs.lemmas.Str.Pattern.{NoCharPasses-char, drop_at_char}
+use Rattle.std.specs.Prelude.{◌==◌, IfSome, IfNone, slice_get, IsSomeAnd, IsTrue}
+use Rattle.std.specs.Str.{NoCharPasses}
+use Rattle.std.specs.Str.Pattern.{RFindsChar, SplitsAroundMatch}
 use Rattle.std.proofs.lemmas.Bool.{cases_lt}
-use Rattle.std.proofs.lemmas.Int.{ints}
+use Rattle.std.proofs.lemmas.Int.{ints, to_z-of_z}
 use Rattle.std.proofs.lemmas.Option.{slice_get-get_or, slice_get_cases}
-use Rattle.zone_minutes.proofs.StampLemmas.{basic_stamp_text-injective, length-basic_stamp_text}
-use Rattle.zone_minutes.specs.Civil.{IsCalendarMinute}
-use Rattle.zone_minutes.specs.Stamp.{basic_stamp_text}
-use Rattle.zone_minutes.specs.Window.{IsInWindow, IsWithinLimits}
+use Rattle.zone_minutes.proofs.StampLemmas.{basic_stamp_text-injective, date_text-injective}
+use Rattle.zone_minutes.specs.Civil.{day_number, IsCalendarDay, IsCalendarMinute}
+use Rattle.zone_minutes.specs.Stamp.{basic_stamp_text, date_text}
+use Rattle.zone_minutes.specs.Window.{IsWithinLimits}
 use Rattle.zone_minutes.specs.declared.minute.Window.{Window}
-use Rattle.due_set.specs.Table.{Job, Table, IsSound, AreNamesDistinct}
-use Rattle.cluster_sched.specs.Names.{IsNameIn, name_of, job_name, name_text}
+use Rattle.due_set.specs.Table.{Job, Table, IsAnacron, IsRunByPeriod, IsSound, AreNamesDistinct}
+use Rattle.due_set.specs.declared.job.JobKind.{JobKind}
+use Rattle.due_set.specs.declared.job.JobKind.TheVariants.{Anacron, Crontab, Never}
+use Rattle.cluster_sched.specs.Names.{IsCalendarTime, IsDayNear, IsNameIn, IsTimeNear, LacksAt, job_kind, job_name, kind_of, name_of, name_text, time_text}
 use Rattle.cluster_sched.specs.declared.row.Name.{Name}
+use Rattle.due_set.proofs.TableLemmas.{IsRunByPeriod-kind}
+use Rattle.cluster_sched.proofs.StampLemmas.{LacksAt-basic_stamp_text, LacksAt-date_text}
+use denote.Ref.{Bor}
 
--- lists that are equal, with ends of one length, have equal parts
-same_parts : (xs ys s t : List ℕ) → length s ≡ length t → xs ++ s ≡ ys ++ t → (xs ≡ ys) × (s ≡ t)
-same_parts xs ys s t long e =
-    let both : length (xs ++ s) ≡ length (ys ++ t) = ap length e in
-    let front : length xs ≡ length ys = omega (arith, length-append xs s, length-append ys t) in (
-      sym (take-append_seam xs s) ∙ ap (take (length xs)) e ∙ ap (λ n. take n (ys ++ t)) front ∙ take-append_seam ys t,
-      sym (drop-append_seam xs s) ∙ ap (drop (length xs)) e ∙ ap (λ n. drop n (ys ++ t)) front ∙ drop-append_seam ys t,
+-- ---- where a text is cut
+
+-- bytes without `@` aren't parted by one
+pub not_parted : (bytes xs s : List ℕ) → LacksAt bytes → bytes ≡ xs ++ 64 ∷ s → ⊥
+not_parted bytes xs s lacks e =
+    let long : length bytes ≡ length (xs ++ 64 ∷ s) = ap length e in
+    lacks (length xs) 0 (omega (arith, length-append xs (64 ∷ s))) (ap (λ l. get_or l (length xs) 0) e ∙ get_or-append_seam xs 64 s 0)
+
+-- texts that are parted at their last `@` have the same parts
+pub same_name_parts : (xs ys s t : List ℕ) → LacksAt s → LacksAt t → xs ++ 64 ∷ s ≡ ys ++ 64 ∷ t → (xs ≡ ys) × (s ≡ t)
+same_name_parts [] [] s t lacks_s lacks_t e = let whole : 64 ∷ s ≡ 64 ∷ t = e in (refl, (cc))
+same_name_parts [] (y ∷ ys) s t lacks_s lacks_t e =
+    let whole : 64 ∷ s ≡ y ∷ (ys ++ 64 ∷ t) = e in
+    let rest : s ≡ ys ++ 64 ∷ t = (cc) in
+    absurd (not_parted s ys t lacks_s rest)
+same_name_parts (x ∷ xs) [] s t lacks_s lacks_t e =
+    let whole : x ∷ (xs ++ 64 ∷ s) ≡ 64 ∷ t = e in
+    let rest : t ≡ xs ++ 64 ∷ s = (cc) in
+    absurd (not_parted t xs s lacks_t rest)
+same_name_parts (x ∷ xs) (y ∷ ys) s t lacks_s lacks_t e =
+    let whole : x ∷ (xs ++ 64 ∷ s) ≡ y ∷ (ys ++ 64 ∷ t) = e in
+    let heads : x ≡ y = (cc) in
+    let rest : xs ++ 64 ∷ s ≡ ys ++ 64 ∷ t = (cc) in
+    let parts = same_name_parts xs ys s t lacks_s lacks_t rest in
+    (rw (heads, parts.0) refl, parts.1)
+
+LacksAt-from_search : (bytes : List ℕ) → NoCharPasses (λ d. d == 64) bytes → LacksAt bytes
+LacksAt-from_search bytes none = λ k d lt e. NoCharPasses-char 64 bytes k none (omega arith) lt (get_or_default bytes k 0 d lt ∙ e)
+
+-- what a search for the last `@` says
+abbrev pub IsCut : List ℕ → Option (Bor (List ℕ) × Bor (List ℕ)) → Type 0
+IsCut text r = MatchOption r (RFindsChar 64 text None) (λ x. SplitsAroundMatch (RFindsChar 64) text x.0.now x.1.now)
+
+pub cut_parts : (text : List ℕ) (r : Option (Bor (List ℕ) × Bor (List ℕ))) → IsCut text r → IfSome r (λ x. text ≡ x.0.now ++ 64 ∷ x.1.now)
+cut_parts text None h = tt
+cut_parts text (Some x) h =
+    sym (take-append-drop h.0 text) ∙ rw (drop_at_char 64 text h.0 h.1 h.2.1 (omega arith), ← h.3, ← h.4) refl
+
+pub cut_last : (text : List ℕ) (r : Option (Bor (List ℕ) × Bor (List ℕ))) → IsCut text r → IfSome r (λ x. LacksAt x.1.now)
+cut_last text None h = tt
+cut_last text (Some x) h = rw h.4 (LacksAt-from_search (drop h.1 text) h.2.0)
+
+pub cut_none : (text : List ℕ) (r : Option (Bor (List ℕ) × Bor (List ℕ))) → IsCut text r → IfNone r (LacksAt text)
+cut_none text None h = LacksAt-from_search text h
+cut_none text (Some x) h = tt
+
+-- ---- days and instants, by the kind of a job
+
+-- the days of instants up to the year 2200
+day_bounds : (minute : ℤ) → pos 0 ≤ℤ minute → minute <ℤ pos 120_968_640 → (pos 0 ≤ℤ day_number minute) × (day_number minute ≤ℤ pos 84_005)
+day_bounds (pos n) since before = (omega (arith, ints), omega (arith, ints, before))
+day_bounds (negsuc n) since before = absurd (omega (arith, ints, since))
+
+-- a window's instants have stamps, and the days near it dates
+pub IsCalendarTime-near : (window : Window) (kind : JobKind) (at : ℤ) → IsWithinLimits window → IsTimeNear window kind at → IsCalendarTime kind at
+IsCalendarTime-near window (Anacron period first last) at limits near =
+    let first = day_bounds window.from.0 (omega (arith, ints)) (omega (arith, ints)) in
+    let last = day_bounds (window.until.0 -ℤ pos 1) (omega (arith, ints)) (omega (arith, ints)) in
+    (omega (arith, ints, first), omega (arith, ints, last))
+IsCalendarTime-near window (Crontab fields) at limits near = (omega (arith, ints), omega (arith, ints))
+IsCalendarTime-near window Never at limits near = (omega (arith, ints), omega (arith, ints))
+
+-- two of them have two texts
+pub time_text-injective : (kind : JobKind) (a b : ℤ) → IsCalendarTime kind a → IsCalendarTime kind b → time_text kind a ≡ time_text kind b → a ≡ b
+time_text-injective (Anacron period first last) a b in_a in_b e = date_text-injective a b in_a in_b e
+time_text-injective (Crontab fields) a b in_a in_b e = basic_stamp_text-injective a b in_a in_b e
+time_text-injective Never a b in_a in_b e = basic_stamp_text-injective a b in_a in_b e
+
+-- and no `@`
+pub LacksAt-time_text : (kind : JobKind) (at : ℤ) → IsCalendarTime kind at → LacksAt (time_text kind at)
+LacksAt-time_text (Anacron period first last) at calendar = LacksAt-date_text at calendar
+LacksAt-time_text (Crontab fields) at calendar = LacksAt-basic_stamp_text at calendar
+LacksAt-time_text Never at calendar = LacksAt-basic_stamp_text at calendar
+
+-- the words for an anacron job
+pub record SaysDate (kind : JobKind) (at : ℤ) : Type 1 where
+  pub text : time_text kind at ≡ date_text at
+  pub calendar : IsCalendarTime kind at ≡ IsCalendarDay at
+  pub near : (window : Window) → IsTimeNear window kind at ≡ IsDayNear window at
+
+says_date : (kind : JobKind) (at : ℤ) → IsAnacron kind → SaysDate kind at
+says_date (Anacron period first last) at is = record { text = refl; calendar = refl; near = λ window. refl }
+says_date (Crontab fields) at is = absurd is
+says_date Never at is = absurd is
+
+-- and those for any other
+pub record SaysStamp (kind : JobKind) (at : ℤ) : Type 1 where
+  pub text : time_text kind at ≡ basic_stamp_text at
+  pub calendar : IsCalendarTime kind at ≡ IsCalendarMinute at
+
+says_stamp : (kind : JobKind) (at : ℤ) → ¬ (IsAnacron kind) → SaysStamp kind at
+says_stamp (Anacron period first last) at is = absurd (is tt)
+says_stamp (Crontab fields) at is = record { text = refl; calendar = refl }
+says_stamp Never at is = record { text = refl; calendar = refl }
+
+-- which words are meant, by a table's answer to whether its job runs by its period
+pub told_date : (table : Table) (job : ℕ) (b : Bool) (at : ℤ) → (IsTrue b ↔ IsRunByPeriod table job) → b ≡ true → SaysDate (job_kind table job) at
+told_date table job b at told e = by (slice_get table.jobs job) refl
+  where
+    by : (o : Option Job) → slice_get table.jobs job ≡ o → SaysDate (kind_of o) at
+    by None none = let is = told.0 e in absurd (cc (none, is.1))
+    by (Some j) is_job = says_date j.kind at (IsRunByPeriod-kind table job j is_job (told.0 e))
+
+pub told_stamp : (table : Table) (job : ℕ) (b : Bool) (at : ℤ) → (IsTrue b ↔ IsRunByPeriod table job) → b ≡ false → SaysStamp (job_kind table job) at
+told_stamp table job b at told e = by (slice_get table.jobs job) refl
+  where
+    by : (o : Option Job) → slice_get table.jobs job ≡ o → SaysStamp (kind_of o) at
+    by None none = says_stamp Never at (λ is. is)
+    by (Some j) is_job = says_stamp j.kind at (λ is. true≢false (sym (told.1 (j, is_job, is)) ∙ e))
+
+-- the window's first and last day, as they are computed
+pub record HasDays (window : Window) (first last : ℤ) : Type 0 where
+  pub is_first : first ≡ day_number window.from.0
+  pub is_last : last ≡ day_number (window.until.0 -ℤ pos 1)
+  pub first_in : (pos 0 ≤ℤ first) × (first ≤ℤ pos 84_005)
+  pub last_in : (pos 0 ≤ℤ last) × (last ≤ℤ pos 84_005)
+
+pub HasDays-computed : (window : Window) (first last : ℤ) → IsWithinLimits window → first ≡ day_number (to_z w64 (of_z w64 window.from.0))
+    → last ≡ day_number (to_z w64 (of_z w64 (to_z w64 (of_z w64 window.until.0) -ℤ pos 1))) → HasDays window first last
+HasDays-computed window first last limits computed_first computed_last =
+    let from_fits : FitsSigned w64 window.from.0 = omega (arith, ints) in
+    let until_fits : FitsSigned w64 window.until.0 = omega (arith, ints) in
+    let end_fits : FitsSigned w64 (window.until.0 -ℤ pos 1) = omega (arith, ints) in
+    let is_first : first ≡ day_number window.from.0 = simp to_z-of_z at computed_first in
+    let is_last : last ≡ day_number (window.until.0 -ℤ pos 1) = simp to_z-of_z at computed_last in
+    record {
+      is_first = is_first;
+      is_last = is_last;
+      first_in = rw is_first (day_bounds window.from.0 (omega (arith, ints)) (omega (arith, ints)));
+      last_in = rw is_last (day_bounds (window.until.0 -ℤ pos 1) (omega (arith, ints)) (omega (arith, ints)));
+    }
+
+-- a day is near the window where it is so close to these
+pub near_days : (window : Window) (kind : JobKind) (at first last : ℤ) → HasDays window first last → SaysDate kind at → (first -ℤ pos 2) ≤ℤ at
+    → (at ≤ℤ (last +ℤ pos 2)) ↔ IsTimeNear window kind at
+near_days window kind at first last days says since =
+    rw (says.near window) (
+      λ until. record { since = rw (← days.is_first) since; until = rw (← days.is_last) until },
+      λ near. rw days.is_last near.until,
     )
 
--- a window's instants have stamps
-pub IsCalendarMinute-inside : (window : Window) (at : ℤ) → IsWithinLimits window → IsInWindow window at → IsCalendarMinute at
-IsCalendarMinute-inside window at limits inside = omega (arith, ints)
+pub not_near_days : (window : Window) (kind : JobKind) (at first last : ℤ) → HasDays window first last → SaysDate kind at → at <ℤ (first -ℤ pos 2) → ¬ (IsTimeNear window kind at)
+not_near_days window kind at first last days says before near =
+    let is : IsDayNear window at = rw (says.near window) at near in
+    let since : (first -ℤ pos 2) ≤ℤ at = rw days.is_first is.since in
+    absurd (omega (arith, ints))
 
--- two names that stand before `@` and a stamp
-same_name_parts : (xs ys s t : List ℕ) → length s ≡ length t → xs ++ 64 ∷ s ≡ ys ++ 64 ∷ t → (xs ≡ ys) × (s ≡ t)
-same_name_parts xs ys s t long e =
-    let parts = same_parts xs ys (64 ∷ s) (64 ∷ t) (ap suc long) e in
-    let stamps : 64 ∷ s ≡ 64 ∷ t = parts.1 in
-    (parts.0, (cc))
-
--- a text that is cut, and whose front ends with `@`
-pub text_of_parts : (text front stamp name : List ℕ) (n : ℕ) → front ≡ take n text → stamp ≡ drop n text → front ≡ name ++ 64 ∷ [] → text ≡ name ++ 64 ∷ stamp
-text_of_parts text front stamp name n is_front is_stamp mark =
-    sym (take-append-drop n text) ∙ ap (λ s. s ++ drop n text) (sym is_front ∙ mark) ∙ append_assoc name (64 ∷ []) (drop n text) ∙ ap (λ s. name ++ 64 ∷ s) (sym is_stamp)
-
--- where a text is one of a name, its front ends with `@`
-pub front_of_name : (text front stamp name last : List ℕ) (n : ℕ) → front ≡ take n text → stamp ≡ drop n text → length stamp ≡ length last
-    → text ≡ name ++ 64 ∷ last → front ≡ name ++ 64 ∷ []
-front_of_name text front stamp name last n is_front is_stamp long e =
-    let cut : front ++ stamp ≡ text = ap (λ s. s ++ stamp) is_front ∙ ap (λ s. take n text ++ s) is_stamp ∙ take-append-drop n text in
-    (same_parts front (name ++ 64 ∷ []) stamp last long (cut ∙ e ∙ sym (append_assoc name (64 ∷ []) last))).0
-
--- what is cut off the end of a text is as long as it was to be
-pub length_of_end : (text front end : List ℕ) (n : ℕ) → end ≡ drop (length text - n) text → length front + n ≡ length text → length end ≡ n
-length_of_end text front end n is long = omega (arith, ap length is, length-drop (length text - n) text)
-
--- a text that is cut at `@` and a stamp, and is one of a name, is cut where the name is
-pub parts_of_name : (table : Table) (name : Name) (text job stamp : List ℕ) → text ≡ job ++ 64 ∷ stamp → length stamp ≡ 14 → text ≡ name_text table name
-    → (job ≡ job_name table name.job) × (stamp ≡ basic_stamp_text name.at)
-parts_of_name table name text job stamp cut long e =
-    same_name_parts job (job_name table name.job) stamp (basic_stamp_text name.at) (long ∙ sym (length-basic_stamp_text name.at)) (sym cut ∙ e)
-
--- how long a name is
-pub length-name_text : (table : Table) (name : Name) (text : List ℕ) → IsSomeAnd (slice_get table.jobs name.job) (λ job. text ≡ job.name) → length (name_text table name) ≡ length text + 15
-length-name_text table name text is =
-    let same = name_of-same (slice_get table.jobs name.job) text is in
-    let stamp = length-basic_stamp_text name.at in
-    rw same (omega (arith, length-append (job_name table name.job) (64 ∷ basic_stamp_text name.at)))
-  where
-    name_of-same : (o : Option Job) (text : List ℕ) → IsSomeAnd o (λ job. text ≡ job.name) → text ≡ name_of o
-    name_of-same None text is = absurd is
-    name_of-same (Some job) text is = is
+-- ---- names
 
 job_name-below : (jobs : List Job) (i : ℕ) (d : Job) → i < length jobs → name_of (slice_get jobs i) ≡ (get_or jobs i d).name
 job_name-below jobs i d lt = ap name_of (slice_get-get_or jobs i d lt)
@@ -85,14 +189,40 @@ job_name-injective jobs i j distinct lt_i lt_j e = elim ((slice_get_cases jobs i
       | inr ge ↦ elim (cases_lt j i) [ inl lt ↦ absurd (distinct j i d lt lt_i (sym (same d))) | inr le ↦ omega arith ]
     ]
 
+-- a name's day or instant is of the calendar
+pub IsCalendarTime-name : (table : Table) (name : Name) → IsWithinLimits table.window → IsNameIn table name → IsCalendarTime (job_kind table name.job) name.at
+IsCalendarTime-name table name limits is_in = IsCalendarTime-near table.window (job_kind table name.job) name.at limits is_in.inside
+
+-- a text that is cut at its last `@`, and is one of a name, is cut where the name is
+pub parts_of_name : (table : Table) (name : Name) (text job time : List ℕ) → IsWithinLimits table.window → IsNameIn table name → text ≡ job ++ 64 ∷ time → LacksAt time → text ≡ name_text table name
+    → (job ≡ job_name table name.job) × (time ≡ time_text (job_kind table name.job) name.at)
+parts_of_name table name text job time limits is_in cut lacks e =
+    let kind = job_kind table name.job in
+    let calendar = IsCalendarTime-name table name limits is_in in
+    same_name_parts job (job_name table name.job) time (time_text kind name.at) lacks (LacksAt-time_text kind name.at calendar) (sym cut ∙ e)
+
+-- how long a name is
+pub length-name_text : (table : Table) (name : Name) (text : List ℕ) (long : ℕ) → IsSomeAnd (slice_get table.jobs name.job) (λ job. text ≡ job.name) → length (time_text (job_kind table name.job) name.at) ≡ long
+    → length (name_text table name) ≡ length text + 1 + long
+length-name_text table name text long is time =
+    let same = name_of-same (slice_get table.jobs name.job) text is in
+    rw same (omega (arith, length-append (job_name table name.job) (64 ∷ time_text (job_kind table name.job) name.at)))
+  where
+    name_of-same : (o : Option Job) (text : List ℕ) → IsSomeAnd o (λ job. text ≡ job.name) → text ≡ name_of o
+    name_of-same None text is = absurd is
+    name_of-same (Some job) text is = is
+
 -- two launches of a table have two texts
 pub name_text-injective : (table : Table) (a b : Name) → IsSound table → IsNameIn table a → IsNameIn table b → name_text table a ≡ name_text table b → a ≡ b
 name_text-injective table a b sound in_a in_b e =
-    let parts = same_name_parts (job_name table a.job) (job_name table b.job) (basic_stamp_text a.at) (basic_stamp_text b.at) (length-basic_stamp_text a.at ∙ sym (length-basic_stamp_text b.at)) e in
+    let kind = job_kind table b.job in
+    let in_calendar = IsCalendarTime-name table a sound.limits in_a in
+    let parts = parts_of_name table b (name_text table a) (job_name table a.job) (time_text (job_kind table a.job) a.at) sound.limits in_b refl (LacksAt-time_text (job_kind table a.job) a.at in_calendar) e in
     let job : a.job ≡ b.job = job_name-injective table.jobs a.job b.job sound.distinct in_a.job in_b.job parts.0 in
-    let calendar_a = IsCalendarMinute-inside table.window a.at sound.limits in_a.inside in
-    let calendar_b = IsCalendarMinute-inside table.window b.at sound.limits in_b.inside in
-    let at : a.at ≡ b.at = basic_stamp_text-injective a.at b.at calendar_a calendar_b parts.1 in
+    let calendar_a : IsCalendarTime kind a.at = rw job at in_calendar in
+    let calendar_b = IsCalendarTime-name table b sound.limits in_b in
+    let texts : time_text kind a.at ≡ time_text kind b.at = rw job at parts.1 in
+    let at : a.at ≡ b.at = time_text-injective kind a.at b.at calendar_a calendar_b texts in
     let make : ℕ → ℤ → Name = λ j t. record { job = j; at = t } in
     let both : make a.job a.at ≡ make b.job b.at = rw (job, at) in
     both

@@ -25,6 +25,6 @@ pub use laws::{
     rows_named_once_are_first,
 };
 pub use ledger::Ledger;
-pub use name::{read_name, write_name};
+pub use name::{is_name_in, read_name, write_name};
 pub use row::{Name, SchedRow};
 pub use scheduler::Scheduler;

@@ -1,17 +1,37 @@
-ghost use Rattle.std.specs.Prelude.{◌≡◌, ◌≢◌, ◌↔◌, ◌<◌, ◌+◌, ℕ, ℤ, List, ◌∷◌, ◌++◌, length, IfSome, IfNone, OnOk, OnErr, string_bytes, string_len, string_capacity};
-ghost use Rattle.zone_minutes.specs.Civil.{IsCalendarMinute};
-ghost use Rattle.zone_minutes.specs.Stamp.{stamp_text, basic_stamp_text};
-ghost use Rattle.cluster_sched.specs.Names.{IsNameIn, job_name, name_text};
+ghost use Rattle.std.specs.Prelude.{◌≡◌, ◌≢◌, ◌↔◌, ◌<◌, ◌≤◌, ◌+◌, ℕ, ℤ, ◌∷◌, ◌++◌, length, IsTrue, IfSome, IfNone, OnOk, OnErr, string_bytes, string_len, string_capacity};
+ghost use Rattle.due_set.specs.Table.{IsSound};
+ghost use Rattle.cluster_sched.specs.Names.{IsCalendarTime, IsNameIn, IsTimeNear, LacksAt, job_kind, job_name, name_text, time_text};
 ghost use Rattle.cluster_sched.specs.declared.row.Name.{Name};
 
 use crate::row::Name;
 use cron_io::OutOfMemory;
 use due_set::JobTable;
-use std::str;
-use zone_minutes::{Minute, read_stamp, write_basic_stamp};
+use zone_minutes::{Minute, day_of, read_basic_stamp, read_date, write_basic_stamp, write_date};
 
-/// Appends a launch's name as a text: its job's name, `@`, and the instant, as alice:1@20240331T0100Z. `into` is unchanged
-/// without memory, which can be wanting only where it has no room.
+/// Whether a name is one of a launch of the table's jobs.
+pub fn is_name_in(table: &JobTable, name: Name) -> bool
+    ensures { IsTrue result ↔ IsNameIn table.now name }
+{
+    name.job < table.jobs() && is_time_near(table, name)
+}
+
+// Whether the launch is on a day near the window, or at an instant of it.
+fn is_time_near(table: &JobTable, name: Name) -> bool
+    requires { name.job < length table.now.jobs }
+    ensures { IsTrue result ↔ IsTimeNear table.now.window (job_kind table.now name.job) name.at }
+{
+    let window = table.window();
+    if table.is_anacron(name.job) {
+        let first = day_of(window.from.0);
+        let last = day_of(window.until.0 - 1);
+        first - 2 <= name.at && name.at <= last + 2
+    } else {
+        window.contains(Minute(name.at))
+    }
+}
+
+/// Appends a launch's name as a text: its job's name, `@`, and when it is, as alice:1@20240331T0100Z or, of an anacron
+/// job, backup@2024-03-31. `into` is unchanged without memory, which can be wanting only where it has no room.
 pub fn write_name(table: &JobTable, name: Name, into: &mut String) -> Result<(), OutOfMemory>
     requires { IsNameIn table.now name }
     ensures ok { OnOk result (string_bytes into.new ≡ string_bytes into.old ++ name_text table.now name) }
@@ -19,12 +39,35 @@ pub fn write_name(table: &JobTable, name: Name, into: &mut String) -> Result<(),
     ensures full { OnErr result (string_capacity into.old < string_len into.old + length (name_text table.now name)) }
 {
     let job = table.name(name.job);
-    // With room for the job's name, `@` and the fourteen bytes of the stamp nothing can be cut short.
-    into.reserve(job.len() + 15)?;
+    // With room for the job's name, `@` and what comes after it nothing can be cut short.
+    into.reserve(job.len() + 1 + time_len(table, name.job))?;
     into.push_str(job)?;
     into.push('@')?;
-    write_basic_stamp(Minute(name.at), into)?;
-    Ok(())
+    write_time(table, name, into)
+}
+
+// How many bytes a name has after its `@`: those of a date or of a stamp.
+fn time_len(table: &JobTable, job: u32) -> usize
+    requires { job < length table.now.jobs }
+    ensures len { (at : ℤ) → length (time_text (job_kind table.now job) at) ≡ result }
+    ensures bound { result ≤ 14 }
+{
+    if table.is_anacron(job) { 10 } else { 14 }
+}
+
+// Appends what a name has after its `@`.
+fn write_time(table: &JobTable, name: Name, into: &mut String) -> Result<(), OutOfMemory>
+    requires job { name.job < length table.now.jobs }
+    requires calendar { IsCalendarTime (job_kind table.now name.job) name.at }
+    ensures ok { OnOk result (string_bytes into.new ≡ string_bytes into.old ++ time_text (job_kind table.now name.job) name.at) }
+    ensures err { OnErr result (string_bytes into.new ≡ string_bytes into.old) }
+    ensures full { OnErr result (string_capacity into.old < string_len into.old + length (time_text (job_kind table.now name.job) name.at)) }
+{
+    if table.is_anacron(name.job) {
+        write_date(name.at, into)
+    } else {
+        write_basic_stamp(Minute(name.at), into)
+    }
 }
 
 /// The launch of the table's jobs that has this name, or `None` where no launch has it.
@@ -32,56 +75,51 @@ pub fn read_name(table: &JobTable, text: &str) -> Option<Name>
     ensures read { IfSome result (λ name. IsNameIn table.now name × (text.now ≡ name_text table.now name)) }
     ensures none { IfNone result ((name : Name) → IsNameIn table.now name → text.now ≢ name_text table.now name) }
 {
-    let (job, stamp) = split_name(text)?;
+    let (job, time) = split_name(text)?;
     let job = job_named(table, job)?;
-    let window = table.window();
-    let at = read_basic_stamp(stamp)?;
-    if window.contains(at) {
-        Some(Name { job, at: at.0 })
+    let at = read_time(table, job, time)?;
+    let name = Name { job, at };
+    if is_time_near(table, name) {
+        Some(name)
     } else {
         None
     }
 }
 
-// What stands before and after the `@` that the last 14 bytes follow.
-fn split_name(text: &str) -> Option<(&[u8], &[u8; 14])>
+// What stands before and after the last `@`.
+fn split_name(text: &str) -> Option<(&str, &str)>
     ensures parts { IfSome result (λ parts. text.now ≡ parts.0.now ++ 64 ∷ parts.1.now) }
-    ensures stamp { IfSome result (λ parts. length parts.1.now ≡ 14) }
-    ensures none { IfNone result ((front stamp : List ℕ) → length stamp ≡ 14 → text.now ≢ front ++ 64 ∷ stamp) }
+    ensures last { IfSome result (λ parts. LacksAt parts.1.now) }
+    ensures none { IfNone result (LacksAt text.now) }
 {
-    let (front, stamp) = text.as_bytes().split_last_chunk::<14>()?;
-    let job = front.strip_suffix(b"@")?;
-    Some((job, stamp))
+    text.rsplit_once('@')
 }
 
 // The number of the job that has this name.
-fn job_named(table: &JobTable, name: &[u8]) -> Option<u32>
+fn job_named(table: &JobTable, name: &str) -> Option<u32>
     ensures found { IfSome result (λ job. (job < length table.now.jobs) × (job_name table.now job ≡ name.now)) }
+    ensures one { IfSome result (λ job. (other : ℕ) → other < length table.now.jobs → job_name table.now other ≡ name.now → other ≡ job) }
     ensures none { IfNone result ((job : ℕ) → job < length table.now.jobs → job_name table.now job ≢ name.now) }
+    ensures sound { IsSound table.now }
 {
     for job in 0..table.jobs() {
-        if table.name(job).as_bytes() == name {
+        if table.name(job) == name {
             return Some(job);
         }
     }
     None
 }
 
-// The instant of a stamp as 20240331T0100Z.
-fn read_basic_stamp(basic: &[u8; 14]) -> Option<Minute>
-    ensures read { IfSome result (λ at. IsCalendarMinute at.0 × (basic.now ≡ basic_stamp_text at.0)) }
-    ensures none { IfNone result ((at : ℤ) → IsCalendarMinute at → basic.now ≢ basic_stamp_text at) }
+// When a launch of the job is, by what its name has after the `@`.
+fn read_time(table: &JobTable, job: u32, time: &str) -> Option<i64>
+    requires { job < length table.now.jobs }
+    ensures read { IfSome result (λ at. IsCalendarTime (job_kind table.now job) at × (time.now ≡ time_text (job_kind table.now job) at)) }
+    ensures none { IfNone result ((at : ℤ) → IsCalendarTime (job_kind table.now job) at → time.now ≢ time_text (job_kind table.now job) at) }
 {
-    let extended = with_marks(basic);
-    read_stamp(str::from_utf8(&extended).ok()?)
-}
-
-// The stamp as 2024-03-31T01:00Z.
-fn with_marks(basic: &[u8; 14]) -> [u8; 17]
-    ensures { (at : ℤ) → (basic.now ≡ basic_stamp_text at) ↔ (result ≡ stamp_text at) }
-{
-    let [y0, y1, y2, y3, m0, m1, d0, d1, t, h0, h1, n0, n1, z] = *basic;
-    [
-        y0, y1, y2, y3, b'-', m0, m1, b'-', d0, d1, t, h0, h1, b':', n0, n1, z,
-    ]
+    if table.is_anacron(job) {
+        read_date(time)
+    } else {
+        let at = read_basic_stamp(time)?;
+        Some(at.0)
+    }
 }

@@ -1,7 +1,8 @@
 use paxos_base::Kind;
 use zone_minutes::Minute;
 
-/// The name of a launch: its job's number in the table of jobs, and when it is due, in minutes since 1970-01-01T00:00Z.
+/// The name of a launch: its job's number in the table of jobs, and when it is due, in minutes since 1970-01-01T00:00Z,
+/// or of an anacron job the number of its day.
 #[derive(Clone, Copy, Debug, PartialEq, Eq, PartialOrd, Ord, Hash)]
 pub struct Name {
     pub job: u32,

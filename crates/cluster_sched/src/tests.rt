@@ -3,7 +3,7 @@ ghost use Rattle.std.specs.Prelude.{IfOk};
 ghost use Rattle.cluster_sched.specs.Names.{IsNameIn};
 
 use crate::{
-    Name, a_look_has_one_answer, answers_stay, calls_go_by_their_fates, held_rows_stay,
+    Name, a_look_has_one_answer, answers_stay, calls_go_by_their_fates, held_rows_stay, is_name_in,
     late_rows_stay, ledgers_always_answer, ledgers_answer_alike, names_differ_in_their_texts,
     read_name, rows_named_once_are_first, write_name,
 };
@@ -33,7 +33,7 @@ fn two_jobs(alloc: Global) -> Result<JobTable, Fail>
 }
 
 // Texts, and the launches that have them as their names.
-const TEXTS: [(&str, Option<Name>); 17] = [
+const TEXTS: [(&str, Option<Name>); 18] = [
     ("alice:1@20240331T0100Z", Some(LAUNCH)),
     (
         "bob@home:2@20240331T0000Z",
@@ -62,6 +62,7 @@ const TEXTS: [(&str, Option<Name>); 17] = [
     ("alice:1@20240331T0100Z ", None),
     ("alice:1@20240331T0100z", None),
     ("alice:1@2024-03-31T01:00Z", None),
+    ("alice:1@2024-03-31", None),
     // A mark would come between the bytes of a letter.
     ("alice:1@202é331T0100Z", None),
 ];
@@ -70,6 +71,7 @@ const TEXTS: [(&str, Option<Name>); 17] = [
 fn names(rt: HostRuntime) -> Result<(), Fail> {
     let table = two_jobs(rt.alloc())?;
     let mut text = String::from_str(rt.alloc(), "called ")?;
+    assert!(rt; is_name_in(&table, LAUNCH));
     write_name(&table, LAUNCH, &mut text)?;
     assert_eq!(rt; text.as_str(), "called alice:1@20240331T0100Z");
     for (text, name) in TEXTS {
