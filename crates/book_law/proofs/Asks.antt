@@ -1,5 +1,5 @@
 -- A table that asks for a start and then for its call: one job that is due at each minute, over a window of one minute.
-use Rattle.std.proofs.Common.{◌≡◌, ℕ, zero, suc, ◌-◌, ◌<◌, ◌^◌, ℤ, pos, true, false, Some, None, [], ◌∷◌, refl, ap, ◌∙◌, arith, subst, lit<, ◌↔◌}
+use Rattle.std.proofs.Common.{◌≡◌, ℕ, zero, suc, ◌-◌, ◌<◌, ◌^◌, ℤ, pos, true, false, Some, None, [], ◌∷◌, refl, ap, ◌∙◌, arith, subst, lit<, ◌↔◌, inl}
 use Rattle.cron_fields.specs.FieldSet.{Has}
 use Rattle.cron_fields.specs.declared.field.FieldSet.{FieldSet}
 use Rattle.cron_fields.specs.declared.field.Fields.{Fields}
@@ -72,7 +72,7 @@ next : IsNextDue busy 0 None (pos 0)
 next = record { due = due; later = tt; least = λ other is after. is.inside.since }
 
 takes : TakesStart busy (fresh_rows busy) 0 (pos 0) (pos 0)
-takes = record { row = fresh_row 0; is_row = refl; idle = refl; next = next; come = grind arith }
+takes = record { row = fresh_row 0; is_row = refl; idle = refl; may = inl (next, grind arith) }
 
 nothing_below : (before : ℕ) → before < 0 → ⊥
 nothing_below before less = omega (arith, less)

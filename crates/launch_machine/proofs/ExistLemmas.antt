@@ -1,16 +1,18 @@
 -- Of a sound table, entries leave a launch table, and a job's starts and ends along them are there and are one.
-use Rattle.std.proofs.Common.{◌≡◌, ◌≢◌, ℕ, ◌+◌, ◌⊎◌, inl, inr, List, [], ◌∷◌, Option, None, Some, ℤ, refl, sym, ap, ◌∙◌, subst}
+use Rattle.std.proofs.Common.{◌≡◌, ◌≢◌, ℕ, ◌+◌, ◌≤ℤ◌, ◌⊎◌, inl, inr, List, [], ◌∷◌, Option, None, Some, ℤ, refl, sym, ap, ◌∙◌, subst}
 use Rattle.std.specs.Prelude.{slice_get}
 use Rattle.paxos_base.specs.declared.entry.Entry.{Entry}
 use Rattle.paxos_base.specs.declared.entry.Entry.TheVariants.{Noop, Start, End}
 use Rattle.paxos_base.specs.declared.entry.Kind.{Kind}
 use Rattle.paxos_base.specs.declared.entry.Kind.TheVariants.{Launch, Void}
 use Rattle.paxos_base.specs.declared.rows.JobRow.{JobRow}
+use Rattle.due_set.specs.Anacron.{IsJobOpen}
 use Rattle.due_set.specs.Table.{Table, IsNextDue, IsSound}
 use Rattle.due_set.proofs.CountLemmas.{IsNextDue-same}
-use Rattle.due_set.proofs.DecideLemmas.{IsDecided, decided_le, decided_same}
+use Rattle.due_set.proofs.DecideLemmas.{IsDecided, decided_both, decided_either, decided_le, decided_same}
 use Rattle.due_set.proofs.ExistLemmas.{next_or_none}
-use Rattle.launch_machine.specs.Clerk.{Applies, AppliesAll, IsClerkOf, TakesStart, TakesEnd, TakesEffect, fresh_rows, rows_after}
+use Rattle.due_set.proofs.OpenLemmas.{open_or_not, opens_on_one_date}
+use Rattle.launch_machine.specs.Clerk.{Applies, AppliesAll, IsClerkOf, MayStart, TakesStart, TakesEnd, TakesEffect, fresh_rows, rows_after}
 use Rattle.launch_machine.specs.Starts.{AddsEnd, AddsStart, EndsFrom, EndsJob, EndsOf, StartsFrom, StartsJob, StartsOf}
 use Rattle.launch_machine.proofs.ClerkLemmas.{Applies-same}
 use Rattle.launch_machine.proofs.MachineLemmas.{same_or_not, same_row}
@@ -30,17 +32,27 @@ decided_next table sound job cursor at = elim (next_or_none table sound job curs
   | inr none ↦ inr (λ other. none at other.due other.later)
 ]
 
+-- whether the job's launch may be started
+may_start_or_not : (table : Table) → IsSound table → (job : ℕ) (row : JobRow) (at now : ℤ) → IsDecided (MayStart table job row at now)
+may_start_or_not table sound job row at now =
+    decided_either (IsNextDue table job row.cursor at × (at ≤ℤ now)) (IsJobOpen table job row.last row.cursor now at)
+    (decided_both (IsNextDue table job row.cursor at) (at ≤ℤ now) (decided_next table sound job row.cursor at) (decided_le at now))
+    (elim (open_or_not table job row.last row.cursor now sound) [
+      | inl (date, opens) ↦ elim (decided_same date at) [
+        | inl e ↦ inl (subst (IsJobOpen table job row.last row.cursor now) e opens)
+        | inr ne ↦ inr (λ other. ne (opens_on_one_date table job row.last row.cursor now date at opens other))
+      ]
+      | inr none ↦ inr (none at)
+    ])
+
 -- whether a start takes effect, by its job's row
 start_by_row : (table : Table) → IsSound table → (rows : List JobRow) (job : ℕ) (at now : ℤ) (row : JobRow) → slice_get rows job ≡ Some row
     → (open_now : Option ℤ) → row.open_now ≡ open_now → IsDecided (TakesStart table rows job at now)
 start_by_row table sound rows job at now row is_row (Some since) is_open =
     inr (λ takes. cc (ap (λ (r : JobRow). r.open_now) (same_row rows job takes.row row takes.is_row is_row), takes.idle, is_open))
-start_by_row table sound rows job at now row is_row None idle = elim (decided_le at now) [
-  | inr late ↦ inr (λ takes. late takes.come)
-  | inl come ↦ elim (decided_next table sound job row.cursor at) [
-    | inl next ↦ inl (record { row = row; is_row = is_row; idle = idle; next = next; come = come })
-    | inr other ↦ inr (λ takes. other (subst (λ (r : JobRow). IsNextDue table job r.cursor at) (same_row rows job takes.row row takes.is_row is_row) takes.next))
-  ]
+start_by_row table sound rows job at now row is_row None idle = elim (may_start_or_not table sound job row at now) [
+  | inl may ↦ inl (record { row = row; is_row = is_row; idle = idle; may = may })
+  | inr not ↦ inr (λ takes. not (subst (λ (r : JobRow). MayStart table job r at now) (same_row rows job takes.row row takes.is_row is_row) takes.may))
 ]
 
 -- whether an end takes effect, by its job's row

@@ -1,6 +1,6 @@
--- A machine's rows and next instants, and what a change of one place leaves.
+-- A machine's rows and what stands beside them, and what a change of one place leaves.
 use Rattle.std.proofs.Common.{◌≡◌, ◌≢◌, ℕ, zero, suc, ◌+◌, ◌<◌, ◌≤◌, ◌⊎◌, inl, inr, ◌↔◌, List, [], ◌∷◌, ◌++◌, length, get_or, Option, None, Some, ℤ, ◌≤ℤ◌, Bool, IsTrue, true, false, refl, sym, ap, ◌∙◌, subst, arith, length-append}
-use Rattle.std.specs.Prelude.{map, IsSome, slice_get, slice_set}
+use Rattle.std.specs.Prelude.{map, IfNone, IfOk, IfSome, IsSome, Result, Ok, Err, slice_get, slice_set}
 use Rattle.std.proofs.Math.ListN.{set, length-set}
 use Rattle.std.proofs.lemmas.Bool.Decides.{leb_tells}
 use Rattle.std.proofs.lemmas.Int.{ints}
@@ -10,16 +10,19 @@ use Rattle.std.proofs.lemmas.List.Elements.{All-map}
 use Rattle.std.proofs.lemmas.List.FromFn.{length-map-range_with_len}
 use Rattle.paxos_base.specs.Rows.{RowsStand, OpenHasCursor, OpenHaveCursors}
 use Rattle.paxos_base.specs.declared.rows.JobRow.{JobRow}
-use Rattle.paxos_base.specs.declared.entry.Entry.{Entry}
-use Rattle.paxos_base.specs.declared.entry.Entry.TheVariants.{Start, End}
 use Rattle.paxos_base.specs.declared.entry.Kind.{Kind}
 use Rattle.paxos_base.specs.declared.entry.Kind.TheVariants.{Launch, Void}
 use Rattle.jiff.specs.Types.{TimeZone}
 use Rattle.due_set.specs.Calls.{HasCome}
-use Rattle.due_set.specs.Table.{Job, Table, IsJobIn, IsNextDue, IsJobRead}
-use Rattle.launch_machine.specs.Clerk.{TakesStart, TakesEnd, TakesEffect, Applies, fresh_row, opened_row, closed_row}
-use Rattle.launch_machine.specs.Intent.{MayCall, NoCall, NoStart, AreClosed, IsFirstOpen}
-use Rattle.launch_machine.specs.Machine.{Launches, IsNext, AreNexts, StandsFor, IsReady}
+use Rattle.due_set.specs.Anacron.{IsFirstOpening, IsJobOpen}
+use Rattle.due_set.specs.Table.{Job, Table, IsAfter, IsAnacron, IsJobDue, IsJobIn, IsNextDue, IsJobRead, IsRunByPeriod}
+use Rattle.due_set.proofs.CountLemmas.{IsNextDue-same}
+use Rattle.due_set.proofs.OpenLemmas.{opens_on_one_date}
+use Rattle.due_set.proofs.TableLemmas.{IsRunByPeriod-kind}
+use Rattle.paxos_base.specs.declared.entry.Entry.TheVariants.{Start}
+use Rattle.launch_machine.specs.Clerk.{Applies, MayStart, TakesStart, fresh_row, opened_row, closed_row}
+use Rattle.launch_machine.specs.Intent.{MayCall, NoCall, NoStart}
+use Rattle.launch_machine.specs.Machine.{AreBeside, IsFirstStartOf, IsFirstToStart}
 
 pub same_or_not : (a b : ℕ) → (a ≡ b) ⊎ (a ≢ b)
 same_or_not zero zero = inl refl
@@ -56,126 +59,198 @@ push_before [] x (suc k) ne = refl
 push_before (z ∷ zs) x zero ne = refl
 push_before (z ∷ zs) x (suc k) ne = push_before zs x k (λ e. ne (ap suc e))
 
--- the next instants of the first rows
-pub record AreNextsBelow (table : Table) (rows : List JobRow) (nexts : List (Option ℤ)) (bound : ℕ) : Type 0 where
-  pub count : length nexts ≡ bound
-  pub each : (job : ℕ) (row : JobRow) (next : Option ℤ) → slice_get rows job ≡ Some row → slice_get nexts job ≡ Some next
-      → IsNext table job row.cursor next
+-- a job's place says its row
+pub same_row : (rows : List JobRow) (job : ℕ) (a b : JobRow) → slice_get rows job ≡ Some a → slice_get rows job ≡ Some b → a ≡ b
+same_row rows job a b p q = cc
 
-pub nexts_none : (table : Table) (rows : List JobRow) → AreNextsBelow table rows [] 0
-nexts_none table rows = record { count = refl; each = λ job row next is_row e. cc }
+-- what stands beside the first rows
+pub record AreBesideBelow (holds : ℕ → JobRow → Option ℤ → Type 0) (rows : List JobRow) (values : List (Option ℤ)) (bound : ℕ) : Type 0 where
+  pub count : length values ≡ bound
+  pub each : (job : ℕ) (row : JobRow) (value : Option ℤ) → slice_get rows job ≡ Some row → slice_get values job ≡ Some value → holds job row value
 
-pub nexts_push : (table : Table) (rows : List JobRow) (nexts : List (Option ℤ)) (job : ℕ) (row : JobRow) (next : Option ℤ)
-    → AreNextsBelow table rows nexts job → slice_get rows job ≡ Some row → IsNext table job row.cursor next
-    → AreNextsBelow table rows (nexts ++ next ∷ []) (job + 1)
-nexts_push table rows nexts job row next known is_row is_next = record {
-  count = omega (arith, length-append nexts (next ∷ []), known.count);
-  each = λ k r n at_row at_next. elim (same_or_not k (length nexts)) [
-    | inl e ↦ here k r n at_row at_next e
-    | inr ne ↦ known.each k r n at_row (sym (push_before nexts next k ne) ∙ at_next)
+pub beside_none : (holds : ℕ → JobRow → Option ℤ → Type 0) (rows : List JobRow) → AreBesideBelow holds rows [] 0
+beside_none holds rows = record { count = refl; each = λ job row value is_row e. cc }
+
+-- what holds of a place, a row and a value holds of equal ones
+moved : (holds : ℕ → JobRow → Option ℤ → Type 0) (job k : ℕ) (row r : JobRow) (value v : Option ℤ) → job ≡ k → row ≡ r → value ≡ v → holds job row value → holds k r v
+moved holds job k row r value v jobs rows values is =
+    subst (holds k r) values (subst (λ (a : JobRow). holds k a value) rows (subst (λ (i : ℕ). holds i row value) jobs is))
+
+pub beside_push : (holds : ℕ → JobRow → Option ℤ → Type 0) (rows : List JobRow) (values : List (Option ℤ)) (job : ℕ) (row : JobRow) (value : Option ℤ)
+    → AreBesideBelow holds rows values job → slice_get rows job ≡ Some row → holds job row value
+    → AreBesideBelow holds rows (values ++ value ∷ []) (job + 1)
+beside_push holds rows values job row value known is_row is = record {
+  count = omega (arith, length-append values (value ∷ []), known.count);
+  each = λ k r v at_row at_value. elim (same_or_not k (length values)) [
+    | inl e ↦ here k r v at_row at_value e
+    | inr ne ↦ known.each k r v at_row (sym (push_before values value k ne) ∙ at_value)
   ];
 }
   where
-    here : (k : ℕ) (r : JobRow) (n : Option ℤ) → slice_get rows k ≡ Some r → slice_get (nexts ++ next ∷ []) k ≡ Some n → k ≡ length nexts → IsNext table k r.cursor n
-    here k r n at_row at_next e =
+    here : (k : ℕ) (r : JobRow) (v : Option ℤ) → slice_get rows k ≡ Some r → slice_get (values ++ value ∷ []) k ≡ Some v → k ≡ length values → holds k r v
+    here k r v at_row at_value e =
         let job_is : job ≡ k = sym known.count ∙ sym e in
-        let next_is : next ≡ n = push_last nexts next n (subst (λ (i : ℕ). slice_get (nexts ++ next ∷ []) i ≡ Some n) e at_next) in
+        let value_is : value ≡ v = push_last values value v (subst (λ (i : ℕ). slice_get (values ++ value ∷ []) i ≡ Some v) e at_value) in
         let rows_are : Some row ≡ Some r = sym is_row ∙ ap (slice_get rows) job_is ∙ at_row in
         let row_is : row ≡ r = cc in
-        let at_k : IsNext table k row.cursor next = subst (λ (i : ℕ). IsNext table i row.cursor next) job_is is_next in
-        let at_r : IsNext table k r.cursor next = subst (λ (a : JobRow). IsNext table k a.cursor next) row_is at_k in
-        subst (IsNext table k r.cursor) next_is at_r
+        moved holds job k row r value v job_is row_is value_is is
 
-pub nexts_all : (table : Table) (rows : List JobRow) (nexts : List (Option ℤ)) (count : ℕ) → AreNextsBelow table rows nexts count → length rows ≡ count → AreNexts table rows nexts
-nexts_all table rows nexts count known e = record { count = known.count ∙ sym e; each = known.each }
+pub beside_all : (holds : ℕ → JobRow → Option ℤ → Type 0) (rows : List JobRow) (values : List (Option ℤ)) (count : ℕ) → AreBesideBelow holds rows values count
+    → length rows ≡ count → AreBeside holds rows values
+beside_all holds rows values count known e = record { count = known.count ∙ sym e; each = known.each }
 
--- the next instant is the only one
-same_next : (table : Table) (job : ℕ) (cursor : Option ℤ) (a b : ℤ) → IsNextDue table job cursor a → IsNextDue table job cursor b → a ≡ b
-same_next table job cursor a b p q =
-    let le : a ≤ℤ b = p.least b q.due q.later in
-    let ge : b ≤ℤ a = q.least a p.due p.later in
-    omega (arith, ints)
+-- the tree that is built is the list of the values
+pub beside_built : {E : Type 0} (holds : ℕ → JobRow → Option ℤ → Type 0) (rows : List JobRow) (values : List (Option ℤ)) (result : Result (List (Option ℤ)) E)
+    → IfOk result (λ tree. tree ≡ values) → AreBeside holds rows values → IfOk result (λ tree. AreBeside holds rows tree)
+beside_built holds rows values (Ok tree) e known = subst (AreBeside holds rows) (sym e) known
+beside_built holds rows values (Err fault) e known = tt
 
-next_is : (table : Table) (job : ℕ) (cursor next : Option ℤ) (at : ℤ) → IsNext table job cursor next → IsNextDue table job cursor at → next ≡ Some at
-next_is table job cursor None at none due = absurd (none at due.due due.later)
-next_is table job cursor (Some b) at known due = ap Some (same_next table job cursor b at known due)
+-- what holds of a value that may be there, by what is known of it
+pub IfSome-map : {X : Type 0} (P Q : X → Type 0) (o : Option X) → IfSome o P → ((x : X) → P x → Q x) → IfSome o Q
+IfSome-map P Q None p f = tt
+IfSome-map P Q (Some x) p f = f x p
 
--- the machine knows which starts take effect
-pub ready_takes : (table : Table) (machine : Launches) (job : ℕ) (at now : ℤ) → StandsFor table machine → IsReady machine.rows machine.nexts job at now → TakesStart table machine.rows job at now
-ready_takes table machine job at now stands ready = record {
-  row = ready.row;
-  is_row = ready.is_row;
-  idle = ready.idle;
-  next = stands.nexts.each job ready.row (Some at) ready.is_row ready.next;
-  come = ready.come;
+-- a row and the value beside it are changed together
+pub beside_set : (holds : ℕ → JobRow → Option ℤ → Type 0) (rows : List JobRow) (values : List (Option ℤ)) (job : ℕ) (new : JobRow) (value : Option ℤ)
+    → AreBeside holds rows values → holds job new value → AreBeside holds (slice_set rows job new) (slice_set values job value)
+beside_set holds rows values job new value known is = record {
+  count = length-set values job value ∙ known.count ∙ sym (length-set rows job new);
+  each = λ k row v at_row at_value. elim (same_or_not k job) [
+    | inl k_is ↦ here k row v at_row at_value k_is
+    | inr ne ↦ known.each k row v (sym (set_there rows job k new ne) ∙ at_row) (sym (set_there values job k value ne) ∙ at_value)
+  ];
+}
+  where
+    here : (k : ℕ) (row : JobRow) (v : Option ℤ) → slice_get (slice_set rows job new) k ≡ Some row → slice_get (slice_set values job value) k ≡ Some v → k ≡ job → holds k row v
+    here k row v at_row at_value e =
+        let row_is : new ≡ row = set_here rows job row new (subst (λ (i : ℕ). slice_get (slice_set rows job new) i ≡ Some row) e at_row) in
+        let value_is : value ≡ v = set_here values job v value (subst (λ (i : ℕ). slice_get (slice_set values job value) i ≡ Some v) e at_value) in
+        moved holds job k new row value v (sym e) row_is value_is is
+
+-- the value that stands beside a row
+pub beside_row : (holds : ℕ → JobRow → Option ℤ → Type 0) (rows : List JobRow) (values : List (Option ℤ)) (job : ℕ) (row : JobRow) → AreBeside holds rows values
+    → slice_get rows job ≡ Some row → (value : Option ℤ) × (slice_get values job ≡ Some value) × holds job row value
+beside_row holds rows values job row known is_row =
+    let lt : job < length values = subst (λ (n : ℕ). job < n) (sym known.count) (slice_get_within rows job row is_row) in
+    let found = is_some_below values job lt in
+    (found.0, found.1, known.each job row found.0 is_row found.1)
+
+-- ---- when a job may be started
+
+-- a job that may open runs by its period
+pub opens_by_period : (table : Table) (job : ℕ) (last cursor : Option ℤ) (now date : ℤ) → IsJobOpen table job last cursor now date → IsRunByPeriod table job
+opens_by_period table job last cursor now date opens = (opens.job, opens.is_in.is_job, subst IsAnacron (sym opens.kind) tt)
+
+-- and one that is due at an instant doesn't
+pub due_by_instant : (table : Table) (job : ℕ) (at : ℤ) → IsJobDue table job at → IsRunByPeriod table job → ⊥
+due_by_instant table job at due by = subst IsAnacron due.kind (IsRunByPeriod-kind table job due.job due.is_in.is_job by)
+
+-- a job that doesn't run by its period may be started at its next due instant alone
+pub may_start_at : (table : Table) (job : ℕ) (row : JobRow) (at now : ℤ) → (IsRunByPeriod table job → ⊥) → MayStart table job row at now
+    → IsNextDue table job row.cursor at × (at ≤ℤ now)
+may_start_at table job row at now other (inl next) = next
+may_start_at table job row at now other (inr opens) = absurd (other (opens_by_period table job row.last row.cursor now at opens))
+
+-- and one that runs by its period, on a date
+pub may_start_on : (table : Table) (job : ℕ) (row : JobRow) (at now : ℤ) → IsRunByPeriod table job → MayStart table job row at now
+    → IsJobOpen table job row.last row.cursor now at
+may_start_on table job row at now by (inr opens) = opens
+may_start_on table job row at now by (inl (next, come)) = absurd (due_by_instant table job at next.due by)
+
+-- the first instant at which it may be started is its next due one
+pub first_is_next : (table : Table) (job : ℕ) (row : JobRow) (first : ℤ) → IsNextDue table job row.cursor first → IsFirstToStart table job row first
+first_is_next table job row first next = record {
+  at = first;
+  may = inl (next, omega (arith, ints));
+  least = λ other now may.
+      let others = may_start_at table job row other now (due_by_instant table job first next.due) may in
+      let le : first ≤ℤ other = next.least other others.0.due others.0.later in
+      let come : other ≤ℤ now = others.1 in
+      omega (arith, ints);
 }
 
-pub takes_ready : (table : Table) (machine : Launches) (job : ℕ) (at now : ℤ) → StandsFor table machine → TakesStart table machine.rows job at now → IsReady machine.rows machine.nexts job at now
-takes_ready table machine job at now stands takes =
-    let lt : job < length machine.nexts = subst (λ (n : ℕ). job < n) (sym stands.nexts.count) (slice_get_within machine.rows job takes.row takes.is_row) in
-    let found = is_some_below machine.nexts job lt in
-    record {
-      row = takes.row;
-      is_row = takes.is_row;
-      idle = takes.idle;
-      next = found.1 ∙ ap Some (next_is table job takes.row.cursor found.0 at (stands.nexts.each job takes.row found.0 takes.is_row found.1) takes.next);
-      come = takes.come;
-    }
+-- and where none is left it may not be started
+pub no_next_start : (table : Table) (job : ℕ) (row : JobRow) → (IsRunByPeriod table job → ⊥) → ((t : ℤ) → IsJobDue table job t → IsAfter row.cursor t → ⊥)
+    → (at now : ℤ) → MayStart table job row at now → ⊥
+no_next_start table job row other none at now may =
+    let next = (may_start_at table job row at now other may).0 in
+    none at next.due next.later
 
--- a changed row of the same job
-pub rows_set : (rows : List JobRow) (jobs job : ℕ) (old new : JobRow) → RowsStand rows jobs → slice_get rows job ≡ Some old → new.job ≡ old.job
-    → RowsStand (slice_set rows job new) jobs
-rows_set rows jobs job old new stand is_old same = record {
+-- the first instant at which it may open
+pub first_is_opening : (table : Table) (job : ℕ) (row : JobRow) (first : ℤ) → IsFirstOpening table job row.last row.cursor first → IsFirstToStart table job row first
+first_is_opening table job row first opening = record {
+  at = opening.date;
+  may = inr opening.opens;
+  least = λ other now may.
+      opening.least now other
+      (may_start_on table job row other now (opens_by_period table job row.last row.cursor first opening.date opening.opens) may);
+}
+
+pub no_opening_start : (table : Table) (job : ℕ) (row : JobRow) → IsRunByPeriod table job
+    → ((now date : ℤ) → IsJobOpen table job row.last row.cursor now date → ⊥) → (at now : ℤ) → MayStart table job row at now → ⊥
+no_opening_start table job row by none at now may = none now at (may_start_on table job row at now by may)
+
+-- what was found is the first instant
+pub first_by_due : (table : Table) (job : ℕ) (row : JobRow) (found : Option ℤ) → (IsRunByPeriod table job → ⊥) → IfSome found (IsNextDue table job row.cursor)
+    → IfNone found ((t : ℤ) → IsJobDue table job t → IsAfter row.cursor t → ⊥) → IsFirstStartOf table job row found
+first_by_due table job row (Some first) other next none = first_is_next table job row first next
+first_by_due table job row None other next none = no_next_start table job row other none
+
+pub first_by_opening : (table : Table) (job : ℕ) (row : JobRow) (found : Option ℤ) → IsRunByPeriod table job → IfSome found (IsFirstOpening table job row.last row.cursor)
+    → IfNone found ((now date : ℤ) → IsJobOpen table job row.last row.cursor now date → ⊥) → IsFirstStartOf table job row found
+first_by_opening table job row (Some first) by opening none = first_is_opening table job row first opening
+first_by_opening table job row None by opening none = no_opening_start table job row by none
+
+-- at the first instant an entry's launch is that of the instant
+pub first_may_start : (table : Table) (job : ℕ) (row : JobRow) (first now : ℤ) → IsFirstToStart table job row first → (IsRunByPeriod table job → ⊥) → first ≤ℤ now
+    → MayStart table job row first now
+first_may_start table job row first now is other come =
+    let next = may_start_at table job row is.at first other is.may in
+    let le : first ≤ℤ is.at = is.least is.at is.at (inl (next.0, omega (arith, ints))) in
+    let ge : is.at ≤ℤ first = next.1 in
+    let same : is.at ≡ first = omega (arith, ints) in
+    inl (subst (IsNextDue table job row.cursor) same next.0, come)
+
+-- the launch that may be started at an instant is one
+pub MayStart-same : (table : Table) (job : ℕ) (row : JobRow) (a b now : ℤ) → MayStart table job row a now → MayStart table job row b now → a ≡ b
+MayStart-same table job row a b now (inl p) (inl q) = IsNextDue-same table job row.cursor a b p.0 q.0
+MayStart-same table job row a b now (inr p) (inr q) = opens_on_one_date table job row.last row.cursor now a b p q
+MayStart-same table job row a b now (inl p) (inr q) =
+    absurd (due_by_instant table job a p.0.due (opens_by_period table job row.last row.cursor now b q))
+MayStart-same table job row a b now (inr p) (inl q) =
+    absurd (due_by_instant table job b q.0.due (opens_by_period table job row.last row.cursor now a p))
+
+pub TakesStart-same : (table : Table) (rows : List JobRow) (job : ℕ) (a b now : ℤ) → TakesStart table rows job a now → TakesStart table rows job b now → a ≡ b
+TakesStart-same table rows job a b now p q =
+    let row : q.row ≡ p.row = same_row rows job q.row p.row q.is_row p.is_row in
+    MayStart-same table job p.row a b now p.may (subst (λ (r : JobRow). MayStart table job r b now) row q.may)
+
+-- a row of the job that is put in its place
+pub row_put : (rows : List JobRow) (jobs job : ℕ) (new : JobRow) → RowsStand rows jobs → new.job ≡ job → RowsStand (slice_set rows job new) jobs
+row_put rows jobs job new stand number = record {
   count = length-set rows job new ∙ stand.count;
   in_order = λ k row e. elim (same_or_not k job) [
     | inl k_is ↦
         let row_is : new ≡ row = set_here rows job row new (subst (λ (i : ℕ). slice_get (slice_set rows job new) i ≡ Some row) k_is e) in
-        let number : old.job ≡ job = stand.in_order job old is_old in
-        ap (λ (r : JobRow). r.job) (sym row_is) ∙ same ∙ number ∙ sym k_is
+        ap (λ (r : JobRow). r.job) (sym row_is) ∙ number ∙ sym k_is
     | inr ne ↦ stand.in_order k row (sym (set_there rows job k new ne) ∙ e)
   ];
 }
 
--- a start changes the cursor, and the next instant with it
-pub nexts_start : (table : Table) (rows : List JobRow) (nexts : List (Option ℤ)) (job : ℕ) (new : JobRow) (next : Option ℤ)
-    → AreNexts table rows nexts → IsNext table job new.cursor next → AreNexts table (slice_set rows job new) (slice_set nexts job next)
-nexts_start table rows nexts job new next known is_next = record {
-  count = length-set nexts job next ∙ known.count ∙ sym (length-set rows job new);
-  each = λ k row n at_row at_next. elim (same_or_not k job) [
-    | inl k_is ↦ here k row n at_row at_next k_is
-    | inr ne ↦ known.each k row n (sym (set_there rows job k new ne) ∙ at_row) (sym (set_there nexts job k next ne) ∙ at_next)
-  ];
-}
-  where
-    here : (k : ℕ) (row : JobRow) (n : Option ℤ) → slice_get (slice_set rows job new) k ≡ Some row → slice_get (slice_set nexts job next) k ≡ Some n → k ≡ job → IsNext table k row.cursor n
-    here k row n at_row at_next e =
-        let row_is : new ≡ row = set_here rows job row new (subst (λ (i : ℕ). slice_get (slice_set rows job new) i ≡ Some row) e at_row) in
-        let next_is : next ≡ n = set_here nexts job n next (subst (λ (i : ℕ). slice_get (slice_set nexts job next) i ≡ Some n) e at_next) in
-        let at_k : IsNext table k new.cursor next = subst (λ (i : ℕ). IsNext table i new.cursor next) (sym e) is_next in
-        let at_r : IsNext table k row.cursor next = subst (λ (a : JobRow). IsNext table k a.cursor next) row_is at_k in
-        subst (IsNext table k row.cursor) next_is at_r
+-- a row that a start opens has its job's number
+pub row_opened : (rows : List JobRow) (jobs job : ℕ) (at now : ℤ) (row here d new : JobRow) → RowsStand rows jobs → slice_get rows job ≡ Some row → here ≡ get_or rows job d
+    → new ≡ opened_row at now here → new.job ≡ job
+row_opened rows jobs job at now row here d new stand is_row here_is new_is =
+    let same : here ≡ row = here_is ∙ get_or_from_slice_get rows job row d is_row in
+    ap (λ (r : JobRow). r.job) new_is ∙ ap (λ (r : JobRow). r.job) same ∙ stand.in_order job row is_row
 
--- an end leaves the cursor, and the next instant with it
-pub nexts_end : (table : Table) (rows : List JobRow) (nexts : List (Option ℤ)) (job : ℕ) (old new : JobRow)
-    → AreNexts table rows nexts → slice_get rows job ≡ Some old → old.cursor ≡ new.cursor → AreNexts table (slice_set rows job new) nexts
-nexts_end table rows nexts job old new known is_old same = record {
-  count = known.count ∙ sym (length-set rows job new);
-  each = λ k row n at_row at_next. elim (same_or_not k job) [
-    | inl k_is ↦ here k row n at_row at_next k_is
-    | inr ne ↦ known.each k row n (sym (set_there rows job k new ne) ∙ at_row) at_next
-  ];
-}
-  where
-    here : (k : ℕ) (row : JobRow) (n : Option ℤ) → slice_get (slice_set rows job new) k ≡ Some row → slice_get nexts k ≡ Some n → k ≡ job → IsNext table k row.cursor n
-    here k row n at_row at_next e =
-        let row_is : new ≡ row = set_here rows job row new (subst (λ (i : ℕ). slice_get (slice_set rows job new) i ≡ Some row) e at_row) in
-        let cursors : old.cursor ≡ row.cursor = same ∙ ap (λ (r : JobRow). r.cursor) row_is in
-        let at_old : slice_get rows k ≡ Some old = ap (slice_get rows) e ∙ is_old in
-        subst (λ (o : Option ℤ). IsNext table k o n) cursors (known.each k old n at_old at_next)
-
--- a job's place says its row
-pub same_row : (rows : List JobRow) (job : ℕ) (a b : JobRow) → slice_get rows job ≡ Some a → slice_get rows job ≡ Some b → a ≡ b
-same_row rows job a b p q = cc
+-- and so the start has taken effect
+pub start_applies : (table : Table) (rows after : List JobRow) (job : ℕ) (at now : ℤ) (here d new : JobRow) → TakesStart table rows job at now → here ≡ get_or rows job d
+    → new ≡ opened_row at now here → after ≡ slice_set rows job new → Applies table rows (Start job at now) after
+start_applies table rows after job at now here d new takes here_is new_is after_is =
+    let same : here ≡ takes.row = here_is ∙ get_or_from_slice_get rows job takes.row d takes.is_row in
+    let fresh : get_or rows job (fresh_row job) ≡ takes.row = get_or_from_slice_get rows job takes.row (fresh_row job) takes.is_row in
+    inl (takes, after_is ∙ ap (slice_set rows job) (new_is ∙ ap (opened_row at now) (same ∙ sym fresh)))
 
 -- a launch whose instant hasn't come may not be called
 pub no_call : (table : Table) (rows : List JobRow) (job : ℕ) (at now : ℤ) (d : JobRow) (result : Bool) → job < length rows → (get_or rows job d).cursor ≡ Some at
@@ -213,22 +288,6 @@ below_next P n below here k t lt p =
       | inr ne ↦ below k t (omega arith) p
     ]
 
--- no launch may be called before a job, where none is open there from the one on that was looked at last
-pub no_call_before : (table : Table) (rows : List JobRow) (now : ℤ) (from job : ℕ)
-    → ((before : ℕ) (other : ℤ) → before < from → MayCall table rows before other now → ⊥) → AreClosed rows from job
-    → (before : ℕ) (other : ℤ) → before < job → MayCall table rows before other now → ⊥
-no_call_before table rows now from job none closed before other lt may =
-    elim (leb_tells from before) [
-      | inl is ↦
-          let since = is.1 in
-          closed before since lt (record { row = may.row; is_row = may.is_row; since = may.since; is_open = may.is_open })
-      | inr is ↦ none before other is.1 may
-    ]
-
--- a job that is open is one of the table
-pub open_within : (rows : List JobRow) (from job : ℕ) → IsFirstOpen rows from job → job < length rows
-open_within rows from job first = slice_get_within rows job first.here.row first.here.is_row
-
 -- a job outside the table has no launch
 pub no_call_from : (table : Table) (rows : List JobRow) (now : ℤ) (count : ℕ) → length rows ≤ count
     → ((before : ℕ) (other : ℤ) → before < count → MayCall table rows before other now → ⊥) → NoCall table rows now
@@ -238,41 +297,7 @@ pub no_start_from : (table : Table) (rows : List JobRow) (now : ℤ) (count : �
     → ((before : ℕ) (other : ℤ) → before < count → TakesStart table rows before other now → ⊥) → NoStart table rows now
 no_start_from table rows now count le none job at takes = none job at (omega (arith, slice_get_within rows job takes.row takes.is_row)) takes
 
--- a job is ready at one instant
-pub not_ready : (rows : List JobRow) (nexts : List (Option ℤ)) (job : ℕ) (now : ℤ) (next : Option ℤ) → slice_get nexts job ≡ Some next
-    → ((at : ℤ) → next ≡ Some at → at ≤ℤ now → ⊥) → (at : ℤ) → IsReady rows nexts job at now → ⊥
-not_ready rows nexts job now next is_next none at ready =
-    let same : next ≡ Some at = cc (is_next, ready.next) in
-    none at same ready.come
-
-pub ready_once : (rows : List JobRow) (nexts : List (Option ℤ)) (job : ℕ) (a b now : ℤ) → IsReady rows nexts job a now → IsReady rows nexts job b now → a ≡ b
-ready_once rows nexts job a b now p q = cc (p.next, q.next)
-
--- a change of one row
-pub record HasStepped (table : Table) (old : Launches) (entry : Entry) (rows : List JobRow) (nexts : List (Option ℤ)) : Type 0 where
-  pub applies : Applies table old.rows entry rows
-  pub stands : StandsFor table (record { rows = rows; nexts = nexts })
-  pub takes : TakesEffect table old.rows entry
-
-pub started : (table : Table) (old : Launches) (job : ℕ) (at now : ℤ) (d new : JobRow) (next : Option ℤ) → StandsFor table old → IsReady old.rows old.nexts job at now
-    → new ≡ opened_row at now (get_or old.rows job d) → IsNext table job (Some at) next
-    → HasStepped table old (Start job at now) (slice_set old.rows job new) (slice_set old.nexts job next)
-started table old job at now d new next stands ready new_is is_next =
-    let takes : TakesStart table old.rows job at now = ready_takes table old job at now stands ready in
-    let at_d : get_or old.rows job d ≡ ready.row = get_or_from_slice_get old.rows job ready.row d ready.is_row in
-    let row_is : new ≡ opened_row at now ready.row = new_is ∙ ap (opened_row at now) at_d in
-    let fresh : get_or old.rows job (fresh_row job) ≡ ready.row = get_or_from_slice_get old.rows job ready.row (fresh_row job) ready.is_row in
-    let cursor : new.cursor ≡ Some at = ap (λ (r : JobRow). r.cursor) row_is in
-    record {
-      applies = inl (takes, ap (slice_set old.rows job) (row_is ∙ ap (opened_row at now) (sym fresh)));
-      stands = record {
-        rows = rows_set old.rows (length table.jobs) job ready.row new stands.rows ready.is_row (ap (λ (r : JobRow). r.job) row_is);
-        nexts = nexts_start table old.rows old.nexts job new next stands.nexts (subst (λ (o : Option ℤ). IsNext table job o next) (sym cursor) is_next);
-      };
-      takes = takes;
-    }
-
-closed_job : (at : ℤ) (kind : Kind) (row : JobRow) → (closed_row at kind row).job ≡ row.job
+pub closed_job : (at : ℤ) (kind : Kind) (row : JobRow) → (closed_row at kind row).job ≡ row.job
 closed_job at Launch row = refl
 closed_job at Void row = refl
 
@@ -280,24 +305,9 @@ pub closed_cursor : (at : ℤ) (kind : Kind) (row : JobRow) → (closed_row at k
 closed_cursor at Launch row = refl
 closed_cursor at Void row = refl
 
-closed_idle : (at : ℤ) (kind : Kind) (row : JobRow) → (closed_row at kind row).open_now ≡ None
+pub closed_idle : (at : ℤ) (kind : Kind) (row : JobRow) → (closed_row at kind row).open_now ≡ None
 closed_idle at Launch row = refl
 closed_idle at Void row = refl
-
-pub ended : (table : Table) (old : Launches) (job : ℕ) (at : ℤ) (kind : Kind) (d new : JobRow) → StandsFor table old → TakesEnd old.rows job at
-    → new ≡ closed_row at kind (get_or old.rows job d) → HasStepped table old (End job at kind) (slice_set old.rows job new) old.nexts
-ended table old job at kind d new stands takes new_is =
-    let at_d : get_or old.rows job d ≡ takes.row = get_or_from_slice_get old.rows job takes.row d takes.is_row in
-    let row_is : new ≡ closed_row at kind takes.row = new_is ∙ ap (closed_row at kind) at_d in
-    let fresh : get_or old.rows job (fresh_row job) ≡ takes.row = get_or_from_slice_get old.rows job takes.row (fresh_row job) takes.is_row in
-    record {
-      applies = inl (takes, ap (slice_set old.rows job) (row_is ∙ ap (closed_row at kind) (sym fresh)));
-      stands = record {
-        rows = rows_set old.rows (length table.jobs) job takes.row new stands.rows takes.is_row (ap (λ (r : JobRow). r.job) row_is ∙ closed_job at kind takes.row);
-        nexts = nexts_end table old.rows old.nexts job takes.row new stands.nexts takes.is_row (sym (closed_cursor at kind takes.row) ∙ sym (ap (λ (r : JobRow). r.cursor) row_is));
-      };
-      takes = takes;
-    }
 
 pub open_opened : (at now : ℤ) (row new : JobRow) → new ≡ opened_row at now row → OpenHasCursor new
 open_opened at now row new new_is some = subst IsSome (sym (ap (λ (r : JobRow). r.cursor) new_is)) there

@@ -1,105 +1,146 @@
--- The least of the next instants.
-use Rattle.std.proofs.Common.{◌≡◌, ℕ, ◌+◌, ◌<◌, inl, inr, List, length, Option, None, Some, ℤ, ◌≤ℤ◌, refl, sym, ap, ◌∙◌, subst, arith}
-use Rattle.std.specs.Prelude.{slice_get, IfSome, IfNone}
+-- The first instant at which a start takes effect, by what stands beside the rows.
+use Rattle.std.proofs.Common.{◌≡◌, ℕ, ◌<◌, List, Option, None, Some, ℤ, ◌≤ℤ◌, ◌≤◌, length, inl, inr, refl, sym, ap, ◌∙◌, subst, arith}
+use Rattle.std.specs.Prelude.{slice_get}
+use Rattle.std.proofs.lemmas.Bool.Decides.{leb_tells}
 use Rattle.std.proofs.lemmas.Int.{ints}
 use Rattle.std.proofs.lemmas.Option.{slice_get_within}
+use Rattle.paxos_base.specs.declared.rows.JobRow.{JobRow}
 use Rattle.due_set.specs.Table.{Table}
-use Rattle.launch_machine.specs.Machine.{Launches, IsNext, StandsFor}
-use Rattle.launch_machine.specs.Next.{IsDueNext, IsLeastNext, NoNext, IsLeast, HasNone, IsEarlier}
-use Rattle.launch_machine.proofs.MachineLemmas.{same_or_not, is_some_below}
+use Rattle.least_tree.specs.Least.{HasNone, HasNoneAtMost, IsAtMost, IsFirstAtMost, IsLeast}
+use Rattle.launch_machine.specs.Clerk.{TakesStart}
+use Rattle.launch_machine.specs.Intent.{MayCall}
+use Rattle.launch_machine.specs.Machine.{AreCalls, AreStarts, IsCallBeside, IsFirstStartOf, IsFirstToStart, IsStartBeside}
+use Rattle.launch_machine.specs.Next.{IsNextStart, StartsNoMore}
+use Rattle.launch_machine.proofs.MachineLemmas.{beside_row, is_some_below}
+use Rattle.zone_minutes.specs.Window.{IsInWindow}
 
--- the least instant of the first places of a list
-pub record IsLeastBelow (nexts : List (Option ℤ)) (bound : ℕ) (at : ℤ) : Type 0 where
-  pub place : ℕ
-  pub here : slice_get nexts place ≡ Some (Some at)
-  pub least : (other : ℕ) (later : ℤ) → other < bound → slice_get nexts other ≡ Some (Some later) → at ≤ℤ later
+-- beside a row whose job may be started stands the first instant at which it may be
+pub record StartStands (table : Table) (starts : List (Option ℤ)) (job : ℕ) (row : JobRow) (now : ℤ) : Type 0 where
+  pub first : ℤ
+  pub here : slice_get starts job ≡ Some (Some first)
+  pub is_first : IsFirstToStart table job row first
+  pub come : first ≤ℤ now
 
--- the least instant of the first places of a list, where there is one
-abbrev pub KnowsLeast : List (Option ℤ) → ℕ → Option ℤ → Type 0
-KnowsLeast nexts bound None = (place : ℕ) (at : ℤ) → place < bound → slice_get nexts place ≡ Some (Some at) → ⊥
-KnowsLeast nexts bound (Some at) = IsLeastBelow nexts bound at
-
-pub knows_none : (nexts : List (Option ℤ)) → KnowsLeast nexts 0 None
-knows_none nexts place at lt here = absurd (omega arith)
-
-pub knows_next : (nexts : List (Option ℤ)) (bound : ℕ) (least next new : Option ℤ) → KnowsLeast nexts bound least → slice_get nexts bound ≡ Some next
-    → IsEarlier least next new → KnowsLeast nexts (bound + 1) new
-knows_next nexts bound least next None known here earlier = λ place at lt there. elim (same_or_not place bound) [
-  | inl e ↦ let same : Some next ≡ Some (Some at) = sym here ∙ ap (slice_get nexts) (sym e) ∙ there in cc (same, earlier.1)
-  | inr ne ↦
-      let before : KnowsLeast nexts bound None = subst (KnowsLeast nexts bound) earlier.0 known in
-      before place at (omega arith) there
-]
-knows_next nexts bound None next (Some at) known here earlier = record {
-  place = bound;
-  here = here ∙ ap Some (elim earlier.0 [ inl e ↦ cc | inr e ↦ e ]);
-  least = λ other later lt there. elim (same_or_not other bound) [
-    | inl e ↦ let same : Some next ≡ Some (Some later) = sym here ∙ ap (slice_get nexts) (sym e) ∙ there in earlier.2 later cc
-    | inr ne ↦ absurd (known other later (omega arith) there)
-  ];
-}
-knows_next nexts bound (Some old) next (Some at) known here earlier = elim earlier.0 [
-  | inl e ↦ record { place = known.place; here = known.here ∙ ap Some e; least = least }
-  | inr e ↦ record { place = bound; here = here ∙ ap Some e; least = least }
-]
+pub start_stands : (table : Table) (rows : List JobRow) (starts : List (Option ℤ)) (job : ℕ) (at now : ℤ) → AreStarts table rows starts
+    → (takes : TakesStart table rows job at now) → StartStands table starts job takes.row now
+start_stands table rows starts job at now known takes =
+    let found = beside_row (IsStartBeside table) rows starts job takes.row known takes.is_row in
+    by found.0 found.1 (found.2.idle takes.idle)
   where
-    least : (other : ℕ) (later : ℤ) → other < bound + 1 → slice_get nexts other ≡ Some (Some later) → at ≤ℤ later
-    least other later lt there = elim (same_or_not other bound) [
-      | inl e ↦ let same : Some next ≡ Some (Some later) = sym here ∙ ap (slice_get nexts) (sym e) ∙ there in earlier.2 later cc
-      | inr ne ↦
-          let below : old ≤ℤ later = known.least other later (omega arith) there in
-          let first : at ≤ℤ old = earlier.1 old refl in
-          omega (arith, ints)
+    by : (start : Option ℤ) → slice_get starts job ≡ Some start → IsFirstStartOf table job takes.row start → StartStands table starts job takes.row now
+    by None here none = absurd (none at now takes.may)
+    by (Some first) here is = record { first = first; here = here; is_first = is; come = is.least at now takes.may }
+
+-- where an instant stands beside a row, its job is idle, and it's the first at which it may be started
+pub record StartsAt (table : Table) (job : ℕ) (row : JobRow) (first : ℤ) : Type 0 where
+  pub idle : row.open_now ≡ None
+  pub is_first : IsFirstToStart table job row first
+
+pub idle_first : (table : Table) (rows : List JobRow) (starts : List (Option ℤ)) (job : ℕ) (row : JobRow) (first : ℤ) → AreStarts table rows starts
+    → slice_get rows job ≡ Some row → slice_get starts job ≡ Some (Some first) → StartsAt table job row first
+idle_first table rows starts job row first known is_row here = by row.open_now refl
+  where
+    beside : IsStartBeside table job row (Some first)
+    beside = known.each job row (Some first) is_row here
+
+    by : (open_now : Option ℤ) → row.open_now ≡ open_now → StartsAt table job row first
+    by None idle = record { idle = idle; is_first = beside.idle idle }
+    by (Some since) is_open = absurd (cc (beside.opened since is_open))
+
+-- before it no start takes effect
+pub no_start_before : (table : Table) (rows : List JobRow) (starts : List (Option ℤ)) (job : ℕ) (at now first : ℤ) → AreStarts table rows starts
+    → slice_get starts job ≡ Some (Some first) → (first ≤ℤ now → ⊥) → TakesStart table rows job at now → ⊥
+no_start_before table rows starts job at now first known here late takes =
+    let stands = start_stands table rows starts job at now known takes in
+    let same : stands.first ≡ first = cc (stands.here, here) in
+    late (subst (λ (t : ℤ). t ≤ℤ now) same stands.come)
+
+-- and where none stands none does
+pub start_none : (table : Table) (rows : List JobRow) (starts : List (Option ℤ)) (job : ℕ) (at now : ℤ) → AreStarts table rows starts
+    → slice_get starts job ≡ Some None → TakesStart table rows job at now → ⊥
+start_none table rows starts job at now known here takes =
+    let stands = start_stands table rows starts job at now known takes in
+    absurd (cc (stands.here, here))
+
+pub next_start_found : (table : Table) (rows : List JobRow) (starts : List (Option ℤ)) (first : ℤ) → AreStarts table rows starts → IsLeast starts first
+    → IsNextStart table rows first
+next_start_found table rows starts first known least =
+    let lt : least.place < length rows = subst (λ (n : ℕ). least.place < n) known.count (slice_get_within starts least.place (Some first) least.here) in
+    let row = is_some_below rows least.place lt in
+    let at = idle_first table rows starts least.place row.0 first known row.1 least.here in
+    record {
+      job = least.place;
+      at = at.is_first.at;
+      takes = record { row = row.0; is_row = row.1; idle = at.idle; may = at.is_first.may };
+      least = λ other day now takes.
+          let stands = start_stands table rows starts other day now known takes in
+          let sooner : first ≤ℤ stands.first = least.least other stands.first stands.here in
+          let come : stands.first ≤ℤ now = stands.come in
+          omega (arith, ints);
+    }
+
+pub starts_no_more : (table : Table) (rows : List JobRow) (starts : List (Option ℤ)) → AreStarts table rows starts → HasNone starts → StartsNoMore table rows
+starts_no_more table rows starts known none job at now takes =
+    let stands = start_stands table rows starts job at now known takes in
+    none job stands.first stands.here
+
+-- no start takes effect where nothing that stands beside a row has come
+pub no_start_between : (table : Table) (rows : List JobRow) (starts : List (Option ℤ)) (now : ℤ) (from job : ℕ) → AreStarts table rows starts
+    → ((before : ℕ) (other : ℤ) → before < from → TakesStart table rows before other now → ⊥)
+    → ((before : ℕ) (value : Option ℤ) → from ≤ before → before < job → slice_get starts before ≡ Some value → IsAtMost now value → ⊥)
+    → (before : ℕ) (other : ℤ) → before < job → TakesStart table rows before other now → ⊥
+no_start_between table rows starts now from job known none between before other lt takes =
+    elim (leb_tells from before) [
+      | inl is ↦
+          let stands = start_stands table rows starts before other now known takes in
+          between before (Some stands.first) is.1 lt stands.here stands.come
+      | inr is ↦ none before other is.1 takes
     ]
 
-pub least_of_all : (nexts : List (Option ℤ)) (at : ℤ) → IsLeastBelow nexts (length nexts) at → IsLeast nexts at
-least_of_all nexts at known = record {
-  place = known.place;
-  here = known.here;
-  least = λ other later there. known.least other later (slice_get_within nexts other (Some later) there) there;
-}
+pub no_start_after : (table : Table) (rows : List JobRow) (starts : List (Option ℤ)) (now : ℤ) (from : ℕ) → AreStarts table rows starts
+    → ((before : ℕ) (other : ℤ) → before < from → TakesStart table rows before other now → ⊥) → HasNoneAtMost starts from now
+    → (job : ℕ) (at : ℤ) → TakesStart table rows job at now → ⊥
+no_start_after table rows starts now from known none rest job at takes =
+    elim (leb_tells from job) [
+      | inl is ↦
+          let stands = start_stands table rows starts job at now known takes in
+          rest job (Some stands.first) is.1 stands.here stands.come
+      | inr is ↦ none job at is.1 takes
+    ]
 
-pub none_at_all : (nexts : List (Option ℤ)) → KnowsLeast nexts (length nexts) None → HasNone nexts
-none_at_all nexts known place at there = known place at (slice_get_within nexts place (Some at) there) there
+-- the same of calls
+call_stands : (table : Table) (rows : List JobRow) (calls : List (Option ℤ)) (job : ℕ) (at now : ℤ) → AreCalls table rows calls → IsInWindow table.window now
+    → MayCall table rows job at now → (value : Option ℤ) × (slice_get calls job ≡ Some value) × IsAtMost now value
+call_stands table rows calls job at now known inside may =
+    let found = beside_row (IsCallBeside table) rows calls job may.row known may.is_row in
+    (found.0, found.1, found.2 at now may.since may.spec may.zone inside may.is_open may.cursor may.is_in may.come)
 
-pub found_of_all : (nexts : List (Option ℤ)) (least : Option ℤ) → KnowsLeast nexts (length nexts) least → IfSome least (IsLeast nexts)
-found_of_all nexts None known = tt
-found_of_all nexts (Some at) known = least_of_all nexts at known
+pub no_call_between : (table : Table) (rows : List JobRow) (calls : List (Option ℤ)) (now : ℤ) (from job : ℕ) → AreCalls table rows calls → IsInWindow table.window now
+    → ((before : ℕ) (other : ℤ) → before < from → MayCall table rows before other now → ⊥)
+    → ((before : ℕ) (value : Option ℤ) → from ≤ before → before < job → slice_get calls before ≡ Some value → IsAtMost now value → ⊥)
+    → (before : ℕ) (other : ℤ) → before < job → MayCall table rows before other now → ⊥
+no_call_between table rows calls now from job known inside none between before other lt may =
+    elim (leb_tells from before) [
+      | inl is ↦
+          let stands = call_stands table rows calls before other now known inside may in
+          between before stands.0 is.1 lt stands.1 stands.2
+      | inr is ↦ none before other is.1 may
+    ]
 
-pub none_of_all : (nexts : List (Option ℤ)) (least : Option ℤ) → KnowsLeast nexts (length nexts) least → IfNone least (HasNone nexts)
-none_of_all nexts None known = none_at_all nexts known
-none_of_all nexts (Some at) known = tt
+pub no_call_after : (table : Table) (rows : List JobRow) (calls : List (Option ℤ)) (now : ℤ) (from : ℕ) → AreCalls table rows calls → IsInWindow table.window now
+    → ((before : ℕ) (other : ℤ) → before < from → MayCall table rows before other now → ⊥) → HasNoneAtMost calls from now
+    → (job : ℕ) (at : ℤ) → MayCall table rows job at now → ⊥
+no_call_after table rows calls now from known inside none rest job at may =
+    elim (leb_tells from job) [
+      | inl is ↦
+          let stands = call_stands table rows calls job at now known inside may in
+          rest job stands.0 is.1 stands.1 stands.2
+      | inr is ↦ none job at is.1 may
+    ]
 
-module _ (table : Table) (machine : Launches) (stands : StandsFor table machine) where
-  -- the machine keeps an instant that isn't later
-  kept : (job : ℕ) (at : ℤ) → IsDueNext table machine.rows job at → (earlier : ℤ) × (slice_get machine.nexts job ≡ Some (Some earlier)) × (earlier ≤ℤ at)
-  kept job at due =
-      let lt : job < length machine.nexts = subst (λ (n : ℕ). job < n) (sym stands.nexts.count) (slice_get_within machine.rows job due.row due.is_row) in
-      let found = is_some_below machine.nexts job lt in
-      by found.0 found.1 (stands.nexts.each job due.row found.0 due.is_row found.1)
-    where
-      by : (next : Option ℤ) → slice_get machine.nexts job ≡ Some next → IsNext table job due.row.cursor next
-          → (earlier : ℤ) × (slice_get machine.nexts job ≡ Some (Some earlier)) × (earlier ≤ℤ at)
-      by None is_next none = absurd (none at due.next.due due.next.later)
-      by (Some earlier) is_next first = (earlier, is_next, first.least at due.next.due due.next.later)
-
-  -- the machine's instant is the job's next one
-  is_due : (job : ℕ) (at : ℤ) → slice_get machine.nexts job ≡ Some (Some at) → IsDueNext table machine.rows job at
-  is_due job at here =
-      let lt : job < length machine.rows = subst (λ (n : ℕ). job < n) stands.nexts.count (slice_get_within machine.nexts job (Some at) here) in
-      let found = is_some_below machine.rows job lt in
-      record { row = found.0; is_row = found.1; next = stands.nexts.each job found.0 (Some at) found.1 here }
-
-  pub least_next : (at : ℤ) → IsLeast machine.nexts at → IsLeastNext table machine.rows at
-  least_next at least = record {
-    job = least.place;
-    is_next = is_due least.place at least.here;
-    least = λ other later due.
-        let k = kept other later due in
-        let below : at ≤ℤ k.0 = least.least other k.0 k.1 in
-        let last : k.0 ≤ℤ later = k.2 in
-        omega (arith, ints);
-  }
-
-  pub no_next : HasNone machine.nexts → NoNext table machine.rows
-  no_next none job at due = let k = kept job at due in none job k.0 k.1
+-- a place that was found is that of a job
+pub place_within : (values : List (Option ℤ)) (rows : List JobRow) (table : Table) (from : ℕ) (limit : ℤ) (place : ℕ) → IsFirstAtMost values from limit place
+    → length values ≡ length rows → length rows ≡ length table.jobs → place < length table.jobs
+place_within values rows table from limit place found values_are rows_are =
+    let below = slice_get_within values place found.value found.here in
+    omega arith

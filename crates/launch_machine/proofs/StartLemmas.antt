@@ -9,10 +9,10 @@ use Rattle.paxos_base.specs.declared.entry.Entry.TheVariants.{Noop, Start, End}
 use Rattle.paxos_base.specs.declared.entry.Kind.{Kind}
 use Rattle.paxos_base.specs.declared.rows.JobRow.{JobRow}
 use Rattle.due_set.specs.Due.{IsRising}
-use Rattle.due_set.specs.Table.{Table, IsAfter, IsDueFront, IsJobDue, IsJobDueList, IsNextDue}
+use Rattle.due_set.specs.Table.{Table, IsAfter, IsAnacron, IsDueFront, IsJobDue, IsJobDueList, IsNextDue, IsRunByPeriod}
 use Rattle.due_set.proofs.FrontLemmas.{front_prefix}
 use Rattle.due_set.proofs.Rising.{Contains-head, Contains-tail, Contains-cases, Contains-none}
-use Rattle.launch_machine.specs.Clerk.{Applies, TakesStart, TakesEnd, fresh_row, fresh_rows, opened_row, closed_row, with_row}
+use Rattle.launch_machine.specs.Clerk.{Applies, MayStart, TakesStart, TakesEnd, fresh_row, fresh_rows, opened_row, closed_row, with_row}
 use Rattle.launch_machine.specs.Starts.{StartsFrom, StartsOf, StartsJob}
 use Rattle.launch_machine.proofs.MachineLemmas.{same_or_not, set_here, set_there, closed_cursor}
 
@@ -20,6 +20,26 @@ use Rattle.launch_machine.proofs.MachineLemmas.{same_or_not, set_here, set_there
 abbrev pub IsChain : Table → ℕ → Option ℤ → List ℤ → Type 0
 IsChain table job cursor [] = Unit {0}
 IsChain table job cursor (at ∷ later) = IsNextDue table job cursor at × IsChain table job (Some at) later
+
+-- each instant, or date, is later than the one before it, and may be started
+abbrev pub IsStartChain : Table → ℕ → Option ℤ → List ℤ → Type 0
+IsStartChain table job cursor [] = Unit {0}
+IsStartChain table job cursor (at ∷ later) =
+    ((row : JobRow) × (now : ℤ) × (row.cursor ≡ cursor) × MayStart table job row at now) × IsStartChain table job (Some at) later
+
+-- a launch that may be started is later than the cursor
+pub may_start_later : (table : Table) (job : ℕ) (row : JobRow) (at now : ℤ) → MayStart table job row at now → IsAfter row.cursor at
+may_start_later table job row at now (inl (next, come)) = next.later
+may_start_later table job row at now (inr opens) = subst (IsAfter row.cursor) (sym opens.is_date) opens.may.on.later
+
+-- where the job doesn't run by its period they are its due instants
+chain_of_dues : (table : Table) (job : ℕ) (cursor : Option ℤ) (instants : List ℤ) → (IsRunByPeriod table job → ⊥) → IsStartChain table job cursor instants
+    → IsChain table job cursor instants
+chain_of_dues table job cursor [] other chain = tt
+chain_of_dues table job cursor (at ∷ later) other ((row, now, cursor_is, inl next), chain) =
+    (subst (λ (c : Option ℤ). IsNextDue table job c at) cursor_is next.0, chain_of_dues table job (Some at) later other chain)
+chain_of_dues table job cursor (at ∷ later) other ((row, now, cursor_is, inr opens), chain) =
+    absurd (other (opens.job, opens.is_in.is_job, subst IsAnacron (sym opens.kind) tt))
 
 -- the first due instants after an instant, in order
 record IsRestFront (table : Table) (job : ℕ) (cursor : Option ℤ) (instants : List ℤ) : Type 0 where
@@ -68,6 +88,32 @@ chain_front table job cursor [] chain = record {
 }
 chain_front table job cursor (at ∷ later) (next, chain) =
     front_next table job cursor at later next (chain_front table job (Some at) later chain)
+
+all_later : (cursor : Option ℤ) (at : ℤ) (instants : List ℤ) → AllByRecursion (λ later. at <ℤ later) instants → IsAfter cursor at → (t : ℤ) → Contains instants t → IsAfter cursor t
+all_later cursor at [] all after t h = absurd (Contains-none t h)
+all_later cursor at (first ∷ instants) all after t h = elim (Contains-cases first instants t h) [
+  | inl e ↦ subst (IsAfter cursor) e (after_later cursor at first after all.0)
+  | inr behind ↦ all_later cursor at instants all.1 after t behind
+]
+
+-- a chain rises, and each of it is later than the cursor
+record IsRisingAfter (cursor : Option ℤ) (instants : List ℤ) : Type 0 where
+  pub rising : IsRising instants
+  pub after : (t : ℤ) → Contains instants t → IsAfter cursor t
+
+chain_rises : (table : Table) (job : ℕ) (cursor : Option ℤ) (instants : List ℤ) → IsStartChain table job cursor instants → IsRisingAfter cursor instants
+chain_rises table job cursor [] chain = record { rising = tt; after = λ t h. absurd (Contains-none t h) }
+chain_rises table job cursor (at ∷ later) ((row, now, cursor_is, may), chain) =
+    let rest = chain_rises table job (Some at) later chain in
+    let after : IsAfter cursor at = subst (λ (c : Option ℤ). IsAfter c at) cursor_is (may_start_later table job row at now may) in
+    let each = before_each at later rest.after in
+    record {
+      rising = (each, rest.rising);
+      after = λ t h. elim (Contains-cases at later t h) [
+        | inl e ↦ subst (IsAfter cursor) e after
+        | inr behind ↦ all_later cursor at later each after t behind
+      ];
+    }
 
 -- what is said of the job's row, where there is one
 abbrev pub HasAt : {X : Type 0} → (JobRow → X) → List JobRow → ℕ → X → Type 0
@@ -130,15 +176,15 @@ after_other table rows (End j at kind) middle job cursor none (inl (takes, e)) k
 
 -- the starts of a job are a chain
 pub starts_chain : (table : Table) (rows : List JobRow) (entries : List Entry) (job : ℕ) (cursor : Option ℤ) (instants : List ℤ) → HasCursor rows job cursor
-    → StartsFrom table rows entries job instants → IsChain table job cursor instants
-starts_chain table rows [] job cursor instants known e = subst (IsChain table job cursor) (sym e) tt
+    → StartsFrom table rows entries job instants → IsStartChain table job cursor instants
+starts_chain table rows [] job cursor instants known e = subst (IsStartChain table job cursor) (sym e) tt
 starts_chain table rows (entry ∷ entries) job cursor instants known (middle, later, step, inl (at, starts, e), more) =
     let applies : Applies table rows (Start job at starts.now) middle = subst (λ (x : Entry). Applies table rows x middle) starts.is step in
-    let next : IsNextDue table job cursor at = subst (λ (o : Option ℤ). IsNextDue table job o at) (known starts.takes.row starts.takes.is_row) starts.takes.next in
-    let chain : IsChain table job (Some at) later = starts_chain table middle entries job (Some at) later (after_start table rows job at starts.now middle starts.takes applies) more in
-    subst (IsChain table job cursor) (sym e) (next, chain)
+    let cursor_is : starts.takes.row.cursor ≡ cursor = known starts.takes.row starts.takes.is_row in
+    let chain : IsStartChain table job (Some at) later = starts_chain table middle entries job (Some at) later (after_start table rows job at starts.now middle starts.takes applies) more in
+    subst (IsStartChain table job cursor) (sym e) ((starts.takes.row, starts.now, cursor_is, starts.takes.may), chain)
 starts_chain table rows (entry ∷ entries) job cursor instants known (middle, later, step, inr (none, e), more) =
-    subst (IsChain table job cursor) (sym e)
+    subst (IsStartChain table job cursor) (sym e)
     (starts_chain table middle entries job cursor later (after_other table rows entry middle job cursor none step known) more)
 
 fresh_cursor : (a n k : ℕ) (row : JobRow) → slice_get (map fresh_row (range_with_len a n)) k ≡ Some row → row.cursor ≡ None
@@ -146,10 +192,19 @@ fresh_cursor a zero k row e = cc
 fresh_cursor a (suc n) zero row e = let row_is : fresh_row a ≡ row = cc in ap (λ (r : JobRow). r.cursor) (sym row_is)
 fresh_cursor a (suc n) (suc k) row e = fresh_cursor (a + 1) n k row e
 
--- the starts of a job are the first of its due instants
-pub starts_front : (table : Table) (entries : List Entry) (job : ℕ) (instants : List ℤ) → StartsOf table entries job instants → IsDueFront table job instants
-starts_front table entries job instants starts =
-    let front = chain_front table job None instants (starts_chain table (fresh_rows table) entries job None instants (fresh_cursor 0 (length table.jobs) job) starts) in
+-- the starts of a job are a chain from the first on
+all_starts : (table : Table) (entries : List Entry) (job : ℕ) (instants : List ℤ) → StartsOf table entries job instants → IsStartChain table job None instants
+all_starts table entries job instants starts =
+    starts_chain table (fresh_rows table) entries job None instants (fresh_cursor 0 (length table.jobs) job) starts
+
+pub starts_rise : (table : Table) (entries : List Entry) (job : ℕ) (instants : List ℤ) → StartsOf table entries job instants → IsRising instants
+starts_rise table entries job instants starts = (chain_rises table job None instants (all_starts table entries job instants starts)).rising
+
+-- and the first of its due instants
+pub starts_front : (table : Table) (entries : List Entry) (job : ℕ) (instants : List ℤ) → (IsRunByPeriod table job → ⊥) → StartsOf table entries job instants
+    → IsDueFront table job instants
+starts_front table entries job instants other starts =
+    let front = chain_front table job None instants (chain_of_dues table job None instants other (all_starts table entries job instants starts)) in
     record {
       rising = front.rising;
       sound = λ t h. (front.sound t h).0;
@@ -157,9 +212,10 @@ starts_front table entries job instants starts =
     }
 
 -- and so a beginning of the list of all of them
-pub starts_prefix : (table : Table) (entries : List Entry) (job : ℕ) (instants dues : List ℤ) → StartsOf table entries job instants → IsJobDueList table job dues
-    → (rest : List ℤ) × (dues ≡ instants ++ rest)
-starts_prefix table entries job instants dues starts list = front_prefix table job instants dues (starts_front table entries job instants starts) list
+pub starts_prefix : (table : Table) (entries : List Entry) (job : ℕ) (instants dues : List ℤ) → (IsRunByPeriod table job → ⊥) → StartsOf table entries job instants
+    → IsJobDueList table job dues → (rest : List ℤ) × (dues ≡ instants ++ rest)
+starts_prefix table entries job instants dues other starts list =
+    front_prefix table job instants dues (starts_front table entries job instants other starts) list
 
 pub cursor_rises : (table : Table) (rows : List JobRow) (job : ℕ) (at now : ℤ) (old new : JobRow) → TakesStart table rows job at now
     → slice_get rows job ≡ Some old → slice_get (with_row (opened_row at now) rows job) job ≡ Some new → (new.cursor ≡ Some at) × IsAfter old.cursor at
@@ -167,4 +223,4 @@ cursor_rises table rows job at now old new takes is_old is_new =
     let opened : opened_row at now old ≡ new = changed (opened_row at now) rows job old new is_old is_new in
     let same : Some takes.row ≡ Some old = sym takes.is_row ∙ is_old in
     let row_is : takes.row ≡ old = cc in
-    (ap (λ (r : JobRow). r.cursor) (sym opened), subst (λ (r : JobRow). IsAfter r.cursor at) row_is takes.next.later)
+    (ap (λ (r : JobRow). r.cursor) (sym opened), subst (λ (r : JobRow). IsAfter r.cursor at) row_is (may_start_later table job takes.row at now takes.may))

@@ -6,6 +6,7 @@ use Rattle.paxos_base.specs.declared.entry.Entry.TheVariants.{Noop, Start, End}
 use Rattle.paxos_base.specs.declared.entry.Kind.{Kind}
 use Rattle.paxos_base.specs.declared.entry.Kind.TheVariants.{Launch, Void}
 use Rattle.paxos_base.specs.declared.rows.JobRow.{JobRow}
+use Rattle.due_set.specs.Anacron.{IsJobOpen}
 use Rattle.due_set.specs.Table.{Table, IsNextDue}
 
 -- the row of a job of which nothing was heard
@@ -16,15 +17,18 @@ fresh_row job = record { job = job; cursor = None; open_now = None; last = None;
 abbrev pub fresh_rows : Table → List JobRow
 fresh_rows table = map fresh_row (range_with_len 0 (length table.jobs))
 
--- a start takes effect: its job is in the table and idle, its instant is the job's next due instant, and has come
+-- the launch is the job's next due instant, and has come; of a job that runs by its period, it is a date on which it may open now
+abbrev pub MayStart : Table → ℕ → JobRow → ℤ → ℤ → Type 0
+MayStart table job row at now = (IsNextDue table job row.cursor at × (at ≤ℤ now)) ⊎ IsJobOpen table job row.last row.cursor now at
+
+-- a start takes effect: its job is in the table and idle, and its launch may be started
 pub record TakesStart (table : Table) (rows : List JobRow) (job : ℕ) (at now : ℤ) : Type 0 where
   pub row : JobRow
   pub is_row : slice_get rows job ≡ Some row
   pub idle : row.open_now ≡ None
-  pub next : IsNextDue table job row.cursor at
-  pub come : at ≤ℤ now
+  pub may : MayStart table job row at now
 
--- an end takes effect: its job is in the table and open at its instant
+-- an end takes effect: its job is in the table and open at its instant or on its date
 pub record TakesEnd (rows : List JobRow) (job : ℕ) (at : ℤ) : Type 0 where
   pub row : JobRow
   pub is_row : slice_get rows job ≡ Some row

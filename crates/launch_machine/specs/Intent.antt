@@ -1,12 +1,12 @@
 -- What a leader does next: call the first launch that may be called, or else start the first that is due.
-use Rattle.std.specs.Prelude.{◌≡◌, ℕ, ◌<◌, ◌≤◌, List, Some, ℤ, slice_get}
+use Rattle.std.specs.Prelude.{◌≡◌, ℕ, ◌<◌, List, Some, ℤ, slice_get}
 use Rattle.jiff.specs.Types.{TimeZone}
 use Rattle.paxos_base.specs.declared.rows.JobRow.{JobRow}
 use Rattle.due_set.specs.Table.{Table, Job, IsJobIn}
 use Rattle.due_set.specs.Calls.{HasCome}
 use Rattle.launch_machine.specs.Clerk.{TakesStart}
 
--- the job is open at the instant, which has come
+-- the job's launch is open, and its instant or its date has come
 pub record MayCall (table : Table) (rows : List JobRow) (job : ℕ) (at now : ℤ) : Type 0 where
   pub row : JobRow
   pub is_row : slice_get rows job ≡ Some row
@@ -35,20 +35,3 @@ NoStart table rows now = (job : ℕ) (at : ℤ) → TakesStart table rows job at
 pub record IsFirstStart (table : Table) (rows : List JobRow) (now : ℤ) (job : ℕ) (at : ℤ) : Type 0 where
   pub takes : TakesStart table rows job at now
   pub first : (before : ℕ) (other : ℤ) → before < job → TakesStart table rows before other now → ⊥
-
--- the job's launch is open
-pub record IsOpen (rows : List JobRow) (job : ℕ) : Type 0 where
-  pub row : JobRow
-  pub is_row : slice_get rows job ≡ Some row
-  pub since : ℤ
-  pub is_open : row.open_now ≡ Some since
-
--- no launch is open from the one job on, up to the other
-abbrev pub AreClosed : List JobRow → ℕ → ℕ → Type 0
-AreClosed rows from until = (job : ℕ) → from ≤ job → job < until → IsOpen rows job → ⊥
-
--- the first job from this one on whose launch is open
-pub record IsFirstOpen (rows : List JobRow) (from job : ℕ) : Type 0 where
-  pub since : from ≤ job
-  pub here : IsOpen rows job
-  pub before : AreClosed rows from job

@@ -1,39 +1,63 @@
--- What a machine keeps: the launch table, and beside each row when its job is due next.
+-- What a machine keeps: the launch table, and beside each row when its job may be started, or its launch called.
 use Rattle.std.specs.Prelude.{◌≡◌, ℕ, ◌+◌, ◌<◌, ◌^◌, List, length, Option, None, Some, ℤ, ◌≤ℤ◌, IfSome, slice_get, ⊤}
+use Rattle.jiff.specs.Types.{TimeZone}
+use Rattle.zone_minutes.specs.Window.{IsInWindow}
 use Rattle.paxos_base.specs.Rows.{RowsStand}
 use Rattle.paxos_base.specs.declared.entry.Entry.{Entry}
 use Rattle.paxos_base.specs.declared.entry.Entry.TheVariants.{Noop, Start, End}
 use Rattle.paxos_base.specs.declared.rows.JobRow.{JobRow}
-use Rattle.due_set.specs.Table.{Table, IsAfter, IsJobDue, IsNextDue}
+use Rattle.due_set.specs.Calls.{HasCome}
+use Rattle.due_set.specs.Table.{Job, Table, IsJobIn}
+use Rattle.least_tree.specs.Least.{IsAtMost}
+use Rattle.launch_machine.specs.Clerk.{MayStart}
 
--- the rows of the launch table, and beside each the next due instant of its job
+-- the rows of the launch table; beside each the first instant at which its job may be started, and one before which its launch
+-- isn't called
 pub record Launches : Type 0 where
   pub rows : List JobRow
-  pub nexts : List (Option ℤ)
+  pub starts : List (Option ℤ)
+  pub calls : List (Option ℤ)
 
--- the job's next due instant after its cursor, or that there is none
-abbrev pub IsNext : Table → ℕ → Option ℤ → Option ℤ → Type 0
-IsNext table job cursor None = (at : ℤ) → IsJobDue table job at → IsAfter cursor at → ⊥
-IsNext table job cursor (Some at) = IsNextDue table job cursor at
+-- the first instant at which a launch of the row's job may be started
+pub record IsFirstToStart (table : Table) (job : ℕ) (row : JobRow) (first : ℤ) : Type 0 where
+  pub at : ℤ
+  pub may : MayStart table job row at first
+  pub least : (other now : ℤ) → MayStart table job row other now → first ≤ℤ now
 
--- beside each row is its job's next due instant
-pub record AreNexts (table : Table) (rows : List JobRow) (nexts : List (Option ℤ)) : Type 0 where
-  pub count : length nexts ≡ length rows
-  pub each : (job : ℕ) (row : JobRow) (next : Option ℤ) → slice_get rows job ≡ Some row → slice_get nexts job ≡ Some next
-      → IsNext table job row.cursor next
+-- the same, or that there is none
+abbrev pub IsFirstStartOf : Table → ℕ → JobRow → Option ℤ → Type 0
+IsFirstStartOf table job row None = (at now : ℤ) → MayStart table job row at now → ⊥
+IsFirstStartOf table job row (Some first) = IsFirstToStart table job row first
+
+-- what stands beside a row: while its launch is open, nothing
+pub record IsStartBeside (table : Table) (job : ℕ) (row : JobRow) (start : Option ℤ) : Type 0 where
+  pub opened : (since : ℤ) → row.open_now ≡ Some since → start ≡ None
+  pub idle : row.open_now ≡ None → IsFirstStartOf table job row start
+
+-- beside each row stands a value, of which this holds
+pub record AreBeside (holds : ℕ → JobRow → Option ℤ → Type 0) (rows : List JobRow) (values : List (Option ℤ)) : Type 0 where
+  pub count : length values ≡ length rows
+  pub each : (job : ℕ) (row : JobRow) (value : Option ℤ) → slice_get rows job ≡ Some row → slice_get values job ≡ Some value → holds job row value
+
+-- beside each row stands when its job may be started
+abbrev pub AreStarts : Table → List JobRow → List (Option ℤ) → Type 0
+AreStarts table rows starts = AreBeside (IsStartBeside table) rows starts
+
+-- at an instant of the window at which the row's launch may be called, the one that stands beside it has come
+abbrev pub IsCallBeside : Table → ℕ → JobRow → Option ℤ → Type 0
+IsCallBeside table job row call =
+    (at now since : ℤ) (spec : Job) (zone : TimeZone) → IsInWindow table.window now → row.open_now ≡ Some since → row.cursor ≡ Some at
+    → IsJobIn table job spec zone → HasCome spec.kind zone at now → IsAtMost now call
+
+-- beside each row stands an instant before which its launch isn't called
+abbrev pub AreCalls : Table → List JobRow → List (Option ℤ) → Type 0
+AreCalls table rows calls = AreBeside (IsCallBeside table) rows calls
 
 -- the machine is one of this table
 pub record StandsFor (table : Table) (machine : Launches) : Type 0 where
   pub rows : RowsStand machine.rows (length table.jobs)
-  pub nexts : AreNexts table machine.rows machine.nexts
-
--- the job is idle, and its next due instant is this one and has come
-pub record IsReady (rows : List JobRow) (nexts : List (Option ℤ)) (job : ℕ) (at now : ℤ) : Type 0 where
-  pub row : JobRow
-  pub is_row : slice_get rows job ≡ Some row
-  pub idle : row.open_now ≡ None
-  pub next : slice_get nexts job ≡ Some (Some at)
-  pub come : at ≤ℤ now
+  pub starts : AreStarts table machine.rows machine.starts
+  pub calls : AreCalls table machine.rows machine.calls
 
 -- the row's counts can rise
 abbrev pub HasRoom : List JobRow → ℕ → Type 0

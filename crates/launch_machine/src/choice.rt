@@ -2,15 +2,16 @@
 ghost use Rattle.std.specs.Prelude.{◌≡◌, ◌<◌, ℤ, length, IfSome, IfNone};
 ghost use Rattle.zone_minutes.specs.Window.{IsInWindow};
 ghost use Rattle.launch_machine.specs.Answers.{IsCallKind};
-ghost use Rattle.launch_machine.specs.Intent.{MayCall, NoCall, NoStart, IsFirstCall, IsFirstStart, AreClosed, IsFirstOpen};
-ghost use Rattle.launch_machine.specs.Machine.{StandsFor};
+ghost use Rattle.launch_machine.specs.Intent.{MayCall, NoCall, NoStart, IsFirstCall, IsFirstStart};
+ghost use Rattle.launch_machine.specs.Machine.{AreCalls, AreStarts};
 
-use crate::next::ready_at;
+use crate::next::start_at;
 use due_set::{JobTable, Kind2};
+use least_tree::LeastTree;
 use paxos_base::{JobRow, Kind};
 use zone_minutes::Minute;
 
-// The instant of the job's launch, if it is open and may be called.
+// The job's launch, if it is open and may be called.
 fn call_at(rows: &[JobRow], table: &JobTable, job: u32, now: Minute) -> Option<i64>
     requires count { length rows.now ≡ length table.now.jobs }
     requires job { job < length table.now.jobs }
@@ -28,53 +29,53 @@ fn call_at(rows: &[JobRow], table: &JobTable, job: u32, now: Minute) -> Option<i
     }
 }
 
-// The first job from this one on whose launch is open.
-fn first_open(rows: &[JobRow], jobs: u32, from: u32) -> Option<u32>
-    requires { length rows.now ≡ jobs }
-    ensures found { IfSome result (IsFirstOpen rows.now from) }
-    ensures none { IfNone result (AreClosed rows.now from jobs) }
-{
-    for job in from..jobs {
-        if rows[job as usize].open_now.is_some() {
-            return Some(job);
-        }
-    }
-    None
-}
-
-/// The first job whose launch may be called, and the launch's instant.
-pub fn first_call(rows: &[JobRow], table: &JobTable, now: Minute) -> Option<(u32, i64)>
+/// The first job whose launch may be called, and the launch.
+pub fn first_call(
+    rows: &[JobRow],
+    calls: &LeastTree,
+    table: &JobTable,
+    now: Minute,
+) -> Option<(u32, i64)>
     requires count { length rows.now ≡ length table.now.jobs }
+    requires calls { AreCalls table.now rows.now calls.now }
     requires inside { IsInWindow table.now.window now.0 }
     ensures found { IfSome result (λ first. IsFirstCall table.now rows.now now.0 first.0 first.1) }
     ensures none { IfNone result (NoCall table.now rows.now now.0) }
 {
-    let jobs = table.jobs();
+    let jobs = table.jobs() as usize;
     let mut from = 0;
-    'open: while let Some(job) = first_open(rows, jobs, from) {
+    'open: while from < jobs {
+        let place = calls.first_at_most(from, now.0)?;
+        let job = place as u32;
         if let Some(at) = call_at(rows, table, job, now) {
             return Some((job, at));
         }
-        from = job + 1;
+        from = place + 1;
     }
     None
 }
 
-/// The first job whose start would take effect, and the instant of that launch.
+/// The first job whose start would take effect, and its launch.
 pub fn first_start(
     rows: &[JobRow],
-    nexts: &[Option<i64>],
+    starts: &LeastTree,
     table: &JobTable,
     now: Minute,
 ) -> Option<(u32, i64)>
-    requires { StandsFor table.now (record { rows = rows.now; nexts = nexts.now }) }
+    requires count { length rows.now ≡ length table.now.jobs }
+    requires starts { AreStarts table.now rows.now starts.now }
     ensures found { IfSome result (λ first. IsFirstStart table.now rows.now now.0 first.0 first.1) }
     ensures none { IfNone result (NoStart table.now rows.now now.0) }
 {
-    for job in 0..table.jobs() {
-        if let Some(at) = ready_at(rows, nexts, job, now.0) {
+    let jobs = table.jobs() as usize;
+    let mut from = 0;
+    'idle: while from < jobs {
+        let place = starts.first_at_most(from, now.0)?;
+        let job = place as u32;
+        if let Some(at) = start_at(rows, starts, table, job, now.0) {
             return Some((job, at));
         }
+        from = place + 1;
     }
     None
 }

@@ -3,7 +3,8 @@ ghost use Rattle.std.specs.Prelude.{◌≡◌, ◌↔◌, ◌+◌, ℕ, ℤ, Lis
 ghost use Rattle.paxos_base.specs.declared.entry.Entry.{Entry};
 ghost use Rattle.paxos_base.specs.declared.entry.Kind.{Kind};
 ghost use Rattle.paxos_base.specs.declared.rows.JobRow.{JobRow};
-ghost use Rattle.due_set.specs.Table.{Table, IsAfter, IsDueFront, IsJobDueList, IsSound};
+ghost use Rattle.due_set.specs.Due.{IsRising};
+ghost use Rattle.due_set.specs.Table.{Table, IsAfter, IsDueFront, IsJobDueList, IsRunByPeriod, IsSound};
 ghost use Rattle.launch_machine.specs.Clerk.{Applies, IsClerkOf, TakesStart, rows_after};
 ghost use Rattle.launch_machine.specs.Starts.{StartsOf, EndsOf};
 
@@ -24,7 +25,7 @@ pub fn entries_leave_one_table()
         → IsClerkOf table entries a → IsClerkOf table entries b → a ≡ b }
 {}
 
-/// A start that takes effect moves the row's cursor to a later instant.
+/// A start that takes effect moves the row's cursor to a later instant or date.
 pub fn cursors_rise()
     ensures { (table : Table) (rows : List JobRow) (job : ℕ) (at now : ℤ) (old new : JobRow)
         → TakesStart table rows job at now → slice_get rows job ≡ Some old
@@ -58,11 +59,20 @@ pub fn a_job_has_one_count_of_ends()
         → EndsOf table entries job kind a → EndsOf table entries job kind b → a ≡ b }
 {}
 
-/// The instants of a job's starts that take effect are the first of its due instants, none left out.
-pub fn starts_are_a_prefix()
+/// The instants of a job's starts that take effect, or their dates, rise; where the job doesn't run by its period they are the
+/// first of its due instants, none left out.
+pub fn starts_come_in_order()
+    ensures rise { (table : Table) (entries : List Entry) (job : ℕ) (instants : List ℤ)
+        → StartsOf table entries job instants → IsRising instants }
     ensures front { (table : Table) (entries : List Entry) (job : ℕ) (instants : List ℤ)
-        → StartsOf table entries job instants → IsDueFront table job instants }
+        → (IsRunByPeriod table job → ⊥) → StartsOf table entries job instants → IsDueFront table job instants }
     ensures prefix { (table : Table) (entries : List Entry) (job : ℕ) (instants dues : List ℤ)
-        → StartsOf table entries job instants → IsJobDueList table job dues
+        → (IsRunByPeriod table job → ⊥) → StartsOf table entries job instants → IsJobDueList table job dues
         → (rest : List ℤ) × (dues ≡ instants ++ rest) }
+{}
+
+/// At an instant one launch of a job may be started at most.
+pub fn one_launch_may_be_started()
+    ensures { (table : Table) (rows : List JobRow) (job : ℕ) (a b now : ℤ)
+        → TakesStart table rows job a now → TakesStart table rows job b now → a ≡ b }
 {}

@@ -2,6 +2,8 @@
 #![tactic(auto)]
 
 mod choice;
+#[cfg(test)]
+mod date_tests;
 mod laws;
 mod machine;
 mod next;
@@ -11,6 +13,7 @@ mod tests;
 
 pub use laws::{
     a_job_has_one_count_of_ends, a_job_has_one_list_of_starts, cursors_rise, ends_are_counted,
-    entries_leave_one_table, one_entry_is_one_step, starts_are_a_prefix,
+    entries_leave_one_table, one_entry_is_one_step, one_launch_may_be_started,
+    starts_come_in_order,
 };
 pub use machine::{Effect, Intent, Machine};

@@ -1,17 +1,18 @@
-ghost use Rattle.std.specs.Prelude.{◌≡◌, ◌<◌, length, IfOk, IfSome, IfNone, Some, slice_get};
+ghost use Rattle.std.specs.Prelude.{◌≡◌, ◌<◌, length, IfOk, IfSome, IfNone, Some, slice_get, slice_set};
 ghost use Rattle.zone_minutes.specs.Window.{IsInWindow};
-ghost use Rattle.paxos_base.specs.Rows.{RowsStand};
+ghost use Rattle.paxos_base.specs.Rows.{RowsStand, OpenHasCursor};
 ghost use Rattle.due_set.specs.Table.{Table, IsSound};
 ghost use Rattle.launch_machine.specs.Answers.{IsEffect, IsIntent};
 ghost use Rattle.launch_machine.specs.Clerk.{Applies, fresh_rows};
 ghost use Rattle.launch_machine.specs.Machine.{CanCount, HasRoom, StandsFor};
-ghost use Rattle.launch_machine.specs.Next.{IsLeastNext, NoNext};
+ghost use Rattle.launch_machine.specs.Next.{IsNextStart, StartsNoMore};
 
 use crate::choice::{call_kind, first_call, first_start};
-use crate::next::{earliest, next_instant, nexts_of, takes_start};
+use crate::next::{call_beside, calls_of, start_beside, starts_of, takes_start};
 use crate::row;
 use cron_io::OutOfMemory;
 use due_set::JobTable;
+use least_tree::LeastTree;
 use paxos_base::{Entry, JobRow, Kind, RowList, rows_stand};
 use std::alloc::Global;
 use std::marker::Model;
@@ -31,20 +32,23 @@ pub enum Effect {
 /// What a leader does next.
 #[derive(Clone, Copy, Debug, PartialEq, Eq)]
 pub enum Intent {
-    /// Call the job's launch that is due at `at`, and end it so.
+    /// Call the job's launch of `at`, its instant or its date, and end it so.
     Call { job: u32, at: i64, kind: Kind },
-    /// Start the job's launch that is due at `at`.
+    /// Start the job's launch of `at`.
     Start { job: u32, at: i64 },
     /// Nothing for now.
     Rest,
 }
 
-/// The launch table of a run, and when each job is due next. What is said of a machine is said for one table.
+/// The launch table of a run, and when its jobs may be started and their launches called. What is said of a machine is said
+/// for one table.
 #[derive(Debug, Drop)]
 pub struct Machine {
     rows: Vec<JobRow>,
-    // Beside each row, its job's next due instant after the cursor.
-    nexts: Vec<Option<i64>>,
+    // Beside each row, the first instant at which its job may be started; nothing while its launch is open.
+    starts: LeastTree,
+    // Beside each row, an instant before which its open launch isn't called; nothing while none is open.
+    calls: LeastTree,
 }
 
 impl Model for Machine {
@@ -53,7 +57,7 @@ impl Model for Machine {
 
     ghost Value = { Launches };
 
-    ghost view = { λ machine. record { rows = machine.rows.items; nexts = machine.nexts.items } };
+    ghost view = { λ machine. record { rows = machine.rows.items; starts = machine.starts; calls = machine.calls } };
 
     ghost invariant = { λ machine. OpenHaveCursors machine.rows.items };
 }
@@ -66,8 +70,13 @@ impl Machine {
         ensures sound { IsSound table.now }
     {
         let rows = row::fresh_rows(alloc, table.jobs())?;
-        let nexts = nexts_of(alloc, table, &rows)?;
-        Ok(Machine { rows, nexts })
+        let starts = starts_of(alloc, table, &rows)?;
+        let calls = calls_of(alloc, table, &rows)?;
+        Ok(Machine {
+            rows,
+            starts,
+            calls,
+        })
     }
 
     /// The machine of a launch table, or `None` where the rows are not one for each job, in the order of the jobs.
@@ -84,8 +93,13 @@ impl Machine {
             return Ok(None);
         }
         let rows = rows.items;
-        let nexts = nexts_of(alloc, table, &rows)?;
-        Ok(Some(Machine { rows, nexts }))
+        let starts = starts_of(alloc, table, &rows)?;
+        let calls = calls_of(alloc, table, &rows)?;
+        Ok(Some(Machine {
+            rows,
+            starts,
+            calls,
+        }))
     }
 
     /// The launch table.
@@ -103,7 +117,8 @@ impl Machine {
     {
         Ok(Machine {
             rows: self.rows.clone()?,
-            nexts: self.nexts.clone()?,
+            starts: self.starts.copy()?,
+            calls: self.calls.copy()?,
         })
     }
 
@@ -115,13 +130,13 @@ impl Machine {
         self.rows[job as usize]
     }
 
-    /// The least instant at which a job is due next, or `None` where no job is due any more.
+    /// The first instant at which a start takes effect, or `None` where none does any more.
     pub fn next_start(&self) -> Option<Minute>
-        ensures found { (table : Table) → StandsFor table self.now → IfSome result (λ at. IsLeastNext table self.now.rows at.0) }
-        ensures none { (table : Table) → StandsFor table self.now → IfNone result (NoNext table self.now.rows) }
+        ensures found { (table : Table) → StandsFor table self.now → IfSome result (λ first. IsNextStart table self.now.rows first.0) }
+        ensures none { (table : Table) → StandsFor table self.now → IfNone result (StartsNoMore table self.now.rows) }
     {
-        match earliest(&self.nexts) {
-            Some(at) => Some(Minute(at)),
+        match self.starts.least() {
+            Some(first) => Some(Minute(first)),
             None => None,
         }
     }
@@ -137,7 +152,7 @@ impl Machine {
         match entry {
             Entry::Noop => Effect::Ignored,
             Entry::Start { job, at, now } => self.start(table, job, at, now),
-            Entry::End { job, at, kind } => self.end(job, at, kind),
+            Entry::End { job, at, kind } => self.end(table, job, at, kind),
         }
     }
 
@@ -148,30 +163,45 @@ impl Machine {
         ensures stands { StandsFor table.now self.new }
         ensures effect { IsEffect table.now self.old.rows (Entry.Start job at now) result }
     {
-        if takes_start(&self.rows, &self.nexts, job, at, now) {
-            let place = job as usize;
-            self.rows[place] = row::opened(self.rows[place], at, now);
-            self.nexts[place] = next_instant(table, job, Some(at));
+        if takes_start(&self.rows, &self.starts, table, job, at, now) {
+            let row = row::opened(self.rows[job as usize], at, now);
+            self.put(table, job, row);
             Effect::Opened
         } else {
             Effect::Ignored
         }
     }
 
-    // Applies an end, at any table.
-    fn end(&mut self, job: u32, at: i64, kind: Kind) -> Effect
-        requires { HasRoom self.old.rows job }
-        ensures applies { (table : Table) → Applies table self.old.rows (Entry.End job at kind) self.new.rows }
-        ensures stands { (table : Table) → StandsFor table self.old → StandsFor table self.new }
-        ensures effect { (table : Table) → IsEffect table self.old.rows (Entry.End job at kind) result }
+    // Applies an end.
+    fn end(&mut self, table: &JobTable, job: u32, at: i64, kind: Kind) -> Effect
+        requires stands { StandsFor table.now self.old }
+        requires room { HasRoom self.old.rows job }
+        ensures applies { Applies table.now self.old.rows (Entry.End job at kind) self.new.rows }
+        ensures stands { StandsFor table.now self.new }
+        ensures effect { IsEffect table.now self.old.rows (Entry.End job at kind) result }
     {
         if row::takes_end(&self.rows, job, at) {
-            let place = job as usize;
-            self.rows[place] = row::closed(self.rows[place], at, kind);
+            let row = row::closed(self.rows[job as usize], at, kind);
+            self.put(table, job, row);
             Effect::Closed
         } else {
             Effect::Ignored
         }
+    }
+
+    // Puts the job's row in the place of the one that stands there.
+    fn put(&mut self, table: &JobTable, job: u32, row: JobRow)
+        requires stands { StandsFor table.now self.old }
+        requires job { job < length table.now.jobs }
+        requires number { row.job ≡ job }
+        requires cursor { OpenHasCursor row }
+        ensures rows { self.new.rows ≡ slice_set self.old.rows job row }
+        ensures stands { StandsFor table.now self.new }
+    {
+        let place = job as usize;
+        self.rows[place] = row;
+        self.starts.set(place, start_beside(table, job, row));
+        self.calls.set(place, call_beside(table, job, row));
     }
 
     /// What a leader does next at an instant of the window.
@@ -180,11 +210,11 @@ impl Machine {
         requires inside { IsInWindow table.now.window now.0 }
         ensures { IsIntent table.now self.now.rows now.0 result }
     {
-        if let Some((job, at)) = first_call(&self.rows, table, now) {
+        if let Some((job, at)) = first_call(&self.rows, &self.calls, table, now) {
             let kind = call_kind(table, job, at, now);
             return Intent::Call { job, at, kind };
         }
-        match first_start(&self.rows, &self.nexts, table, now) {
+        match first_start(&self.rows, &self.starts, table, now) {
             Some((job, at)) => Intent::Start { job, at },
             None => Intent::Rest,
         }

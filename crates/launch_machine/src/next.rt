@@ -1,18 +1,46 @@
-//! The next due instants of jobs, kept beside their rows.
+//! When the jobs may be started and their launches called, kept beside their rows.
 ghost use Rattle.std.specs.Prelude.{◌≡◌, ◌↔◌, ◌<◌, ℤ, ◌≤ℤ◌, Some, length, IfOk, IfSome, IfNone, IsTrue};
-ghost use Rattle.launch_machine.specs.Machine.{AreNexts, IsNext, IsReady};
-ghost use Rattle.launch_machine.specs.Next.{HasNone, IsEarlier, IsLeast};
+ghost use Rattle.due_set.specs.Anacron.{IsFirstOpening, IsJobOpen};
+ghost use Rattle.due_set.specs.Table.{IsAfter, IsJobDue, IsNextDue};
+ghost use Rattle.launch_machine.specs.Clerk.{MayStart, TakesStart};
+ghost use Rattle.launch_machine.specs.Machine.{AreCalls, AreStarts, IsStartBeside, IsCallBeside, IsFirstStartOf, IsFirstToStart};
 
 use cron_io::OutOfMemory;
 use due_set::JobTable;
+use least_tree::LeastTree;
 use paxos_base::JobRow;
 use std::alloc::Global;
 use zone_minutes::Minute;
 
-/// The job's next due instant after another, or the first of all.
-pub fn next_instant(table: &JobTable, job: u32, after: Option<i64>) -> Option<i64>
+// The first instant at which a launch of the row's job may be started.
+fn first_start_of(table: &JobTable, job: u32, row: JobRow) -> Option<i64>
     requires { job < length table.now.jobs }
-    ensures { IsNext table.now job after result }
+    ensures { IsFirstStartOf table.now job row result }
+{
+    if table.is_anacron(job) {
+        first_opening(table, job, row.last, row.cursor)
+    } else {
+        next_due(table, job, row.cursor)
+    }
+}
+
+// The first instant at which the job may open, by these dates.
+fn first_opening(table: &JobTable, job: u32, last: Option<i64>, cursor: Option<i64>) -> Option<i64>
+    requires { job < length table.now.jobs }
+    ensures found { IfSome result (IsFirstOpening table.now job last cursor) }
+    ensures none { IfNone result ((now date : ℤ) → IsJobOpen table.now job last cursor now date → ⊥) }
+{
+    match table.first_opening(job, last, cursor) {
+        Some(first) => Some(first.0),
+        None => None,
+    }
+}
+
+// The job's next due instant after another, or the first of all.
+fn next_due(table: &JobTable, job: u32, after: Option<i64>) -> Option<i64>
+    requires { job < length table.now.jobs }
+    ensures found { IfSome result (IsNextDue table.now job after) }
+    ensures none { IfNone result ((at : ℤ) → IsJobDue table.now job at → IsAfter after at → ⊥) }
 {
     match table.next_due(job, after.map(Minute)) {
         Some(next) => Some(next.0),
@@ -20,80 +48,123 @@ pub fn next_instant(table: &JobTable, job: u32, after: Option<i64>) -> Option<i6
     }
 }
 
-/// The next due instant of each job after its row's cursor.
-pub fn nexts_of(
-    alloc: Global,
-    table: &JobTable,
-    rows: &[JobRow],
-) -> Result<Vec<Option<i64>>, OutOfMemory>
-    requires { length rows.now ≡ length table.now.jobs }
-    ensures { IfOk result (λ nexts. AreNexts table.now rows.now nexts.items) }
+/// What stands beside a row: the first instant at which its job may be started; nothing while a launch is open.
+pub fn start_beside(table: &JobTable, job: u32, row: JobRow) -> Option<i64>
+    requires { job < length table.now.jobs }
+    ensures { IsStartBeside table.now job row result }
 {
-    let mut nexts = Vec::new(alloc);
-    for job in 0..table.jobs() {
-        let next = next_instant(table, job, rows[job as usize].cursor);
-        nexts.push(next)?;
+    match row.open_now {
+        Some(_) => None,
+        None => first_start_of(table, job, row),
     }
-    Ok(nexts)
 }
 
-/// The instant at which the job can start: it is idle, and its next due instant has come.
-pub fn ready_at(rows: &[JobRow], nexts: &[Option<i64>], job: u32, now: i64) -> Option<i64>
-    requires { length nexts.now ≡ length rows.now }
-    ensures found { IfSome result (λ at. IsReady rows.now nexts.now job at now) }
-    ensures none { IfNone result ((at : ℤ) → IsReady rows.now nexts.now job at now → ⊥) }
+/// An instant before which the row's launch isn't called; nothing where none is open.
+pub fn call_beside(table: &JobTable, job: u32, row: JobRow) -> Option<i64>
+    requires { job < length table.now.jobs }
+    ensures { IsCallBeside table.now job row result }
+{
+    row.open_now?;
+    let at = row.cursor?;
+    if table.is_anacron(job) {
+        // Its date has come where the zone's clock shows it, which may be put back.
+        Some(table.window().from.0)
+    } else {
+        Some(at)
+    }
+}
+
+/// What stands beside each row of the starts.
+pub fn starts_of(alloc: Global, table: &JobTable, rows: &[JobRow]) -> Result<LeastTree, OutOfMemory>
+    requires { length rows.now ≡ length table.now.jobs }
+    ensures { IfOk result (λ starts. AreStarts table.now rows.now starts) }
+{
+    let mut starts = Vec::new(alloc);
+    for job in 0..table.jobs() {
+        starts.push(start_beside(table, job, rows[job as usize]))?;
+    }
+    LeastTree::build(alloc, &starts)
+}
+
+/// What stands beside each row of the calls.
+pub fn calls_of(alloc: Global, table: &JobTable, rows: &[JobRow]) -> Result<LeastTree, OutOfMemory>
+    requires { length rows.now ≡ length table.now.jobs }
+    ensures { IfOk result (λ calls. AreCalls table.now rows.now calls) }
+{
+    let mut calls = Vec::new(alloc);
+    for job in 0..table.jobs() {
+        calls.push(call_beside(table, job, rows[job as usize]))?;
+    }
+    LeastTree::build(alloc, &calls)
+}
+
+/// The launch of the job that may be started now, if it is idle.
+pub fn start_at(
+    rows: &[JobRow],
+    starts: &LeastTree,
+    table: &JobTable,
+    job: u32,
+    now: i64,
+) -> Option<i64>
+    requires count { length rows.now ≡ length table.now.jobs }
+    requires starts { AreStarts table.now rows.now starts.now }
+    ensures found { IfSome result (λ at. TakesStart table.now rows.now job at now) }
+    ensures none { IfNone result ((at : ℤ) → TakesStart table.now rows.now job at now → ⊥) }
 {
     let place = job as usize;
     if place >= rows.len() {
         return None;
     }
-    match rows[place].open_now {
-        Some(_) => None,
-        None => come(nexts[place], now),
-    }
-}
-
-/// Whether the job is idle, and its next due instant is `at` and has come.
-pub fn takes_start(rows: &[JobRow], nexts: &[Option<i64>], job: u32, at: i64, now: i64) -> bool
-    requires { length nexts.now ≡ length rows.now }
-    ensures { IsTrue result ↔ IsReady rows.now nexts.now job at now }
-{
-    match ready_at(rows, nexts, job, now) {
-        Some(next) => next == at,
-        None => false,
-    }
-}
-
-// The instant, if it has come.
-fn come(next: Option<i64>, now: i64) -> Option<i64>
-    ensures found { IfSome result (λ at. (next ≡ Some at) × (at ≤ℤ now)) }
-    ensures none { IfNone result ((at : ℤ) → next ≡ Some at → at ≤ℤ now → ⊥) }
-{
-    match next {
-        Some(at) if at <= now => Some(at),
+    match starts.get(place) {
+        Some(first) if first <= now => launch_at(table, job, rows[place], first, now),
         _ => None,
     }
 }
 
-/// The least of the instants, where there is one.
-pub fn earliest(nexts: &[Option<i64>]) -> Option<i64>
-    ensures found { IfSome result (IsLeast nexts.now) }
-    ensures none { IfNone result (HasNone nexts.now) }
+/// Whether the launch of the job may be started now.
+pub fn takes_start(
+    rows: &[JobRow],
+    starts: &LeastTree,
+    table: &JobTable,
+    job: u32,
+    at: i64,
+    now: i64,
+) -> bool
+    requires count { length rows.now ≡ length table.now.jobs }
+    requires starts { AreStarts table.now rows.now starts.now }
+    ensures { IsTrue result ↔ TakesStart table.now rows.now job at now }
 {
-    let mut least = None;
-    for next in nexts {
-        least = earlier(least, *next);
+    match start_at(rows, starts, table, job, now) {
+        Some(launch) => launch == at,
+        None => false,
     }
-    least
 }
 
-// The earlier of two instants, where there are any.
-fn earlier(least: Option<i64>, next: Option<i64>) -> Option<i64>
-    ensures { IsEarlier least next result }
+// The launch of the row's job that may be started now, where the first instant for one has come.
+fn launch_at(table: &JobTable, job: u32, row: JobRow, first: i64, now: i64) -> Option<i64>
+    requires job { job < length table.now.jobs }
+    requires first { IsFirstToStart table.now job row first }
+    requires come { first ≤ℤ now }
+    ensures found { IfSome result (λ at. MayStart table.now job row at now) }
+    ensures none { IfNone result ((at : ℤ) → MayStart table.now job row at now → ⊥) }
 {
-    match (least, next) {
-        (Some(least), Some(next)) => Some(least.min(next)),
-        (least, None) => least,
-        (None, next) => next,
+    if table.is_anacron(job) {
+        date_at(table, job, row, now)
+    } else {
+        Some(first)
+    }
+}
+
+// The date on which the row's job may open now, if it runs by its period.
+fn date_at(table: &JobTable, job: u32, row: JobRow, now: i64) -> Option<i64>
+    requires { job < length table.now.jobs }
+    ensures found { IfSome result (IsJobOpen table.now job row.last row.cursor now) }
+    ensures none { IfNone result ((date : ℤ) → IsJobOpen table.now job row.last row.cursor now date → ⊥) }
+{
+    let now = Minute(now);
+    if table.window().contains(now) {
+        table.anacron_open(job, row.last, row.cursor, now)
+    } else {
+        None
     }
 }

@@ -6,7 +6,7 @@ ghost use Rattle.launch_machine.specs.Machine.{CanCount, StandsFor};
 use crate::{
     Effect, Intent, Machine, a_job_has_one_count_of_ends, a_job_has_one_list_of_starts,
     cursors_rise, ends_are_counted, entries_leave_one_table, one_entry_is_one_step,
-    starts_are_a_prefix,
+    one_launch_may_be_started, starts_come_in_order,
 };
 use cron_fields::{FieldKind, FieldSet, Fields, HashSeed, read_field};
 use due_set::{JobKind, JobSpec, JobTable};
@@ -47,7 +47,7 @@ fn fields_of(minutes: &str) -> Option<Fields> {
 }
 
 // A job of an entry of a crontab.
-fn crontab_job(alloc: Global, name: &str, minutes: &str) -> Result<JobSpec, Fail>
+pub fn crontab_job(alloc: Global, name: &str, minutes: &str) -> Result<JobSpec, Fail>
     ensures name { IfOk result (λ job. job.name ≡ name.now) }
     ensures zone { IfOk result (λ job. job.zone ≡ 0) }
     ensures plain { IfOk result (λ job. IsAnacron job.kind → ⊥) }
@@ -89,7 +89,7 @@ fn can_count(machine: &Machine, table: &JobTable, entry: Entry) -> bool
 }
 
 // What the entry does, where its count can rise.
-fn applied(machine: &mut Machine, table: &JobTable, entry: Entry) -> Option<Effect>
+pub fn applied(machine: &mut Machine, table: &JobTable, entry: Entry) -> Option<Effect>
     requires { StandsFor table.now machine.old }
     ensures { StandsFor table.now machine.new }
 {
@@ -109,7 +109,7 @@ fn chosen(machine: &Machine, table: &JobTable, minute: u8) -> Option<Intent>
 }
 
 // The instant of a number, if it is in the table's window.
-fn instant_in(table: &JobTable, number: i64) -> Option<Minute>
+pub fn instant_in(table: &JobTable, number: i64) -> Option<Minute>
     ensures { IfSome result (λ t. IsInWindow table.now.window t.0) }
 {
     let window = table.window();
@@ -348,5 +348,6 @@ fn laws_hold(_rt: HostRuntime) {
     ends_are_counted();
     a_job_has_one_list_of_starts();
     a_job_has_one_count_of_ends();
-    starts_are_a_prefix();
+    one_launch_may_be_started();
+    starts_come_in_order();
 }

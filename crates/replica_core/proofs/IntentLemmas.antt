@@ -4,13 +4,13 @@ use Rattle.std.proofs.lemmas.Bool.{cases_order}
 use Rattle.paxos_base.specs.declared.entry.Kind.{Kind}
 use Rattle.paxos_base.specs.declared.entry.Kind.TheVariants as kind
 use Rattle.paxos_base.specs.declared.rows.JobRow.{JobRow}
-use Rattle.due_set.specs.Table.{Table, IsNextDue}
-use Rattle.due_set.proofs.CountLemmas.{IsNextDue-same}
+use Rattle.due_set.specs.Table.{Table}
 use Rattle.launch_machine.specs.Answers.{IsCallKind, IsIntent}
 use Rattle.launch_machine.specs.Clerk.{TakesStart}
 use Rattle.launch_machine.specs.Intent.{IsFirstCall, IsFirstStart, MayCall}
 use Rattle.launch_machine.specs.declared.machine.Intent.{Intent}
 use Rattle.launch_machine.specs.declared.machine.Intent.TheVariants.{Call, Start, Rest}
+use Rattle.launch_machine.proofs.MachineLemmas.{TakesStart-same}
 
 same_some : {X : Type 0} (a b : X) → Some a ≡ Some b → a ≡ b
 same_some a b e = cc
@@ -41,15 +41,10 @@ same_kind table rows now job at a b may one other =
 
 -- ---- A start
 
-same_start : (table : Table) (rows : List JobRow) (now : ℤ) (job : ℕ) (at since : ℤ) → TakesStart table rows job at now → TakesStart table rows job since now → at ≡ since
-same_start table rows now job at since one other =
-    let row : other.row ≡ one.row = same_some other.row one.row (sym other.is_row ∙ one.is_row) in
-    IsNextDue-same table job one.row.cursor at since one.next (subst (λ (row : JobRow). IsNextDue table job row.cursor since) row other.next)
-
 first_start : (table : Table) (rows : List JobRow) (now : ℤ) (job another : ℕ) (at since : ℤ) → IsFirstStart table rows now job at → IsFirstStart table rows now another since
     → (job ≡ another) × (at ≡ since)
 first_start table rows now job another at since one other = elim (cases_order job another) [
-  | inl same ↦ (same, same_start table rows now another at since (subst (λ (number : ℕ). TakesStart table rows number at now) same one.takes) other.takes)
+  | inl same ↦ (same, TakesStart-same table rows another at since now (subst (λ (number : ℕ). TakesStart table rows number at now) same one.takes) other.takes)
   | inr apart ↦ elim apart [ inl before ↦ absurd (other.first job at before one.takes) | inr after ↦ absurd (one.first another since after other.takes) ]
 ]
 

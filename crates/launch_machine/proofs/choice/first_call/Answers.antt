@@ -1,35 +1,57 @@
-use Rattle.std.proofs.Common.{FitsSigned, w64, arith}
+use Rattle.std.proofs.Common.{◌≡◌, ◌<◌, length, FitsSigned, w64, arith}
 use Rattle.std.proofs.lemmas.Int.{ints, to_z-of_z}
-use Rattle.launch_machine.specs.Intent.{MayCall, IsFirstCall}
-use Rattle.launch_machine.proofs.MachineLemmas.{below_next, no_call_before, no_call_from, open_within}
+use Rattle.least_tree.specs.Least.{HasNoneAtMost, IsFirstAtMost}
+use Rattle.launch_machine.specs.Intent.{IsFirstCall, MayCall}
+use Rattle.launch_machine.proofs.MachineLemmas.{below_next, no_call_from}
+use Rattle.launch_machine.proofs.NextLemmas.{no_call_after, no_call_between, place_within}
 use Rattle.launch_machine.proofs.choice.first_call.Goals as goal
 
-pub returns-in-Some-call_at-clause-found : goal.returns-in-Some-call_at-clause-found
-returns-in-Some-call_at-clause-found c =
-    let fits : FitsSigned w64 c.in-Some-call_at.at = omega (arith, ints) in
-    let found : IsFirstCall c.args.table.now c.args.rows.now c.args.now.0 c.in-Some.job c.in-Some-call_at.at = record {
-      may = c.in-Some-call_at.ensures.found;
-      first = no_call_before c.args.table.now c.args.rows.now c.args.now.0 c.open.from c.in-Some.job c.open.invariant c.in-Some.ensures.found.before;
+pub returns-in_err-place-clause-none : goal.returns-in_err-place-clause-none
+returns-in_err-place-clause-none c =
+    let now_fits : FitsSigned w64 c.args.now.0 = omega (arith, ints) in
+    let none : HasNoneAtMost c.args.calls.now c.open.from c.args.now.0 = simp to_z-of_z at c.in_err-place.ensures.none in
+    rw c.from_residual.ensures
+    (no_call_after c.args.table.now c.args.rows.now c.args.calls.now c.args.now.0 c.open.from c.requires.calls c.requires.inside c.open.invariant none)
+
+pub overflow_cast-job : goal.overflow_cast-job
+overflow_cast-job c =
+    let now_fits : FitsSigned w64 c.args.now.0 = omega (arith, ints) in
+    let found : IsFirstAtMost c.args.calls.now c.open.from c.args.now.0 c.in_ok-place.place = simp to_z-of_z at c.in_ok-place.ensures.found in
+    let lt : c.in_ok-place.place < length c.args.table.now.jobs = place_within c.args.calls.now c.args.rows.now c.args.table.now c.open.from c.args.now.0 c.in_ok-place.place found c.requires.calls.count c.requires.count in
+    omega (arith, c.jobs-jobs.ensures.count, c.jobs-jobs.ensures.few)
+
+pub call_at-requires-clause-job : goal.call_at-requires-clause-job
+call_at-requires-clause-job c =
+    let now_fits : FitsSigned w64 c.args.now.0 = omega (arith, ints) in
+    let found : IsFirstAtMost c.args.calls.now c.open.from c.args.now.0 c.in_ok-place.place = simp to_z-of_z at c.in_ok-place.ensures.found in
+    place_within c.args.calls.now c.args.rows.now c.args.table.now c.open.from c.args.now.0 c.in_ok-place.place found c.requires.calls.count c.requires.count
+
+pub returns-in-Some-clause-found : goal.returns-in-Some-clause-found
+returns-in-Some-clause-found c =
+    let fits : FitsSigned w64 c.in-Some.at = omega (arith, ints) in
+    let now_fits : FitsSigned w64 c.args.now.0 = omega (arith, ints) in
+    let found : IsFirstAtMost c.args.calls.now c.open.from c.args.now.0 c.in_ok-place.place = simp to_z-of_z at c.in_ok-place.ensures.found in
+    let first : IsFirstCall c.args.table.now c.args.rows.now c.args.now.0 c.in_ok-place.place c.in-Some.at = record {
+      may = c.in-Some.ensures.found;
+      first = no_call_between c.args.table.now c.args.rows.now c.args.calls.now c.args.now.0 c.open.from c.in_ok-place.place c.requires.calls c.requires.inside c.open.invariant found.none_before;
     } in
-    simp to_z-of_z found
+    simp to_z-of_z first
 
 pub overflow_add-from : goal.overflow_add-from
 overflow_add-from c =
-    let within = open_within c.args.rows.now c.open.from c.in-Some.job c.in-Some.ensures.found in
+    let now_fits : FitsSigned w64 c.args.now.0 = omega (arith, ints) in
+    let found : IsFirstAtMost c.args.calls.now c.open.from c.args.now.0 c.in_ok-place.place = simp to_z-of_z at c.in_ok-place.ensures.found in
+    let lt : c.in_ok-place.place < length c.args.table.now.jobs = place_within c.args.calls.now c.args.rows.now c.args.table.now c.open.from c.args.now.0 c.in_ok-place.place found c.requires.calls.count c.requires.count in
     omega (arith, c.jobs-jobs.ensures.count, c.jobs-jobs.ensures.few)
-
-pub open-smaller : goal.open-smaller
-open-smaller c =
-    let within = open_within c.args.rows.now c.open.from c.in-Some.job c.in-Some.ensures.found in
-    omega (arith, c.in-Some.ensures.found.since, c.jobs-jobs.ensures.count)
 
 pub open-preserved : goal.open-preserved
 open-preserved c =
-    below_next (λ k t. MayCall c.args.table.now c.args.rows.now k t c.args.now.0) c.in-Some.job
-    (no_call_before c.args.table.now c.args.rows.now c.args.now.0 c.open.from c.in-Some.job c.open.invariant c.in-Some.ensures.found.before)
-    c.in_default-call_at.ensures.none
+    let now_fits : FitsSigned w64 c.args.now.0 = omega (arith, ints) in
+    let found : IsFirstAtMost c.args.calls.now c.open.from c.args.now.0 c.in_ok-place.place = simp to_z-of_z at c.in_ok-place.ensures.found in
+    below_next (λ k t. MayCall c.args.table.now c.args.rows.now k t c.args.now.0) c.in_ok-place.place
+    (no_call_between c.args.table.now c.args.rows.now c.args.calls.now c.args.now.0 c.open.from c.in_ok-place.place c.requires.calls c.requires.inside c.open.invariant found.none_before)
+    c.in_default.ensures.none
 
 pub returns-clause-none : goal.returns-clause-none
 returns-clause-none c =
-    no_call_from c.args.table.now c.args.rows.now c.args.now.0 c.jobs-jobs.result (omega (arith, c.jobs-jobs.ensures.count))
-    (no_call_before c.args.table.now c.args.rows.now c.args.now.0 c.open.from c.jobs-jobs.result c.open.invariant c.in_default.ensures.none)
+    no_call_from c.args.table.now c.args.rows.now c.args.now.0 c.open.from (omega (arith, c.jobs-jobs.ensures.count, c.requires.count, c.open-test.false)) c.open.invariant

@@ -16,11 +16,11 @@ returns-in-Start-clause-applies c =
 pub returns-in-End-clause-applies : goal.returns-in-End-clause-applies
 returns-in-End-clause-applies c =
     let at_fits : FitsSigned w64 c.in-End.at = omega (arith, ints) in
-    let applies : Applies c.args.table.now c.args.self.now.rows (End c.in-End.job c.in-End.at c.in-End.kind) c.end.new.self.rows = simp to_z-of_z at (c.end.ensures.applies c.args.table.now) in
+    let applies : Applies c.args.table.now c.args.self.now.rows (End c.in-End.job c.in-End.at c.in-End.kind) c.end.new.self.rows = simp to_z-of_z at c.end.ensures.applies in
     subst (λ (e : Entry). Applies c.args.table.now c.args.self.now.rows e c.end.new.self.rows) (sym c.in-End.is) applies
 
 pub returns-in-End-clause-effect : goal.returns-in-End-clause-effect
 returns-in-End-clause-effect c =
     let at_fits : FitsSigned w64 c.in-End.at = omega (arith, ints) in
-    let effect : IsEffect c.args.table.now c.args.self.now.rows (End c.in-End.job c.in-End.at c.in-End.kind) c.end.result = simp to_z-of_z at (c.end.ensures.effect c.args.table.now) in
+    let effect : IsEffect c.args.table.now c.args.self.now.rows (End c.in-End.job c.in-End.at c.in-End.kind) c.end.result = simp to_z-of_z at c.end.ensures.effect in
     subst (λ (e : Entry). IsEffect c.args.table.now c.args.self.now.rows e c.end.result) (sym c.in-End.is) effect

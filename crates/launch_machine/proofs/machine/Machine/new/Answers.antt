@@ -3,13 +3,17 @@ use Rattle.std.proofs.lemmas.List.FromFn.{length-map-range_with_len}
 use Rattle.paxos_base.specs.Rows.{RowsStand}
 use Rattle.paxos_base.specs.declared.rows.JobRow.{JobRow}
 use Rattle.launch_machine.specs.Clerk.{fresh_row}
-use Rattle.launch_machine.specs.Machine.{AreNexts}
+use Rattle.launch_machine.specs.Machine.{AreCalls, AreStarts}
 use Rattle.launch_machine.proofs.MachineLemmas.{fresh_open, fresh_stand}
 use Rattle.launch_machine.proofs.machine.Machine.new.Goals as goal
 
-pub nexts_of-requires : goal.nexts_of-requires
-nexts_of-requires c =
+pub starts_of-requires : goal.starts_of-requires
+starts_of-requires c =
     ap length c.deref.ensures.value ∙ ap length c.in_ok-rows.ensures ∙ length-map-range_with_len fresh_row 0 c.jobs.result ∙ c.jobs.ensures.count
+
+pub calls_of-requires : goal.calls_of-requires
+calls_of-requires c =
+    ap length c.deref-2.ensures.value ∙ ap length c.in_ok-rows.ensures ∙ length-map-range_with_len fresh_row 0 c.jobs.result ∙ c.jobs.ensures.count
 
 pub invariant_of-result : goal.invariant_of-result
 invariant_of-result c = fresh_open c.in_ok-rows.rows.items c.jobs.result c.in_ok-rows.ensures
@@ -17,5 +21,6 @@ invariant_of-result c = fresh_open c.in_ok-rows.rows.items c.jobs.result c.in_ok
 pub returns-clause-stands : goal.returns-clause-stands
 returns-clause-stands c = record {
   rows = subst (RowsStand c.in_ok-rows.rows.items) c.jobs.ensures.count (fresh_stand c.in_ok-rows.rows.items c.jobs.result c.in_ok-rows.ensures);
-  nexts = subst (λ (r : List JobRow). AreNexts c.args.table.now r c.in_ok-nexts.nexts.items) c.deref.ensures.value c.in_ok-nexts.ensures;
+  starts = subst (λ (r : List JobRow). AreStarts c.args.table.now r c.in_ok-starts.starts) c.deref.ensures.value c.in_ok-starts.ensures;
+  calls = subst (λ (r : List JobRow). AreCalls c.args.table.now r c.in_ok-calls.calls) c.deref-2.ensures.value c.in_ok-calls.ensures;
 }

@@ -1,0 +1,18 @@
+use Rattle.std.proofs.Common.{◌<◌, length, get_or, arith}
+use Rattle.std.proofs.lemmas.Option.{slice_get-get_or}
+use Rattle.launch_machine.specs.Clerk.{fresh_row}
+use Rattle.launch_machine.specs.Machine.{IsCallBeside}
+use Rattle.launch_machine.proofs.MachineLemmas.{beside_all, beside_push, beside_built}
+use Rattle.launch_machine.proofs.next.calls_of.Goals as goal
+
+pub loop-job-preserved : goal.loop-job-preserved
+loop-job-preserved c =
+    let lt : c.loop-job.job < length c.args.rows.now = omega (arith, c.requires, c.jobs-job-end.ensures.count, c.loop-job-test.true) in
+    rw c.in_ok-push.ensures.items
+    (beside_push (IsCallBeside c.args.table.now) c.args.rows.now c.loop-job.calls.items c.loop-job.job (get_or c.args.rows.now c.loop-job.job (fresh_row 0)) c.call_beside.result
+    c.loop-job.invariant (slice_get-get_or c.args.rows.now c.loop-job.job (fresh_row 0) lt) c.call_beside.ensures)
+
+pub returns : goal.returns
+returns c =
+    beside_built (IsCallBeside c.args.table.now) c.args.rows.now c.deref.result.now c.build.result c.build.ensures
+    (rw c.deref.ensures.value (beside_all (IsCallBeside c.args.table.now) c.args.rows.now c.loop-job.calls.items c.loop-job.job c.loop-job.invariant (omega (arith, c.requires, c.jobs-job-end.ensures.count))))
