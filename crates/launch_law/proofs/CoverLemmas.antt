@@ -9,10 +9,11 @@ use Rattle.paxos_base.specs.declared.entry.Entry.TheVariants.{Noop, Start, End}
 use Rattle.paxos_base.specs.declared.entry.Kind.{Kind}
 use Rattle.paxos_base.specs.declared.entry.Kind.TheVariants.{Launch, Void}
 use Rattle.paxos_base.specs.declared.rows.JobRow.{JobRow}
-use Rattle.due_set.specs.Table.{Table, IsJobDue, IsNextDue}
-use Rattle.launch_machine.specs.Clerk.{Applies, AppliesAll, IsClerkOf, TakesStart, TakesEnd, fresh_row, fresh_rows, opened_row, closed_row, with_row}
+use Rattle.due_set.specs.Anacron.{IsJobOpen}
+use Rattle.due_set.specs.Table.{Table, IsAfter, IsJobDue}
+use Rattle.launch_machine.specs.Clerk.{Applies, AppliesAll, IsClerkOf, MayStart, TakesStart, TakesEnd, fresh_row, fresh_rows, opened_row, closed_row, with_row}
 use Rattle.launch_machine.proofs.ClerkLemmas.{IsClerkOf-push}
-use Rattle.launch_machine.proofs.MachineLemmas.{same_or_not, set_there}
+use Rattle.launch_machine.proofs.MachineLemmas.{due_by_instant, opens_by_period, same_or_not, set_there}
 use Rattle.launch_machine.proofs.StartLemmas.{changed}
 use Rattle.launch_law.specs.Fits.{HasStart, HasEnd}
 use Rattle.launch_law.proofs.EffectLemmas.{IsEffective-more, IsEffective-last}
@@ -35,7 +36,7 @@ IsCovered table log job (Some cursor) (Some since) =
 abbrev pub HasCover : Table → List Entry → List JobRow → ℕ → Type 0
 HasCover table log rows job = (row : JobRow) → slice_get rows job ≡ Some row → IsCovered table log job row.cursor row.open_now
 
-HasStart-more : (table : Table) (log more : List Entry) (job : ℕ) (at : ℤ) → HasStart table log job at → HasStart table (log ++ more) job at
+pub HasStart-more : (table : Table) (log more : List Entry) (job : ℕ) (at : ℤ) → HasStart table log job at → HasStart table (log ++ more) job at
 HasStart-more table log more job at (now, known) = (now, IsEffective-more table log more (Start job at now) known)
 
 IsOver-more : (table : Table) (log more : List Entry) (job : ℕ) (at : ℤ) → IsOver table log job at → IsOver table (log ++ more) job at
@@ -59,12 +60,20 @@ cover_left : (table : Table) (log more : List Entry) (rows middle : List JobRow)
 cover_left table log more rows middle job e known row is_row =
     IsCovered-more table log more job row.cursor row.open_now (known row (sym e ∙ is_row))
 
--- no due instant is between an idle row's cursor and the next due one
-over_before : (table : Table) (log : List Entry) (job : ℕ) (cursor : Option ℤ) (at : ℤ) → IsNextDue table job cursor at → IsCovered table log job cursor None
-    → (t : ℤ) → IsJobDue table job t → t <ℤ at → IsOver table log job t
-over_before table log job None at next known t due lt = let le : at ≤ℤ t = next.least t due tt in absurd (omega (arith, ints))
-over_before table log job (Some cursor) at next known t due lt =
-    by_lt_z cursor t (λ after. let le : at ≤ℤ t = next.least t due after in absurd (omega (arith, ints))) (λ le. known t due le)
+-- a job that may open has no due instants
+pub due_never_opens : (table : Table) (job : ℕ) (last cursor : Option ℤ) (t now date : ℤ) → IsJobDue table job t → IsJobOpen table job last cursor now date → ⊥
+due_never_opens table job last cursor t now date due opens = due_by_instant table job t due (opens_by_period table job last cursor now date opens)
+
+-- no due instant is between an idle row's cursor and the one that may be started
+over_before : (table : Table) (log : List Entry) (job : ℕ) (row : JobRow) (at now : ℤ) (cursor : Option ℤ) → row.cursor ≡ cursor → MayStart table job row at now
+    → IsCovered table log job cursor None → (t : ℤ) → IsJobDue table job t → t <ℤ at → IsOver table log job t
+over_before table log job row at now cursor is (inr opens) known t due lt = absurd (due_never_opens table job row.last row.cursor t now at due opens)
+over_before table log job row at now None is (inl (next, come)) known t due lt =
+    let le : at ≤ℤ t = next.least t due (subst (λ (c : Option ℤ). IsAfter c t) (sym is) tt) in absurd (omega (arith, ints))
+over_before table log job row at now (Some cursor) is (inl (next, come)) known t due lt =
+    by_lt_z cursor t
+    (λ after. let le : at ≤ℤ t = next.least t due (subst (λ (c : Option ℤ). IsAfter c t) (sym is) after) in absurd (omega (arith, ints)))
+    (λ le. known t due le)
 
 cover_start : (table : Table) (log : List Entry) (rows middle : List JobRow) (job : ℕ) (at now : ℤ) → IsClerkOf table log rows → TakesStart table rows job at now
     → middle ≡ with_row (opened_row at now) rows job → HasCover table log rows job → HasCover table (log ++ Start job at now ∷ []) middle job
@@ -73,7 +82,7 @@ cover_start table log rows middle job at now clerk takes e known row is_row =
     let idle : IsCovered table log job takes.row.cursor None = subst (IsCovered table log job takes.row.cursor) takes.idle (known takes.row takes.is_row) in
     subst (λ (r : JobRow). IsCovered table (log ++ Start job at now ∷ []) job r.cursor r.open_now) opened (
       (now, IsEffective-last table log (Start job at now) rows clerk takes),
-      λ t due lt. IsOver-more table log (Start job at now ∷ []) job t (over_before table log job takes.row.cursor at takes.next idle t due lt),
+      λ t due lt. IsOver-more table log (Start job at now ∷ []) job t (over_before table log job takes.row at now takes.row.cursor refl takes.may idle t due lt),
     )
 
 -- the instant at which an open row was closed is over too

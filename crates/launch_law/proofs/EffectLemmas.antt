@@ -1,5 +1,5 @@
 -- The entries of a log that take effect, and one more entry.
-use Rattle.std.proofs.Common.{◌≡◌, ◌⊎◌, inl, inr, List, [], ◌∷◌, ◌++◌, refl, sym, ap, ◌∙◌, subst}
+use Rattle.std.proofs.Common.{◌≡◌, ◌⊎◌, ◌+◌, inl, inr, List, [], ◌∷◌, ◌++◌, length, refl, sym, ap, ◌∙◌, subst, arith, length-append}
 use Rattle.std.specs.Prelude.{Contains}
 use Rattle.std.proofs.lemmas.List.{append_assoc}
 use Rattle.paxos_base.specs.declared.entry.Entry.{Entry}
@@ -8,7 +8,8 @@ use Rattle.paxos_base.specs.declared.rows.JobRow.{JobRow}
 use Rattle.due_set.specs.Table.{Table}
 use Rattle.due_set.proofs.Rising.{Contains-cases, Contains-none}
 use Rattle.cluster_sched.specs.declared.row.SchedRow.{SchedRow}
-use Rattle.launch_machine.specs.Clerk.{IsClerkOf, TakesEffect}
+use Rattle.launch_machine.specs.Clerk.{IsClerkOf, TakesEffect, fresh_rows}
+use Rattle.launch_machine.proofs.ClerkLemmas.{AppliesAll-same}
 use Rattle.launch_law.specs.Fits.{AreAllEffective, IsBacked, IsEffective}
 
 pub IsEffective-more : (table : Table) (log more : List Entry) (entry : Entry) → IsEffective table log entry → IsEffective table (log ++ more) entry
@@ -57,6 +58,44 @@ IsEffective-cases table log last entry known =
         takes = known.takes;
       })
     ]
+
+-- the same of an entry that takes effect on the rows of the log
+pub effective_cases : (table : Table) (log : List Entry) (last entry : Entry) (rows : List JobRow) → IsClerkOf table log rows → IsEffective table (log ++ last ∷ []) entry
+    → ((entry ≡ last) × TakesEffect table rows last) ⊎ IsEffective table log entry
+effective_cases table log last entry rows clerk known =
+    elim (last_split log last known.before known.after entry known.parts) [
+      | inl (same, is) ↦
+          let clerks : IsClerkOf table log known.takes.0 = subst (λ (l : List Entry). IsClerkOf table l known.takes.0) same known.takes.1 in
+          let rows_are : known.takes.0 ≡ rows = AppliesAll-same table (fresh_rows table) log known.takes.0 rows clerks clerk in
+          inl (is, subst (TakesEffect table rows) is (subst (λ (r : List JobRow). TakesEffect table r entry) rows_are known.takes.2))
+      | inr found ↦ inr (record { before = known.before; after = found.after; parts = found.parts; takes = known.takes })
+    ]
+
+-- of two places in a log one is before the other, or they are one
+pub split_order : (p r q s : List Entry) (x y : Entry) → p ++ x ∷ q ≡ r ++ y ∷ s
+    → ((p ≡ r) × (x ≡ y)) ⊎ (IsBeforeLast r p x ⊎ IsBeforeLast p r y)
+split_order [] [] q s x y e = inl (refl, cc)
+split_order [] (b ∷ r) q s x y e = inr (inl (record { after = r; parts = let is : b ≡ x = cc in ap (λ (c : Entry). c ∷ r) is }))
+split_order (a ∷ p) [] q s x y e = inr (inr (record { after = p; parts = let is : a ≡ y = cc in ap (λ (c : Entry). c ∷ p) is }))
+split_order (a ∷ p) (b ∷ r) q s x y e =
+    let tails : p ++ x ∷ q ≡ r ++ y ∷ s = cc in
+    let heads : a ≡ b = cc in
+    elim (split_order p r q s x y tails) [
+      | inl (same, is) ↦ inl (cc, is)
+      | inr (inl found) ↦ inr (inl (record { after = found.after; parts = let parts : r ≡ p ++ x ∷ found.after = found.parts in cc }))
+      | inr (inr found) ↦ inr (inr (record { after = found.after; parts = let parts : p ≡ r ++ y ∷ found.after = found.parts in cc }))
+    ]
+
+-- an entry that takes effect does so in each log that it stands in
+pub is_before : (table : Table) (log : List Entry) (entry : Entry) (known : IsEffective table log entry) (longer : List Entry)
+    → IsBeforeLast longer known.before entry → IsEffective table longer entry
+is_before table log entry known longer found = record { before = known.before; after = found.after; parts = found.parts; takes = known.takes }
+
+-- nothing takes effect in an empty log
+pub nothing_effective : (table : Table) (entry : Entry) → IsEffective table [] entry → ⊥
+nothing_effective table entry known =
+    let size : 0 ≡ length known.before + length (entry ∷ known.after) = ap length known.parts ∙ length-append known.before (entry ∷ known.after) in
+    omega arith
 
 pub none_effective : (table : Table) → AreAllEffective table []
 none_effective table [] after entry e = absurd cc

@@ -1,6 +1,6 @@
 -- What follows where the log and what is held fit together.
-use Rattle.std.proofs.Common.{◌≡◌, ◌≢◌, ℕ, ◌<◌, inl, inr, ◌↔◌, List, ◌∷◌, ◌++◌, length, get_or, Some, ℤ, sym, ap, ◌∙◌, subst}
-use Rattle.std.specs.Prelude.{Contains}
+use Rattle.std.proofs.Common.{◌≡◌, ◌≢◌, ℕ, ◌<◌, inl, inr, ◌↔◌, List, ◌∷◌, ◌++◌, length, get_or, Some, ℤ, ◌<ℤ◌, sym, ap, ◌∙◌, subst}
+use Rattle.std.specs.Prelude.{Contains, slice_get}
 use Rattle.std.proofs.lemmas.Bool.{cases_order}
 use Rattle.std.proofs.lemmas.List.{get_or_default}
 use Rattle.std.proofs.lemmas.List.Elements.{All-contains}
@@ -10,16 +10,21 @@ use Rattle.paxos_base.specs.declared.entry.Entry.TheVariants.{End}
 use Rattle.paxos_base.specs.declared.entry.Kind.{Kind}
 use Rattle.paxos_base.specs.declared.entry.Kind.TheVariants.{Launch}
 use Rattle.paxos_base.specs.declared.rows.JobRow.{JobRow}
+use Rattle.due_set.specs.Anacron.{IsPeriodOver}
 use Rattle.due_set.specs.Calls.{HasCome, IsOnTime}
-use Rattle.due_set.specs.Table.{Job, Table, IsDueFront, IsJobDue, IsJobIn}
+use Rattle.due_set.specs.Due.{IsRising}
+use Rattle.due_set.specs.Table.{Job, Table, IsDueFront, IsJobDue, IsJobIn, IsRunByPeriod}
+use Rattle.due_set.specs.declared.job.JobKind.TheVariants.{Anacron}
+use Rattle.due_set.specs.declared.job.Period.{Period}
 use Rattle.cluster_sched.specs.Held.{AreNamedOnce}
 use Rattle.cluster_sched.specs.declared.row.Name.{Name}
 use Rattle.cluster_sched.specs.declared.row.SchedRow.{SchedRow}
 use Rattle.launch_machine.specs.Clerk.{IsClerkOf, TakesEnd}
 use Rattle.launch_machine.specs.Starts.{StartsOf}
+use Rattle.launch_machine.proofs.MachineLemmas.{opens_by_period}
 use Rattle.launch_law.specs.Fits.{Fits, HasStart, HasEnd, IsBacked}
-use Rattle.launch_law.specs.Launched.{LaunchesEachDue}
-use Rattle.launch_law.proofs.CoverLemmas.{IsCovered, clerk_covers}
+use Rattle.launch_law.specs.Launched.{IsWanted, LaunchesEachDue, OpensBy}
+use Rattle.launch_law.proofs.CoverLemmas.{HasStart-more, IsCovered, clerk_covers}
 
 name_is : (a b : Name) → a.job ≡ b.job → a.at ≡ b.at → a ≡ b
 name_is a b jobs instants =
@@ -35,7 +40,7 @@ apart held a b i j once lt in_i in_j at_i at_j same =
     once i j a lt in_j (ap (λ (r : SchedRow). r.name) at_i ∙ same ∙ sym (ap (λ (r : SchedRow). r.name) at_j'))
 
 -- two rows of one launch are one row
-row_once : (held : List SchedRow) (a b : SchedRow) → AreNamedOnce held → Contains held a → Contains held b → a.name.job ≡ b.name.job → a.name.at ≡ b.name.at
+pub row_once : (held : List SchedRow) (a b : SchedRow) → AreNamedOnce held → Contains held a → Contains held b → a.name.job ≡ b.name.job → a.name.at ≡ b.name.at
     → a ≡ b
 row_once held a b once (i, in_i, at_i) (j, in_j, at_j) jobs instants =
     let same : a.name ≡ b.name = name_is a.name b.name jobs instants in
@@ -91,10 +96,27 @@ pub start_before_end : (table : Table) (log : List Entry) (job : ℕ) (at : ℤ)
 start_before_end table log job at kind ended =
     (ended.before, ended.after, ended.parts, start_before table ended.before ended.takes.0 job at ended.takes.1 ended.takes.2)
 
+-- what has ended was started
+pub end_started : (table : Table) (log : List Entry) (job : ℕ) (at : ℤ) (kind : Kind) → HasEnd table log job at kind → HasStart table log job at
+end_started table log job at kind ended =
+    let found = start_before_end table log job at kind ended in
+    subst (λ (l : List Entry). HasStart table l job at) (sym found.2) (HasStart-more table found.0 (End job at kind ∷ found.1) job at found.3)
+
 pub starts_of_fits : (table : Table) (log : List Entry) (held : List SchedRow) (job : ℕ) → Fits table log held
-    → (instants : List ℤ) × StartsOf table log job instants × IsDueFront table job instants
+    → (instants : List ℤ) × StartsOf table log job instants × IsRising instants
 starts_of_fits table log held job fits =
-    let known = fits.in_order job in (known.instants, known.starts, known.first)
+    let known = fits.in_order job in (known.instants, known.starts, known.rising)
+
+pub front_of_fits : (table : Table) (log : List Entry) (held : List SchedRow) (job : ℕ) → Fits table log held → (IsRunByPeriod table job → ⊥)
+    → (instants : List ℤ) × StartsOf table log job instants × IsDueFront table job instants
+front_of_fits table log held job fits other =
+    let known = fits.in_order job in (known.instants, known.starts, known.first other)
+
+pub apart_of_fits : (table : Table) (log : List Entry) (held : List SchedRow) (a b : SchedRow) (job : Job) (period : Period) (first last : ℕ)
+    → Fits table log held → Contains held a → Contains held b → a.name.job ≡ b.name.job → a.kind ≡ Launch → b.kind ≡ Launch → a.name.at <ℤ b.name.at
+    → slice_get table.jobs a.name.job ≡ Some job → job.kind ≡ Anacron period first last → IsPeriodOver period a.name.at b.name.at
+apart_of_fits table log held a b job period first last fits in_a in_b jobs a_launch b_launch lt is_job kind =
+    fits.apart a b in_a in_b jobs a_launch b_launch lt job period first last is_job kind
 
 -- where each due instant is launched, one row is held for each, a launch
 pub launched_each : (table : Table) (held : List SchedRow) (job : ℕ) (at : ℤ) → LaunchesEachDue table held → IsJobDue table job at
@@ -102,7 +124,20 @@ pub launched_each : (table : Table) (held : List SchedRow) (job : ℕ) (at : ℤ
 launched_each table held job at launched due =
     let found = launched.each job at due in (found.row, found.among, found.of_job, found.due_at, found.of_kind)
 
-pub launched_due : (table : Table) (held : List SchedRow) (row : SchedRow) → LaunchesEachDue table held → Contains held row
-    → IsJobDue table row.name.job row.name.at × (row.kind ≡ Launch)
-launched_due table held row launched among =
-    All-contains (λ (r : SchedRow). IsJobDue table r.name.job r.name.at × (r.kind ≡ Launch)) held row launched.no_other among
+pub launched_date : (table : Table) (held : List SchedRow) (job : ℕ) (now date : ℤ) → LaunchesEachDue table held → OpensBy table held job now date
+    → (row : SchedRow) × Contains held row × (row.name.job ≡ job) × (row.name.at ≡ date) × (row.kind ≡ Launch) × (row.now.0 ≡ now)
+launched_date table held job now date launched opens =
+    let found = launched.each_date job now date opens in (found.row, found.among, found.of_job, found.due_at, found.of_kind, found.called)
+
+pub launched_wanted : (table : Table) (held : List SchedRow) (row : SchedRow) → LaunchesEachDue table held → Contains held row
+    → IsWanted table held row × (row.kind ≡ Launch)
+launched_wanted table held row launched among =
+    All-contains (λ (r : SchedRow). IsWanted table held r × (r.kind ≡ Launch)) held row launched.no_other among
+
+-- and a job that doesn't run by its period is due then
+pub launched_due : (table : Table) (held : List SchedRow) (row : SchedRow) → LaunchesEachDue table held → Contains held row → (IsRunByPeriod table row.name.job → ⊥)
+    → IsJobDue table row.name.job row.name.at
+launched_due table held row launched among other = elim (launched_wanted table held row launched among).0 [
+  | inl due ↦ due
+  | inr by ↦ absurd (other (opens_by_period table row.name.job by.last by.last row.now.0 row.name.at by.opens))
+]

@@ -1,5 +1,6 @@
 pub mod CoverLemmas
 pub mod EffectLemmas
 pub mod FitLemmas
+pub mod PeriodLemmas
 pub mod SettledLemmas
 pub mod VoidLemmas

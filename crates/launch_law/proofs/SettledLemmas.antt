@@ -52,8 +52,7 @@ module _ (table : Table) (log : List Entry) (now : ℤ) (job : ℕ) (at : ℤ) (
         row = row;
         is_row = is_row;
         idle = idle;
-        next = found.1;
-        come = omega (arith, ints);
+        may = inl (found.1, omega (arith, ints));
       })
 
   -- no row is open at an instant that has come

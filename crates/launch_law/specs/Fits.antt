@@ -1,12 +1,17 @@
 -- How the log and the rows that the scheduler holds fit together.
-use Rattle.std.specs.Prelude.{◌≡◌, ℕ, List, ◌∷◌, ◌++◌, ℤ, All, Contains}
+use Rattle.std.specs.Prelude.{◌≡◌, ℕ, List, ◌∷◌, ◌++◌, Some, ℤ, ◌<ℤ◌, All, Contains, slice_get}
 use Rattle.jiff.specs.Types.{TimeZone}
 use Rattle.paxos_base.specs.declared.entry.Entry.{Entry}
 use Rattle.paxos_base.specs.declared.entry.Entry.TheVariants.{Start, End}
 use Rattle.paxos_base.specs.declared.entry.Kind.{Kind}
+use Rattle.paxos_base.specs.declared.entry.Kind.TheVariants.{Launch}
 use Rattle.paxos_base.specs.declared.rows.JobRow.{JobRow}
+use Rattle.due_set.specs.Anacron.{IsPeriodOver}
 use Rattle.due_set.specs.Calls.{HasCome}
-use Rattle.due_set.specs.Table.{Job, Table, IsDueFront, IsJobIn}
+use Rattle.due_set.specs.Due.{IsRising}
+use Rattle.due_set.specs.Table.{Job, Table, IsDueFront, IsJobIn, IsRunByPeriod}
+use Rattle.due_set.specs.declared.job.JobKind.TheVariants.{Anacron}
+use Rattle.due_set.specs.declared.job.Period.{Period}
 use Rattle.cluster_sched.specs.Held.{AreNamedOnce}
 use Rattle.cluster_sched.specs.declared.row.SchedRow.{SchedRow}
 use Rattle.launch_machine.specs.Answers.{IsCallKind}
@@ -55,16 +60,31 @@ pub record IsHeld (held : List SchedRow) (job : ℕ) (at : ℤ) (kind : Kind) : 
   pub due_at : row.name.at ≡ at
   pub of_kind : row.kind ≡ kind
 
--- the instants of the job's starts that take effect, in order, are the first of its due instants, none left out
+-- The instants of the job's starts that take effect, or their dates, rise in the order of the log; where the job doesn't run by
+-- its period they are the first of its due instants, none left out.
 pub record StartsInOrder (table : Table) (log : List Entry) (job : ℕ) : Type 0 where
   pub instants : List ℤ
   pub starts : StartsOf table log job instants
-  pub first : IsDueFront table job instants
+  pub rising : IsRising instants
+  pub first : (IsRunByPeriod table job → ⊥) → IsDueFront table job instants
 
--- No launch is held twice, and each that is held was started; an end that takes effect says what is held; and no due instant
--- is passed over.
+-- where the job runs by its period, that is over on the later date since the earlier one
+abbrev pub IsPeriodApart : Table → ℕ → (earlier later : ℤ) → Type 0
+IsPeriodApart table job earlier later =
+    (spec : Job) (period : Period) (first last : ℕ) → slice_get table.jobs job ≡ Some spec → spec.kind ≡ Anacron period first last
+    → IsPeriodOver period earlier later
+
+-- of two launches of a job the later is a period after the earlier
+abbrev pub ArePeriodsApart : Table → List SchedRow → Type 0
+ArePeriodsApart table held =
+    (a b : SchedRow) → Contains held a → Contains held b → a.name.job ≡ b.name.job → a.kind ≡ Launch → b.kind ≡ Launch
+    → a.name.at <ℤ b.name.at → IsPeriodApart table a.name.job a.name.at b.name.at
+
+-- No launch is held twice, and each that is held was started; an end that takes effect says what is held; no due instant is
+-- passed over; and the launches of a job that runs by its period are a period apart.
 pub record Fits (table : Table) (log : List Entry) (held : List SchedRow) : Type 0 where
   pub once : AreNamedOnce held
   pub backed : All (IsBacked table log) held
   pub ended : (job : ℕ) (at : ℤ) (kind : Kind) → HasEnd table log job at kind → IsHeld held job at kind
   pub in_order : (job : ℕ) → StartsInOrder table log job
+  pub apart : ArePeriodsApart table held

@@ -1,15 +1,20 @@
 //! Laws of a log, and of what is held beside it. Each is the contract of a function that does nothing.
-ghost use Rattle.std.specs.Prelude.{◌≡◌, ◌↔◌, [], ◌∷◌, ◌++◌, ℕ, List, None, ℤ, ◌≤ℤ◌, Contains};
+ghost use Rattle.std.specs.Prelude.{◌≡◌, ◌↔◌, [], ◌∷◌, ◌++◌, ℕ, List, Option, None, Some, ℤ, ◌≤ℤ◌, ◌<ℤ◌, All, Contains, slice_get};
 ghost use Rattle.jiff.specs.Types.{TimeZone};
 ghost use Rattle.paxos_base.specs.declared.entry.Entry.{Entry};
 ghost use Rattle.paxos_base.specs.declared.entry.Kind.{Kind};
 ghost use Rattle.due_set.specs.Calls.{HasCome, IsOnTime};
-ghost use Rattle.due_set.specs.Table.{Job, Table, IsDueFront, IsJobDue, IsJobIn, IsNextDue, IsSound};
+ghost use Rattle.due_set.specs.Anacron.{IsJobOpen, IsPeriodOver};
+ghost use Rattle.due_set.specs.Due.{IsRising};
+ghost use Rattle.due_set.specs.Table.{Job, Table, IsDueFront, IsJobDue, IsJobIn, IsNextDue, IsRunByPeriod, IsSound};
+ghost use Rattle.due_set.specs.declared.job.JobKind.{JobKind};
+ghost use Rattle.due_set.specs.declared.job.Period.{Period};
+ghost use Rattle.cluster_sched.specs.Held.{AreNamedOnce};
 ghost use Rattle.cluster_sched.specs.declared.row.SchedRow.{SchedRow};
 ghost use Rattle.launch_machine.specs.Answers.{IsCallKind};
 ghost use Rattle.launch_machine.specs.Starts.{StartsOf};
-ghost use Rattle.launch_law.specs.Fits.{AreAllEffective, Fits, HasStart, HasEnd, IsEffective};
-ghost use Rattle.launch_law.specs.Launched.{LaunchesEachDue};
+ghost use Rattle.launch_law.specs.Fits.{AreAllEffective, ArePeriodsApart, Fits, HasStart, HasEnd, IsBacked, IsEffective, IsHeld, IsPeriodApart, TakesEffectAfter};
+ghost use Rattle.launch_law.specs.Launched.{IsCalledAt, IsLatest, IsWanted, LaunchesEachDue, OpensBy};
 ghost use Rattle.launch_law.specs.Settled.{IsSettled};
 
 /// An entry that takes effect does so in each longer log.
@@ -72,22 +77,71 @@ pub fn an_end_says_what_is_held()
         → HasEnd table log row.name.job row.name.at kind → row.kind ≡ kind }
 {}
 
-/// Where they fit, a job's starts are the first of its due instants, none left out.
+/// Where they fit, a job's starts come in rising order; where it doesn't run by its period they are the first of its due
+/// instants, none left out.
 pub fn no_due_instant_is_passed_over()
-    ensures { (table : Table) (log : List Entry) (held : List SchedRow) (job : ℕ)
-        → Fits table log held
+    ensures rise { (table : Table) (log : List Entry) (held : List SchedRow) (job : ℕ)
+        → Fits table log held → (instants : List ℤ) × StartsOf table log job instants × IsRising instants }
+    ensures front { (table : Table) (log : List Entry) (held : List SchedRow) (job : ℕ)
+        → Fits table log held → (IsRunByPeriod table job → ⊥)
         → (instants : List ℤ) × StartsOf table log job instants × IsDueFront table job instants }
 {}
 
-/// Where each due instant is launched, a launch is held for each, and what is held is a launch at a due instant.
+/// Where they fit, of two launches of a job that runs by its period the later is a period after the earlier.
+pub fn launches_are_a_period_apart()
+    ensures { (table : Table) (log : List Entry) (held : List SchedRow) (a b : SchedRow) (job : Job)
+        (period : Period) (first last : ℕ)
+        → Fits table log held → Contains held a → Contains held b → a.name.job ≡ b.name.job
+        → a.kind ≡ Kind.Launch → b.kind ≡ Kind.Launch → a.name.at <ℤ b.name.at
+        → slice_get table.jobs a.name.job ≡ Some job → job.kind ≡ JobKind.Anacron period first last
+        → IsPeriodOver period a.name.at b.name.at }
+{}
+
+/// A start that takes effect behind a launch of its job comes a period after it.
+pub fn a_start_comes_a_period_after_a_launch()
+    ensures { (table : Table) (before : List Entry) (job : ℕ) (at date now : ℤ)
+        → TakesEffectAfter table before (Entry.Start job date now) → HasEnd table before job at Kind.Launch
+        → IsPeriodApart table job at date }
+{}
+
+/// Where each row's launch was started, ends say what is held and no launch is held twice, launches are a period apart.
+pub fn what_was_started_is_a_period_apart()
+    ensures { (table : Table) (log : List Entry) (held : List SchedRow) → AreNamedOnce held
+        → All (IsBacked table log) held
+        → ((job : ℕ) (at : ℤ) (kind : Kind) → HasEnd table log job at kind → IsHeld held job at kind)
+        → ArePeriodsApart table held }
+{}
+
+/// Before an instant a job has one latest launch at most.
+pub fn a_job_has_one_latest_launch()
+    ensures { (held : List SchedRow) (job : ℕ) (now : ℤ) (a b : Option ℤ)
+        → IsLatest held job now a → IsLatest held job now b → a ≡ b }
+{}
+
+/// A date on which a job may open is a period after each of its launches that was called before.
+pub fn a_job_opens_a_period_after_each_launch()
+    ensures { (table : Table) (held : List SchedRow) (job : ℕ) (now date at sooner : ℤ)
+        → OpensBy table held job now date → IsCalledAt held job at Kind.Launch sooner → sooner <ℤ now
+        → IsPeriodApart table job at date }
+{}
+
+/// Where each due instant is launched, and each date on which a job may open, a launch is held for each, and what is held is
+/// a launch of one of these; of a job that doesn't run by its period, a due instant's.
 pub fn each_due_instant_is_launched()
     ensures each { (table : Table) (held : List SchedRow) (job : ℕ) (at : ℤ)
         → LaunchesEachDue table held → IsJobDue table job at
         → (row : SchedRow) × Contains held row
         × (row.name.job ≡ job) × (row.name.at ≡ at) × (row.kind ≡ Kind.Launch) }
+    ensures each_date { (table : Table) (held : List SchedRow) (job : ℕ) (now date : ℤ)
+        → LaunchesEachDue table held → OpensBy table held job now date
+        → (row : SchedRow) × Contains held row
+        × (row.name.job ≡ job) × (row.name.at ≡ date) × (row.kind ≡ Kind.Launch) × (row.now.0 ≡ now) }
     ensures no_other { (table : Table) (held : List SchedRow) (row : SchedRow)
         → LaunchesEachDue table held → Contains held row
-        → IsJobDue table row.name.job row.name.at × (row.kind ≡ Kind.Launch) }
+        → IsWanted table held row × (row.kind ≡ Kind.Launch) }
+    ensures due { (table : Table) (held : List SchedRow) (row : SchedRow)
+        → LaunchesEachDue table held → Contains held row → (IsRunByPeriod table row.name.job → ⊥)
+        → IsJobDue table row.name.job row.name.at }
 {}
 
 /// A launch that is called so late that it is a void is held as one and ends as one: its log and its row fit.
@@ -97,4 +151,13 @@ pub fn a_void_fits_its_log()
         → HasCome spec.kind zone at called → IsCallKind table job at called Kind.Void
         → Fits table (Entry.Start job at started ∷ Entry.End job at Kind.Void ∷ [])
         (record { name = record { job = job; at = at }; kind = Kind.Void; now = record { 0 = called }; by = by } ∷ []) }
+{}
+
+/// A launch of a date that is called on a later date is held as a void and ends as one: its log and its row fit.
+pub fn a_void_of_a_date_fits_its_log()
+    ensures { (table : Table) (job : ℕ) (date started called : ℤ) (by : ℕ) (spec : Job) (zone : TimeZone) → IsSound table
+        → IsJobOpen table job None None started date → IsJobIn table job spec zone
+        → HasCome spec.kind zone date called → IsCallKind table job date called Kind.Void
+        → Fits table (Entry.Start job date started ∷ Entry.End job date Kind.Void ∷ [])
+        (record { name = record { job = job; at = date }; kind = Kind.Void; now = record { 0 = called }; by = by } ∷ []) }
 {}
