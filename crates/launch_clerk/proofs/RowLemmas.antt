@@ -2,9 +2,9 @@
 use Rattle.std.proofs.Common.{◌≡◌, ◌≢◌, ℕ, zero, suc, ◌+◌, ◌*◌, ◌<◌, ◌≤◌, ◌⊎◌, inl, inr, List, [], ◌∷◌, get_or, Option, None, Some, ℤ, pos, negsuc, ◌+ℤ◌, ◌-ℤ◌, ◌<ℤ◌, ◌≤ℤ◌, refl, sym, ap, ◌∙◌, subst, arith}
 use Rattle.std.specs.Prelude.{length, map, slice_get, slice_set, unsigned_abs}
 use Rattle.std.specs.List.{range_with_len}
+use Rattle.std.proofs.Math.ListN.{length-set}
 use Rattle.std.proofs.lemmas.Int.{ints}
-use Rattle.std.proofs.lemmas.Option.{get_or_from_slice_get}
-use Rattle.zone_minutes.specs.Window.{IsInWindow}
+use Rattle.std.proofs.lemmas.Option.{get_or_from_slice_get, slice_get_within}
 use Rattle.zone_minutes.specs.declared.minute.Window.{Window}
 use Rattle.paxos_base.specs.declared.entry.Entry.TheVariants.{Start, End}
 use Rattle.paxos_base.specs.declared.entry.Kind.{Kind}
@@ -14,9 +14,10 @@ use Rattle.due_set.specs.Table.{Table, IsAfter}
 use Rattle.due_set.proofs.CountLemmas.{abs_below}
 use Rattle.due_set.proofs.TableLemmas.{cases_ltℤ}
 use Rattle.launch_machine.specs.Clerk.{Applies, TakesStart, TakesEnd, fresh_row, fresh_rows, opened_row, closed_row, with_row}
-use Rattle.launch_machine.proofs.MachineLemmas.{same_or_not, set_there}
+use Rattle.launch_machine.proofs.MachineLemmas.{is_some_below, same_or_not, set_there}
 use Rattle.launch_machine.proofs.StartLemmas.{changed}
-use Rattle.launch_clerk.specs.Walk.{AreIdle, IsCounted, minutes_left, steps_open, steps_of, steps_left}
+use Rattle.launch_clerk.proofs.DayLemmas.{IsInReach}
+use Rattle.launch_clerk.specs.Walk.{AreIdle, IsCounted, IsOpenBy, minutes_left, steps_open, steps_of, steps_left}
 
 -- a row after a change of one of them: the changed one, or as it was
 pub row_after : (change : JobRow → JobRow) (rows : List JobRow) (job k : ℕ) (old new : JobRow) → slice_get rows job ≡ Some old
@@ -26,6 +27,33 @@ row_after change rows job k old new is_old is_new =
       | inl same ↦ inl (same, sym (changed change rows job old new is_old (subst (λ (i : ℕ). slice_get (with_row change rows job) i ≡ Some new) same is_new)))
       | inr ne ↦ inr (ne, sym (set_there rows job k (change (get_or rows job (fresh_row job))) ne) ∙ is_new)
     ]
+
+pub row_there : (change : JobRow → JobRow) (rows next : List JobRow) (job k : ℕ) → next ≡ with_row change rows job → k ≢ job → slice_get next k ≡ slice_get rows k
+row_there change rows next job k e ne =
+    ap (λ (r : List JobRow). slice_get r k) e ∙ set_there rows job k (change (get_or rows job (fresh_row job))) ne
+
+pub row_here : (change : JobRow → JobRow) (rows next : List JobRow) (job : ℕ) (old : JobRow) → next ≡ with_row change rows job → slice_get rows job ≡ Some old
+    → slice_get next job ≡ Some (change old)
+row_here change rows next job old e is_old =
+    let count : length (with_row change rows job) ≡ length rows = length-set rows job (change (get_or rows job (fresh_row job))) in
+    let lt : job < length (with_row change rows job) = subst (λ (n : ℕ). job < n) (sym count) (slice_get_within rows job old is_old) in
+    let found = is_some_below (with_row change rows job) job lt in
+    ap (λ (r : List JobRow). slice_get r job) e ∙ found.1 ∙ ap Some (sym (changed change rows job old found.0 is_old found.1))
+
+-- a start of a job whose row is the same, and an open launch
+pub takes_there : (table : Table) (rows next : List JobRow) (job : ℕ) (at now : ℤ) → slice_get next job ≡ slice_get rows job → TakesStart table rows job at now
+    → TakesStart table next job at now
+takes_there table rows next job at now same takes = record { row = takes.row; is_row = same ∙ takes.is_row; idle = takes.idle; may = takes.may }
+
+pub open_there : (rows next : List JobRow) (job : ℕ) (now date : ℤ) → slice_get next job ≡ slice_get rows job → IsOpenBy rows job now date → IsOpenBy next job now date
+open_there rows next job now date same known = record {
+  row = known.row;
+  is_row = same ∙ known.is_row;
+  since = known.since;
+  is_open = known.is_open;
+  sooner = known.sooner;
+  at_once = known.at_once;
+}
 
 pub rows_started : (table : Table) (rows : List JobRow) (job : ℕ) (at now : ℤ) (next : List JobRow) → TakesStart table rows job at now
     → Applies table rows (Start job at now) next → next ≡ with_row (opened_row at now) rows job
@@ -64,17 +92,17 @@ both_ways a b le ge = omega (arith, ints)
 pub not_after : (a b : ℤ) → (a <ℤ b → ⊥) → b ≤ℤ a
 not_after a b not = elim (cases_ltℤ a b) [ inl lt ↦ absurd (not lt) | inr le ↦ le ]
 
-pub counted_start : (from at since : ℤ) (ended : ℕ) (cursor : Option ℤ) → from ≤ℤ at → IsAfter cursor at → IsCounted from ended cursor None
-    → IsCounted from ended (Some at) (Some since)
-counted_start from at since ended None inside after known = let none : ended ≡ 0 = known in omega (arith, ints)
-counted_start from at since ended (Some before) inside after known =
+pub counted_start : (at since : ℤ) (ended : ℕ) (cursor : Option ℤ) → pos 0 ≤ℤ at → IsAfter cursor at → IsCounted ended cursor None
+    → IsCounted ended (Some at) (Some since)
+counted_start at since ended None inside after known = let none : ended ≡ 0 = known in omega (arith, ints)
+counted_start at since ended (Some before) inside after known =
     let later : before <ℤ at = after in
-    let few : (from +ℤ pos ended) ≤ℤ (before +ℤ pos 1) = known in
+    let few : pos ended ≤ℤ (before +ℤ pos 1) = known in
     omega (arith, ints)
 
-pub counted_end : (from at since : ℤ) (ended : ℕ) → IsCounted from ended (Some at) (Some since) → IsCounted from (ended + 1) (Some at) None
-counted_end from at since ended known =
-    let few : (from +ℤ pos ended) ≤ℤ at = known in
+pub counted_end : (at since : ℤ) (ended : ℕ) → IsCounted ended (Some at) (Some since) → IsCounted (ended + 1) (Some at) None
+counted_end at since ended known =
+    let few : pos ended ≤ℤ at = known in
     omega (arith, ints)
 
 -- a row of which fewer steps are left leaves fewer to all
@@ -101,12 +129,12 @@ abs_most (pos a) (pos b) nonneg le = omega (arith, ints)
 abs_most (pos a) (negsuc b) nonneg le = absurd (omega (arith, ints))
 abs_most (negsuc a) b nonneg le = absurd (omega (arith, ints))
 
-minutes_fall : (window : Window) (cursor : Option ℤ) (at : ℤ) → IsInWindow window at → IsAfter cursor at → minutes_left window (Some at) < minutes_left window cursor
+minutes_fall : (window : Window) (cursor : Option ℤ) (at : ℤ) → IsInReach window at → IsAfter cursor at → minutes_left window (Some at) < minutes_left window cursor
 minutes_fall window None at inside after =
-    let since : window.from.0 ≤ℤ at = inside.since in
+    let since : pos 0 ≤ℤ at = inside.since in
     let before : at <ℤ window.until.0 = inside.before in
-    let most : unsigned_abs (window.until.0 -ℤ at) ≤ unsigned_abs (window.until.0 -ℤ window.from.0) =
-    abs_most (window.until.0 -ℤ at) (window.until.0 -ℤ window.from.0) (omega (arith, ints)) (omega (arith, ints)) in
+    let most : unsigned_abs (window.until.0 -ℤ at) ≤ unsigned_abs window.until.0 =
+    abs_most (window.until.0 -ℤ at) window.until.0 (omega (arith, ints)) (omega (arith, ints)) in
     omega arith
 minutes_fall window (Some c) at inside after =
     let later : c <ℤ at = after in
@@ -114,7 +142,7 @@ minutes_fall window (Some c) at inside after =
     abs_below (window.until.0 -ℤ at) (window.until.0 -ℤ c) (omega (arith, ints)) (omega (arith, ints))
 
 -- a start leaves fewer steps
-pub steps_start : (window : Window) (row : JobRow) (at now : ℤ) → IsInWindow window at → IsAfter row.cursor at → steps_of window (opened_row at now row) < steps_of window row
+pub steps_start : (window : Window) (row : JobRow) (at now : ℤ) → IsInReach window at → IsAfter row.cursor at → steps_of window (opened_row at now row) < steps_of window row
 steps_start window row at now inside after =
     let fewer : minutes_left window (Some at) < minutes_left window row.cursor = minutes_fall window row.cursor at inside after in
     let one : steps_of window (opened_row at now row) ≡ 2 * minutes_left window (Some at) + 1 = refl in

@@ -2,6 +2,7 @@
 use Rattle.std.specs.Prelude.{ℕ, List, [], ℤ, All, Contains, ◌≡◌}
 use Rattle.paxos_base.specs.declared.entry.Entry.{Entry}
 use Rattle.paxos_base.specs.declared.entry.Entry.TheVariants.{Start}
+use Rattle.due_set.specs.Table.{Table, IsRunByPeriod}
 use Rattle.cluster_sched.specs.Fates.{Holdings}
 use Rattle.cluster_sched.specs.declared.fate.Fate.TheVariants.{Done}
 use Rattle.cluster_sched.specs.declared.row.Name.{Name}
@@ -26,7 +27,8 @@ pub record AnswersAll (ledger : Holdings) : Type 0 where
   pub late : ledger.late ≡ []
   pub faults : ledger.faults ≡ 0
 
--- each launch is started and called in the minute at which it is due, by the one clerk, whose number is 0
-pub record AreInTheirMinutes (log : List Entry) (held : List SchedRow) : Type 0 where
-  pub starts : (job : ℕ) (at now : ℤ) → Contains log (Start job at now) → now ≡ at
-  pub calls : All (λ row. (row.now.0 ≡ row.name.at) × (row.by ≡ 0)) held
+-- Each launch is started and called at one instant, by the one clerk, whose number is 0: that at which it is due, or, where its job
+-- runs by its period, one of its date.
+pub record AreInTheirMinutes (table : Table) (log : List Entry) (held : List SchedRow) : Type 0 where
+  pub starts : (job : ℕ) (at now : ℤ) → (IsRunByPeriod table job → ⊥) → Contains log (Start job at now) → now ≡ at
+  pub calls : All (λ row. Contains log (Start row.name.job row.name.at row.now.0) × (row.by ≡ 0)) held

@@ -3,7 +3,7 @@ ghost use Rattle.launch_machine.specs.Answers.{IsCallKind};
 ghost use Rattle.launch_machine.specs.Clerk.{Applies, TakesStart};
 ghost use Rattle.launch_machine.specs.Intent.{MayCall};
 ghost use Rattle.launch_machine.specs.Machine.{CanCount, StandsFor};
-ghost use Rattle.launch_machine.specs.Next.{IsLeastNext, NoNext};
+ghost use Rattle.launch_machine.specs.Next.{IsNextStart, StartsNoMore};
 ghost use Rattle.launch_clerk.specs.Walk.{IsAtWork, IsResting, steps_left};
 
 use crate::book::LaunchBook;
@@ -32,11 +32,11 @@ impl Clerk {
         Ok(Clerk { machine, book })
     }
 
-    /// Goes from one minute at which a job is due to the next, until no job is due any more.
+    /// Goes from one minute at which a launch can be started to the next, until none can be any more.
     pub fn walk(&mut self, table: &JobTable) -> Result<(), OutOfMemory>
         requires { IsResting table.now self.old.book.log self.old.machine self.old.book.held }
         ensures rests { OnOk result (IsResting table.now self.new.book.log self.new.machine self.new.book.held) }
-        ensures done { OnOk result (NoNext table.now self.new.machine.rows) }
+        ensures done { OnOk result (StartsNoMore table.now self.new.machine.rows) }
     {
         while let Some(now) = self.machine.next_start() {
             self.settle(table, now)?;
@@ -44,10 +44,10 @@ impl Clerk {
         Ok(())
     }
 
-    // Does all that is to be done at the minute at which a job is due next.
+    // Does all that is to be done at the next minute at which a launch can be started.
     fn settle(&mut self, table: &JobTable, now: Minute) -> Result<(), OutOfMemory>
         requires rests { IsResting table.now self.old.book.log self.old.machine self.old.book.held }
-        requires next { IsLeastNext table.now self.old.machine.rows now.0 }
+        requires next { IsNextStart table.now self.old.machine.rows now.0 }
         ensures rests { OnOk result (IsResting table.now self.new.book.log self.new.machine self.new.book.held) }
         // What is left to do grows less.
         ensures falls { OnOk result (steps_left table.now.window self.new.machine.rows

@@ -1,10 +1,9 @@
 ghost use Rattle.std.specs.Prelude.{◌≡◌, ◌≤◌, IfOk};
-ghost use Rattle.due_set.specs.Table.{IsAnacron};
 
 use crate::run_clerk;
 use cluster_sched::{Name, SchedRow};
 use cron_fields::{FieldKind, FieldSet, Fields, HashSeed, read_field};
-use due_set::{JobKind, JobSpec, JobTable};
+use due_set::{JobKind, JobSpec, JobTable, Period};
 use paxos_base::{Entry, Kind};
 use std::alloc::Global;
 use std::test::Fail;
@@ -45,7 +44,6 @@ fn fields_of(minutes: &str) -> Option<Fields> {
 fn crontab_job(alloc: Global, name: &str, minutes: &str) -> Result<JobSpec, Fail>
     ensures name { IfOk result (λ job. job.name ≡ name.now) }
     ensures zone { IfOk result (λ job. job.zone ≡ 0) }
-    ensures plain { IfOk result (λ job. IsAnacron job.kind → ⊥) }
 {
     let fields = fields_of(minutes).ok_or("no fields")?;
     Ok(JobSpec::new(alloc, name, 0, JobKind::Crontab { fields })?)
@@ -74,6 +72,83 @@ fn idle_job(alloc: Global) -> Result<JobTable, Fail> {
     jobs.push(JobSpec::new(alloc, "alice:1", 0, JobKind::Never)?)?;
     jobs.push(crontab_job(alloc, "bob:2", "30")?)?;
     Ok(JobTable::in_utc(alloc, HOUR, 0, jobs)?)
+}
+
+const DAY: i64 = 1440;
+
+// The date of the window's first instant.
+const FIRST_DATE: i64 = FROM / DAY;
+
+// Three days: the last of a month, and two more.
+const DAYS: Window = Window {
+    from: Minute(FROM),
+    until: Minute(FROM + 3 * DAY),
+};
+
+// A job that runs once in a period, from one minute of the day on and before another.
+fn anacron_job(
+    alloc: Global,
+    name: &str,
+    period: Period,
+    hours: (u16, u16),
+) -> Result<JobSpec, Fail>
+    ensures name { IfOk result (λ job. job.name ≡ name.now) }
+    ensures zone { IfOk result (λ job. job.zone ≡ 0) }
+{
+    let kind = JobKind::Anacron {
+        period,
+        first_minute: hours.0,
+        last_minute: hours.1,
+    };
+    Ok(JobSpec::new(alloc, name, 0, kind)?)
+}
+
+// A table of three days with a job that runs once in a period.
+fn one_anacron(alloc: Global, period: Period, hours: (u16, u16)) -> Result<JobTable, Fail> {
+    let mut jobs = Vec::new(alloc);
+    jobs.push(anacron_job(alloc, "alice:1", period, hours)?)?;
+    Ok(JobTable::in_utc(alloc, DAYS, 0, jobs)?)
+}
+
+// A table of an hour with a job that runs once a day, and a job at some minutes.
+fn two_kinds(alloc: Global, minutes: &str) -> Result<JobTable, Fail> {
+    let mut jobs = Vec::new(alloc);
+    jobs.push(anacron_job(alloc, "alice:1", Period::Days(1), (20, 40))?)?;
+    jobs.push(crontab_job(alloc, "bob:2", minutes)?)?;
+    Ok(JobTable::in_utc(alloc, HOUR, 0, jobs)?)
+}
+
+// A start on a day of the window, at a minute of that day.
+fn start_on(day: u8, minute: u16) -> Entry {
+    let day = i64::from(day);
+    Entry::Start {
+        job: 0,
+        at: FIRST_DATE + day,
+        now: FROM + day * DAY + i64::from(minute),
+    }
+}
+
+// The end of the launch of a day.
+fn end_on(day: u8) -> Entry {
+    Entry::End {
+        job: 0,
+        at: FIRST_DATE + i64::from(day),
+        kind: Kind::Launch,
+    }
+}
+
+// The row of the launch of a day that was called at a minute of that day.
+fn launch_on(day: u8, minute: u16) -> SchedRow {
+    let day = i64::from(day);
+    SchedRow {
+        name: Name {
+            job: 0,
+            at: FIRST_DATE + day,
+        },
+        kind: Kind::Launch,
+        now: Minute(FROM + day * DAY + i64::from(minute)),
+        by: 0,
+    }
 }
 
 // A start at its minute of the hour.
@@ -186,5 +261,76 @@ fn a_table_without_jobs(rt: HostRuntime) -> Result<(), Fail> {
     let book = run_clerk(rt.alloc(), &table)?;
     assert!(rt; book.log().is_empty());
     assert!(rt; book.held().is_empty());
+    Ok(())
+}
+
+#[test]
+fn a_daily_job_at_its_first_minute_of_each_day(rt: HostRuntime) -> Result<(), Fail> {
+    let table = one_anacron(rt.alloc(), Period::Days(1), (360, 1320))?;
+    let book = run_clerk(rt.alloc(), &table)?;
+    assert_eq!(rt;
+        book.log(),
+        [
+            start_on(0, 360),
+            end_on(0),
+            start_on(1, 360),
+            end_on(1),
+            start_on(2, 360),
+            end_on(2),
+        ]
+        .as_slice()
+    );
+    assert_eq!(rt;
+        book.held(),
+        [launch_on(0, 360), launch_on(1, 360), launch_on(2, 360)].as_slice()
+    );
+    Ok(())
+}
+
+#[test]
+fn a_job_of_two_days_on_each_second_day(rt: HostRuntime) -> Result<(), Fail> {
+    let table = one_anacron(rt.alloc(), Period::Days(2), (0, 1440))?;
+    let book = run_clerk(rt.alloc(), &table)?;
+    assert_eq!(rt; book.held(), [launch_on(0, 0), launch_on(2, 0)].as_slice());
+    Ok(())
+}
+
+#[test]
+fn a_monthly_job_once_a_month(rt: HostRuntime) -> Result<(), Fail> {
+    let table = one_anacron(rt.alloc(), Period::Monthly, (180, 240))?;
+    let book = run_clerk(rt.alloc(), &table)?;
+    assert_eq!(rt;
+        book.held(),
+        [launch_on(0, 180), launch_on(1, 180)].as_slice()
+    );
+    Ok(())
+}
+
+#[test]
+fn hours_in_which_nothing_opens(rt: HostRuntime) -> Result<(), Fail> {
+    let table = one_anacron(rt.alloc(), Period::Days(1), (600, 600))?;
+    let book = run_clerk(rt.alloc(), &table)?;
+    assert!(rt; book.log().is_empty());
+    assert!(rt; book.held().is_empty());
+    Ok(())
+}
+
+#[test]
+fn a_daily_job_beside_one_of_a_crontab(rt: HostRuntime) -> Result<(), Fail> {
+    let book = run_clerk(rt.alloc(), &two_kinds(rt.alloc(), "10,20,30")?)?;
+    assert_eq!(rt;
+        book.log(),
+        [
+            start(1, 10),
+            end(1, 10),
+            start_on(0, 20),
+            end_on(0),
+            start(1, 20),
+            end(1, 20),
+            start(1, 30),
+            end(1, 30),
+        ]
+        .as_slice()
+    );
     Ok(())
 }
