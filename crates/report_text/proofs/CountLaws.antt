@@ -5,13 +5,13 @@ use Rattle.std.proofs.lemmas.List.{length-map}
 use Rattle.std.proofs.lemmas.List.Elements.{All-head, All-tail, All-weaker}
 use Rattle.std.proofs.lemmas.List.Sorted.{sum_by-IsPermutation}
 use Rattle.std.proofs.lemmas.List.Sums.{length-filter, sum_by-cons}
-use Rattle.due_set.specs.Table.{Table, IsJobDue, IsJobDueList}
+use Rattle.due_set.specs.Table.{Table, IsJobDueList, IsRunByPeriod}
 use Rattle.due_set.proofs.TableLemmas.{IsJobDueList-same}
 use Rattle.paxos_base.specs.declared.entry.Kind.{Kind}
 use Rattle.paxos_base.specs.declared.entry.Kind.TheVariants.{Launch, Void}
 use Rattle.cluster_sched.specs.Held.{AreNamedOnce}
 use Rattle.cluster_sched.specs.declared.row.SchedRow.{SchedRow}
-use Rattle.launch_law.specs.Launched.{LaunchesEachDue}
+use Rattle.launch_law.specs.Launched.{IsWanted, LaunchesEachDue}
 use Rattle.report_text.specs.Listing.{instants_of, rows_of}
 use Rattle.report_text.specs.Report.{IsInOrder, count_of, is_same_kind}
 use Rattle.report_text.proofs.ListingLemmas.{each_due_listed}
@@ -63,14 +63,14 @@ none_voided (row ∷ rows) job all =
 
 all_launches : (table : Table) (held : List SchedRow) → LaunchesEachDue table held → AreLaunches held
 all_launches table held launches =
-    All-weaker (λ (row : SchedRow). IsJobDue table row.name.job row.name.at × (row.kind ≡ Launch)) (λ row. row.kind ≡ Launch) (λ row both. both.1) held launches.no_other
+    All-weaker (λ (row : SchedRow). IsWanted table held row × (row.kind ≡ Launch)) (λ row. row.kind ≡ Launch) (λ row both. both.1) held launches.no_other
 
 pub launches_counted : (table : Table) (held : List SchedRow) (job : ℕ) (dues : List ℤ) → AreNamedOnce held → LaunchesEachDue table held
-    → IsJobDueList table job dues → count_of held job Launch ≡ length dues
-launches_counted table held job dues once launches list =
+    → (IsRunByPeriod table job → ⊥) → IsJobDueList table job dues → count_of held job Launch ≡ length dues
+launches_counted table held job dues once launches other list =
     let order = some_order held in
     let rows = order.0 in
-    let listed : IsJobDueList table job (instants_of rows job) = each_due_listed table held rows job once launches order.1 in
+    let listed : IsJobDueList table job (instants_of rows job) = each_due_listed table held rows job once launches order.1 other in
     let at_of : SchedRow → ℤ = λ row. row.name.at in
     all_counted held job (all_launches table held launches)
     ∙ sym (sum_by-IsPermutation (one_if (is_of job)) held rows order.1.same)

@@ -1,5 +1,5 @@
 -- The rows of a job in a report's order are its due instants in order.
-use Rattle.std.proofs.Common.{◌≡◌, ◌≢◌, inl, inr, ℕ, suc, ◌<◌, Bool, true, false, cond, ◌==◌, List, [], ◌∷◌, get_or, map, sym, ap, ◌∙◌, subst, arith, ℤ, ◌<ℤ◌}
+use Rattle.std.proofs.Common.{◌≡◌, ◌≢◌, ◌↔◌, inl, inr, ℕ, suc, Bool, true, false, cond, ◌==◌, List, [], ◌∷◌, get_or, map, sym, ap, ◌∙◌, subst, arith, ℤ, ◌<ℤ◌}
 use Rattle.std.specs.Prelude.{All, AllPairs, Contains, filter, ◌≤ℤ◌}
 use Rattle.std.proofs.lemmas.Bool.{eqb-true, eq-eqb}
 use Rattle.std.proofs.lemmas.Int.{ints}
@@ -7,12 +7,14 @@ use Rattle.std.proofs.lemmas.List.Elements.{All-contains, All-contains_itself, A
 use Rattle.std.proofs.lemmas.List.Kept.{AllPairs-filter}
 use Rattle.std.proofs.lemmas.List.Sorted.{IsPermutation-sym, Contains-permutation}
 use Rattle.due_set.specs.Due.{IsRising}
-use Rattle.due_set.specs.Table.{Table, IsJobDue, IsJobDueList}
+use Rattle.due_set.specs.Table.{Table, IsJobDue, IsJobDueList, IsRunByPeriod}
 use Rattle.due_set.proofs.Rising.{Contains-head, Contains-tail, Contains-cases, Contains-none}
 use Rattle.paxos_base.specs.declared.entry.Kind.TheVariants.{Launch}
 use Rattle.cluster_sched.specs.Held.{AreNamedOnce}
 use Rattle.cluster_sched.specs.declared.row.SchedRow.{SchedRow}
-use Rattle.launch_law.specs.Launched.{LaunchesEachDue}
+use Rattle.launch_machine.proofs.MachineLemmas.{due_by_instant}
+use Rattle.launch_law.specs.Launched.{IsWanted, LaunchesEachDue, OpensBy}
+use Rattle.launch_law.proofs.FitLemmas.{launched_due}
 use Rattle.report_text.specs.Report.{IsInOrder, IsNotAfter}
 use Rattle.report_text.specs.Listing.{instants_of}
 use Rattle.report_text.proofs.OneOrder.{AreNamedOnce-permutation, same_name}
@@ -93,28 +95,79 @@ Contains-filter p (first ∷ xs) x passes h = elim (Contains-cases first xs x h)
 Contains-from_filter : {X : Type 0} (p : X → Bool) (xs : List X) (x : X) → Contains (filter p xs) x → Contains xs x
 Contains-from_filter p xs x h = All-contains (Contains xs) (filter p xs) x (All-filter p (Contains xs) xs (All-contains_itself xs)) h
 
-listed_is_due : (table : Table) (held rows : List SchedRow) (job : ℕ) → LaunchesEachDue table held → IsInOrder held rows
+-- a row that is held, of an instant or a date that is listed
+record IsListedRow (held : List SchedRow) (job : ℕ) (at : ℤ) : Type 0 where
+  row : SchedRow
+  among : Contains held row
+  of_job : row.name.job ≡ job
+  is_at : row.name.at ≡ at
+
+listed_row : (held rows : List SchedRow) (job : ℕ) (at : ℤ) → IsInOrder held rows → Contains (instants_of rows job) at → IsListedRow held job at
+listed_row held rows job at x h =
+    let made = mapped at_of (filter (is_of job) rows) at h in
+    record {
+      row = made.origin;
+      among = Contains-permutation rows held made.origin (IsPermutation-sym held rows x.same) (Contains-from_filter (is_of job) rows made.origin made.among);
+      of_job = eqb-true _ _ (All-contains (λ row. is_of job row ≡ true) (filter (is_of job) rows) made.origin (filter_passes (is_of job) rows) made.among);
+      is_at = made.is;
+    }
+
+-- and the other way
+row_listed : (held rows : List SchedRow) (job : ℕ) (at : ℤ) (row : SchedRow) → IsInOrder held rows → Contains held row → row.name.job ≡ job → row.name.at ≡ at
+    → Contains (instants_of rows job) at
+row_listed held rows job at row x among of_job is_at =
+    let among_rows : Contains rows row = Contains-permutation held rows row x.same among in
+    subst (λ t. Contains (instants_of rows job) t) is_at
+    (Contains-map at_of (filter (is_of job) rows) row (Contains-filter (is_of job) rows row (eq-eqb _ _ of_job) among_rows))
+
+listed_is_due : (table : Table) (held rows : List SchedRow) (job : ℕ) → (IsRunByPeriod table job → ⊥) → LaunchesEachDue table held → IsInOrder held rows
     → (instant : ℤ) → Contains (instants_of rows job) instant → IsJobDue table job instant
-listed_is_due table held rows job launches x instant h =
-    let made = mapped at_of (filter (is_of job) rows) instant h in
-    let of_job : made.origin.name.job ≡ job = eqb-true _ _ (All-contains (λ row. is_of job row ≡ true) (filter (is_of job) rows) made.origin (filter_passes (is_of job) rows) made.among) in
-    let among : Contains held made.origin = Contains-permutation rows held made.origin (IsPermutation-sym held rows x.same) (Contains-from_filter (is_of job) rows made.origin made.among) in
-    let due : IsJobDue table made.origin.name.job made.origin.name.at × (made.origin.kind ≡ Launch) =
-    All-contains (λ (row : SchedRow). IsJobDue table row.name.job row.name.at × (row.kind ≡ Launch)) held made.origin launches.no_other among in
-    subst (λ at. IsJobDue table job at) made.is (subst (λ k. IsJobDue table k made.origin.name.at) of_job due.0)
+listed_is_due table held rows job other launches x instant h =
+    let listed = listed_row held rows job instant x h in
+    let due : IsJobDue table listed.row.name.job listed.row.name.at =
+    launched_due table held listed.row launches listed.among (λ by. other (subst (IsRunByPeriod table) listed.of_job by)) in
+    subst (λ at. IsJobDue table job at) listed.is_at (subst (λ k. IsJobDue table k listed.row.name.at) listed.of_job due)
 
 due_is_listed : (table : Table) (held rows : List SchedRow) (job : ℕ) → LaunchesEachDue table held → IsInOrder held rows
     → (instant : ℤ) → IsJobDue table job instant → Contains (instants_of rows job) instant
 due_is_listed table held rows job launches x instant due =
     let h = launches.each job instant due in
-    let among : Contains rows h.row = Contains-permutation held rows h.row x.same h.among in
-    subst (λ at. Contains (instants_of rows job) at) h.due_at
-    (Contains-map at_of (filter (is_of job) rows) h.row (Contains-filter (is_of job) rows h.row (eq-eqb _ _ h.of_job) among))
+    row_listed held rows job instant h.row x h.among h.of_job h.due_at
+
+-- the rows of a job rise
+pub listed_rise : (held rows : List SchedRow) (job : ℕ) → AreNamedOnce held → IsInOrder held rows → IsRising (instants_of rows job)
+listed_rise held rows job once x =
+    rising job (filter (is_of job) rows) (filter_passes (is_of job) rows) (AllPairs-filter IsBefore (is_of job) rows (all_before held rows once x))
 
 pub each_due_listed : (table : Table) (held rows : List SchedRow) (job : ℕ) → AreNamedOnce held → LaunchesEachDue table held → IsInOrder held rows
-    → IsJobDueList table job (instants_of rows job)
-each_due_listed table held rows job once launches x = record {
-  rising = rising job (filter (is_of job) rows) (filter_passes (is_of job) rows) (AllPairs-filter IsBefore (is_of job) rows (all_before held rows once x));
-  sound = listed_is_due table held rows job launches x;
+    → (IsRunByPeriod table job → ⊥) → IsJobDueList table job (instants_of rows job)
+each_due_listed table held rows job once launches x other = record {
+  rising = listed_rise held rows job once x;
+  sound = listed_is_due table held rows job other launches x;
   complete = due_is_listed table held rows job launches x;
 }
+
+listed_opens : (table : Table) (held rows : List SchedRow) (job : ℕ) (date : ℤ) → LaunchesEachDue table held → IsInOrder held rows → IsRunByPeriod table job
+    → Contains (instants_of rows job) date → (now : ℤ) × OpensBy table held job now date
+listed_opens table held rows job date launches x by h =
+    let listed = listed_row held rows job date x h in
+    elim (All-contains (λ (row : SchedRow). IsWanted table held row × (row.kind ≡ Launch)) held listed.row launches.no_other listed.among).0 [
+      | inl due ↦ absurd (due_by_instant table job listed.row.name.at (subst (λ k. IsJobDue table k listed.row.name.at) listed.of_job due) by)
+      | inr opens ↦ (
+        listed.row.now.0,
+        subst (λ at. OpensBy table held job listed.row.now.0 at) listed.is_at
+            (subst (λ k. OpensBy table held k listed.row.now.0 listed.row.name.at) listed.of_job opens),
+      )
+    ]
+
+opens_listed : (table : Table) (held rows : List SchedRow) (job : ℕ) (now date : ℤ) → LaunchesEachDue table held → IsInOrder held rows
+    → OpensBy table held job now date → Contains (instants_of rows job) date
+opens_listed table held rows job now date launches x opens =
+    let h = launches.each_date job now date opens in
+    row_listed held rows job date h.row x h.among h.of_job h.due_at
+
+-- the dates that are listed are those on which the job may open
+pub each_date_listed : (table : Table) (held rows : List SchedRow) (job : ℕ) (date : ℤ) → LaunchesEachDue table held → IsInOrder held rows → IsRunByPeriod table job
+    → (Contains (instants_of rows job) date ↔ ((now : ℤ) × OpensBy table held job now date))
+each_date_listed table held rows job date launches x by =
+    (listed_opens table held rows job date launches x by, λ (now, opens). opens_listed table held rows job now date launches x opens)

@@ -1,9 +1,10 @@
 //! Laws of a report. Each is the contract of a function that does nothing.
-ghost use Rattle.std.specs.Prelude.{◌≡◌, ℕ, ℤ, List, length};
-ghost use Rattle.due_set.specs.Table.{Table, IsJobDueList};
+ghost use Rattle.std.specs.Prelude.{◌≡◌, ◌↔◌, ℕ, ℤ, List, Contains, length};
+ghost use Rattle.due_set.specs.Due.{IsRising};
+ghost use Rattle.due_set.specs.Table.{Table, IsJobDueList, IsRunByPeriod};
 ghost use Rattle.cluster_sched.specs.Held.{AreNamedOnce};
 ghost use Rattle.cluster_sched.specs.declared.row.SchedRow.{SchedRow};
-ghost use Rattle.launch_law.specs.Launched.{LaunchesEachDue};
+ghost use Rattle.launch_law.specs.Launched.{LaunchesEachDue, OpensBy};
 ghost use Rattle.paxos_base.specs.declared.entry.Kind.{Kind};
 ghost use Rattle.paxos_base.specs.declared.entry.Kind.TheVariants.{Launch, Void};
 ghost use Rattle.report_text.specs.Listing.{instants_of, rows_of};
@@ -15,19 +16,28 @@ pub fn a_report_says_one_text()
         → IsReport table members held a → IsReport table members held b → AreNamedOnce held → a ≡ b }
 {}
 
-/// The launch lines of a report, of each job: where each due instant is launched once and nothing else is held, the rows of a
-/// job in the report's order are its due instants in order.
+/// The launch lines of a report, of each job that doesn't run by its period: where each due instant is launched once and
+/// nothing else is held, the rows of a job in the report's order are its due instants in order.
 pub fn a_report_lists_each_due_instant()
     ensures { (table : Table) (held rows : List SchedRow) (job : ℕ) → AreNamedOnce held → LaunchesEachDue table held → IsInOrder held rows
-        → IsJobDueList table job (instants_of rows job) }
+        → (IsRunByPeriod table job → ⊥) → IsJobDueList table job (instants_of rows job) }
+{}
+
+/// The launch lines of a report, of each job that runs by its period: the rows of a job in the report's order rise, and are
+/// of the dates on which it may open at some instant, by the launches that were called before.
+pub fn a_report_lists_each_date()
+    ensures rise { (held rows : List SchedRow) (job : ℕ) → AreNamedOnce held → IsInOrder held rows → IsRising (instants_of rows job) }
+    ensures dates { (table : Table) (held rows : List SchedRow) (job : ℕ) (date : ℤ) → LaunchesEachDue table held → IsInOrder held rows
+        → IsRunByPeriod table job
+        → (Contains (instants_of rows job) date ↔ ((now : ℤ) × OpensBy table held job now date)) }
 {}
 
 /// The counts of a job: each is how many rows of its kind the report lists of the job. Where each due instant is launched once
-/// and nothing else is held, there are as many launches as due instants, and no void.
+/// and nothing else is held, there are as many launches as due instants, of a job that doesn't run by its period, and no void.
 pub fn a_report_counts_what_it_lists()
     ensures listed { (held rows : List SchedRow) (job : ℕ) (kind : Kind) → IsInOrder held rows
         → count_of held job kind ≡ length (rows_of rows job kind) }
     ensures launched { (table : Table) (held : List SchedRow) (job : ℕ) (dues : List ℤ) → AreNamedOnce held → LaunchesEachDue table held
-        → IsJobDueList table job dues → count_of held job Launch ≡ length dues }
+        → (IsRunByPeriod table job → ⊥) → IsJobDueList table job dues → count_of held job Launch ≡ length dues }
     ensures void { (table : Table) (held : List SchedRow) (job : ℕ) → LaunchesEachDue table held → count_of held job Void ≡ 0 }
 {}

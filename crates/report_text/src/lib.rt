@@ -10,7 +10,8 @@ mod write;
 
 pub use fault::ReportFault;
 pub use laws::{
-    a_report_counts_what_it_lists, a_report_lists_each_due_instant, a_report_says_one_text,
+    a_report_counts_what_it_lists, a_report_lists_each_date, a_report_lists_each_due_instant,
+    a_report_says_one_text,
 };
 pub use report::write_report;
 

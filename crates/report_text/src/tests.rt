@@ -1,13 +1,13 @@
-ghost use Rattle.std.specs.Prelude.{◌↔◌, All, IsTrue};
+ghost use Rattle.std.specs.Prelude.{All, IsTrue};
 ghost use Rattle.cluster_sched.specs.Names.{IsNameIn};
 
 use crate::{
-    ReportFault, a_report_counts_what_it_lists, a_report_lists_each_due_instant,
-    a_report_says_one_text, write_report,
+    ReportFault, a_report_counts_what_it_lists, a_report_lists_each_date,
+    a_report_lists_each_due_instant, a_report_says_one_text, write_report,
 };
-use cluster_sched::{Name, SchedRow};
+use cluster_sched::{Name, SchedRow, is_name_in};
 use cron_io::MemSink;
-use due_set::{JobKind, JobSpec, JobTable};
+use due_set::{JobKind, JobSpec, JobTable, Period};
 use paxos_base::Kind;
 use std::alloc::Global;
 use std::test::Fail;
@@ -53,6 +53,17 @@ launch bob:2@20240331T0030Z
 end
 ";
 
+const DATES_REPORT: &str = "cron report 1
+window 2024-03-31T00:00Z 2024-03-31T01:00Z
+replicas 1
+jobs 2
+job alice:1 launched 0 void 0
+job backup launched 1 void 1
+void backup@2024-03-30
+launch backup@2024-03-31
+end
+";
+
 // A table of an hour and of the first so many of two jobs that never run.
 fn table_of(alloc: Global, count: u8) -> Result<JobTable, Fail> {
     let window = Window {
@@ -70,6 +81,23 @@ fn table_of(alloc: Global, count: u8) -> Result<JobTable, Fail> {
     Ok(table)
 }
 
+// A table of the same hour with a job that never runs, and one that runs once a day.
+fn table_of_dates(alloc: Global) -> Result<JobTable, Fail> {
+    let window = Window {
+        from: Minute(FROM),
+        until: Minute(FROM + 60),
+    };
+    let kind = JobKind::Anacron {
+        period: Period::Days(1),
+        first_minute: 0,
+        last_minute: 1440,
+    };
+    let mut jobs = Vec::new(alloc);
+    jobs.push(JobSpec::new(alloc, "alice:1", 0, JobKind::Never)?)?;
+    jobs.push(JobSpec::new(alloc, "backup", 0, kind)?)?;
+    Ok(JobTable::in_utc(alloc, window, 0, jobs)?)
+}
+
 // A row of the job, at a minute of the hour.
 fn row_of(job: u32, minute: u8, kind: Kind) -> SchedRow {
     let at = FROM + i64::from(minute);
@@ -81,11 +109,17 @@ fn row_of(job: u32, minute: u8, kind: Kind) -> SchedRow {
     }
 }
 
-fn is_name_in(table: &JobTable, name: Name) -> bool
-    ensures { IsTrue result ↔ IsNameIn table.now name }
-{
-    let window = table.window();
-    name.job < table.jobs() && window.from.0 <= name.at && name.at < window.until.0
+// A row of the second job, of a date so many days before that of the window's first instant.
+fn row_before(days: u8, kind: Kind) -> SchedRow {
+    SchedRow {
+        name: Name {
+            job: 1,
+            at: FROM / 1440 - i64::from(days),
+        },
+        kind,
+        now: Minute(FROM),
+        by: 0,
+    }
 }
 
 fn are_names_in(table: &JobTable, rows: &[SchedRow]) -> bool
@@ -142,6 +176,21 @@ fn reports_have_their_texts(rt: HostRuntime) -> Result<(), Fail> {
     Ok(())
 }
 
+#[test]
+fn dates_are_listed_in_order(rt: HostRuntime) -> Result<(), Fail> {
+    let alloc = rt.alloc();
+    let rows = [row_before(0, Kind::Launch), row_before(1, Kind::Void)];
+    let table = table_of_dates(alloc)?;
+    if !are_names_in(&table, &rows) {
+        return Err("a row of another table".into());
+    }
+    let mut sink = MemSink::new(alloc, 1 << 10, Vec::new(alloc))?;
+    let result = write_report(alloc, &mut sink, &table, 1, &rows);
+    assert_eq!(rt; result, Ok(()));
+    assert_eq!(rt; sink.bytes(), DATES_REPORT.as_bytes());
+    Ok(())
+}
+
 // Each line is one write, so the fifth is the last.
 #[test]
 fn a_write_fault_is_told(rt: HostRuntime) -> Result<(), Fail> {
@@ -156,6 +205,7 @@ fn a_write_fault_is_told(rt: HostRuntime) -> Result<(), Fail> {
 #[test]
 fn laws_hold(_rt: HostRuntime) {
     a_report_says_one_text();
+    a_report_lists_each_date();
     a_report_lists_each_due_instant();
     a_report_counts_what_it_lists();
 }
