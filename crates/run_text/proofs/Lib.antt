@@ -1,5 +1,7 @@
+pub mod AnacrontabLemmas
+pub mod CountLemmas
+mod CutLemmas
 mod ListLemmas
-mod NumberLemmas
 mod PhraseLemmas
 mod PartLemmas
 mod SectionLemmas

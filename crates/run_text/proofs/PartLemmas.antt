@@ -4,10 +4,10 @@ use Rattle.std.proofs.lemmas.List.{append-nil, map-append, length-map}
 use Rattle.std.specs.List.{AllByRecursion}
 use Rattle.std.proofs.lemmas.List.Elements.{All-push}
 use Rattle.crontab_text.specs.Lines.{lines_of}
-use Rattle.run_text.specs.Follow.{Sections, Script, RefusesBeforeScript}
+use Rattle.run_text.specs.Follow.{Sections, Script, IsOfLine, RefusesBeforeScript}
 use Rattle.run_text.specs.Reading.{ArePartsOf, HasDigits}
 use Rattle.run_text.specs.Run.{NamedZone, Run, Section, section_of, zone_of, source_of, with_zone, with_parts}
-use Rattle.run_text.specs.Steps.{place_of, LeadsTo, RefusedFrom, HasRoom, HasNames, texts_of, names_with, with_part, IsPartOf, PassesPart, AddsPart, fault_of}
+use Rattle.run_text.specs.Steps.{place_of, LeadsTo, RefusedFrom, HasRoom, HasNames, texts_of, names_with, with_part, IsPartOf, PassesPart, AddsPart}
 use Rattle.run_text.specs.Zones.{names_of, AddsZone, IsFreeName}
 use Rattle.run_text.specs.declared.part.Part.{Part}
 use Rattle.run_text.specs.declared.part.Part.TheVariants.{Zone as ZonePart, Section as SectionPart}
@@ -116,10 +116,10 @@ zone_passes old new before after line zone number lines adds zone_line names = r
 }
 
 pub part_refused : (old new : Reader) (before : List (Bor (List ℕ))) (line : List ℕ) (refusal : Refusal) → new.number ≡ old.number + 1 → lines_of old.rest.now ≡ line ∷ lines_of new.rest.now
-    → refusal.line ≡ new.number → RefusesBeforeScript (length (lines_of new.rest.now)) (texts_of before) line (fault_of refusal)
+    → IsOfLine new.number refusal → RefusesBeforeScript (length (lines_of new.rest.now)) (texts_of before) line refusal.cause
     → (run : Run) → HasNames before run.zones → RefusedFrom (place_of old (Sections run)) refusal
 part_refused old new before line refusal number lines line_is refuses run is =
-    wrong_line (old.number + 1) (Sections run) old.rest.now line new.rest.now (fault_of refusal) refusal lines (rw is refuses) (line_is ∙ number) refl refl
+    wrong_line (old.number + 1) (Sections run) old.rest.now line new.rest.now refusal lines (rw is refuses, (line_is.0 ∙ number, line_is.1))
 
 -- the name is none of these
 abbrev pub New : List ℕ → List (Bor (List ℕ)) → Type 0

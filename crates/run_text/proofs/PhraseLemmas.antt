@@ -1,5 +1,5 @@
 -- The lines of a run file that hold a phrase.
-use Rattle.std.proofs.Common.{◌≡◌, ◌≢◌, ℕ, ◌<◌, ◌≤◌, inl, inr, List, [], ◌∷◌, ◌++◌, length, get_or, Some, None, Bor, refl, ap, ◌∙◌, sym, subst, arith, rules, codes, decimal}
+use Rattle.std.proofs.Common.{◌≡◌, ◌≢◌, ℕ, ◌<◌, ◌≤◌, List, [], ◌∷◌, ◌++◌, length, get_or, Some, None, Bor, refl, ap, ◌∙◌, sym, subst, arith, rules, codes, decimal}
 use Rattle.std.specs.List.{AllByRecursion}
 use Rattle.std.specs.Str.Pattern.{FindsTextPrefix, StripsPrefix}
 use Rattle.std.proofs.lemmas.Str.Pattern.{IsSplitOnceResult, split_parts}
@@ -7,7 +7,7 @@ use Rattle.std.proofs.lemmas.List.{append_cancel_left}
 use Rattle.std.proofs.lemmas.Fmt.{decimal_injective}
 use Rattle.run_text.specs.Grammar.{IsLabelStart, IsLabelByte, IsLabel, IsZoneByte, IsZoneName, replicas_line, IsGraceLine, section_word, IsSectionLine, HasSectionWord}
 use Rattle.run_text.specs.declared.run.SectionKind.{SectionKind}
-use Rattle.run_text.specs.declared.run.SectionKind.TheVariants.{User, System}
+use Rattle.run_text.specs.declared.run.SectionKind.TheVariants.{User, System, Anacron}
 use Rattle.run_text.proofs.ListLemmas.{Lacks, Lacks-from_get_or, same_cut, lacks_none}
 
 -- what `strip_prefix` leaves
@@ -66,6 +66,7 @@ zone_no_space zone is = zone_bytes_no_space zone is.2
 word_no_space : (kind : SectionKind) → Lacks 32 (section_word kind)
 word_no_space User = search rules
 word_no_space System = search rules
+word_no_space Anacron = search rules
 
 module _ (line : List ℕ) (kind : SectionKind) (label zone : List ℕ) (count : ℕ) (is : IsSectionLine line kind label zone count) where
   -- what is behind the word
@@ -111,9 +112,14 @@ pub record SameOpening (k l : SectionKind) (a b x y : List ℕ) (m n : ℕ) : Ty
 
 same_kind : (k l : SectionKind) → section_word k ≡ section_word l → k ≡ l
 same_kind User User is = refl
-same_kind User System is = absurd (omega (arith, ap length is))
-same_kind System User is = absurd (omega (arith, ap length is))
 same_kind System System is = refl
+same_kind Anacron Anacron is = refl
+same_kind User System is = absurd (omega (arith, ap length is))
+same_kind User Anacron is = absurd (omega (arith, ap length is))
+same_kind System User is = absurd (omega (arith, ap length is))
+same_kind System Anacron is = absurd (omega (arith, ap length is))
+same_kind Anacron User is = absurd (omega (arith, ap length is))
+same_kind Anacron System is = absurd (omega (arith, ap length is))
 
 pub one_opening : (line : List ℕ) (k l : SectionKind) (a b x y : List ℕ) (m n : ℕ) → IsSectionLine line k a x m → IsSectionLine line l b y n → SameOpening k l a b x y m n
 one_opening line k l a b x y m n first second =
@@ -130,5 +136,6 @@ one_opening line k l a b x y m n first second =
 
 -- the first word of a line that opens a section
 pub opening_word : (line : List ℕ) (kind : SectionKind) (label zone : List ℕ) (count : ℕ) → IsSectionLine line kind label zone count → HasSectionWord line
-opening_word line User label zone count is = inl (rw is.is refl)
-opening_word line System label zone count is = inr (rw is.is refl)
+opening_word line User label zone count is = (User, rw is.is refl)
+opening_word line System label zone count is = (System, rw is.is refl)
+opening_word line Anacron label zone count is = (Anacron, rw is.is refl)

@@ -1,7 +1,7 @@
 -- A section, from the line that opens it to its last.
-use Rattle.std.proofs.Common.{◌≡◌, ℕ, ◌+◌, ◌<◌, List, ◌∷◌, length, refl, ap, ◌∙◌, inl, inr, arith}
+use Rattle.std.proofs.Common.{◌≡◌, ℕ, ◌+◌, ◌<◌, List, ◌∷◌, length, ap, ◌∙◌, inl, inr, arith}
 use Rattle.crontab_text.specs.Lines.{lines_of}
-use Rattle.run_text.specs.Follow.{Above, Sections, inside, OpensNone, whole}
+use Rattle.run_text.specs.Follow.{Above, Sections, inside, OpensNone}
 use Rattle.run_text.specs.Grammar.{IsSectionLine}
 use Rattle.run_text.specs.Run.{Run, opened}
 use Rattle.run_text.specs.Steps.{place_of, at_table, IsWhole, LeadsTo, RefusedFrom, RefusesTable}
@@ -45,13 +45,14 @@ opens_none line kind label zone count behind is few k l z n opens =
 
 pub opening_refused : (old new : Reader) (opening : Opening) (refusal : Refusal) → PassesOpening old new opening → RefusesTable new opening refusal
     → (run : Run) → RefusedFrom (place_of old (Sections run)) refusal
-opening_refused old new opening refusal passes (inl (few, is)) run =
-    wrong_line (old.number + 1) (Sections run) old.rest.now passes.line new.rest.now (whole 29) refusal passes.lines
-    (inl (
-      opening_word passes.line opening.kind opening.label.now opening.zone.now opening.count passes.is,
-      opens_none passes.line opening.kind opening.label.now opening.zone.now opening.count (length (lines_of new.rest.now)) passes.is few,
-      refl,
-    ))
-    (ap (λ (r : Refusal). r.line) is ∙ passes.number) (ap (λ (r : Refusal). r.cause) is) (ap (λ (r : Refusal). r.place) is)
+opening_refused old new opening refusal passes (inl (few, cause, of_line)) run =
+    wrong_line (old.number + 1) (Sections run) old.rest.now passes.line new.rest.now refusal passes.lines (
+      inl (
+        opening_word passes.line opening.kind opening.label.now opening.zone.now opening.count passes.is,
+        opens_none passes.line opening.kind opening.label.now opening.zone.now opening.count (length (lines_of new.rest.now)) passes.is few,
+        cause,
+      ),
+      (of_line.0 ∙ passes.number, of_line.1),
+    )
 opening_refused old new opening refusal passes (inr (is_whole, refused)) run =
     (opening_leads old new opening passes is_whole run).refuses refusal (refused run)

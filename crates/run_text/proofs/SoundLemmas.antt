@@ -1,18 +1,27 @@
 -- What holds of each run that is read, line by line.
-use Rattle.std.proofs.Common.{◌≡◌, ◌≢◌, ℕ, zero, suc, ◌+◌, ◌≤◌, List, [], ◌∷◌, ◌++◌, length, sym, subst, inl, inr, arith, length-append}
+use Rattle.std.proofs.Common.{◌≡◌, ◌≢◌, ℕ, zero, suc, ◌+◌, ◌<◌, ◌≤◌, List, [], ◌∷◌, ◌++◌, length, Option, Some, None, sym, subst, inl, inr, arith, length-append}
 use Rattle.std.specs.Prelude.{⊤}
 use Rattle.std.specs.List.{AllByRecursion}
 use Rattle.std.proofs.lemmas.List.{map-append, length-map}
 use Rattle.zone_minutes.specs.Window.{IsWithinLimits}
 use Rattle.zone_minutes.specs.Zone.{Source}
+use Rattle.anacron_text.specs.Settings.{no_settings}
 use Rattle.crontab_text.specs.Lines.{lines_of}
-use Rattle.run_text.specs.Follow.{Above, Nothing, Version, Replicas, Times, Sections, Table, Script, End, inside, style_of, MayFollow}
+use Rattle.crontab_text.specs.declared.answer.Style.{Style}
+use Rattle.run_text.specs.Follow.{Above, Nothing, Version, Replicas, Times, Sections, Table, Script, End, inside, style_of, MayStandIn, MayFollow}
 use Rattle.run_text.specs.Reading.{ReadsFrom, IsRunText}
 use Rattle.run_text.specs.Run.{NamedZone, Section, Run, opened, with_line, with_section, with_zone}
 use Rattle.run_text.specs.Sound.{IsSoundSection, IsSoundSource, IsSoundZone, AreDistinct, AreSoundZones, IsSoundRun}
-use Rattle.run_text.specs.Table.{Says}
+use Rattle.run_text.specs.Table.{Says, AreSaid}
 use Rattle.run_text.specs.Zones.{IsSourceText, fixed, posix, tzif, AddsZone, names_of}
+use Rattle.run_text.specs.declared.run.SectionKind.{SectionKind}
+use Rattle.run_text.proofs.AnacrontabLemmas.{say_none}
 use Rattle.run_text.proofs.OffsetLemmas.{offset_in_range}
+
+-- what is known of the lines of a section so far: those of an anacrontab are judged at its last
+abbrev SoFar : Option Style → (label : List ℕ) → List (List ℕ) → Type 0
+SoFar (Some style) label lines = AllByRecursion (Says style label) lines
+SoFar None label lines = ⊤
 
 -- what holds above the line of that number
 abbrev Good : ℕ → Above → Type 0
@@ -21,7 +30,7 @@ Good number Version = ⊤
 Good number (Replicas members) = ⊤
 Good number (Times members window) = IsWithinLimits window
 Good number (Sections run) = IsSoundRun number run
-Good number (Table run section left) = IsSoundRun number run × IsSoundSection number section
+Good number (Table run section left) = IsSoundRun number run × SoFar (style_of section.kind) section.label section.lines × (section.line + length section.lines < number)
 Good number (Script run) = IsSoundRun number run
 Good number (End run) = IsSoundRun number run
 
@@ -84,9 +93,40 @@ with_zone_more next number run line name source sound adds = record {
   sections = sound.sections;
 }
 
-good_inside : (number : ℕ) (run : Run) (section : Section) (left : ℕ) → IsSoundRun number run → IsSoundSection number section → Good number (inside run section left)
-good_inside number run section zero sound part = with_one_more number run section sound part
-good_inside number run section (suc left) sound part = (sound, part)
+-- a section of no line
+said_none : (style : Option Style) (label : List ℕ) → AreSaid style label []
+said_none (Some style) label = tt
+said_none None label = say_none no_settings
+
+far_none : (style : Option Style) (label : List ℕ) → SoFar style label []
+far_none (Some style) label = tt
+far_none None label = tt
+
+good_start : (number line : ℕ) (run : Run) (kind : SectionKind) (label zone : List ℕ) (count : ℕ) → line < number → IsSoundRun number run → Good number (inside run (opened line kind label zone) count)
+good_start number line run kind label zone zero below sound =
+    with_one_more number run (opened line kind label zone) sound (record { said = said_none (style_of kind) label; within = omega arith })
+good_start number line run kind label zone (suc count) below sound = (sound, far_none (style_of kind) label, omega arith)
+
+-- one line more of a section, which is its last or isn't
+far_next : (style : Option Style) (section : Section) (left : ℕ) (line : List ℕ) → SoFar style section.label section.lines → MayStandIn style section (suc left) line
+    → SoFar style section.label (with_line section line).lines
+far_next (Some style) section left line so_far may = all_push (Says style section.label) section.lines line so_far may
+far_next None section left line so_far may = tt
+
+said_last : (style : Option Style) (section : Section) (line : List ℕ) → SoFar style section.label section.lines → MayStandIn style section 0 line
+    → AreSaid style section.label (with_line section line).lines
+said_last (Some style) section line so_far may = all_push (Says style section.label) section.lines line so_far may
+said_last None section line so_far may = may
+
+good_line : (number : ℕ) (run : Run) (section : Section) (left : ℕ) (line : List ℕ) → IsSoundRun number run → SoFar (style_of section.kind) section.label section.lines
+    → section.line + length section.lines + 1 < number → MayStandIn (style_of section.kind) section left line → Good number (inside run (with_line section line) left)
+good_line number run section zero line sound so_far below may =
+    let longer : length (section.lines ++ line ∷ []) ≡ length section.lines + 1 = length-append section.lines (line ∷ []) in
+    with_one_more number run (with_line section line) sound
+    (record { said = said_last (style_of section.kind) section line so_far may; within = omega arith })
+good_line number run section (suc left) line sound so_far below may =
+    let longer : length (section.lines ++ line ∷ []) ≡ length section.lines + 1 = length-append section.lines (line ∷ []) in
+    (sound, far_next (style_of section.kind) section left line so_far may, omega arith)
 
 good_next : (number behind : ℕ) (above next : Above) (line : List ℕ) → Good number above → MayFollow number behind above line next → Good (number + 1) next
 good_next number behind Nothing next line good may = subst (Good (number + 1)) (sym may.1) tt
@@ -98,16 +138,11 @@ good_next number behind (Sections run) next line good (inl may) = subst (Good (n
 good_next number behind (Sections run) next line good (inr (inl names)) =
     subst (Good (number + 1)) (sym names.next_is) (with_zone_more (number + 1) number run line names.name names.source (later_run number (number + 1) run (omega arith) good) names.adds)
 good_next number behind (Sections run) next line good (inr (inr start)) =
-    let first : IsSoundSection (number + 1) (opened number start.kind start.label start.zone) = record { said = tt; within = omega arith } in
     subst (Good (number + 1)) (sym start.next_is)
-    (good_inside (number + 1) run (opened number start.kind start.label start.zone) start.count (later_run number (number + 1) run (omega arith) good) first)
-good_next number behind (Table run section left) next line good (body, says, next_is) =
-    let longer : length (section.lines ++ line ∷ []) ≡ length section.lines + 1 = length-append section.lines (line ∷ []) in
-    let more : IsSoundSection (number + 1) (with_line section line) = record {
-      said = all_push (Says (style_of section.kind) section.label) section.lines line good.1.said (body, says);
-      within = omega (arith, longer, good.1.within);
-    } in
-    subst (Good (number + 1)) (sym next_is) (good_inside (number + 1) run (with_line section line) left (later_run number (number + 1) run (omega arith) good.0) more)
+    (good_start (number + 1) number run start.kind start.label start.zone start.count (omega arith) (later_run number (number + 1) run (omega arith) good))
+good_next number behind (Table run section left) next line good (may, next_is) =
+    subst (Good (number + 1)) (sym next_is)
+    (good_line (number + 1) run section left line (later_run number (number + 1) run (omega arith) good.0) good.1 (omega (arith, good.2)) may)
 good_next number behind (Script run) next line good may = subst (Good (number + 1)) (sym may.1) (later_run number (number + 1) run (omega arith) good)
 good_next number behind (End run) next line good may = absurd may
 

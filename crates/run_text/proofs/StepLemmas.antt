@@ -1,10 +1,10 @@
 -- Steps from a place between two lines to the next, and refusals there.
 use Rattle.std.proofs.Common.{◌≡◌, ℕ, ◌+◌, List, [], ◌∷◌, length, refl, sym, subst, inl, inr}
 use Rattle.crontab_text.specs.Lines.{lines_of}
-use Rattle.run_text.specs.Follow.{Above, End, Fault, whole, MayFollow, Refuses, Misses}
+use Rattle.run_text.specs.Follow.{Above, End, MayFollow, Refuses, Misses}
 use Rattle.run_text.specs.Reading.{ReadsFrom}
 use Rattle.run_text.specs.Run.{Run}
-use Rattle.run_text.specs.Steps.{Place, place_of, fault_of, RefusedFrom, LeadsTo}
+use Rattle.run_text.specs.Steps.{Place, place_of, RefusedFrom, LeadsTo}
 use Rattle.run_text.specs.declared.reader.Reader.{Reader}
 use Rattle.run_text.specs.declared.refusal.Refusal.{Refusal}
 
@@ -30,17 +30,16 @@ one_line number above next text line rest is may = record {
 }
 
 -- a line that may not stand there
-pub wrong_line : (number : ℕ) (above : Above) (text line rest : List ℕ) (fault : Fault) (refusal : Refusal) → lines_of text ≡ line ∷ lines_of rest
-    → Refuses number (length (lines_of rest)) above line fault → refusal.line ≡ number → refusal.cause ≡ fault.cause → refusal.place ≡ fault.place
+pub wrong_line : (number : ℕ) (above : Above) (text line rest : List ℕ) (refusal : Refusal) → lines_of text ≡ line ∷ lines_of rest
+    → Refuses number (length (lines_of rest)) above line refusal
     → RefusedFrom (record { number = number; above = above; rest = text }) refusal
-wrong_line number above text line rest fault refusal is refuses line_is cause_is place_is =
-    rw is (inl (rw (cause_is, place_is) refuses, line_is))
+wrong_line number above text line rest refusal is refuses = rw is (inl refuses)
 
 -- no line where one is missing
 pub missing_line : (number : ℕ) (above : Above) (text : List ℕ) (refusal : Refusal) → text ≡ [] → Misses above refusal.cause → refusal.line ≡ number → refusal.place ≡ 0
     → RefusedFrom (record { number = number; above = above; rest = text }) refusal
 unfolding lines_of
-missing_line number above text refusal is misses line_is place_is = rw is (misses, line_is, place_is)
+missing_line number above text refusal is misses line_is place_is = rw is (misses, (line_is, place_is))
 
 -- the reader passes a line that may stand there
 pub one_line_at : (old new : Reader) (above next : Above) (line : List ℕ) → new.number ≡ old.number + 1 → lines_of old.rest.now ≡ line ∷ lines_of new.rest.now
@@ -54,7 +53,3 @@ one_line_at old new above next line number_is is may =
 pub ends : (number : ℕ) (text : List ℕ) (run : Run) → text ≡ [] → ReadsFrom number (End run) (lines_of text) run
 unfolding lines_of
 ends number text run is = rw is refl
-
--- a refusal of a whole line
-pub whole_fault : (refusal : Refusal) (cause : ℕ) → refusal.cause ≡ cause → refusal.place ≡ 0 → fault_of refusal ≡ whole cause
-whole_fault refusal cause cause_is place_is = rw (cause_is, place_is) refl

@@ -1,14 +1,17 @@
 -- A line may stand where it stands, or it may not: never both, and in one way.
-use Rattle.std.proofs.Common.{◌≡◌, ℕ, ◌+◌, List, [], ◌∷◌, length, get_or, refl, ap, ◌∙◌, sym, subst, inl, inr, arith, codes}
-use Rattle.crontab_text.specs.Answers.{IsLineOf, IsLineFault, LineAnswer, Said, Broken}
-use Rattle.crontab_text.specs.LineBody.{LineBody}
+use Rattle.std.proofs.Common.{◌≡◌, ℕ, zero, suc, ◌+◌, List, [], ◌∷◌, Option, Some, None, length, get_or, refl, ap, ◌∙◌, sym, subst, inl, inr, arith, codes}
+use Rattle.anacron_text.specs.LogicalLines.{joined}
+use Rattle.anacron_text.specs.Settings.{no_settings}
+use Rattle.crontab_text.specs.Answers.{LineAnswer, Said, Broken}
 use Rattle.crontab_text.specs.declared.answer.Style.{Style}
 use Rattle.crontab_text.proofs.AnswerLemmas.{same_answer}
-use Rattle.run_text.specs.Follow.{Above, Nothing, Version, Replicas, Times, Sections, Table, Script, End, style_of, MayFollow, NamesZone, StartsSection, Fault, Refuses, RefusesReplicas, RefusesBeforeScript, RefusesInScript, Misses}
-use Rattle.run_text.specs.Grammar.{replicas_line, first_word, HasSectionWord, HasLaterWord, IsCommandWord, round, campaign, stop, break, restart, cut, heal, drop, repeat, reverse, again, skew, fate, arrive, settle, walk, free}
+use Rattle.run_text.specs.Follow.{Above, Nothing, Version, Replicas, Times, Sections, Table, Script, End, style_of, MayStandIn, MayFollow, NamesZone, StartsSection, IsOfLine, Refuses, RefusesReplicas, RefusesInTable, RefusesBeforeScript, RefusesInScript, Misses}
+use Rattle.run_text.specs.Grammar.{replicas_line, first_word, HasSectionWord, IsCommandWord, round, campaign, stop, break, restart, cut, heal, drop, repeat, reverse, again, skew, fate, arrive, settle, walk, free}
 use Rattle.run_text.specs.Reading.{ReadsFrom, RefusesFrom}
-use Rattle.run_text.specs.Run.{Run}
+use Rattle.run_text.specs.Run.{Run, Section, with_line}
 use Rattle.run_text.specs.declared.refusal.Refusal.{Refusal}
+use Rattle.run_text.specs.declared.run.SectionKind.TheVariants.{User, System, Anacron}
+use Rattle.run_text.proofs.AnacrontabLemmas as anacrontab
 use Rattle.run_text.proofs.PhraseLemmas.{one_replicas_line, one_grace_line, one_opening, opening_word}
 use Rattle.run_text.proofs.WindowLemmas.{one_window_line}
 use Rattle.run_text.proofs.ZoneLemmas.{zone_word, one_zone}
@@ -20,25 +23,17 @@ at_differs place is differs = differs (ap (λ l. get_or l place 0) is)
 
 -- the words tell the lines apart
 script_no_section : HasSectionWord (codes "script") → ⊥
-script_no_section (inl is) = at_differs 0 is (λ e. omega arith)
-script_no_section (inr is) = at_differs 1 is (λ e. omega arith)
-
-script_no_later : HasLaterWord (codes "script") → ⊥
-script_no_later is = at_differs 0 is (λ e. omega arith)
+script_no_section (User, is) = at_differs 0 is (λ e. omega arith)
+script_no_section (System, is) = at_differs 1 is (λ e. omega arith)
+script_no_section (Anacron, is) = at_differs 0 is (λ e. omega arith)
 
 script_no_zone : HasZoneWord (codes "script") → ⊥
 script_no_zone is = at_differs 0 is (λ e. omega arith)
 
-section_no_later : (line : List ℕ) → HasSectionWord line → HasLaterWord line → ⊥
-section_no_later line (inl is) other = at_differs 0 (sym is ∙ other) (λ e. omega arith)
-section_no_later line (inr is) other = at_differs 0 (sym is ∙ other) (λ e. omega arith)
-
 section_no_zone : (line : List ℕ) → HasSectionWord line → HasZoneWord line → ⊥
-section_no_zone line (inl is) other = at_differs 0 (sym is ∙ other) (λ e. omega arith)
-section_no_zone line (inr is) other = at_differs 0 (sym is ∙ other) (λ e. omega arith)
-
-zone_no_later : (line : List ℕ) → HasZoneWord line → HasLaterWord line → ⊥
-zone_no_later line is other = at_differs 0 (sym is ∙ other) (λ e. omega arith)
+section_no_zone line (User, is) other = at_differs 0 (sym is ∙ other) (λ e. omega arith)
+section_no_zone line (System, is) other = at_differs 0 (sym is ∙ other) (λ e. omega arith)
+section_no_zone line (Anacron, is) other = at_differs 0 (sym is ∙ other) (λ e. omega arith)
 
 end_no_command : IsCommandWord (first_word (codes "end")) → ⊥
 end_no_command (round is) = at_differs 0 is (λ e. omega arith)
@@ -96,110 +91,113 @@ one_next number behind (Sections run) line x y (inr (inl p)) (inr (inr q)) = abs
 one_next number behind (Sections run) line x y (inr (inr p)) (inl q) = absurd (script_no_start number behind run line x q.0 p)
 one_next number behind (Sections run) line x y (inr (inr p)) (inr (inl q)) = absurd (name_no_start number behind run line y x q p)
 one_next number behind (Sections run) line x y (inr (inr p)) (inr (inr q)) = next_of_start number behind run line x y p q
-one_next number behind (Table run section left) line x y p q = p.2 ∙ sym q.2
+one_next number behind (Table run section left) line x y p q = p.1 ∙ sym q.1
 one_next number behind (Script run) line x y p q = p.1 ∙ sym q.1
 one_next number behind (End run) line x y p q = absurd p
 
 -- a line of a table
-said_or_broken : (style : Style) (owner line : List ℕ) (body : LineBody) (cause place : ℕ) → IsLineOf style owner line body → IsLineFault style line cause place → ⊥
-said_or_broken style owner line body cause place says breaks =
-    let same : ◌≡◌ {A = LineAnswer} (Said body) (Broken cause place) = same_answer style owner line (Said body) (Broken cause place) says breaks in cc
+said_or_broken : (style : Option Style) (number : ℕ) (section : Section) (left : ℕ) (line : List ℕ) (refusal : Refusal) → MayStandIn style section left line → RefusesInTable style number section left line refusal → ⊥
+said_or_broken (Some style) number section left line refusal may refused =
+    let same : ◌≡◌ {A = LineAnswer} (Said may.0) (Broken refusal.cause refusal.place) = same_answer style section.label line (Said may.0) (Broken refusal.cause refusal.place) may.1 refused.0 in cc
+said_or_broken None number section zero line refusal may refused =
+    anacrontab.said_or_broken no_settings (joined (with_line section line).lines) refused.0 refusal.cause refusal.place may refused.1
+said_or_broken None number section (suc left) line refusal may refused = refused
 
-one_break : (style : Style) (owner line : List ℕ) (f g : Fault) → IsLineFault style line f.cause f.place → IsLineFault style line g.cause g.place → f ≡ g
-one_break style owner line f g first second =
-    let same : ◌≡◌ {A = LineAnswer} (Broken f.cause f.place) (Broken g.cause g.place) = same_answer style owner line (Broken f.cause f.place) (Broken g.cause g.place) first second in
-    let cause : f.cause ≡ g.cause = cc in
-    let place : f.place ≡ g.place = cc in
-    rw (cause, place) refl
+same_refusal : (a b : Refusal) → a.line ≡ b.line → a.cause ≡ b.cause → a.place ≡ b.place → a ≡ b
+same_refusal a b line cause place = rw (line, cause, place) refl
+
+one_break : (style : Option Style) (number : ℕ) (section : Section) (left : ℕ) (line : List ℕ) (a b : Refusal) → RefusesInTable style number section left line a → RefusesInTable style number section left line b → a ≡ b
+one_break (Some style) number section left line a b first second =
+    let same : ◌≡◌ {A = LineAnswer} (Broken a.cause a.place) (Broken b.cause b.place) = same_answer style section.label line (Broken a.cause a.place) (Broken b.cause b.place) first.0 second.0 in
+    let cause : a.cause ≡ b.cause = cc in
+    let place : a.place ≡ b.place = cc in
+    same_refusal a b (first.1 ∙ sym second.1) cause place
+one_break None number section zero line a b first second =
+    let same = anacrontab.one_first_break no_settings (joined (with_line section line).lines) first.0 second.0 a.cause b.cause a.place b.place first.1 second.1 in
+    same_refusal a b (first.2 ∙ ap (λ n. section.line + n) same.0 ∙ sym second.2) same.1 same.2
+one_break None number section (suc left) line a b first second = absurd first
 
 -- a line that may stand there isn't refused
-start_not_refused : (number behind : ℕ) (known : List (List ℕ)) (run : Run) (line : List ℕ) (next : Above) (fault : Fault)
+start_not_refused : (number behind : ℕ) (known : List (List ℕ)) (run : Run) (line : List ℕ) (next : Above) (fault : ℕ)
     → StartsSection number behind run line next → RefusesBeforeScript behind known line fault → ⊥
 start_not_refused number behind known run line next fault p (inl refused) = refused.1 p.kind p.label p.zone p.count p.opens
 start_not_refused number behind known run line next fault p (inr (inl refused)) =
     section_no_zone line (opening_word line p.kind p.label p.zone p.count p.opens.is) refused.0
-start_not_refused number behind known run line next fault p (inr (inr (inl refused))) =
-    section_no_later line (opening_word line p.kind p.label p.zone p.count p.opens.is) refused.0
-start_not_refused number behind known run line next fault p (inr (inr (inr refused))) =
+start_not_refused number behind known run line next fault p (inr (inr refused)) =
     refused.0 (opening_word line p.kind p.label p.zone p.count p.opens.is)
 
-name_not_refused : (number behind : ℕ) (run : Run) (line : List ℕ) (next : Above) (fault : Fault)
+name_not_refused : (number behind : ℕ) (run : Run) (line : List ℕ) (next : Above) (fault : ℕ)
     → NamesZone number run line next → RefusesBeforeScript behind (names_of run.zones) line fault → ⊥
 name_not_refused number behind run line next fault p (inl refused) = section_no_zone line refused.0 (zone_word line p.name p.source p.adds.is)
 name_not_refused number behind run line next fault p (inr (inl refused)) = refused.1 p.name p.source p.adds
-name_not_refused number behind run line next fault p (inr (inr (inl refused))) = zone_no_later line (zone_word line p.name p.source p.adds.is) refused.0
-name_not_refused number behind run line next fault p (inr (inr (inr refused))) = refused.1 (zone_word line p.name p.source p.adds.is)
+name_not_refused number behind run line next fault p (inr (inr refused)) = refused.1 (zone_word line p.name p.source p.adds.is)
 
-script_not_refused : (behind : ℕ) (known : List (List ℕ)) (line : List ℕ) (fault : Fault) → line ≡ codes "script" → RefusesBeforeScript behind known line fault → ⊥
+script_not_refused : (behind : ℕ) (known : List (List ℕ)) (line : List ℕ) (fault : ℕ) → line ≡ codes "script" → RefusesBeforeScript behind known line fault → ⊥
 script_not_refused behind known line fault is (inl refused) = script_no_section (subst HasSectionWord is refused.0)
 script_not_refused behind known line fault is (inr (inl refused)) = script_no_zone (subst HasZoneWord is refused.0)
-script_not_refused behind known line fault is (inr (inr (inl refused))) = script_no_later (subst HasLaterWord is refused.0)
-script_not_refused behind known line fault is (inr (inr (inr refused))) = refused.3 is
+script_not_refused behind known line fault is (inr (inr refused)) = refused.2 is
 
-not_refused_before_script : (number behind : ℕ) (run : Run) (line : List ℕ) (next : Above) (fault : Fault) → MayFollow number behind (Sections run) line next → RefusesBeforeScript behind (names_of run.zones) line fault → ⊥
+not_refused_before_script : (number behind : ℕ) (run : Run) (line : List ℕ) (next : Above) (fault : ℕ) → MayFollow number behind (Sections run) line next → RefusesBeforeScript behind (names_of run.zones) line fault → ⊥
 not_refused_before_script number behind run line next fault (inl p) refused = script_not_refused behind (names_of run.zones) line fault p.0 refused
 not_refused_before_script number behind run line next fault (inr (inl p)) refused = name_not_refused number behind run line next fault p refused
 not_refused_before_script number behind run line next fault (inr (inr p)) refused = start_not_refused number behind (names_of run.zones) run line next fault p refused
 
-not_refused_replicas : (line : List ℕ) (fault : Fault) → line ≡ replicas_line 1 → RefusesReplicas line fault → ⊥
+not_refused_replicas : (line : List ℕ) (fault : ℕ) → line ≡ replicas_line 1 → RefusesReplicas line fault → ⊥
 not_refused_replicas line fault is (inl refused) = refused.0 1 (omega arith) (omega arith) is
 not_refused_replicas line fault is (inr (members, some, few, other, refused)) =
     let same = one_replicas_line 1 members (omega arith) few (sym is ∙ other) in omega arith
 
-not_refused_in_script : (line : List ℕ) (fault : Fault) → line ≡ codes "end" → RefusesInScript line fault → ⊥
+not_refused_in_script : (line : List ℕ) (fault : ℕ) → line ≡ codes "end" → RefusesInScript line fault → ⊥
 not_refused_in_script line fault is (inl refused) = end_no_command (subst (λ l. IsCommandWord (first_word l)) is refused.0)
 not_refused_in_script line fault is (inr refused) = refused.1 is
 
-pub not_refused : (number behind : ℕ) (above : Above) (line : List ℕ) (next : Above) (fault : Fault) → MayFollow number behind above line next → Refuses number behind above line fault → ⊥
-not_refused number behind Nothing line next fault p refused = refused.0 p.0
-not_refused number behind Version line next fault p refused = not_refused_replicas line fault p.0 refused
-not_refused number behind (Replicas members) line next fault p refused = refused.0 p.0 p.1
-not_refused number behind (Times members window) line next fault p refused = refused.0 p.0 p.1
-not_refused number behind (Sections run) line next fault p refused = not_refused_before_script number behind run line next fault p refused
-not_refused number behind (Table run section left) line next fault p refused = said_or_broken (style_of section.kind) section.label line p.0 fault.cause fault.place p.1 refused
-not_refused number behind (Script run) line next fault p refused = not_refused_in_script line fault p.0 refused
-not_refused number behind (End run) line next fault p refused = absurd p
+pub not_refused : (number behind : ℕ) (above : Above) (line : List ℕ) (next : Above) (refusal : Refusal) → MayFollow number behind above line next → Refuses number behind above line refusal → ⊥
+not_refused number behind Nothing line next refusal p refused = refused.0 p.0
+not_refused number behind Version line next refusal p refused = not_refused_replicas line refusal.cause p.0 refused.0
+not_refused number behind (Replicas members) line next refusal p refused = refused.0 p.0 p.1
+not_refused number behind (Times members window) line next refusal p refused = refused.0 p.0 p.1
+not_refused number behind (Sections run) line next refusal p refused = not_refused_before_script number behind run line next refusal.cause p refused.0
+not_refused number behind (Table run section left) line next refusal p refused = said_or_broken (style_of section.kind) number section left line refusal p.0 refused
+not_refused number behind (Script run) line next refusal p refused = not_refused_in_script line refusal.cause p.0 refused.0
+not_refused number behind (End run) line next refusal p refused = absurd p
 
 -- what a refused line is refused for
-one_replicas_fault : (line : List ℕ) (f g : Fault) → RefusesReplicas line f → RefusesReplicas line g → f ≡ g
+one_replicas_fault : (line : List ℕ) (f g : ℕ) → RefusesReplicas line f → RefusesReplicas line g → f ≡ g
 one_replicas_fault line f g (inl first) (inl second) = first.1 ∙ sym second.1
 one_replicas_fault line f g (inl first) (inr (members, some, few, is, fault)) = absurd (first.0 members (omega arith) few is)
 one_replicas_fault line f g (inr (members, some, few, is, fault)) (inl second) = absurd (second.0 members (omega arith) few is)
 one_replicas_fault line f g (inr first) (inr second) = first.4 ∙ sym second.4
 
-one_fault_before_script : (behind : ℕ) (known : List (List ℕ)) (line : List ℕ) (f g : Fault) → RefusesBeforeScript behind known line f → RefusesBeforeScript behind known line g → f ≡ g
+one_fault_before_script : (behind : ℕ) (known : List (List ℕ)) (line : List ℕ) (f g : ℕ) → RefusesBeforeScript behind known line f → RefusesBeforeScript behind known line g → f ≡ g
 one_fault_before_script behind known line f g (inl p) (inl q) = p.2 ∙ sym q.2
 one_fault_before_script behind known line f g (inl p) (inr (inl q)) = absurd (section_no_zone line p.0 q.0)
-one_fault_before_script behind known line f g (inl p) (inr (inr (inl q))) = absurd (section_no_later line p.0 q.0)
-one_fault_before_script behind known line f g (inl p) (inr (inr (inr q))) = absurd (q.0 p.0)
+one_fault_before_script behind known line f g (inl p) (inr (inr q)) = absurd (q.0 p.0)
 one_fault_before_script behind known line f g (inr (inl p)) (inl q) = absurd (section_no_zone line q.0 p.0)
 one_fault_before_script behind known line f g (inr (inl p)) (inr (inl q)) = p.2 ∙ sym q.2
-one_fault_before_script behind known line f g (inr (inl p)) (inr (inr (inl q))) = absurd (zone_no_later line p.0 q.0)
-one_fault_before_script behind known line f g (inr (inl p)) (inr (inr (inr q))) = absurd (q.1 p.0)
-one_fault_before_script behind known line f g (inr (inr (inl p))) (inl q) = absurd (section_no_later line q.0 p.0)
-one_fault_before_script behind known line f g (inr (inr (inl p))) (inr (inl q)) = absurd (zone_no_later line q.0 p.0)
-one_fault_before_script behind known line f g (inr (inr (inl p))) (inr (inr (inl q))) = p.1 ∙ sym q.1
-one_fault_before_script behind known line f g (inr (inr (inl p))) (inr (inr (inr q))) = absurd (q.2 p.0)
-one_fault_before_script behind known line f g (inr (inr (inr p))) (inl q) = absurd (p.0 q.0)
-one_fault_before_script behind known line f g (inr (inr (inr p))) (inr (inl q)) = absurd (p.1 q.0)
-one_fault_before_script behind known line f g (inr (inr (inr p))) (inr (inr (inl q))) = absurd (p.2 q.0)
-one_fault_before_script behind known line f g (inr (inr (inr p))) (inr (inr (inr q))) = p.4 ∙ sym q.4
+one_fault_before_script behind known line f g (inr (inl p)) (inr (inr q)) = absurd (q.1 p.0)
+one_fault_before_script behind known line f g (inr (inr p)) (inl q) = absurd (p.0 q.0)
+one_fault_before_script behind known line f g (inr (inr p)) (inr (inl q)) = absurd (p.1 q.0)
+one_fault_before_script behind known line f g (inr (inr p)) (inr (inr q)) = p.3 ∙ sym q.3
 
-one_fault_in_script : (line : List ℕ) (f g : Fault) → RefusesInScript line f → RefusesInScript line g → f ≡ g
+one_fault_in_script : (line : List ℕ) (f g : ℕ) → RefusesInScript line f → RefusesInScript line g → f ≡ g
 one_fault_in_script line f g (inl p) (inl q) = p.1 ∙ sym q.1
 one_fault_in_script line f g (inl p) (inr q) = absurd (q.0 p.0)
 one_fault_in_script line f g (inr p) (inl q) = absurd (p.0 q.0)
 one_fault_in_script line f g (inr p) (inr q) = p.2 ∙ sym q.2
 
-pub one_fault : (number behind : ℕ) (above : Above) (line : List ℕ) (f g : Fault) → Refuses number behind above line f → Refuses number behind above line g → f ≡ g
-one_fault number behind Nothing line f g p q = p.1 ∙ sym q.1
-one_fault number behind Version line f g p q = one_replicas_fault line f g p q
-one_fault number behind (Replicas members) line f g p q = p.1 ∙ sym q.1
-one_fault number behind (Times members window) line f g p q = p.1 ∙ sym q.1
-one_fault number behind (Sections run) line f g p q = one_fault_before_script behind (names_of run.zones) line f g p q
-one_fault number behind (Table run section left) line f g p q = one_break (style_of section.kind) section.label line f g p q
-one_fault number behind (Script run) line f g p q = one_fault_in_script line f g p q
-one_fault number behind (End run) line f g p q = p ∙ sym q
+-- a whole line is refused in one way for one cause
+one_of_line : (number : ℕ) (a b : Refusal) → a.cause ≡ b.cause → IsOfLine number a → IsOfLine number b → a ≡ b
+one_of_line number a b cause first second = same_refusal a b (first.0 ∙ sym second.0) cause (first.1 ∙ sym second.1)
+
+pub one_fault : (number behind : ℕ) (above : Above) (line : List ℕ) (a b : Refusal) → Refuses number behind above line a → Refuses number behind above line b → a ≡ b
+one_fault number behind Nothing line a b p q = one_of_line number a b (p.1 ∙ sym q.1) p.2 q.2
+one_fault number behind Version line a b p q = one_of_line number a b (one_replicas_fault line a.cause b.cause p.0 q.0) p.1 q.1
+one_fault number behind (Replicas members) line a b p q = one_of_line number a b (p.1 ∙ sym q.1) p.2 q.2
+one_fault number behind (Times members window) line a b p q = one_of_line number a b (p.1 ∙ sym q.1) p.2 q.2
+one_fault number behind (Sections run) line a b p q = one_of_line number a b (one_fault_before_script behind (names_of run.zones) line a.cause b.cause p.0 q.0) p.1 q.1
+one_fault number behind (Table run section left) line a b p q = one_break (style_of section.kind) number section left line a b p q
+one_fault number behind (Script run) line a b p q = one_of_line number a b (one_fault_in_script line a.cause b.cause p.0 q.0) p.1 q.1
+one_fault number behind (End run) line a b p q = one_of_line number a b (p.0 ∙ sym q.0) p.1 q.1
 
 -- the cause of a line that is missing
 one_miss : (above : Above) (c d : ℕ) → Misses above c → Misses above d → c ≡ d
@@ -211,9 +209,6 @@ one_miss (Sections run) c d p q = p ∙ sym q
 one_miss (Table run section left) c d p q = absurd p
 one_miss (Script run) c d p q = p ∙ sym q
 one_miss (End run) c d p q = absurd p
-
-same_refusal : (a b : Refusal) → a.line ≡ b.line → a.cause ≡ b.cause → a.place ≡ b.place → a ≡ b
-same_refusal a b line cause place = rw (line, cause, place) refl
 
 end_no_miss : (above : Above) (run : Run) (cause : ℕ) → above ≡ End run → Misses above cause → ⊥
 end_no_miss above run cause is misses = subst (λ a. Misses a cause) is misses
@@ -227,16 +222,14 @@ one_run number above (line ∷ lines) a b (x, may, reads) (y, other, more) =
 pub never_both : (number : ℕ) (above : Above) (lines : List (List ℕ)) (run : Run) (refusal : Refusal) → ReadsFrom number above lines run → RefusesFrom number above lines refusal → ⊥
 never_both number above [] run refusal is refused = end_no_miss above run refusal.cause is refused.0
 never_both number above (line ∷ lines) run refusal (x, may, reads) (inl refused) =
-    not_refused number (length lines) above line x (record { cause = refusal.cause; place = refusal.place }) may refused.0
+    not_refused number (length lines) above line x refusal may refused
 never_both number above (line ∷ lines) run refusal (x, may, reads) (inr (y, other, refused)) =
     never_both (number + 1) y lines run refusal (subst (λ t. ReadsFrom (number + 1) t lines run) (one_next number (length lines) above line x y may other) reads) refused
 
 pub one_refusal : (number : ℕ) (above : Above) (lines : List (List ℕ)) (a b : Refusal) → RefusesFrom number above lines a → RefusesFrom number above lines b → a ≡ b
-one_refusal number above [] a b p q = same_refusal a b (p.1 ∙ sym q.1) (one_miss above a.cause b.cause p.0 q.0) (p.2 ∙ sym q.2)
-one_refusal number above (line ∷ lines) a b (inl p) (inl q) =
-    let same = one_fault number (length lines) above line (record { cause = a.cause; place = a.place }) (record { cause = b.cause; place = b.place }) p.0 q.0 in
-    same_refusal a b (p.1 ∙ sym q.1) (ap (λ (f : Fault). f.cause) same) (ap (λ (f : Fault). f.place) same)
-one_refusal number above (line ∷ lines) a b (inl p) (inr (y, may, q)) = absurd (not_refused number (length lines) above line y (record { cause = a.cause; place = a.place }) may p.0)
-one_refusal number above (line ∷ lines) a b (inr (x, may, p)) (inl q) = absurd (not_refused number (length lines) above line x (record { cause = b.cause; place = b.place }) may q.0)
+one_refusal number above [] a b p q = one_of_line number a b (one_miss above a.cause b.cause p.0 q.0) p.1 q.1
+one_refusal number above (line ∷ lines) a b (inl p) (inl q) = one_fault number (length lines) above line a b p q
+one_refusal number above (line ∷ lines) a b (inl p) (inr (y, may, q)) = absurd (not_refused number (length lines) above line y a may p)
+one_refusal number above (line ∷ lines) a b (inr (x, may, p)) (inl q) = absurd (not_refused number (length lines) above line x b may q)
 one_refusal number above (line ∷ lines) a b (inr (x, may, p)) (inr (y, other, q)) =
     one_refusal (number + 1) y lines a b (subst (λ t. RefusesFrom (number + 1) t lines a) (one_next number (length lines) above line x y may other) p) q

@@ -1,16 +1,20 @@
 -- Which line of a run file may follow which, and why another one may not.
-use Rattle.std.specs.Prelude.{◌≡◌, ◌≢◌, ◌⊎◌, ℕ, zero, suc, ◌≤◌, List, codes}
+use Rattle.std.specs.Prelude.{◌≡◌, ◌≢◌, ◌⊎◌, ℕ, zero, suc, ◌+◌, ◌≤◌, List, Option, None, Some, codes, ⊤}
+use Rattle.anacron_text.specs.LogicalLines.{joined}
+use Rattle.anacron_text.specs.Settings.{no_settings}
 use Rattle.zone_minutes.specs.Zone.{Source}
 use Rattle.zone_minutes.specs.declared.minute.Window.{Window}
-use Rattle.crontab_text.specs.Answers.{IsLineOf, IsLineFault}
-use Rattle.crontab_text.specs.LineBody.{LineBody}
+use Rattle.crontab_text.specs.Answers.{IsLineFault}
 use Rattle.crontab_text.specs.declared.answer.Style.{Style}
 use Rattle.crontab_text.specs.declared.answer.Style.TheVariants as style
-use Rattle.run_text.specs.Grammar.{replicas_line, IsWindowLine, IsGraceLine, IsSectionLine, first_word, HasSectionWord, HasLaterWord, IsCommandWord}
+use Rattle.run_text.specs.Grammar.{replicas_line, IsWindowLine, IsGraceLine, IsSectionLine, first_word, HasSectionWord, IsCommandWord}
+use Rattle.run_text.specs.Anacrontab.{SayAll, IsFirstBreak}
 use Rattle.run_text.specs.Run.{Section, Run, run_with, opened, with_line, with_section, with_zone}
+use Rattle.run_text.specs.Table.{Says}
 use Rattle.run_text.specs.Zones.{AddsZone, AddsNone, HasZoneWord, names_of}
+use Rattle.run_text.specs.declared.refusal.Refusal.{Refusal}
 use Rattle.run_text.specs.declared.run.SectionKind.{SectionKind}
-use Rattle.run_text.specs.declared.run.SectionKind.TheVariants.{User, System}
+use Rattle.run_text.specs.declared.run.SectionKind.TheVariants.{User, System, Anacron}
 
 -- what the lines above a line of a run file were
 pub data Above : Type 0 where
@@ -36,10 +40,18 @@ abbrev pub inside : Run → Section → ℕ → Above
 inside run section zero = Sections (with_section run section)
 inside run section (suc left) = Table run section left
 
--- how the lines of a section are read
-abbrev pub style_of : SectionKind → Style
-style_of User = style.User
-style_of System = style.System
+-- how the lines of a section are read, if they are those of a crontab
+abbrev pub style_of : SectionKind → Option Style
+style_of User = Some style.User
+style_of System = Some style.System
+style_of Anacron = None
+
+-- The line may stand in a section, with so many lines of it left behind. A crontab's line says something. An anacrontab's may
+-- go on in the next one, so its lines are judged together, at the last.
+abbrev pub MayStandIn : Option Style → Section → (left : ℕ) → List ℕ → Type 0
+MayStandIn (Some style) section left line = Says style section.label line
+MayStandIn None section zero line = SayAll no_settings (joined (with_line section line).lines)
+MayStandIn None section (suc left) line = ⊤
 
 -- The line opens a section of so many lines, which are all there: so many lines are behind it.
 pub record Opens (behind : ℕ) (line : List ℕ) (kind : SectionKind) (label zone : List ℕ) (count : ℕ) : Type 0 where
@@ -76,50 +88,54 @@ MayFollow number behind (Times members window) line next =
 MayFollow number behind (Sections run) line next =
     ((line ≡ codes "script") × (next ≡ Script run)) ⊎ (NamesZone number run line next ⊎ StartsSection number behind run line next)
 MayFollow number behind (Table run section left) line next =
-    (body : LineBody) × IsLineOf (style_of section.kind) section.label line body × (next ≡ inside run (with_line section line) left)
+    MayStandIn (style_of section.kind) section left line × (next ≡ inside run (with_line section line) left)
 MayFollow number behind (Script run) line next = (line ≡ codes "end") × (next ≡ End run)
 MayFollow number behind (End run) line next = ⊥
 
--- the cause for which a line is refused, and the byte in it
-pub record Fault : Type 0 where
-  pub cause : ℕ
-  pub place : ℕ
-
--- the whole line is at fault
-abbrev pub whole : ℕ → Fault
-whole cause = record { cause = cause; place = 0 }
+-- the line of that number is refused as a whole
+abbrev pub IsOfLine : (number : ℕ) → Refusal → Type 0
+IsOfLine number refusal = (refusal.line ≡ number) × (refusal.place ≡ 0)
 
 -- the line doesn't say how many replicas there are, or says more than there can be so far
-abbrev pub RefusesReplicas : List ℕ → Fault → Type 0
-RefusesReplicas line fault =
-    (((members : ℕ) → 1 ≤ members → members ≤ 7 → line ≢ replicas_line members) × (fault ≡ whole 26))
-    ⊎ ((members : ℕ) × (2 ≤ members) × (members ≤ 7) × (line ≡ replicas_line members) × (fault ≡ whole 35))
+abbrev pub RefusesReplicas : List ℕ → (cause : ℕ) → Type 0
+RefusesReplicas line cause =
+    (((members : ℕ) → 1 ≤ members → members ≤ 7 → line ≢ replicas_line members) × (cause ≡ 26))
+    ⊎ ((members : ℕ) × (2 ≤ members) × (members ≤ 7) × (line ≡ replicas_line members) × (cause ≡ 35))
 
--- Before the script, below lines that gave these zones' names: the line opens no section, names no zone, has no form yet, or is none that may
+-- Before the script, below lines that gave these zones' names: the line opens no section, names no zone, or is none that may
 -- stand there at all.
-abbrev pub RefusesBeforeScript : (behind : ℕ) → (known : List (List ℕ)) → List ℕ → Fault → Type 0
-RefusesBeforeScript behind known line fault =
-    (HasSectionWord line × OpensNone behind line × (fault ≡ whole 29))
-    ⊎ ((HasZoneWord line × AddsNone known line × (fault ≡ whole 34))
-    ⊎ ((HasLaterWord line × (fault ≡ whole 35))
-    ⊎ ((HasSectionWord line → ⊥) × (HasZoneWord line → ⊥) × (HasLaterWord line → ⊥) × (line ≢ codes "script") × (fault ≡ whole 31))))
+abbrev pub RefusesBeforeScript : (behind : ℕ) → (known : List (List ℕ)) → List ℕ → (cause : ℕ) → Type 0
+RefusesBeforeScript behind known line cause =
+    (HasSectionWord line × OpensNone behind line × (cause ≡ 29))
+    ⊎ ((HasZoneWord line × AddsNone known line × (cause ≡ 34))
+    ⊎ ((HasSectionWord line → ⊥) × (HasZoneWord line → ⊥) × (line ≢ codes "script") × (cause ≡ 31)))
 
 -- in the script: the line is a command that has no form yet, or none at all
-abbrev pub RefusesInScript : List ℕ → Fault → Type 0
-RefusesInScript line fault =
-    (IsCommandWord (first_word line) × (fault ≡ whole 35))
-    ⊎ ((IsCommandWord (first_word line) → ⊥) × (line ≢ codes "end") × (fault ≡ whole 30))
+abbrev pub RefusesInScript : List ℕ → (cause : ℕ) → Type 0
+RefusesInScript line cause =
+    (IsCommandWord (first_word line) × (cause ≡ 35))
+    ⊎ ((IsCommandWord (first_word line) → ⊥) × (line ≢ codes "end") × (cause ≡ 30))
 
--- The line of that number, with so many lines behind it, may not stand below these, for this cause.
-abbrev pub Refuses : (number behind : ℕ) → Above → List ℕ → Fault → Type 0
-Refuses number behind Nothing line fault = (line ≢ codes "cronrun 1") × (fault ≡ whole 25)
-Refuses number behind Version line fault = RefusesReplicas line fault
-Refuses number behind (Replicas members) line fault = ((window : Window) → IsWindowLine line window → ⊥) × (fault ≡ whole 27)
-Refuses number behind (Times members window) line fault = ((grace : ℕ) → IsGraceLine line grace → ⊥) × (fault ≡ whole 28)
-Refuses number behind (Sections run) line fault = RefusesBeforeScript behind (names_of run.zones) line fault
-Refuses number behind (Table run section left) line fault = IsLineFault (style_of section.kind) line fault.cause fault.place
-Refuses number behind (Script run) line fault = RefusesInScript line fault
-Refuses number behind (End run) line fault = fault ≡ whole 30
+-- In a section, with so many lines of it left behind: the line breaks a rule of crontabs; or it is the last of an anacrontab,
+-- and the refusal is of the first of its logical lines that breaks a rule, at the first line of that one.
+abbrev pub RefusesInTable : Option Style → (number : ℕ) → Section → (left : ℕ) → List ℕ → Refusal → Type 0
+RefusesInTable (Some style) number section left line refusal = IsLineFault style line refusal.cause refusal.place × (refusal.line ≡ number)
+RefusesInTable None number section zero line refusal =
+    (first : ℕ) × IsFirstBreak no_settings (joined (with_line section line).lines) first refusal.cause refusal.place × (refusal.line ≡ section.line + first)
+RefusesInTable None number section (suc left) line refusal = ⊥
+
+-- The line of that number, with so many lines behind it, may not stand below these, and is refused so.
+abbrev pub Refuses : (number behind : ℕ) → Above → List ℕ → Refusal → Type 0
+Refuses number behind Nothing line refusal = (line ≢ codes "cronrun 1") × (refusal.cause ≡ 25) × IsOfLine number refusal
+Refuses number behind Version line refusal = RefusesReplicas line refusal.cause × IsOfLine number refusal
+Refuses number behind (Replicas members) line refusal =
+    ((window : Window) → IsWindowLine line window → ⊥) × (refusal.cause ≡ 27) × IsOfLine number refusal
+Refuses number behind (Times members window) line refusal =
+    ((grace : ℕ) → IsGraceLine line grace → ⊥) × (refusal.cause ≡ 28) × IsOfLine number refusal
+Refuses number behind (Sections run) line refusal = RefusesBeforeScript behind (names_of run.zones) line refusal.cause × IsOfLine number refusal
+Refuses number behind (Table run section left) line refusal = RefusesInTable (style_of section.kind) number section left line refusal
+Refuses number behind (Script run) line refusal = RefusesInScript line refusal.cause × IsOfLine number refusal
+Refuses number behind (End run) line refusal = (refusal.cause ≡ 30) × IsOfLine number refusal
 
 -- the file ends where a line is missing, and for this cause
 abbrev pub Misses : Above → ℕ → Type 0

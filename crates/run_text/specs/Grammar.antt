@@ -4,7 +4,7 @@ use Rattle.std.specs.List.{AllByRecursion}
 use Rattle.zone_minutes.specs.Window.{IsWithinLimits, window_line}
 use Rattle.zone_minutes.specs.declared.minute.Window.{Window}
 use Rattle.run_text.specs.declared.run.SectionKind.{SectionKind}
-use Rattle.run_text.specs.declared.run.SectionKind.TheVariants.{User, System}
+use Rattle.run_text.specs.declared.run.SectionKind.TheVariants.{User, System, Anacron}
 
 -- replicas N
 abbrev pub replicas_line : ℕ → List ℕ
@@ -46,8 +46,9 @@ IsZoneName name = (0 < length name) × (length name ≤ 64) × AllByRecursion Is
 abbrev pub section_word : SectionKind → List ℕ
 section_word User = codes "crontab"
 section_word System = codes "system"
+section_word Anacron = codes "anacrontab"
 
--- crontab LABEL ZONE COUNT, or system LABEL ZONE COUNT
+-- crontab LABEL ZONE COUNT, system LABEL ZONE COUNT, or anacrontab LABEL ZONE COUNT
 abbrev pub section_line : SectionKind → (label zone : List ℕ) → ℕ → List ℕ
 section_line kind label zone count = section_word kind ++ (32 ∷ label ++ (32 ∷ zone ++ (32 ∷ decimal count)))
 
@@ -65,11 +66,7 @@ first_word (c ∷ cs) = if c == 32 then [] else c ∷ first_word cs
 
 -- the line's first word opens a section
 abbrev pub HasSectionWord : List ℕ → Type 0
-HasSectionWord line = (first_word line ≡ codes "crontab") ⊎ (first_word line ≡ codes "system")
-
--- the line's first word is that of a line before the script that has no form yet: a table of anacron
-abbrev pub HasLaterWord : List ℕ → Type 0
-HasLaterWord line = first_word line ≡ codes "anacrontab"
+HasSectionWord line = (kind : SectionKind) × (first_word line ≡ section_word kind)
 
 -- a word of the script's commands, none of which has a form yet
 pub data IsCommandWord (word : List ℕ) : Type 0 where

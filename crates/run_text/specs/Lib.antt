@@ -1,3 +1,4 @@
+pub mod Anacrontab
 pub mod Follow
 pub mod Grammar
 pub mod Reading
@@ -5,5 +6,4 @@ pub mod Run
 pub mod Sound
 pub mod Steps
 pub mod Table
-pub mod Words
 pub mod Zones

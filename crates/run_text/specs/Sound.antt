@@ -6,12 +6,12 @@ use Rattle.zone_minutes.specs.Zone.{Source, FixedOffset, PosixRule, TzifFile, Is
 use Rattle.run_text.specs.Follow.{style_of}
 use Rattle.run_text.specs.Grammar.{IsZoneName}
 use Rattle.run_text.specs.Run.{NamedZone, Section, Run}
-use Rattle.run_text.specs.Table.{Says}
+use Rattle.run_text.specs.Table.{AreSaid}
 use Rattle.run_text.specs.Zones.{names_of}
 
 -- each line of the section says something, and its last line has a number below this one
 pub record IsSoundSection (next : ℕ) (section : Section) : Type 0 where
-  pub said : AllByRecursion (Says (style_of section.kind) section.label) section.lines
+  pub said : AreSaid (style_of section.kind) section.label section.lines
   pub within : section.line + length section.lines < next
 
 -- a fixed offset of the source is from -12:00 to +14:00

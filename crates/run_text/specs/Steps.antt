@@ -2,7 +2,7 @@
 use Rattle.std.specs.Prelude.{◌≡◌, ◌⊎◌, ℕ, ◌+◌, ◌<◌, ◌≤◌, ◌^◌, List, [], ◌∷◌, ◌++◌, length, map, ⊤}
 use Rattle.std.specs.Borrow.{Bor}
 use Rattle.crontab_text.specs.Lines.{lines_of}
-use Rattle.run_text.specs.Follow.{Above, Nothing, Sections, Fault, inside}
+use Rattle.run_text.specs.Follow.{Above, Nothing, Sections, IsOfLine, inside}
 use Rattle.run_text.specs.Reading.{ReadsFrom, RefusesFrom, HasDigits}
 use Rattle.run_text.specs.Run.{NamedZone, Run, section_of, zone_of, opened, with_section, with_zone, with_parts}
 use Rattle.run_text.specs.Zones.{names_of}
@@ -52,6 +52,12 @@ IfRefused OutOfMemory P = ⊤
 abbrev pub at_table : Reader → Opening → Run → Above
 at_table reader opening run = inside run (opened reader.number opening.kind opening.label.now opening.zone.now) opening.count
 
+-- So many lines that a text begins with: their text, and what is behind it.
+pub record IsCut (text : List ℕ) (count : ℕ) (front rest : List ℕ) : Type 0 where
+  pub parts : text ≡ front ++ rest
+  pub lines : lines_of text ≡ lines_of front ++ lines_of rest
+  pub count_is : length (lines_of front) ≡ count
+
 -- the lines that are left are as many as the section is to have
 abbrev pub IsWhole : Reader → Opening → Type 0
 IsWhole reader opening = opening.count ≤ length (lines_of reader.rest.now)
@@ -64,12 +70,8 @@ pub record PassesTable (old new : Reader) (opening : Opening) (section : Section
 -- the reader found too few lines for a section, or a line that is none of a table
 abbrev pub RefusesTable : Reader → Opening → Refusal → Type 0
 RefusesTable reader opening refusal =
-    ((length (lines_of reader.rest.now) < opening.count) × (refusal ≡ record { line = reader.number; cause = 29; place = 0 }))
+    ((length (lines_of reader.rest.now) < opening.count) × (refusal.cause ≡ 29) × IsOfLine reader.number refusal)
     ⊎ (IsWhole reader opening × ((run : Run) → RefusedFrom (place_of reader (at_table reader opening run)) refusal))
-
--- the fault that a refusal tells
-abbrev pub fault_of : Refusal → Fault
-fault_of refusal = record { cause = refusal.cause; place = refusal.place }
 
 -- the texts of some names
 abbrev pub texts_of : List (Bor (List ℕ)) → List (List ℕ)

@@ -8,7 +8,7 @@ ghost use Rattle.run_text.specs.Steps.{place_of, start, LeadsTo, RefusedFrom, Ha
 
 use crate::reader::{Reader, first_line};
 use crate::refusal::Refusal;
-use crate::words::read_number;
+use anacron_text::read_number;
 use zone_minutes::{Window, read_stamp};
 
 // 365 days, in minutes.

@@ -21,6 +21,8 @@ pub use refusal::{Refusal, RunFault};
 pub use run::{RunFile, Section, SectionKind, ZoneLine, ZoneText};
 
 #[cfg(test)]
+mod anacron_tests;
+#[cfg(test)]
 mod tests;
 #[cfg(test)]
 mod zone_tests;

@@ -1,14 +1,14 @@
 //! The line that opens a section.
 ghost use Rattle.std.specs.Prelude.{◌≡◌, ◌≢◌, ℕ, List, codes, IfSome, IfNone, IfOk, IfErr};
-ghost use Rattle.run_text.specs.Follow.{OpensNone, RefusesBeforeScript, whole};
-ghost use Rattle.run_text.specs.Steps.{fault_of};
-ghost use Rattle.run_text.specs.Grammar.{section_word, IsSectionLine};
+ghost use Rattle.run_text.specs.Follow.{OpensNone, RefusesBeforeScript, IsOfLine};
+ghost use Rattle.run_text.specs.Grammar.{IsSectionLine};
 ghost use Rattle.run_text.specs.Zones.{HasZoneWord};
 ghost use Rattle.run_text.specs.declared.run.SectionKind.{SectionKind};
 
 use crate::refusal::Refusal;
 use crate::run::SectionKind;
-use crate::words::{has_later_word, has_section_word, is_label, is_zone_name, read_number};
+use crate::words::{has_section_word, is_label, is_zone_name, kind_of};
+use anacron_text::read_number;
 
 // Lines of a section.
 const MOST_LINES: u32 = 65_535;
@@ -26,9 +26,9 @@ pub struct Opening<'a> {
 /// Reads the line of that number, which opens neither a zone nor the script, as one that opens a section.
 pub fn read_opening(number: u32, line: &str) -> Result<Opening<'_>, Refusal>
     ensures read { IfOk result (λ opening. IsSectionLine line.now opening.kind opening.label.now opening.zone.now opening.count) }
-    ensures line { IfErr result (λ refusal. refusal.line ≡ number) }
+    ensures line { IfErr result (IsOfLine number) }
     ensures refused { IfErr result (λ refusal. (behind : ℕ) (known : List (List ℕ)) → (HasZoneWord line.now → ⊥) → line.now ≢ codes "script"
-        → RefusesBeforeScript behind known line.now (fault_of refusal)) }
+        → RefusesBeforeScript behind known line.now refusal.cause) }
 {
     match opening_of(line) {
         Some(opening) => Ok(opening),
@@ -36,21 +36,15 @@ pub fn read_opening(number: u32, line: &str) -> Result<Opening<'_>, Refusal>
     }
 }
 
-// The cause of a line that opens none of the three.
+// The cause of a line that opens neither a zone, nor a section, nor the script.
 fn cause_of(line: &str) -> u8
     ensures { (behind : ℕ) (known : List (List ℕ)) → OpensNone behind line.now → (HasZoneWord line.now → ⊥) → line.now ≢ codes "script"
-        → RefusesBeforeScript behind known line.now (whole result) }
+        → RefusesBeforeScript behind known line.now result }
 {
-    if has_section_word(line) {
-        29
-    } else if has_later_word(line) {
-        35
-    } else {
-        31
-    }
+    if has_section_word(line) { 29 } else { 31 }
 }
 
-// crontab LABEL ZONE COUNT, or system LABEL ZONE COUNT
+// crontab LABEL ZONE COUNT, system LABEL ZONE COUNT, or anacrontab LABEL ZONE COUNT
 fn opening_of(line: &str) -> Option<Opening<'_>>
     ensures read { IfSome result (λ opening. IsSectionLine line.now opening.kind opening.label.now opening.zone.now opening.count) }
     ensures none { IfNone result ((kind : SectionKind) (label zone : List ℕ) (count : ℕ) → IsSectionLine line.now kind label zone count → ⊥) }
@@ -72,18 +66,4 @@ fn opening_of(line: &str) -> Option<Opening<'_>>
         zone,
         count,
     })
-}
-
-// What a section is that the word opens.
-fn kind_of(word: &str) -> Option<SectionKind>
-    ensures found { IfSome result (λ kind. word.now ≡ section_word kind) }
-    ensures none { IfNone result ((kind : SectionKind) → word.now ≡ section_word kind → ⊥) }
-{
-    if word == "crontab" {
-        Some(SectionKind::User)
-    } else if word == "system" {
-        Some(SectionKind::System)
-    } else {
-        None
-    }
 }

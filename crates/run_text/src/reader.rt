@@ -1,5 +1,6 @@
-ghost use Rattle.std.specs.Prelude.{◌≡◌, ◌+◌, ◌<◌, ◌≤◌, ◌^◌, ℕ, [], ◌∷◌, length, IfSome, IfNone};
+ghost use Rattle.std.specs.Prelude.{◌≡◌, ◌+◌, ◌<◌, ◌≤◌, ◌^◌, ℕ, List, [], ◌∷◌, ◌++◌, length, IfSome, IfNone};
 ghost use Rattle.crontab_text.specs.Lines.{lines_of};
+ghost use Rattle.run_text.specs.Steps.{IsCut};
 
 /// What is left to read of a run file, behind some lines of it.
 #[derive(Clone, Copy, Debug)]
@@ -32,6 +33,7 @@ pub fn first_line(text: &str) -> Option<(&str, &str)>
     ensures line { IfSome result (λ parts. lines_of text.now ≡ parts.0.now ∷ lines_of parts.1.now) }
     ensures shorter { IfSome result (λ parts. length parts.1.now < length text.now) }
     ensures within { IfSome result (λ parts. length parts.0.now + length parts.1.now ≤ length text.now) }
+    ensures back { IfSome result (λ parts. (front : List ℕ) × (text.now ≡ front ++ parts.1.now)) }
     ensures none { IfNone result (text.now ≡ []) }
 {
     match text.split_once('\n') {
@@ -39,4 +41,17 @@ pub fn first_line(text: &str) -> Option<(&str, &str)>
         None if text.is_empty() => None,
         None => Some((text, "")),
     }
+}
+
+/// The text of that many lines, and what is behind them. None if there are fewer.
+pub fn cut_lines(text: &str, count: u32) -> Option<(&str, &str)>
+    ensures cut { IfSome result (λ parts. IsCut text.now count parts.0.now parts.1.now) }
+    ensures none { IfNone result (length (lines_of text.now) < count) }
+{
+    let mut rest = text;
+    'lines: for _ in 0..count {
+        (_, rest) = first_line(rest)?;
+    }
+    let (front, _) = text.split_at(text.len() - rest.len());
+    Some((front, rest))
 }

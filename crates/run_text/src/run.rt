@@ -8,19 +8,22 @@ pub enum SectionKind {
     User,
     /// A system crontab, whose entries name a user.
     System,
+    /// An anacrontab.
+    Anacron,
 }
 
 impl SectionKind {
     ghost use Rattle.std.specs.Prelude.{◌≡◌};
     ghost use Rattle.run_text.specs.Follow.{style_of};
 
-    /// How the lines are read.
-    pub fn style(self) -> Style
+    /// How the lines are read, if they are those of a crontab.
+    pub fn style(self) -> Option<Style>
         ensures { result ≡ style_of self }
     {
         match self {
-            SectionKind::User => Style::User,
-            SectionKind::System => Style::System,
+            SectionKind::User => Some(Style::User),
+            SectionKind::System => Some(Style::System),
+            SectionKind::Anacron => None,
         }
     }
 }
@@ -34,7 +37,7 @@ pub struct Section<'a> {
     pub label: &'a str,
     /// The name of the zone of its entries.
     pub zone: &'a str,
-    /// Its lines, each of which has a reading.
+    /// Its lines, each of which has a reading. An anacrontab's may go on in the next line of the text, but in none behind it.
     pub text: &'a str,
 }
 

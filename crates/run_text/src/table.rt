@@ -1,24 +1,22 @@
 //! The lines of a section.
-ghost use Rattle.std.specs.Prelude.{◌≡◌, ◌≤◌, ◌+◌, ◌<◌, ◌^◌, length, IfOk, IfErr, OnOk};
+ghost use Rattle.std.specs.Prelude.{◌≡◌, ◌≤◌, ◌+◌, ◌<◌, ◌^◌, length, IfOk, IfErr, IfSome, IfNone, OnOk};
+ghost use Rattle.std.specs.List.{AllByRecursion};
+ghost use Rattle.anacron_text.specs.LogicalLines.{logical_lines};
+ghost use Rattle.anacron_text.specs.Settings.{no_settings};
+ghost use Rattle.anacron_text.specs.TableReader.{table_reader as anacron_reader};
+ghost use Rattle.crontab_text.specs.Lines.{lines_of};
+ghost use Rattle.crontab_text.specs.TableReader.{table_reader};
+ghost use Rattle.run_text.specs.Anacrontab.{SayAll, IsFirstBreak};
+ghost use Rattle.run_text.specs.Follow.{style_of};
 ghost use Rattle.run_text.specs.Steps.{HasRoom, PassesTable, RefusesTable};
-ghost use Rattle.run_text.specs.Table.{ArePassed, earlier_fault};
+ghost use Rattle.run_text.specs.Table.{Says, AreSaid, IsFirstFault, IsFault};
 
 use crate::opening::Opening;
-use crate::reader::Reader;
+use crate::reader::{Reader, cut_lines};
 use crate::refusal::Refusal;
 use crate::run::Section;
-use crontab_text::{Line, LineFault, Lines};
-
-/// What became of the lines of a table.
-#[derive(Clone, Copy, Debug, PartialEq, Eq)]
-pub enum Passed {
-    /// Each of them says something.
-    Sound,
-    /// The first that says nothing.
-    Faulty(LineFault),
-    /// The text ends before.
-    TooFew,
-}
+use anacron_text::AnaLines;
+use crontab_text::{LineFault, Lines};
 
 /// Reads the lines of a section. The reader stands at the line that opened it.
 pub fn read_table<'a>(reader: &mut Reader<'a>, opening: Opening<'a>) -> Result<Section<'a>, Refusal>
@@ -29,15 +27,13 @@ pub fn read_table<'a>(reader: &mut Reader<'a>, opening: Opening<'a>) -> Result<S
     ensures shorter { OnOk result (length reader.new.rest.now ≤ length reader.old.rest.now) }
     ensures part { IfOk result (λ section. length section.text.now ≤ length reader.old.rest.now) }
 {
-    let mut lines = Lines::new(reader.rest, opening.kind.style(), opening.label);
-    match pass_lines(&mut lines, opening.count) {
-        Passed::Sound => {}
-        Passed::Faulty(fault) => return Err(refusal_of(reader.number, fault)),
-        Passed::TooFew => return Err(Refusal::of_line(reader.number, 29)),
+    let Some((text, rest)) = cut_lines(reader.rest, opening.count) else {
+        return Err(Refusal::of_line(reader.number, 29));
+    };
+    if let Some(fault) = first_fault(text, &opening) {
+        return Err(refusal_of(reader.number, fault));
     }
     let line = reader.number;
-    let rest = lines.rest();
-    let (text, _) = reader.rest.split_at(reader.rest.len() - rest.len());
     reader.rest = rest;
     reader.number += opening.count;
     Ok(Section {
@@ -63,30 +59,45 @@ fn refusal_of(above: u32, fault: LineFault) -> Refusal
     }
 }
 
-// Passes that many lines.
-fn pass_lines(lines: &mut Lines<'_>, count: u32) -> Passed
-    requires { lines.old.passed ≡ 0 }
-    ensures { ArePassed lines.old lines.new count result }
+// The first line of a section's text that says nothing.
+fn first_fault(text: &str, opening: &Opening<'_>) -> Option<LineFault>
+    requires { length text.now < 2 ^ 32 }
+    ensures fault { IfSome result (IsFault (style_of opening.now.kind) opening.now.label.now (lines_of text.now)) }
+    ensures none { IfNone result (AreSaid (style_of opening.now.kind) opening.now.label.now (lines_of text.now)) }
+    ensures within { IfSome result (λ fault. fault.line ≤ length text.now) }
 {
-    let mut fault = None;
-    'lines: for _ in 0..count {
-        match lines.next() {
-            Some(read) => fault = earlier(fault, read),
-            None => return Passed::TooFew,
-        }
-    }
-    match fault {
-        Some(fault) => Passed::Faulty(fault),
-        None => Passed::Sound,
+    match opening.kind.style() {
+        Some(style) => crontab_fault(&mut Lines::new(text, style, opening.label)),
+        None => anacrontab_fault(&mut AnaLines::new(text)),
     }
 }
 
-// The fault that was found before, or else that of the line.
-fn earlier(found: Option<LineFault>, read: Result<Line<'_>, LineFault>) -> Option<LineFault>
-    ensures { result ≡ earlier_fault found read.entry }
+// The first line of a crontab that says nothing.
+fn crontab_fault(lines: &mut Lines<'_>) -> Option<LineFault>
+    requires { lines.old ≡ table_reader lines.old.text lines.old.style lines.old.owner }
+    ensures fault { IfSome result (IsFirstFault lines.old.style lines.old.owner (lines_of lines.old.text)) }
+    ensures none { IfNone result (AllByRecursion (Says lines.old.style lines.old.owner) (lines_of lines.old.text)) }
+    ensures within { IfSome result (λ fault. fault.line ≤ length lines.old.text) }
 {
-    match (found, read) {
-        (None, Err(fault)) => Some(fault),
-        _ => found,
+    'lines: while let Some(line) = lines.next() {
+        if let Err(fault) = line {
+            return Some(fault);
+        }
     }
+    None
+}
+
+// The first logical line of an anacrontab that says nothing.
+fn anacrontab_fault(lines: &mut AnaLines<'_>) -> Option<LineFault>
+    requires { lines.old ≡ anacron_reader lines.old.text }
+    ensures fault { IfSome result (λ fault. IsFirstBreak no_settings (logical_lines lines.old.text) fault.line fault.cause fault.place) }
+    ensures none { IfNone result (SayAll no_settings (logical_lines lines.old.text)) }
+    ensures within { IfSome result (λ fault. fault.line ≤ length lines.old.text) }
+{
+    'lines: while let Some(logical) = lines.next() {
+        if let Err(fault) = logical {
+            return Some(fault);
+        }
+    }
+    None
 }

@@ -1,29 +1,10 @@
 //! The words of the product's own lines.
-ghost use Rattle.std.specs.Prelude.{◌≡◌, ◌≢◌, ◌≤◌, ◌↔◌, ℕ, IsTrue, IfSome, IfNone, decimal};
-ghost use Rattle.run_text.specs.Grammar.{IsLabelStart, IsLabelByte, IsLabel, IsZoneByte, IsZoneName, first_word, HasSectionWord, HasLaterWord, IsCommandWord};
-ghost use Rattle.run_text.specs.Words.{MayBeginNumber};
+ghost use Rattle.std.specs.Prelude.{◌≡◌, ◌≢◌, ◌↔◌, IsTrue, IfSome, IfNone};
+ghost use Rattle.run_text.specs.Grammar.{IsLabelStart, IsLabelByte, IsLabel, IsZoneByte, IsZoneName, first_word, section_word, HasSectionWord, IsCommandWord};
 ghost use Rattle.run_text.specs.Zones.{HasZoneWord};
+ghost use Rattle.run_text.specs.declared.run.SectionKind.{SectionKind};
 
-// `parse` also takes a sign and leading zeros.
-fn may_begin_number(text: &str) -> bool
-    ensures { IsTrue result ↔ MayBeginNumber text.now }
-{
-    !text.starts_with('+') && (text.len() < 2 || !text.starts_with('0'))
-}
-
-/// Decimal digits without a sign or a leading zero, of a number up to `most`.
-pub fn read_number(text: &str, most: u32) -> Option<u32>
-    ensures read { IfSome result (λ n. (n ≤ most) × (text.now ≡ decimal n)) }
-    ensures none { IfNone result ((n : ℕ) → n ≤ most → text.now ≢ decimal n) }
-{
-    if !may_begin_number(text) {
-        return None;
-    }
-    match text.parse::<u32>() {
-        Ok(number) if number <= most => Some(number),
-        _ => None,
-    }
-}
+use crate::run::SectionKind;
 
 fn is_label_start(byte: u8) -> bool
     ensures { IsTrue result ↔ IsLabelStart byte }
@@ -75,12 +56,24 @@ fn first_word(text: &str) -> &str
     }
 }
 
+/// What a section is that the word opens.
+pub fn kind_of(word: &str) -> Option<SectionKind>
+    ensures found { IfSome result (λ kind. word.now ≡ section_word kind) }
+    ensures none { IfNone result ((kind : SectionKind) → word.now ≢ section_word kind) }
+{
+    match word {
+        "crontab" => Some(SectionKind::User),
+        "system" => Some(SectionKind::System),
+        "anacrontab" => Some(SectionKind::Anacron),
+        _ => None,
+    }
+}
+
 /// Whether the line's first word opens a section.
 pub fn has_section_word(line: &str) -> bool
     ensures { IsTrue result ↔ HasSectionWord line.now }
 {
-    let word = first_word(line);
-    word == "crontab" || word == "system"
+    kind_of(first_word(line)).is_some()
 }
 
 /// Whether the line's first word is that of a zone's line.
@@ -88,13 +81,6 @@ pub fn has_zone_word(line: &str) -> bool
     ensures { IsTrue result ↔ HasZoneWord line.now }
 {
     first_word(line) == "zone"
-}
-
-/// Whether the line's first word is that of a line before the script that has no form yet.
-pub fn has_later_word(line: &str) -> bool
-    ensures { IsTrue result ↔ HasLaterWord line.now }
-{
-    first_word(line) == "anacrontab"
 }
 
 /// Whether the line's first word is that of a command, none of which has a form yet.

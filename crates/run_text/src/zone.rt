@@ -4,10 +4,10 @@ ghost use Rattle.std.specs.List.{AllByRecursion};
 ghost use Rattle.hex.specs.Hex.{is_hex_digit};
 ghost use Rattle.zone_minutes.specs.Stamp.{two_digits};
 ghost use Rattle.zone_minutes.specs.Zone.{Source};
-ghost use Rattle.run_text.specs.Follow.{whole};
+ghost use Rattle.run_text.specs.Follow.{IsOfLine};
 ghost use Rattle.run_text.specs.Reading.{AreDigits, HasDigits};
 ghost use Rattle.run_text.specs.Run.{source_of};
-ghost use Rattle.run_text.specs.Steps.{texts_of, fault_of};
+ghost use Rattle.run_text.specs.Steps.{texts_of};
 ghost use Rattle.run_text.specs.Zones.{IsClockText, IsOffsetText, IsSourceText, IsHexText, IsZoneLine, IsFreeName, AddsZone, AddsNone};
 
 use crate::part::Names;
@@ -31,8 +31,8 @@ pub fn read_zone<'a>(
     ensures digits { IfOk result HasDigits }
     ensures names { IfOk result (λ zone. names.new.items ≡ names.old.items ++ zone.name ∷ []) }
     ensures refused { IfErr result (λ refusal. AddsNone (texts_of names.old.items) line.now) }
-    ensures line { IfErr result (λ refusal. refusal.line ≡ number) }
-    ensures fault { IfErr result (λ refusal. fault_of refusal ≡ whole 34) }
+    ensures line { IfErr result (IsOfLine number) }
+    ensures cause { IfErr result (λ refusal. refusal.cause ≡ 34) }
 {
     let Some(zone) = zone_of(number, line) else {
         return Err(Refusal::of_line(number, 34));

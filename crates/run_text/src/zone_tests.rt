@@ -4,7 +4,7 @@ use std::alloc::Global;
 use std::test::*;
 
 // The run of a text that has these lines between its head and its script, written at the end of `text`.
-fn run_of<'a>(alloc: Global, lines: &str, text: &'a mut String) -> Result<RunFile<'a>, Fail> {
+pub fn run_of<'a>(alloc: Global, lines: &str, text: &'a mut String) -> Result<RunFile<'a>, Fail> {
     text.push_str(HEAD)?;
     text.push_str(lines)?;
     text.push_str("script\nend\n")?;
@@ -17,7 +17,7 @@ fn run_of<'a>(alloc: Global, lines: &str, text: &'a mut String) -> Result<RunFil
 }
 
 // Line, cause and place of the refusal of a text that has these lines behind its head.
-fn refusal_of(alloc: Global, lines: &str) -> Result<(u32, u8, u32), Fail> {
+pub fn refusal_of(alloc: Global, lines: &str) -> Result<(u32, u8, u32), Fail> {
     let text = format!(in alloc; "{HEAD}{lines}script\nend\n")?;
     let text = short(text.as_str()).ok_or("a long text")?;
     a_text_has_a_reading(text);
@@ -29,30 +29,31 @@ fn refusal_of(alloc: Global, lines: &str) -> Result<(u32, u8, u32), Fail> {
 }
 
 #[test]
-fn the_forms_of_a_zone_line(rt: HostRuntime) -> Result<(), Fail> {
+fn offsets_of_a_zone_line(rt: HostRuntime) -> Result<(), Fail> {
+    for (offset, minutes) in [
+        ("+00:00", 0),
+        ("-00:00", 0),
+        ("+05:45", 345),
+        ("-00:01", -1),
+        ("+14:00", 840),
+        ("-12:00", -720),
+    ] {
+        let line = format!(in rt.alloc(); "zone A fixed {offset}\n")?;
+        let mut text = String::new(rt.alloc());
+        let run = run_of(rt.alloc(), line.as_str(), &mut text)?;
+        let zone = ZoneLine {
+            line: 5,
+            name: "A",
+            source: ZoneText::Fixed { minutes },
+        };
+        assert_eq!(rt; run.zones.as_slice(), [zone].as_slice(), "{offset}");
+    }
+    Ok(())
+}
+
+#[test]
+fn rules_and_files_of_a_zone_line(rt: HostRuntime) -> Result<(), Fail> {
     for (line, name, source) in [
-        ("zone A fixed +00:00\n", "A", ZoneText::Fixed { minutes: 0 }),
-        ("zone A fixed -00:00\n", "A", ZoneText::Fixed { minutes: 0 }),
-        (
-            "zone A fixed +05:45\n",
-            "A",
-            ZoneText::Fixed { minutes: 345 },
-        ),
-        (
-            "zone A fixed -00:01\n",
-            "A",
-            ZoneText::Fixed { minutes: -1 },
-        ),
-        (
-            "zone A fixed +14:00\n",
-            "A",
-            ZoneText::Fixed { minutes: 840 },
-        ),
-        (
-            "zone A fixed -12:00\n",
-            "A",
-            ZoneText::Fixed { minutes: -720 },
-        ),
         (
             "zone Europe/Paris posix CET-1CEST,M3.5.0,M10.5.0/3\n",
             "Europe/Paris",
@@ -84,12 +85,15 @@ fn the_forms_of_a_zone_line(rt: HostRuntime) -> Result<(), Fail> {
     Ok(())
 }
 
+// The refusal of a text that has this line behind a section.
+fn refusal_of_line(alloc: Global, line: &str) -> Result<(u32, u8, u32), Fail> {
+    let lines = format!(in alloc; "crontab alice UTC 0\n{line}\n")?;
+    refusal_of(alloc, lines.as_str())
+}
+
 #[test]
-fn lines_that_name_no_zone(rt: HostRuntime) -> Result<(), Fail> {
+fn lines_that_name_no_offset(rt: HostRuntime) -> Result<(), Fail> {
     for line in [
-        "zone",
-        "zone ",
-        "zone A",
         "zone A fixed",
         "zone A fixed ",
         "zone A fixed 01:00",
@@ -103,6 +107,19 @@ fn lines_that_name_no_zone(rt: HostRuntime) -> Result<(), Fail> {
         "zone A fixed ++1:00",
         "zone A fixed +01:00 ",
         "zone A fixed  +01:00",
+        "zone A Fixed +01:00",
+    ] {
+        assert_eq!(rt; refusal_of_line(rt.alloc(), line)?, (6, 34, 0), "{line}");
+    }
+    Ok(())
+}
+
+#[test]
+fn lines_that_name_no_zone(rt: HostRuntime) -> Result<(), Fail> {
+    for line in [
+        "zone",
+        "zone ",
+        "zone A",
         "zone A posix",
         "zone A tzif",
         "zone A tzif ",
@@ -111,18 +128,12 @@ fn lines_that_name_no_zone(rt: HostRuntime) -> Result<(), Fail> {
         "zone A tzif 5g",
         "zone A tzif 54 ",
         "zone A file /etc/localtime",
-        "zone A Fixed +01:00",
         "zone  fixed +01:00",
         "zone A:B fixed +01:00",
         "zone UTC fixed +01:00",
         "zone aaaaaaaaaaaaaaaaaaaaaaaaaaaaaaaaaaaaaaaaaaaaaaaaaaaaaaaaaaaaaaaaa fixed +00:00",
     ] {
-        let lines = format!(in rt.alloc(); "crontab alice UTC 0\n{line}\n")?;
-        assert_eq!(rt;
-            refusal_of(rt.alloc(), lines.as_str())?,
-            (6, 34, 0),
-            "{line}"
-        );
+        assert_eq!(rt; refusal_of_line(rt.alloc(), line)?, (6, 34, 0), "{line}");
     }
     Ok(())
 }
@@ -159,7 +170,7 @@ fn zones_beside_sections(rt: HostRuntime) -> Result<(), Fail> {
             (7, 34, 0),
         ),
         ("zone A posix X\nzone B posix X\nzone A y\n", (7, 34, 0)),
-        ("zone A posix X\nanacrontab b A 0\n", (6, 35, 0)),
+        ("zone A posix X\nanacrontab B A 0\n", (6, 29, 0)),
         ("zone A posix X\nzones\n", (6, 31, 0)),
         ("crontab alice A 2\nzone A posix X\n", (6, 4, 0)),
     ] {

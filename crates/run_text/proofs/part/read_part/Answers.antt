@@ -23,7 +23,7 @@ returns-in_err-zone-clause-refused c =
     c.from_residual.ensures.1
     (part_refused c.args.reader.now c.next_line.new.self c.args.names.now.items c.in-Some.line.now c.in_err-zone.field-0.0
     c.in-Some.ensures.number c.in-Some.ensures.line refused.line
-    (inr (inl (c.has_zone_word.ensures.0 c.if-has_zone_word.true, refused.refused, refused.fault))))
+    (inr (inl (c.has_zone_word.ensures.0 c.if-has_zone_word.true, refused.refused, refused.cause))))
 
 pub returns-in_err-opening-clause-refused : goal.returns-in_err-opening-clause-refused
 returns-in_err-opening-clause-refused c =
