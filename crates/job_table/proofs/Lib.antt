@@ -1,3 +1,5 @@
+mod AnacrontabLemmas
+mod CrontabLemmas
 mod DueCountLemmas
 mod JobLemmas
 mod MarkLemmas

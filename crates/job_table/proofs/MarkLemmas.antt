@@ -5,7 +5,7 @@ use Rattle.due_set.specs.Table.{Job}
 use Rattle.due_set.specs.declared.job.JobKind.{JobKind}
 use Rattle.run_text.specs.declared.refusal.Refusal.{Refusal}
 use Rattle.job_table.specs.Collect.{Collected, AddsMarks, RefusesMarks}
-use Rattle.job_table.specs.Jobs.{crontab_job, HasJob}
+use Rattle.job_table.specs.Jobs.{named_job, HasJob}
 use Rattle.job_table.specs.Marks.{Mark, MarksZone, MarksJob, BringsJob, IsMarkFault, AreSoundBehind, AreSound}
 use Rattle.run_text.specs.Run.{NamedZone}
 use Rattle.job_table.specs.Zones.{NamesZone}
@@ -51,10 +51,10 @@ adds_zone zones jobs at name is marks collected = record {
 
 -- a job of a new name
 pub adds_job : (zones : List NamedZone) (jobs : List Job) (at : ℕ) (name : List ℕ) (zone : ℕ) (kind : JobKind) → (HasJob name jobs → ⊥)
-    → AddsMarks zones jobs (jobs ++ crontab_job name zone kind ∷ []) (MarksJob at name zone kind ∷ [])
+    → AddsMarks zones jobs (jobs ++ named_job name zone kind ∷ []) (MarksJob at name zone kind ∷ [])
 adds_job zones jobs at name zone kind none marks collected = record {
   sound = sound_push zones [] marks (MarksJob at name zone kind) collected.sound (λ line cause fault. none (subst (HasJob name) (sym collected.are) (brought name marks fault.0)));
-  are = ap (λ l. l ++ crontab_job name zone kind ∷ []) collected.are ∙ sym (jobs_of-append marks (MarksJob at name zone kind ∷ []));
+  are = ap (λ l. l ++ named_job name zone kind ∷ []) collected.are ∙ sym (jobs_of-append marks (MarksJob at name zone kind ∷ []));
 }
 
 at_fault : (zones : List NamedZone) (marks others : List Mark) (mark : Mark) (line cause : ℕ) (refusal : Refusal) → AreSound zones marks → IsMarkFault zones marks mark line cause → refusal ≡ at_line line cause
@@ -75,3 +75,11 @@ pub refuses_job : (zones : List NamedZone) (jobs : List Job) (at : ℕ) (name : 
     → RefusesMarks zones jobs (MarksJob at name zone kind ∷ []) refusal
 refuses_job zones jobs at name zone kind refusal has is marks others collected =
     at_fault zones marks others (MarksJob at name zone kind) at 22 refusal collected.sound (brings name marks (subst (HasJob name) collected.are has), refl, refl) is
+
+-- one list of marks after another
+pub adds_both : (zones : List NamedZone) (old now new : List Job) (a b : List Mark) → AddsMarks zones old now a → AddsMarks zones now new b → AddsMarks zones old new (a ++ b)
+adds_both zones old now new a b first second marks collected = subst (λ m. Collected zones m new) (append_assoc marks a b) (second (marks ++ a) (first marks collected))
+
+-- marks of some lines at fault among all of them
+pub regroup : (a b c d e : List Mark) → ((a ++ b) ++ c) ++ (d ++ e) ≡ (a ++ (b ++ (c ++ d))) ++ e
+regroup a b c d e = simp append_assoc

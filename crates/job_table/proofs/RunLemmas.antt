@@ -4,11 +4,9 @@ use Rattle.std.specs.List.{AllByRecursion}
 use Rattle.std.proofs.lemmas.List.{append-nil, length-map, take_more, take_all}
 use Rattle.std.proofs.lemmas.List.Elements.{All-get_or}
 use Rattle.std.proofs.Math.ListN.{get_or-map}
-use Rattle.crontab_text.specs.LineBody.{LineBody}
 use Rattle.crontab_text.specs.Lines.{lines_of}
 use Rattle.crontab_text.proofs.LineLemmas.{lines_at_most}
 use Rattle.due_set.specs.Table.{Job}
-use Rattle.run_text.specs.Follow.{style_of}
 use Rattle.run_text.specs.Reading.{IsReadRun, ArePartsOf}
 use Rattle.run_text.specs.Run.{NamedZone, Section, Run, section_of, zone_of, run_of}
 use Rattle.run_text.specs.Sound.{IsSoundSection}
@@ -18,8 +16,8 @@ use Rattle.run_text.specs.declared.run.Section.{Section as SectionText}
 use Rattle.run_text.specs.declared.run.ZoneLine.{ZoneLine}
 use Rattle.run_text.proofs.SoundLemmas.{sound_run}
 use Rattle.job_table.specs.Collect.{Collected, AddsSection, RefusesSection, HasMarks, HasFaultyMarks}
-use Rattle.job_table.specs.Marks.{Mark, AreBodies, AreMarks, section_marks}
-use Rattle.job_table.proofs.SectionLemmas.{what_is_said}
+use Rattle.job_table.specs.Marks.{Mark, AreMarks, AreSectionMarks}
+use Rattle.job_table.proofs.SectionLemmas.{some_marks}
 
 -- the marks of some sections are collected
 pub record SoFar (zones : List NamedZone) (sections : List Section) (jobs : List Job) : Type 0 where
@@ -32,18 +30,18 @@ none_so_far zones = record { marks = []; are = refl; collected = record { sound 
 
 marks_append : (zones : List NamedZone) (a b : List Section) (x y : List Mark) → AreMarks zones a x → AreMarks zones b y → AreMarks zones (a ++ b) (x ++ y)
 marks_append zones [] b x y first second = subst (AreMarks zones b) (sym (ap (λ m. m ++ y) first)) second
-marks_append zones (s ∷ a) b x y (bodies, others, said, rest, is) second =
-    (bodies, others ++ y, said, marks_append zones a b others y rest second, ap (λ m. m ++ y) is ∙ append_assoc (section_marks zones s bodies) others y)
+marks_append zones (s ∷ a) b x y (first, others, here, rest, is) second =
+    (first, others ++ y, here, marks_append zones a b others y rest second, ap (λ m. m ++ y) is ∙ append_assoc first others y)
 
 -- the marks of a section alone
-one_section : (zones : List NamedZone) (section : Section) (bodies : List LineBody) → AreBodies section bodies → AreMarks zones (section ∷ []) (section_marks zones section bodies)
-one_section zones section bodies said = (bodies, [], said, refl, sym (append-nil (section_marks zones section bodies)))
+one_section : (zones : List NamedZone) (section : Section) (marks : List Mark) → AreSectionMarks zones section marks → AreMarks zones (section ∷ []) marks
+one_section zones section marks are = (marks, [], are, refl, sym (append-nil marks))
 
 -- one section more
 pub more_so_far : (zones : List NamedZone) (sections : List Section) (section : Section) (old new : List Job) → SoFar zones sections old → AddsSection zones old new section → SoFar zones (sections ++ section ∷ []) new
 more_so_far zones sections section old new so_far adds = record {
-  marks = so_far.marks ++ section_marks zones section adds.bodies;
-  are = marks_append zones sections (section ∷ []) so_far.marks (section_marks zones section adds.bodies) so_far.are (one_section zones section adds.bodies adds.are);
+  marks = so_far.marks ++ adds.marks;
+  are = marks_append zones sections (section ∷ []) so_far.marks adds.marks so_far.are (one_section zones section adds.marks adds.are);
   collected = adds.adds so_far.marks so_far.collected;
 }
 
@@ -51,9 +49,9 @@ more_so_far zones sections section old new so_far adds = record {
 marks_exist : (zones : List NamedZone) (next : ℕ) (sections : List Section) → AllByRecursion (IsSoundSection next) sections → (marks : List Mark) × AreMarks zones sections marks
 marks_exist zones next [] all = ([], refl)
 marks_exist zones next (section ∷ sections) all =
-    let (bodies, said) = what_is_said (style_of section.kind) section.label section.lines all.0.said in
+    let (first, here) = some_marks zones section all.0.said in
     let (others, are) = marks_exist zones next sections all.1 in
-    (section_marks zones section bodies ++ others, (bodies, others, said, are, refl))
+    (first ++ others, (first, others, here, are, refl))
 
 all_of_back : (P : Section → Type 0) (a b : List Section) → AllByRecursion P (a ++ b) → AllByRecursion P b
 all_of_back P [] b all = all
@@ -65,10 +63,10 @@ pub refused_so_far : (next : ℕ) (run : Run) (front back : List Section) (secti
 refused_so_far next run front back section jobs refusal are all so_far refuses =
     let (others, others_are) = marks_exist run.zones next back (all_of_back (IsSoundSection next) front (section ∷ back) (subst (AllByRecursion (IsSoundSection next)) are all)).1 in
     record {
-      marks = (so_far.marks ++ section_marks run.zones section refuses.bodies) ++ others;
-      are = subst (λ s. AreMarks run.zones s ((so_far.marks ++ section_marks run.zones section refuses.bodies) ++ others)) (sym are)
-          (subst (AreMarks run.zones (front ++ section ∷ back)) (sym (append_assoc so_far.marks (section_marks run.zones section refuses.bodies) others))
-          (marks_append run.zones front (section ∷ back) so_far.marks (section_marks run.zones section refuses.bodies ++ others) so_far.are (refuses.bodies, others, refuses.are, others_are, refl)));
+      marks = (so_far.marks ++ refuses.marks) ++ others;
+      are = subst (λ s. AreMarks run.zones s ((so_far.marks ++ refuses.marks) ++ others)) (sym are)
+          (subst (AreMarks run.zones (front ++ section ∷ back)) (sym (append_assoc so_far.marks (refuses.marks) others))
+          (marks_append run.zones front (section ∷ back) so_far.marks (refuses.marks ++ others) so_far.are (refuses.marks, others, refuses.are, others_are, refl)));
       fault = refuses.refuses so_far.marks others so_far.collected;
     }
 

@@ -1,14 +1,16 @@
 -- The jobs that marks bring, as those of a table.
-use Rattle.std.proofs.Common.{◌≡◌, ◌⊎◌, inl, inr, ℕ, ◌+◌, ◌<◌, Bool, true, false, List, [], ◌∷◌, ◌++◌, length, Option, None, Some, refl, sym, subst, codes, bytes_eq, append_assoc, if◌then◌else◌}
-use Rattle.std.specs.Prelude.{All}
+use Rattle.std.proofs.Common.{inl, inr, ℕ, ◌+◌, ◌<◌, Bool, true, false, List, [], ◌∷◌, ◌++◌, length, Option, None, Some, refl, sym, subst, codes, bytes_eq, append_assoc, if◌then◌else◌}
 use Rattle.std.proofs.lemmas.List.{append-nil}
 use Rattle.std.proofs.lemmas.List.Elements.{All-nil, All-cons, All-append}
-use Rattle.cron_fields.specs.declared.field.Fields.{Fields}
+use Rattle.anacron_text.specs.LineBody.{LineBody as AnaBody, BlankBody as AnaBlank, CommentBody as AnaComment, AssignBody as AnaAssign, JobBody}
+use Rattle.anacron_text.specs.LogicalLines.{joined, line_count}
 use Rattle.crontab_text.specs.LineBody.{LineBody, BlankBody, CommentBody, AssignBody, EntryBody, NickBody}
-use Rattle.due_set.specs.Table.{Job, IsAnacron, AreZonesBelow}
+use Rattle.crontab_text.specs.declared.answer.Style.{Style}
+use Rattle.due_set.specs.Table.{Job, AreZonesBelow}
 use Rattle.due_set.specs.declared.job.JobKind.TheVariants.{Crontab}
+use Rattle.run_text.specs.Follow.{style_of}
 use Rattle.run_text.specs.Run.{NamedZone, Section}
-use Rattle.job_table.specs.Marks.{Mark, MarksZone, MarksJob, job_name, kind_of, marks_from, section_marks, AreMarks, IsMarkFault, AreSoundBehind, AreSound}
+use Rattle.job_table.specs.Marks.{Mark, MarksZone, MarksJob, job_name, kind_of, marks_from, anacron_marks, AreTableMarks, AreMarks, IsMarkFault, AreSoundBehind, AreSound}
 use Rattle.job_table.specs.Table.{jobs_of}
 use Rattle.job_table.specs.Zones.{zone_number}
 use Rattle.job_table.proofs.MarkLemmas.{jobs_of-append}
@@ -51,48 +53,37 @@ sound_behind : (zones : List NamedZone) (before front back : List Mark) → AreS
 sound_behind zones before [] back sound = subst (λ b. AreSoundBehind zones b back) (sym (append-nil before)) sound
 sound_behind zones before (m ∷ front) back sound = subst (λ b. AreSoundBehind zones b back) (append_assoc before (m ∷ []) front) (sound_behind zones (before ++ m ∷ []) front back sound.1)
 
+anacron_below : (zones : List NamedZone) (label : List ℕ) (zone line : ℕ) (lines : List (List ℕ)) (bodies : List AnaBody) → zone < 1 + length zones → Below zones (anacron_marks label zone line lines bodies)
+anacron_below zones label zone line [] bodies is = All-nil (λ (job : Job). job.zone < 1 + length zones)
+anacron_below zones label zone line (text ∷ lines) [] is = All-nil (λ (job : Job). job.zone < 1 + length zones)
+anacron_below zones label zone line (text ∷ lines) (AnaBlank ∷ bodies) is = anacron_below zones label zone (line + line_count text) lines bodies is
+anacron_below zones label zone line (text ∷ lines) (AnaComment ∷ bodies) is = anacron_below zones label zone (line + line_count text) lines bodies is
+anacron_below zones label zone line (text ∷ lines) (AnaAssign name value ∷ bodies) is = anacron_below zones label zone (line + line_count text) lines bodies is
+anacron_below zones label zone line (text ∷ lines) (JobBody job ∷ bodies) is =
+    All-cons (λ (j : Job). j.zone < 1 + length zones) _ (jobs_of (anacron_marks label zone (line + line_count text) lines bodies)) is
+    (anacron_below zones label zone (line + line_count text) lines bodies is)
+
+table_below : (zones : List NamedZone) (style : Option Style) (section : Section) (zone : ℕ) (before lines others : List Mark) → zone < 1 + length zones
+    → AreTableMarks zones style section zone lines → AreSoundBehind zones before (lines ++ others) → Below zones lines
+table_below zones (Some style) section zone before lines others number (bodies, said, is) sound =
+    subst (Below zones) (sym is)
+    (marks_below zones section.label before others zone (section.line + 1) 1 bodies number (subst (λ l. AreSoundBehind zones before (l ++ others)) is sound))
+table_below zones None section zone before lines others number (bodies, said, is) sound =
+    subst (Below zones) (sym is) (anacron_below zones section.label zone (section.line + 1) (joined section.lines) bodies number)
+
 -- each job of some sections whose marks aren't at fault runs by one of the zones
 zones_below_behind : (zones : List NamedZone) (before : List Mark) (sections : List Section) (marks : List Mark) → AreMarks zones sections marks → AreSoundBehind zones before marks → Below zones marks
 zones_below_behind zones before [] marks is sound = subst (Below zones) (sym is) (All-nil (λ (job : Job). job.zone < 1 + length zones))
-zones_below_behind zones before (section ∷ sections) marks (bodies, others, said, rest, is) sound =
-    let first = section_marks zones section bodies in
-    let all = subst (AreSoundBehind zones before) is sound in
-    let here = marks_below zones section.label (before ++ MarksZone section.line section.zone ∷ []) others (zone_number section.zone zones) (section.line + 1) 1 bodies (zone_known zones before section.line section.zone all.0) all.1 in
+zones_below_behind zones before (section ∷ sections) marks (first, others, here, rest, is) sound =
+    let opens = MarksZone section.line section.zone in
+    let all : AreSoundBehind zones before (first ++ others) = subst (AreSoundBehind zones before) is sound in
+    let opened : AreSoundBehind zones before (opens ∷ (here.lines ++ others)) = subst (λ m. AreSoundBehind zones before (m ++ others)) here.all all in
+    let number = zone_known zones before section.line section.zone opened.0 in
+    let of_lines = table_below zones (style_of section.kind) section (zone_number section.zone zones) (before ++ opens ∷ []) here.lines others number here.are opened.1 in
+    let of_first : Below zones first = subst (Below zones) (sym here.all) of_lines in
     let later = zones_below_behind zones (before ++ first) sections others rest (sound_behind zones before first others all) in
     subst (Below zones) (sym is)
-    (subst (AreZonesBelow (1 + length zones)) (sym (jobs_of-append first others)) (All-append (λ (job : Job). job.zone < 1 + length zones) (jobs_of first) (jobs_of others) here later))
+    (subst (AreZonesBelow (1 + length zones)) (sym (jobs_of-append first others)) (All-append (λ (job : Job). job.zone < 1 + length zones) (jobs_of first) (jobs_of others) of_first later))
 
 pub zones_below : (zones : List NamedZone) (sections : List Section) (marks : List Mark) → AreMarks zones sections marks → AreSound zones marks → AreZonesBelow (1 + length zones) (jobs_of marks)
 zones_below zones sections marks are sound = zones_below_behind zones [] sections marks are sound
-
-abbrev Plain : List Job → Type 0
-Plain jobs = All (λ (job : Job). IsAnacron job.kind → ⊥) jobs
-
-nick_plain : (fields : Option Fields) → IsAnacron (kind_of fields) → ⊥
-nick_plain None none = none
-nick_plain (Some fields) none = none
-
-plain_from : (zones : List NamedZone) (label : List ℕ) (zone line count : ℕ) (bodies : List LineBody) → Plain (jobs_of (marks_from zones label zone line count bodies))
-plain_from zones label zone line count [] = All-nil (λ (job : Job). IsAnacron job.kind → ⊥)
-plain_from zones label zone line count (BlankBody ∷ bodies) = plain_from zones label zone (line + 1) count bodies
-plain_from zones label zone line count (CommentBody ∷ bodies) = plain_from zones label zone (line + 1) count bodies
-plain_from zones label zone line count (AssignBody name value ∷ bodies) =
-    by (bytes_eq name (codes "CRON_TZ")) (plain_from zones label (zone_number value zones) (line + 1) count bodies) (plain_from zones label zone (line + 1) count bodies)
-  where
-    by : (b : Bool) → Plain (jobs_of (marks_from zones label (zone_number value zones) (line + 1) count bodies)) → Plain (jobs_of (marks_from zones label zone (line + 1) count bodies))
-        → Plain (jobs_of (if b then MarksZone line value ∷ marks_from zones label (zone_number value zones) (line + 1) count bodies else marks_from zones label zone (line + 1) count bodies))
-    by true named same = named
-    by false named same = same
-plain_from zones label zone line count (EntryBody fields user command ∷ bodies) =
-    All-cons (λ (job : Job). IsAnacron job.kind → ⊥) _ (jobs_of (marks_from zones label zone (line + 1) (count + 1) bodies)) (λ none. none) (plain_from zones label zone (line + 1) (count + 1) bodies)
-plain_from zones label zone line count (NickBody fields user command ∷ bodies) =
-    All-cons (λ (job : Job). IsAnacron job.kind → ⊥) _ (jobs_of (marks_from zones label zone (line + 1) (count + 1) bodies)) (nick_plain fields) (plain_from zones label zone (line + 1) (count + 1) bodies)
-
--- no job of a run is one of anacron
-pub none_anacron : (zones : List NamedZone) (sections : List Section) (marks : List Mark) → AreMarks zones sections marks → Plain (jobs_of marks)
-none_anacron zones [] marks is = subst (λ m. Plain (jobs_of m)) (sym is) (All-nil (λ (job : Job). IsAnacron job.kind → ⊥))
-none_anacron zones (section ∷ sections) marks (bodies, others, said, rest, is) =
-    let first = section_marks zones section bodies in
-    subst (λ m. Plain (jobs_of m)) (sym is)
-    (subst Plain (sym (jobs_of-append first others))
-    (All-append (λ (job : Job). IsAnacron job.kind → ⊥) (jobs_of first) (jobs_of others) (plain_from zones section.label (zone_number section.zone zones) (section.line + 1) 1 bodies) (none_anacron zones sections others rest)))

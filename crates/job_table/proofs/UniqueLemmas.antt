@@ -1,9 +1,14 @@
 -- A run has one verdict: a table, or a refusal.
-use Rattle.std.proofs.Common.{◌≡◌, ◌⊎◌, ℕ, ◌≤◌, List, [], ◌∷◌, ◌++◌, length, refl, ap, ◌∙◌, sym, subst, inl, inr, arith, append_assoc}
+use Rattle.std.proofs.Common.{◌≡◌, ℕ, ◌+◌, ◌≤◌, List, [], ◌∷◌, ◌++◌, length, map, Option, None, Some, refl, ap, ◌∙◌, sym, subst, inl, inr, arith, append_assoc}
 use Rattle.std.specs.List.{AllZip}
 use Rattle.std.proofs.lemmas.List.{append-nil}
 use Rattle.std.proofs.lemmas.List.Elements.{All-head, All-tail}
-use Rattle.crontab_text.specs.Answers.{IsLineOf, LineAnswer, Said}
+use Rattle.anacron_text.specs.Answers.{Said}
+use Rattle.anacron_text.specs.LineBody.{LineBody as AnaBody}
+use Rattle.anacron_text.specs.LogicalLines.{joined}
+use Rattle.anacron_text.specs.Settings.{no_settings}
+use Rattle.anacron_text.proofs.AnswerLemmas.{same_answers_below}
+use Rattle.crontab_text.specs.Answers.{IsLineOf, LineAnswer, Said as SaidByCrontab}
 use Rattle.crontab_text.specs.LineBody.{LineBody}
 use Rattle.crontab_text.specs.declared.answer.Style.{Style}
 use Rattle.crontab_text.proofs.AnswerLemmas.{same_answer}
@@ -11,16 +16,16 @@ use Rattle.due_set.specs.Table.{Table}
 use Rattle.run_text.specs.Follow.{style_of}
 use Rattle.run_text.specs.Run.{NamedZone, Section, Run}
 use Rattle.run_text.specs.declared.refusal.Refusal.{Refusal}
-use Rattle.job_table.specs.Marks.{Mark, MarksZone, MarksJob, AreMarks, section_marks, IsMarkFault, AreSoundBehind, AreSound, IsFirstMarkFault}
+use Rattle.job_table.specs.Marks.{Mark, MarksZone, MarksJob, marks_from, anacron_marks, AreTableMarks, AreSectionMarks, AreMarks, IsMarkFault, AreSoundBehind, AreSound, IsFirstMarkFault}
 use Rattle.job_table.specs.Table.{jobs_of, table_of, at_line, AreMarksRefused, HasBadZone, IsDueCount, IsTableOf, IsRefusedRun}
-use Rattle.job_table.specs.Zones.{AreReadable}
+use Rattle.job_table.specs.Zones.{AreReadable, zone_number}
 use Rattle.zone_minutes.specs.Zone.{IsReadable, IsRefused}
 use Rattle.zone_minutes.proofs.VerdictLemmas.{not_refused as not_read_and_refused}
 use Rattle.job_table.proofs.DueCountLemmas.{CountsFirst, counts_at_least}
 
 same_body : (style : Style) (owner line : List ℕ) (a b : LineBody) → IsLineOf style owner line a → IsLineOf style owner line b → a ≡ b
 same_body style owner line a b first second =
-    let same : ◌≡◌ {A = LineAnswer} (Said a) (Said b) = same_answer style owner line (Said a) (Said b) first second in cc
+    let same : ◌≡◌ {A = LineAnswer} (SaidByCrontab a) (SaidByCrontab b) = same_answer style owner line (SaidByCrontab a) (SaidByCrontab b) first second in cc
 
 same_bodies : (style : Style) (owner : List ℕ) (lines : List (List ℕ)) (a b : List LineBody) → AllZip (IsLineOf style owner) lines a → AllZip (IsLineOf style owner) lines b → a ≡ b
 same_bodies style owner [] [] [] first second = refl
@@ -33,13 +38,37 @@ same_bodies style owner (l ∷ ls) (a ∷ as') (b ∷ bs) first second =
     let tail = same_bodies style owner ls as' bs first.1 second.1 in
     rw (head, tail) refl
 
+same_said : (a b : List AnaBody) → map Said a ≡ map Said b → a ≡ b
+same_said [] [] is = refl
+same_said [] (b ∷ bs) is = cc
+same_said (a ∷ as') [] is = cc
+same_said (a ∷ as') (b ∷ bs) is =
+    let head : a ≡ b = cc in
+    let tails : map Said as' ≡ map Said bs = cc in
+    let tail = same_said as' bs tails in
+    rw (head, tail) refl
+
+-- the lines of a section have one list of marks
+same_table_marks : (zones : List NamedZone) (style : Option Style) (section : Section) (zone : ℕ) (a b : List Mark) → AreTableMarks zones style section zone a → AreTableMarks zones style section zone b → a ≡ b
+same_table_marks zones (Some style) section zone a b (x, said, is) (y, other, same) =
+    is ∙ ap (λ l. marks_from zones section.label zone (section.line + 1) 1 l) (same_bodies style section.label section.lines x y said other) ∙ sym same
+same_table_marks zones None section zone a b (x, said, is) (y, other, same) =
+    let bodies = same_said x y (same_answers_below (joined section.lines) no_settings (map Said x) (map Said y) said other) in
+    is ∙ ap (λ l. anacron_marks section.label zone (section.line + 1) (joined section.lines) l) bodies ∙ sym same
+
+-- and so has a section
+same_section_marks : (zones : List NamedZone) (section : Section) (a b : List Mark) → AreSectionMarks zones section a → AreSectionMarks zones section b → a ≡ b
+same_section_marks zones section a b first second =
+    first.all ∙ ap (λ l. MarksZone section.line section.zone ∷ l) (same_table_marks zones (style_of section.kind) section (zone_number section.zone zones) first.lines second.lines first.are second.are)
+    ∙ sym second.all
+
 -- a run has one list of marks
 same_marks : (zones : List NamedZone) (sections : List Section) (a b : List Mark) → AreMarks zones sections a → AreMarks zones sections b → a ≡ b
 same_marks zones [] a b first second = first ∙ sym second
-same_marks zones (section ∷ sections) a b (x, m, said, rest, is) (y, n, other, more, same) =
-    let bodies = same_bodies (style_of section.kind) section.label section.lines x y said other in
+same_marks zones (section ∷ sections) a b (x, m, here, rest, is) (y, n, there, more, same) =
+    let one = same_section_marks zones section x y here there in
     let others = same_marks zones sections m n rest more in
-    is ∙ ap (λ l. section_marks zones section l ++ m) bodies ∙ ap (λ l. section_marks zones section y ++ l) others ∙ sym same
+    is ∙ ap (λ l. l ++ m) one ∙ ap (λ l. y ++ l) others ∙ sym same
 
 -- a mark at fault has one fault
 record SameFault (l m c d : ℕ) : Type 0 where
@@ -89,9 +118,9 @@ one_line_fault : (zones : List NamedZone) (marks : List Mark) (l m c d : ℕ) �
 one_line_fault zones marks l m c d first second =
     first_fault zones [] first.before second.before first.after second.after first.mark second.mark l m c d (sym first.parts ∙ second.parts) first.sound second.sound first.here second.here
 
--- a table has one count of due instants
+-- a table has one due count
 counts_first : (table : Table) (count : ℕ) → IsDueCount table count → CountsFirst table (length table.jobs) count
-counts_first table count counted = record { lists = counted.lists; jobs_are = counted.jobs; each = counted.each; sum = counted.sum }
+counts_first table count counted = record { shares = counted.shares; jobs_are = counted.jobs; each = counted.each; total_is = counted.total }
 
 one_count : (table : Table) (a b : ℕ) → IsDueCount table a → IsDueCount table b → a ≡ b
 one_count table a b first second =

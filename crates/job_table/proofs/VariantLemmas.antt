@@ -1,6 +1,6 @@
 -- Clauses on a `Result` that a `?` hands on.
-use Rattle.std.proofs.Common.{◌≡◌, Result, Ok, Err, IsErrAnd, sym, subst}
-use Rattle.std.specs.Prelude.{IfErr, OnOk}
+use Rattle.std.proofs.Common.{◌≡◌, Option, None, Some, Result, Ok, Err, IsErrAnd, sym, subst}
+use Rattle.std.specs.Prelude.{IfErr, IfNone, OnOk}
 use Rattle.run_text.specs.Steps.{IfRefused}
 use Rattle.run_text.specs.declared.refusal.Refusal.{Refusal}
 use Rattle.run_text.specs.declared.refusal.RunFault.{RunFault}
@@ -30,3 +30,8 @@ pub err_leads : {T : Type 0} (r : Result T RunFault) (P Q : Refusal → Type 0) 
 err_leads (Ok x) P Q leads holds = tt
 err_leads (Err (Refused refusal)) P Q leads holds = leads refusal holds
 err_leads (Err OutOfMemory) P Q leads holds = tt
+
+-- what is so anyway is so where there is none
+pub if_none : {T P : Type 0} (r : Option T) → P → IfNone r P
+if_none None holds = holds
+if_none (Some x) holds = tt

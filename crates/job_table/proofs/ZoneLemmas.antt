@@ -1,8 +1,9 @@
 -- The zones of a run: their numbers, and what is built of them.
-use Rattle.std.proofs.Common.{◌≡◌, ◌⊎◌, inl, inr, ℕ, zero, suc, ◌+◌, ◌<◌, ◌≤◌, Bool, true, false, if◌then◌else◌, List, [], ◌∷◌, ◌++◌, length, map, ℤ, pos, take, drop, get_or, refl, ap, ◌∙◌, sym, subst, arith, codes, bytes_eq, true≢false, take-append-drop, drop-cons}
-use Rattle.std.specs.List.{AllByRecursion}
-use Rattle.std.specs.Prelude.{All}
-use Rattle.std.proofs.lemmas.List.{drop_all, length-map, take_more, take_all, map-append}
+use Rattle.std.proofs.Common.{◌≡◌, ◌⊎◌, inl, inr, ℕ, zero, suc, ◌+◌, ◌<◌, ◌≤◌, Bool, true, false, cond, not, if◌then◌else◌, Some, None, List, [], ◌∷◌, ◌++◌, length, map, pos, take, drop, get_or, refl, ap, ◌∙◌, sym, subst, arith, codes, bytes_eq, true≢false, take-append-drop, drop-cons}
+use Rattle.std.specs.List.{AllByRecursion, position_or_len}
+use Rattle.std.specs.Prelude.{All, position, nat_lt}
+use Rattle.std.proofs.lemmas.Bool.Decides.{nat_tests}
+use Rattle.std.proofs.lemmas.List.{length-map, take_more, take_all, map-append}
 use Rattle.std.proofs.lemmas.List.Elements.{All-nil, All-cons, All-push}
 use Rattle.std.proofs.lemmas.Slice.Eq.{bytes_eq-Decides}
 use Rattle.std.proofs.Math.ListN.{get_or-map}
@@ -39,58 +40,64 @@ number_or_none name zones = by (bytes_eq name (codes "UTC")) refl (named_place n
     by false e (inl below) = inl (omega (arith, below))
     by false e (inr none) = inr (λ named. elim named [ inl same ↦ true≢false (sym ((bytes_eq-Decides name (codes "UTC")).1 same) ∙ e) | inr has ↦ none has ])
 
--- the first so many zones haven't the name
-pub record Looking (name : List ℕ) (zones : List NamedZone) (place : ℕ) : Type 0 where
-  pub utc : bytes_eq name (codes "UTC") ≡ false
-  pub places : place_of name zones ≡ place + place_of name (drop place zones)
-  pub left : HasZone name zones → HasZone name (drop place zones)
+has_below : (name : List ℕ) (zones : List NamedZone) → place_of name zones < length zones → HasZone name zones
+has_below name [] below = absurd (omega arith)
+has_below name (zone ∷ zones) below = by (bytes_eq zone.name name) refl (has_below name zones) below
+  where
+    by : (b : Bool) → bytes_eq zone.name name ≡ b → (place_of name zones < length zones → HasZone name zones) → (if b then 0 else 1 + place_of name zones) < suc (length zones) → (zone.name ≡ name) ⊎ HasZone name zones
+    by true e later below = inl ((bytes_eq-Decides zone.name name).0 e)
+    by false e later below = inr (later (omega arith))
 
-pub looking_first : (name : List ℕ) (zones : List NamedZone) → bytes_eq name (codes "UTC") ≡ false → Looking name zones 0
-looking_first name zones utc = record { utc = utc; places = omega arith; left = λ has. has }
-
-not_here : (name : List ℕ) (zone : NamedZone) (zones : List NamedZone) → bytes_eq zone.name name ≡ false → place_of name (zone ∷ zones) ≡ 1 + place_of name zones
-not_here name zone zones is = ap (λ b. if b then 0 else 1 + place_of name zones) is
-
-pub looking_next : (name : List ℕ) (zones : List NamedZone) (place : ℕ) (d : NamedZone) → place < length zones → bytes_eq (get_or zones place d).name name ≡ false → Looking name zones place → Looking name zones (place + 1)
-looking_next name zones place d lt is looking =
-    let zone = get_or zones place d in
-    let here : drop place zones ≡ zone ∷ drop (suc place) zones = drop-cons zones place d lt in
-    let next : place + 1 ≡ suc place = omega arith in
-    let behind = ap (place_of name) here ∙ not_here name zone (drop (suc place) zones) is in
-    subst (Looking name zones) (sym next) (record {
-      utc = looking.utc;
-      places = omega (arith, looking.places, behind);
-      left = λ has. elim (subst (HasZone name) here (looking.left has)) [
-        | inl same ↦ absurd (true≢false (sym ((bytes_eq-Decides zone.name name).1 same) ∙ is))
-        | inr later ↦ later
-      ];
-    })
-
-has_behind : (name : List ℕ) (zones : List NamedZone) (place : ℕ) → HasZone name (drop place zones) → HasZone name zones
-has_behind name [] zero has = has
-has_behind name [] (suc place) has = has
-has_behind name (zone ∷ zones) zero has = has
-has_behind name (zone ∷ zones) (suc place) has = inr (has_behind name zones place has)
+below_has : (name : List ℕ) (zones : List NamedZone) → HasZone name zones → place_of name zones < length zones
+below_has name zones has = elim (named_place name zones) [ inl below ↦ below | inr none ↦ absurd (none has) ]
 
 number_is : (name : List ℕ) (zones : List NamedZone) → bytes_eq name (codes "UTC") ≡ false → zone_number name zones ≡ 1 + place_of name zones
 number_is name zones is = ap (λ b. if b then 0 else 1 + place_of name zones) is
 
--- the zone that stands here has the name
-pub looking_found : (name : List ℕ) (zones : List NamedZone) (place : ℕ) (d : NamedZone) → place < length zones → bytes_eq (get_or zones place d).name name ≡ true → Looking name zones place
-    → (place + 1 ≡ zone_number name zones) × NamesZone name zones
-looking_found name zones place d lt is looking =
-    let zone = get_or zones place d in
-    let here : drop place zones ≡ zone ∷ drop (suc place) zones = drop-cons zones place d lt in
-    let first : place_of name (zone ∷ drop (suc place) zones) ≡ 0 = ap (λ b. if b then 0 else 1 + place_of name (drop (suc place) zones)) is in
-    let none_before = ap (place_of name) here ∙ first in
-    let same : zone.name ≡ name = (bytes_eq-Decides zone.name name).0 is in
-    let behind : HasZone name (drop place zones) = subst (HasZone name) (sym here) (inl same) in
-    (omega (arith, number_is name zones looking.utc, looking.places, none_before), inr (has_behind name zones place behind))
+-- the place of a name among lines as they stand in a program
+same_place : (name : List ℕ) (lines : List ZoneLine) → position_or_len (λ (line : ZoneLine). bytes_eq line.name.now name) lines ≡ place_of name (map zone_of lines)
+same_place name [] = refl
+same_place name (line ∷ lines) = by (bytes_eq line.name.now name) (same_place name lines)
+  where
+    by : (b : Bool) → position_or_len (λ (l : ZoneLine). bytes_eq l.name.now name) lines ≡ place_of name (map zone_of lines)
+        → cond (not b) (1 + position_or_len (λ (l : ZoneLine). bytes_eq l.name.now name) lines) 0 ≡ (if b then 0 else 1 + place_of name (map zone_of lines))
+    by true later = refl
+    by false later = ap (λ n. 1 + n) later
 
--- no zone has the name
-pub looking_ended : (name : List ℕ) (zones : List NamedZone) (place : ℕ) → length zones ≤ place → Looking name zones place → NamesZone name zones → ⊥
-looking_ended name zones place all looking (inl utc) = true≢false (sym ((bytes_eq-Decides name (codes "UTC")).1 utc) ∙ looking.utc)
-looking_ended name zones place all looking (inr has) = subst (HasZone name) (drop_all place zones all) (looking.left has)
+-- a line of the name is found
+pub found_line : (name : List ℕ) (lines : List ZoneLine) (place : ℕ) → bytes_eq name (codes "UTC") ≡ false → Some place ≡ position (λ (line : ZoneLine). bytes_eq line.name.now name) lines
+    → (place + 1 ≡ zone_number name (map zone_of lines)) × NamesZone name (map zone_of lines)
+found_line name lines place utc is = by (nat_lt (position_or_len (λ (line : ZoneLine). bytes_eq line.name.now name) lines) (length lines)) refl is
+  where
+    first : ℕ
+    first = position_or_len (λ (line : ZoneLine). bytes_eq line.name.now name) lines
+
+    by : (b : Bool) → nat_lt first (length lines) ≡ b → Some place ≡ cond b (Some first) None → (place + 1 ≡ zone_number name (map zone_of lines)) × NamesZone name (map zone_of lines)
+    by true below found =
+        let here : place ≡ first = cc in
+        let same : first ≡ place_of name (map zone_of lines) = same_place name lines in
+        let inside : first < length lines = grind (arith, nat_tests) in
+        let number = number_is name (map zone_of lines) utc in
+        let size = length-map lines zone_of in
+        (omega arith, inr (has_below name (map zone_of lines) (omega arith)))
+    by false past found = absurd cc
+
+-- no line has the name
+pub no_line : (name : List ℕ) (lines : List ZoneLine) → bytes_eq name (codes "UTC") ≡ false → None ≡ position (λ (line : ZoneLine). bytes_eq line.name.now name) lines → NamesZone name (map zone_of lines) → ⊥
+no_line name lines utc is (inl same) = true≢false (sym ((bytes_eq-Decides name (codes "UTC")).1 same) ∙ utc)
+no_line name lines utc is (inr has) = by (nat_lt (position_or_len (λ (line : ZoneLine). bytes_eq line.name.now name) lines) (length lines)) refl is
+  where
+    first : ℕ
+    first = position_or_len (λ (line : ZoneLine). bytes_eq line.name.now name) lines
+
+    by : (b : Bool) → nat_lt first (length lines) ≡ b → None ≡ cond b (Some first) None → ⊥
+    by true below found = cc
+    by false past found =
+        let same : first ≡ place_of name (map zone_of lines) = same_place name lines in
+        let below = below_has name (map zone_of lines) has in
+        let size = length-map lines zone_of in
+        let inside : first < length lines = omega arith in
+        grind (arith, nat_tests)
 
 -- the table's zones that are built of these
 pub record BuiltSoFar (window : Window) (zones : List NamedZone) (built : List Zone) : Type 0 where
@@ -160,20 +167,6 @@ pub built_all : (window : Window) (lines items : List ZoneLine) (i : ℕ) (built
     → BuiltSoFar window (map zone_of lines) built
 built_all window lines items i built same all so_far =
     subst (λ l. BuiltSoFar window l built) (take_all i (map zone_of lines) (omega (arith, length-map lines zone_of, ap length same))) so_far
-
--- the same of lines as they stand in a program
-line_is : (lines : List ZoneLine) (place : ℕ) (d : ZoneLine) (name : List ℕ) (b : Bool) → bytes_eq (get_or lines place d).name.now name ≡ b → bytes_eq (get_or (map zone_of lines) place (zone_of d)).name name ≡ b
-line_is lines place d name b is = ap (λ (z : NamedZone). bytes_eq z.name name) (get_or-map zone_of lines place d) ∙ is
-
-pub found_line : (name : List ℕ) (lines : List ZoneLine) (place : ℕ) (d : ZoneLine) → place < length lines → bytes_eq (get_or lines place d).name.now name ≡ true → Looking name (map zone_of lines) place
-    → (place + 1 ≡ zone_number name (map zone_of lines)) × NamesZone name (map zone_of lines)
-found_line name lines place d lt is looking =
-    looking_found name (map zone_of lines) place (zone_of d) (omega (arith, length-map lines zone_of)) (line_is lines place d name true is) looking
-
-pub next_line : (name : List ℕ) (lines : List ZoneLine) (place : ℕ) (d : ZoneLine) → place < length lines → bytes_eq (get_or lines place d).name.now name ≡ false → Looking name (map zone_of lines) place
-    → Looking name (map zone_of lines) (place + 1)
-next_line name lines place d lt is looking =
-    looking_next name (map zone_of lines) place (zone_of d) (omega (arith, length-map lines zone_of)) (line_is lines place d name false is) looking
 
 -- the table has UTC and as many zones as the run names
 pub zones_count : (window : Window) (zones : List NamedZone) (built : List Zone) → built ≡ zones_over window zones → 1 + length zones ≡ length built

@@ -4,9 +4,9 @@ use Rattle.crontab_text.specs.LineBody.{LineBody, BlankBody, CommentBody, Assign
 use Rattle.due_set.specs.Table.{Job}
 use Rattle.run_text.specs.declared.refusal.Refusal.{Refusal}
 use Rattle.run_text.specs.Run.{NamedZone, Section, Run}
-use Rattle.job_table.specs.Marks.{Mark, marks_from, section_marks, AreBodies, AreMarks, AreSound}
+use Rattle.job_table.specs.Marks.{Mark, marks_from, AreSectionMarks, AreMarks, AreSound}
 use Rattle.job_table.specs.Table.{jobs_of, at_line, HasLineAtFault}
-use Rattle.job_table.specs.declared.collect.Above.{Above}
+use Rattle.job_table.specs.declared.crontab.Above.{Above}
 use Rattle.job_table.specs.Zones.{NamesZone, zone_number}
 
 -- none of the marks is at fault, and these are the jobs that they bring
@@ -59,15 +59,15 @@ NamesNoZone zones name line refusal = (NamesZone name zones → ⊥) × (refusal
 
 -- the marks of a section are collected
 pub record AddsSection (zones : List NamedZone) (old new : List Job) (section : Section) : Type 0 where
-  pub bodies : List LineBody
-  pub are : AreBodies section bodies
-  pub adds : AddsMarks zones old new (section_marks zones section bodies)
+  pub marks : List Mark
+  pub are : AreSectionMarks zones section marks
+  pub adds : AddsMarks zones old new marks
 
 -- one of the marks of a section is at fault
 pub record RefusesSection (zones : List NamedZone) (old : List Job) (section : Section) (refusal : Refusal) : Type 0 where
-  pub bodies : List LineBody
-  pub are : AreBodies section bodies
-  pub refuses : RefusesMarks zones old (section_marks zones section bodies) refusal
+  pub marks : List Mark
+  pub are : AreSectionMarks zones section marks
+  pub refuses : RefusesMarks zones old marks refusal
 
 -- how many of the lines are entries
 abbrev pub entries_in : List LineBody → ℕ

@@ -5,13 +5,13 @@ use Rattle.due_set.specs.Table.{Job}
 use Rattle.due_set.specs.declared.job.JobKind.{JobKind}
 use Rattle.job_table.specs.declared.jobs.Timing.{Timing}
 
--- a job of a crontab, by its name, the number of its zone, and when it runs
-abbrev pub crontab_job : List ℕ → ℕ → JobKind → Job
-crontab_job name zone kind = record { name = name; zone = zone; kind = kind }
+-- a job, by its name, the number of its zone, and when it runs
+abbrev pub named_job : List ℕ → ℕ → JobKind → Job
+named_job name zone kind = record { name = name; zone = zone; kind = kind }
 
 -- the job of a name and a time to run that are kept together
 abbrev pub entry_job : String Global × Timing → Job
-entry_job entry = crontab_job (string_bytes entry.0) entry.1.zone entry.1.kind
+entry_job entry = named_job (string_bytes entry.0) entry.1.zone entry.1.kind
 
 -- one of the jobs has the name
 abbrev pub HasJob : List ℕ → List Job → Type 0

@@ -1,6 +1,6 @@
 -- The table of a run's jobs, and for what a run has none.
-use Rattle.std.specs.Prelude.{◌≡◌, ◌⊎◌, ℕ, ◌<◌, ◌≤◌, List, [], ◌∷◌, ◌++◌, length, sum_by, ℤ, Some, slice_get}
-use Rattle.due_set.specs.Table.{Job, Table, IsJobDueList}
+use Rattle.std.specs.Prelude.{◌≡◌, ◌⊎◌, ℕ, ◌<◌, ◌≤◌, List, [], ◌∷◌, ◌++◌, length, sum, Some, IsSomeAnd, slice_get}
+use Rattle.due_set.specs.Table.{Job, Table, IsShare}
 use Rattle.run_text.specs.Run.{NamedZone, Run}
 use Rattle.run_text.specs.declared.refusal.Refusal.{Refusal}
 use Rattle.zone_minutes.specs.Zone.{IsRefused}
@@ -18,12 +18,17 @@ abbrev pub table_of : Run → List Mark → Table
 table_of run marks =
     record { window = run.window; grace = run.grace; zones = zones_over run.window run.zones; jobs = jobs_of marks }
 
--- how many due instants the jobs of a table have in all
+-- each number is how much the job at its place takes of the limit on due instants
+abbrev pub AreShares : Table → List ℕ → Type 0
+AreShares table shares =
+    (number share : ℕ) → slice_get shares number ≡ Some share → IsSomeAnd (slice_get table.jobs number) (λ job. IsShare table number job.kind share)
+
+-- how much the jobs of a table take of the limit on due instants in all
 pub record IsDueCount (table : Table) (count : ℕ) : Type 0 where
-  pub lists : List (List ℤ)
-  pub jobs : length lists ≡ length table.jobs
-  pub each : (job : ℕ) (instants : List ℤ) → slice_get lists job ≡ Some instants → IsJobDueList table job instants
-  pub sum : count ≡ sum_by length lists
+  pub shares : List ℕ
+  pub jobs : length shares ≡ length table.jobs
+  pub each : AreShares table shares
+  pub total : count ≡ sum shares
 
 -- the run's tables have these jobs: `jiff` reads each zone, no line is at fault, and there aren't too many jobs or due instants
 pub record IsTableOf (run : Run) (table : Table) : Type 0 where

@@ -19,8 +19,8 @@ const MOST_JOBS: usize = 1000;
 /// # Errors
 ///
 /// The first zone line that `jiff` refuses (cause 32); or else the first line that names no zone of the run (21), or brings
-/// a job whose name is there (22); more than 1,000 jobs (23), or more than 20,000 due instants (24), for which no line is to
-/// blame; or want of memory.
+/// a job whose name is there (22); more than 1,000 jobs (23), or more than 20,000 due instants (24), where an anacrontab's job
+/// counts as the days of the window and three more, for which no line is to blame; or want of memory.
 pub fn build_table(alloc: Global, run: &RunFile<'_>) -> Result<JobTable, RunFault>
     requires { IsReadRun run.now }
     ensures table { IfOk result (IsTableOf (run_of run.now)) }

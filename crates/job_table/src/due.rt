@@ -3,10 +3,10 @@ ghost use Rattle.job_table.specs.Table.{IsDueCount};
 
 use due_set::JobTable;
 
-/// The most due instants of a run.
+/// The limit on the due instants of a run.
 const MOST_DUE: u32 = 20_000;
 
-/// How many due instants the table's jobs have in all; `None` for more than 20,000.
+/// How much the table's jobs take of the limit on due instants in all; `None` for more than 20,000.
 pub fn count_due(table: &JobTable) -> Option<u32>
     ensures counted { IfSome result (λ count. IsDueCount table.now count) }
     ensures few { IfSome result (λ count. count ≤ 20_000) }
@@ -14,11 +14,11 @@ pub fn count_due(table: &JobTable) -> Option<u32>
 {
     let mut total = 0;
     for job in 0..table.jobs() {
-        let count = table.count_due(job);
-        if count > MOST_DUE - total {
+        let share = table.count_due(job);
+        if share > MOST_DUE - total {
             return None;
         }
-        total += count;
+        total += share;
     }
     Some(total)
 }

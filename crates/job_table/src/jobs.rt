@@ -1,10 +1,13 @@
-ghost use Rattle.std.specs.Prelude.{◌≡◌, ◌++◌, ◌∷◌, [], map, length, string_bytes, Ok, IfOk, OnErr, IsTrue};
+ghost use Rattle.std.specs.Prelude.{◌≡◌, ◌++◌, ◌∷◌, [], map, length, string_bytes, Ok, IfOk, IfErr, OnOk};
 ghost use Rattle.due_set.specs.Table.{Job, job_of, AreNamesDistinct};
-ghost use Rattle.job_table.specs.Jobs.{crontab_job, entry_job, Adds};
+ghost use Rattle.run_text.specs.Steps.{IfRefused};
+ghost use Rattle.job_table.specs.Jobs.{named_job, entry_job, Adds, HasJob};
+ghost use Rattle.job_table.specs.Table.{at_line};
 
 use cron_io::OutOfMemory;
 use due_set::{JobKind, JobSpec};
 use indexmap::IndexMap;
+use run_text::{Refusal, RunFault};
 use std::alloc::Global;
 use std::marker::Model;
 
@@ -53,7 +56,7 @@ impl Jobs {
 
     /// Adds a job, and tells whether it is there. A job whose name is there already isn't added.
     pub fn add(&mut self, name: String, timing: Timing) -> Result<bool, OutOfMemory>
-        ensures { IfOk result (Adds self.old self.new (crontab_job (string_bytes name) timing.zone timing.kind)) }
+        ensures { IfOk result (Adds self.old self.new (named_job (string_bytes name) timing.zone timing.kind)) }
     {
         if self.timings.contains_key(name.as_str()) {
             return Ok(false);
@@ -81,4 +84,22 @@ fn specs_of(alloc: Global, timings: &IndexMap<String, Timing>) -> Result<Vec<Job
         specs.push(JobSpec::new(alloc, name.as_str(), timing.zone, timing.kind)?)?;
     }
     Ok(specs)
+}
+
+/// Adds a job, whose name must be new.
+///
+/// # Errors
+///
+/// A job of the name is there, which is the line's fault; or want of memory.
+pub fn add_job(jobs: &mut Jobs, name: String, timing: Timing, line: u32) -> Result<(), RunFault>
+    ensures added { OnOk result (jobs.new ≡ jobs.old ++ named_job (string_bytes name) timing.zone timing.kind ∷ []) }
+    ensures new { OnOk result (HasJob (string_bytes name) jobs.old → ⊥) }
+    ensures refused { IfErr result (λ fault. IfRefused fault (λ refusal.
+        HasJob (string_bytes name) jobs.old × (refusal ≡ at_line line 22))) }
+{
+    if jobs.add(name, timing)? {
+        Ok(())
+    } else {
+        Err(RunFault::Refused(Refusal::of_line(line, 22)))
+    }
 }

@@ -1,8 +1,10 @@
 //! The table of a run's jobs.
 #![tactic(auto)]
 
+mod anacrontab;
 mod build;
 mod collect;
+mod crontab;
 mod due;
 mod jobs;
 mod laws;
@@ -11,6 +13,8 @@ mod zones;
 pub use build::build_table;
 pub use laws::a_run_has_one_verdict;
 
+#[cfg(test)]
+mod anacron_tests;
 #[cfg(test)]
 mod tests;
 #[cfg(test)]

@@ -1,5 +1,5 @@
 //! The zones that a run names: their numbers, and their offsets over its window.
-ghost use Rattle.std.specs.Prelude.{◌≡◌, ◌≤◌, All, map, length, Ok, IsOk, IfOk, IfErr, IfSome, IfNone, OnOk};
+ghost use Rattle.std.specs.Prelude.{◌≡◌, ◌<◌, ◌≤◌, All, map, length, position, bytes_eq, Ok, IsOk, IfOk, IfErr, IfSome, IfNone, OnOk};
 ghost use Rattle.due_set.specs.Table.{IsBuiltFor};
 ghost use Rattle.hex.specs.Hex.{decode_of};
 ghost use Rattle.run_text.specs.Reading.{IsReadRun, HasDigits};
@@ -8,6 +8,7 @@ ghost use Rattle.run_text.specs.Sound.{IsSoundSource};
 ghost use Rattle.run_text.specs.Steps.{IfRefused};
 ghost use Rattle.zone_minutes.specs.Window.{IsWithinLimits};
 ghost use Rattle.zone_minutes.specs.Zone.{zone_over, IsReadable, IsRefused, IsOffsetInRange, source_of as zone_source};
+ghost use Rattle.job_table.specs.Collect.{NamesNoZone};
 ghost use Rattle.job_table.specs.Table.{at_line, HasBadZone};
 ghost use Rattle.job_table.specs.Zones.{AreReadable, NamesZone, zone_number, zones_over};
 
@@ -29,12 +30,33 @@ pub fn zone_number(zones: &[ZoneLine<'_>], name: &str) -> Option<u16>
     if name == "UTC" {
         return Some(0);
     }
-    for place in 0..zones.len() {
-        if zones[place].name == name {
-            return Some(place as u16 + 1);
-        }
+    let place = place_of(zones, name)?;
+    Some(place as u16 + 1)
+}
+
+// The place of the first zone of a name.
+fn place_of(zones: &[ZoneLine<'_>], name: &str) -> Option<usize>
+    ensures place { result ≡ position (λ zone. bytes_eq zone.name.now name.now) zones.now }
+    ensures inside { IfSome result (λ place. place < length zones.now) }
+{
+    zones.iter().position(|zone| zone.name == name)
+}
+
+/// The number of the zone of a name, which the line names.
+///
+/// # Errors
+///
+/// The name is no zone's, which is the line's fault.
+pub fn find_zone(zones: &[ZoneLine<'_>], name: &str, line: u32) -> Result<u16, Refusal>
+    requires { length zones.now ≤ 32 }
+    ensures number { IfOk result (λ number. number ≡ zone_number name.now (map zone_of zones.now)) }
+    ensures named { OnOk result (NamesZone name.now (map zone_of zones.now)) }
+    ensures refused { IfErr result (NamesNoZone (map zone_of zones.now) name.now line) }
+{
+    match zone_number(zones, name) {
+        Some(number) => Ok(number),
+        None => Err(Refusal::of_line(line, 21)),
     }
-    None
 }
 
 // A zone over the window, from a line of that number, which is refused if the zone is.

@@ -1,8 +1,7 @@
-use Rattle.std.proofs.Common.{◌≡◌, map}
-use Rattle.run_text.specs.Run.{run_of, source_of, zone_of}
+use Rattle.std.proofs.Common.{map}
+use Rattle.run_text.specs.Run.{run_of, zone_of}
 use Rattle.run_text.proofs.SoundLemmas.{sound_run}
-use Rattle.zone_minutes.specs.Zone.{IsRefused}
-use Rattle.job_table.specs.Table.{HasBadZone, at_line}
+use Rattle.job_table.specs.Table.{HasBadZone}
 use Rattle.job_table.proofs.ZoneLemmas.{built_next, built_all, bad_zone, sound_source}
 use Rattle.job_table.proofs.VariantLemmas.{handed_on}
 use Rattle.job_table.proofs.zones.build_zones.Goals as goal

@@ -1,15 +1,19 @@
-use Rattle.std.proofs.Common.{◌∙◌, sym}
-use Rattle.job_table.proofs.ZoneLemmas.{found_line, next_line}
+use Rattle.std.proofs.Common.{◌≡◌, Some, None, ◌∙◌, sym}
+use Rattle.job_table.proofs.VariantLemmas.{if_none}
+use Rattle.job_table.proofs.ZoneLemmas.{found_line, no_line}
 use Rattle.job_table.proofs.zones.zone_number.Goals as goal
 
-pub returns-then-eq-2-clause-number : goal.returns-then-eq-2-clause-number
-returns-then-eq-2-clause-number c =
-    (found_line c.args.name.now c.args.zones.now c.loop-place.place _ c.loop-place-test.true (sym c.eq-in-loop-place.ensures ∙ c.if-eq-2.true) c.loop-place.invariant).0
+pub returns-in_err-place-clause-none : goal.returns-in_err-place-clause-none
+returns-in_err-place-clause-none c =
+    let none : c.place_of.result ≡ None = cc in
+    if_none c.from_residual.result (no_line c.args.name.now c.args.zones.now (sym c.eq.ensures ∙ c.if-eq.false) (sym none ∙ c.place_of.ensures.place))
 
-pub returns-then-eq-2-clause-named : goal.returns-then-eq-2-clause-named
-returns-then-eq-2-clause-named c =
-    (found_line c.args.name.now c.args.zones.now c.loop-place.place _ c.loop-place-test.true (sym c.eq-in-loop-place.ensures ∙ c.if-eq-2.true) c.loop-place.invariant).1
+pub returns-clause-number : goal.returns-clause-number
+returns-clause-number c =
+    let some : c.place_of.result ≡ Some c.in_ok-place.place = cc in
+    (found_line c.args.name.now c.args.zones.now c.in_ok-place.place (sym c.eq.ensures ∙ c.if-eq.false) (sym some ∙ c.place_of.ensures.place)).0
 
-pub loop-place-preserved : goal.loop-place-preserved
-loop-place-preserved c =
-    next_line c.args.name.now c.args.zones.now c.loop-place.place _ c.loop-place-test.true (sym c.eq-in-loop-place.ensures ∙ c.if-eq-2.false) c.loop-place.invariant
+pub returns-clause-named : goal.returns-clause-named
+returns-clause-named c =
+    let some : c.place_of.result ≡ Some c.in_ok-place.place = cc in
+    (found_line c.args.name.now c.args.zones.now c.in_ok-place.place (sym c.eq.ensures ∙ c.if-eq.false) (sym some ∙ c.place_of.ensures.place)).1

@@ -4,7 +4,7 @@ use Rattle.std.specs.Map.{lookup}
 use Rattle.std.specs.declared.alloc.Global.{Global}
 use Rattle.std.proofs.lemmas.List.{map-append}
 use Rattle.due_set.specs.Table.{AreNamesDistinct}
-use Rattle.job_table.specs.Jobs.{crontab_job, entry_job, HasJob}
+use Rattle.job_table.specs.Jobs.{named_job, entry_job, HasJob}
 use Rattle.job_table.proofs.JobLemmas.{found_job, no_job, insert_new, distinct_push}
 use Rattle.job_table.proofs.jobs.Jobs.add.Goals as goal
 
@@ -21,7 +21,7 @@ invariant_of-self-2 c =
     let none = no_job c.self.inside.timings.entries (string_bytes c.args.name) absent in
     let entries = c.in_ok-insert.ensures.entries ∙ insert_new c.self.inside.timings.entries c.args.name c.args.timing none in
     let jobs = ap (map entry_job) entries ∙ map-append entry_job c.self.inside.timings.entries ((c.args.name, c.args.timing) ∷ []) in
-    subst AreNamesDistinct (sym jobs) (distinct_push (map entry_job c.self.inside.timings.entries) (crontab_job (string_bytes c.args.name) c.args.timing.zone c.args.timing.kind) c.self.invariant none)
+    subst AreNamesDistinct (sym jobs) (distinct_push (map entry_job c.self.inside.timings.entries) (named_job (string_bytes c.args.name) c.args.timing.zone c.args.timing.kind) c.self.invariant none)
 
 pub returns : goal.returns
 returns c =
@@ -30,4 +30,4 @@ returns c =
     let none = no_job c.self.inside.timings.entries (string_bytes c.args.name) absent in
     let entries = c.in_ok-insert.ensures.entries ∙ insert_new c.self.inside.timings.entries c.args.name c.args.timing none in
     let jobs = ap (map entry_job) entries ∙ map-append entry_job c.self.inside.timings.entries ((c.args.name, c.args.timing) ∷ []) in
-    (jobs ∙ ap (λ l. l ++ crontab_job (string_bytes c.args.name) c.args.timing.zone c.args.timing.kind ∷ []) c.self.view_is, subst (λ l. HasJob (string_bytes c.args.name) l → ⊥) c.self.view_is none)
+    (jobs ∙ ap (λ l. l ++ named_job (string_bytes c.args.name) c.args.timing.zone c.args.timing.kind ∷ []) c.self.view_is, subst (λ l. HasJob (string_bytes c.args.name) l → ⊥) c.self.view_is none)

@@ -2,7 +2,7 @@ use Rattle.std.proofs.Common.{◌∙◌, sym, map}
 use Rattle.run_text.specs.Run.{zone_of}
 use Rattle.job_table.proofs.MarkLemmas.{adds_zone}
 use Rattle.job_table.proofs.VariantLemmas.{ok_leads}
-use Rattle.job_table.proofs.collect.set_variable.Goals as goal
+use Rattle.job_table.proofs.crontab.set_variable.Goals as goal
 
 pub returns-then-eq-clause-ok : goal.returns-then-eq-clause-ok
 returns-then-eq-clause-ok c =

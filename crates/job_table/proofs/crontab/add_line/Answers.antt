@@ -4,12 +4,12 @@ use Rattle.crontab_text.specs.declared.answer.Body.TheVariants.{Entry, Nick}
 use Rattle.due_set.specs.declared.job.JobKind.TheVariants.{Crontab}
 use Rattle.run_text.specs.Run.{zone_of}
 use Rattle.job_table.specs.Collect.{RefusesMarks, AddsMarks, line_marks}
-use Rattle.job_table.specs.Jobs.{crontab_job, HasJob}
+use Rattle.job_table.specs.Jobs.{named_job, HasJob}
 use Rattle.job_table.specs.Marks.{job_name, kind_of}
 use Rattle.job_table.specs.Table.{at_line}
 use Rattle.job_table.proofs.MarkLemmas.{adds_job, refuses_job}
 use Rattle.job_table.proofs.VariantLemmas.{refused_on, both_lead, err_leads}
-use Rattle.job_table.proofs.collect.add_line.Goals as goal
+use Rattle.job_table.proofs.crontab.add_line.Goals as goal
 
 pub returns-in_err-zone-in-Assign-clause-refused :
     goal.returns-in_err-zone-in-Assign-clause-refused
@@ -55,7 +55,7 @@ returns-in-Nick-clause-added c =
     (λ added none.
     subst (λ b. AddsMarks zones c.args.jobs.now c.add_entry-in-Nick.new.jobs (line_marks zones c.args.label.now c.args.above.zone c.args.at (c.args.above.entries + 1) (body_of b))) (sym c.in-Nick.is)
     (subst (λ new. AddsMarks zones c.args.jobs.now new (line_marks zones c.args.label.now c.args.above.zone c.args.at (c.args.above.entries + 1) (body_of (Nick c.in-Nick.fields c.in-Nick.user c.in-Nick.command))))
-    (sym (added ∙ ap (λ k. c.args.jobs.now ++ crontab_job name c.args.above.zone k ∷ []) c.kind_of.ensures))
+    (sym (added ∙ ap (λ k. c.args.jobs.now ++ named_job name c.args.above.zone k ∷ []) c.kind_of.ensures))
     (adds_job zones c.args.jobs.now c.args.at name c.args.above.zone (kind_of c.in-Nick.fields) none)))
     c.add_entry-in-Nick.ensures.added c.add_entry-in-Nick.ensures.new
 
