@@ -1,5 +1,5 @@
 -- From a run and its report to what the program says of its end.
-use Rattle.std.proofs.Common.{◌≡◌, ◌≢◌, ◌⊎◌, inl, inr, ℕ, ◌≤◌, ◌↔◌, List, [], length, Option, None, Some, Result, Ok, Err, refl, sym, ◌∙◌, subst, arith}
+use Rattle.std.proofs.Common.{◌≡◌, ◌≢◌, ◌⊎◌, inl, inr, ℕ, ℤ, ◌≤◌, ◌↔◌, List, [], length, Option, None, Some, Result, Ok, Err, refl, sym, ap, ◌∙◌, subst, arith}
 use Rattle.std.specs.Prelude.{All, IfErr, IsErrAnd, IsSome, IsSomeAnd}
 use Rattle.std.proofs.lemmas.List.Elements.{All-weaker}
 use Rattle.std.proofs.lemmas.Option.{slice_get_within}
@@ -9,9 +9,13 @@ use Rattle.cron_io.specs.Views.{SourceView, SinkView}
 use Rattle.std.proofs.KnownBytes.{Consumes-nil}
 use Rattle.paxos_base.specs.declared.entry.Entry.{Entry}
 use Rattle.paxos_base.specs.declared.entry.Kind.TheVariants.{Launch}
+use Rattle.due_set.specs.Anacron.{IsJobOpen}
 use Rattle.due_set.specs.Table.{Table, IsJobDue}
-use Rattle.cluster_sched.specs.Names.{IsNameIn}
+use Rattle.due_set.specs.declared.job.JobKind.{JobKind}
+use Rattle.due_set.specs.declared.job.JobKind.TheVariants.{Anacron, Crontab}
+use Rattle.cluster_sched.specs.Names.{IsNameIn, IsTimeNear, job_kind, kind_of}
 use Rattle.cluster_sched.specs.declared.row.SchedRow.{SchedRow}
+use Rattle.launch_law.specs.Launched.{IsWanted}
 use Rattle.report_text.specs.Report.{IsReport}
 use Rattle.report_text.specs.Writes.{Writes}
 use Rattle.report_text.specs.declared.fault.ReportFault.{ReportFault}
@@ -25,6 +29,7 @@ use Rattle.run_text.specs.Steps.{IfRefused}
 use Rattle.run_text.specs.declared.refusal.Refusal.{Refusal}
 use Rattle.run_text.specs.declared.refusal.RunFault.{RunFault}
 use Rattle.run_text.specs.declared.refusal.RunFault.TheVariants as run
+use Rattle.cron_serve.proofs.DateLemmas.{day_near}
 use Rattle.cron_serve.specs.declared.run_end.RunEnd.{RunEnd}
 use Rattle.cron_serve.specs.declared.stop.Stop.{Stop}
 use Rattle.cron_serve.specs.declared.stop.Stop.TheVariants.{Usage, Refused, ReadFault, OutOfMemory}
@@ -40,16 +45,31 @@ stops_without_table source source' bytes run.OutOfMemory (Err stop) is read shor
 
 -- each row is a launch of a job of the table
 name_of_due : (table : Table) (row : SchedRow) → IsJobDue table row.name.job row.name.at → IsNameIn table row.name
-name_of_due table row due = record {
-  job = slice_get_within table.jobs row.name.job due.job due.is_in.is_job;
-  inside = due.inside;
-}
+name_of_due table row due =
+    let kind : job_kind table row.name.job ≡ Crontab due.fields = ap kind_of due.is_in.is_job ∙ due.kind in
+    record {
+      job = slice_get_within table.jobs row.name.job due.job due.is_in.is_job;
+      inside = subst (λ (k : JobKind). IsTimeNear table.window k row.name.at) (sym kind) due.inside;
+    }
+
+name_of_date : (table : Table) (row : SchedRow) (last : Option ℤ) → IsJobOpen table row.name.job last last row.now.0 row.name.at → IsNameIn table row.name
+name_of_date table row last opens =
+    let kind : job_kind table row.name.job ≡ Anacron opens.period opens.first_minute opens.last_minute = ap kind_of opens.is_in.is_job ∙ opens.kind in
+    record {
+      job = slice_get_within table.jobs row.name.job opens.job opens.is_in.is_job;
+      inside = subst (λ (k : JobKind). IsTimeNear table.window k row.name.at) (sym kind)
+          (day_near table.window opens.zone row.now.0 row.name.at opens.inside opens.is_date);
+    }
+
+name_of_wanted : (table : Table) (held : List SchedRow) (row : SchedRow) → IsWanted table held row → IsNameIn table row.name
+name_of_wanted table held row (inl due) = name_of_due table row due
+name_of_wanted table held row (inr by) = name_of_date table row by.last by.opens
 
 pub names_of_run : (source source' : SourceView) (table : Table) (log : List Entry) (held : List SchedRow)
     → IsRunOfInput source source' table log held → All (λ (row : SchedRow). IsNameIn table row.name) held
 names_of_run source source' table log held run =
-    All-weaker (λ (row : SchedRow). IsJobDue table row.name.job row.name.at × (row.kind ≡ Launch)) (λ (row : SchedRow). IsNameIn table row.name)
-    (λ row due. name_of_due table row due.0) held run.whole.launched.no_other
+    All-weaker (λ (row : SchedRow). IsWanted table held row × (row.kind ≡ Launch)) (λ (row : SchedRow). IsNameIn table row.name)
+    (λ row wanted. name_of_wanted table held row wanted.0) held run.whole.launched.no_other
 
 -- what was written, at the status of the writing's end
 pub written_whole : {T : Type 0} (old new : SinkView) (result : Result T ReportFault) (value : T) (status : ℕ) (text : List ℕ)

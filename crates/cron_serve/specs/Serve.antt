@@ -35,16 +35,16 @@ IsRefused old new refusal = IsTooLarge old new refusal ⊎ IsReadAndRefused old 
 
 -- The log and the rows that the ledger holds are those of a run of these jobs, up to the last minute of the window.
 pub record IsWholeRun (table : Table) (log : List Entry) (held : List SchedRow) : Type 0 where
-  -- no launch is held twice, each was started, and the log's ends say what is held
+  -- no launch is held twice, each was started, the log's ends say what is held, and launches are a period apart
   pub fits : Fits table log held
   -- nothing in the log is ignored
   pub effective : AreAllEffective table log
   -- nothing is left to do
   pub settled : IsSettled table log (table.window.until.0 -ℤ pos 1)
-  -- each due instant is launched, and nothing else
+  -- each due instant is launched, each date on which a job may open is, and nothing else
   pub launched : LaunchesEachDue table held
-  -- each start and each call is made in the minute at which the launch is due
-  pub in_time : AreInTheirMinutes log held
+  -- each launch is called at the instant of its start: that at which it is due, or one of its date
+  pub in_time : AreInTheirMinutes table log held
 
 -- the input was read to its end and is a run that is taken, of these jobs, with this log and these rows
 pub record IsRunOfInput (old new : SourceView) (table : Table) (log : List Entry) (held : List SchedRow) : Type 0 where

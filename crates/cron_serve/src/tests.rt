@@ -1,7 +1,7 @@
 //! Whole runs, from the bytes of a run file to the report and the note.
 use crate::{
-    RunEnd, a_refusal_is_that_of_the_bytes, a_whole_run_makes_each_launch,
-    an_input_has_one_verdict, cron_cluster,
+    RunEnd, a_refusal_is_that_of_the_bytes, a_whole_run_makes_each_date,
+    a_whole_run_makes_each_launch, an_input_has_one_verdict, cron_cluster,
 };
 use cron_io::{MemSink, MemSource};
 use paxos_base::{Entry, Kind};
@@ -449,4 +449,5 @@ fn laws_hold(_rt: HostRuntime) {
     an_input_has_one_verdict();
     a_refusal_is_that_of_the_bytes();
     a_whole_run_makes_each_launch();
+    a_whole_run_makes_each_date();
 }
