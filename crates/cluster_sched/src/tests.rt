@@ -7,7 +7,7 @@ use crate::{
     late_rows_stay, ledgers_always_answer, ledgers_answer_alike, names_differ_in_their_texts,
     read_name, rows_named_once_are_first, write_name,
 };
-use due_set::{JobKind, JobSpec, JobTable};
+use due_set::{JobKind, JobSpec, JobTable, Period};
 use std::alloc::Global;
 use std::test::Fail;
 use zone_minutes::{Minute, Window};
@@ -77,6 +77,63 @@ fn names(rt: HostRuntime) -> Result<(), Fail> {
     for (text, name) in TEXTS {
         assert_eq!(rt; read_name(&table, text), name, "{text}");
     }
+    Ok(())
+}
+
+// A day of 2024-02-29.
+const DATED: Name = Name { job: 0, at: 19_782 };
+
+// A table of an anacron job and of an entry, from 2024-03-02T00:00Z to 2024-03-29T00:00Z.
+fn dated_jobs(alloc: Global) -> Result<JobTable, Fail>
+    ensures { IfOk result (λ table. IsNameIn table DATED) }
+{
+    let window = Window {
+        from: Minute(28_488_960),
+        until: Minute(28_527_841),
+    };
+    let daily = JobKind::Anacron {
+        period: Period::Days(1),
+        first_minute: 0,
+        last_minute: 1440,
+    };
+    let mut jobs = Vec::new(alloc);
+    jobs.push(JobSpec::new(alloc, "x/y", 0, daily)?)?;
+    jobs.push(JobSpec::new(alloc, "alice:1", 0, JobKind::Never)?)?;
+    Ok(JobTable::in_utc(alloc, window, 0, jobs)?)
+}
+
+// Texts, and the days of the anacron job that have them as their names.
+const DATED_TEXTS: [(&str, Option<i64>); 12] = [
+    ("x/y@2024-03-02", Some(19_784)),
+    // two days before the window's first day, and two after its last
+    ("x/y@2024-02-29", Some(19_782)),
+    ("x/y@2024-03-31", Some(19_813)),
+    ("x/y@2024-02-28", None),
+    ("x/y@2024-04-01", None),
+    ("x/y@20240302T0000Z", None),
+    ("x/y@2024-03-02T00:00Z", None),
+    ("x/y@20240302", None),
+    ("x/y@2024-02-30", None),
+    ("x/y@@2024-03-02", None),
+    ("alice:1@2024-03-02", None),
+    ("z@2024-03-02", None),
+];
+
+#[test]
+fn names_of_anacron_jobs(rt: HostRuntime) -> Result<(), Fail> {
+    let table = dated_jobs(rt.alloc())?;
+    let mut text = String::from_str(rt.alloc(), "called ")?;
+    write_name(&table, DATED, &mut text)?;
+    assert_eq!(rt; text.as_str(), "called x/y@2024-02-29");
+    for (text, day) in DATED_TEXTS {
+        let name = day.map(|at| Name { job: 0, at });
+        assert_eq!(rt; read_name(&table, text), name, "{text}");
+    }
+    let entry = Name {
+        job: 1,
+        at: 28_488_960,
+    };
+    assert_eq!(rt; read_name(&table, "alice:1@20240302T0000Z"), Some(entry));
     Ok(())
 }
 
