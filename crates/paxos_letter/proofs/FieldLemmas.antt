@@ -55,7 +55,7 @@ pub bytes_of-fields_in : (packet : List ℕ) → IsPacket packet → bytes_of (f
 bytes_of-fields_in packet p =
     flat_map-same (field_bytes (fields_in packet)) (field_of packet) (field_bytes-fields_in packet p) all_fields ∙ sym (flat_map-all_fields packet p.long)
 
-fields_in-fit : (packet : List ℕ) → IsPacket packet → FitPacketFields (fields_in packet)
+pub fields_in-fit : (packet : List ℕ) → IsPacket packet → FitPacketFields (fields_in packet)
 fields_in-fit packet p =
     record {
       kind = p.bytes 0;

@@ -4,4 +4,5 @@ pub mod LetterLemmas
 pub mod PacketBack
 pub mod ReadLemmas
 pub mod RuleLemmas
+pub mod SingleLemmas
 pub mod WriteLemmas

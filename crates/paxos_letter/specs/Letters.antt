@@ -10,8 +10,8 @@ use Rattle.paxos_letter.specs.declared.fields.Fields.{Fields}
 use Rattle.paxos_letter.specs.declared.group.Group.{Group}
 use Rattle.paxos_letter.specs.declared.packet.Packet.{Packet}
 use Rattle.paxos_letter.specs.declared.packet.OwnedLetter.{OwnedLetter}
-use Rattle.paxos_letter.specs.Fields.{all_in}
-use Rattle.paxos_letter.specs.Spelling.{fields_of, spelling, AllFit}
+use Rattle.paxos_letter.specs.Fields.{FitPacketFields, all_in}
+use Rattle.paxos_letter.specs.Spelling.{fields_of, packet_bytes, spelling, AllFit}
 use Rattle.paxos_letter.specs.Rules.{keeps_kind, keeps_zeros, keeps_members}
 use Rattle.paxos_letter.specs.Groups.{no_group, is_filled, keeps_group, after, keep_groups}
 
@@ -22,6 +22,14 @@ pub record IsLetter (members from : ℕ) (packets : List Packet) : Type 0 where
   pub kinds : AllByRecursion (λ packet. IsTrue (keeps_kind (fields_of from packet))) packets
   pub members_keep : AllByRecursion (λ packet. IsTrue (keeps_members members from (fields_of from packet))) packets
   pub groups : IsTrue (keep_groups no_group (map (fields_of from) packets))
+
+-- The bytes are those of one packet of the sender, whatever stands round it: it is of a known kind, and the sender and the
+-- ballots are of the members.
+pub record SpellsPacket (members from : ℕ) (packet : Packet) (bytes : List ℕ) : Type 0 where
+  pub kind : IsTrue (keeps_kind (fields_of from packet))
+  pub members_keep : IsTrue (keeps_members members from (fields_of from packet))
+  pub fits : FitPacketFields (fields_of from packet)
+  pub spelled : bytes ≡ packet_bytes from packet
 
 -- the bytes are the spelling of a letter
 pub record Spells (members from : ℕ) (packets : List Packet) (bytes : List ℕ) : Type 0 where

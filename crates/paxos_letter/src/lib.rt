@@ -33,6 +33,7 @@ mod laws;
 mod packet;
 mod reading;
 mod rules;
+mod single;
 #[cfg(test)]
 mod tests;
 mod writing;
@@ -43,4 +44,5 @@ pub use laws::{
 };
 pub use packet::{LetterBytes, OwnedLetter, Packet, PacketList};
 pub use reading::read_letter;
+pub use single::{packet_bytes, packet_in};
 pub use writing::write_letter;

@@ -236,6 +236,24 @@ fn groups(rt: HostRuntime) -> Result<(), Fail> {
 }
 
 #[test]
+fn packets_by_themselves(rt: HostRuntime) {
+    let bytes = packet_bytes(0, &prepare());
+    assert_eq!(rt; bytes, PREPARE);
+    assert_eq!(rt; packet_in(&bytes, 3, 0), Some(prepare()));
+    // A vote needs no promise before it.
+    assert!(rt; packet_in(&OLD_VOTE, 3, 1).is_some());
+    for (bytes, sender) in [
+        (PREPARE, 1),
+        (with_byte(PREPARE, 0, 12), 0),
+        (with_byte(PREPARE, 3, 1), 0),
+        (with_byte(PREPARE, 15, 11), 0),
+        (with_byte(PREPARE, 1, 3), 3),
+    ] {
+        assert_eq!(rt; packet_in(&bytes, 3, sender), None);
+    }
+}
+
+#[test]
 fn laws() {
     letters_differ_in_their_bytes();
     letters_have_packets();
