@@ -1,0 +1,9 @@
+pub mod CallerLemmas
+pub mod DiskLemmas
+pub mod FileLemmas
+pub mod ImageLemmas
+pub mod MomentLemmas
+pub mod RestoreLemmas
+pub mod RunLemmas
+pub mod SpanLemmas
+pub mod ToldLemmas

@@ -1,0 +1,10 @@
+pub mod Calls
+pub mod Faults
+pub mod Files
+pub mod Images
+pub mod Left
+pub mod MemDisk
+pub mod Memory
+pub mod Past
+pub mod Told
+pub mod Touched

@@ -1,0 +1,39 @@
+-- A disk in memory, as contracts see it.
+use Rattle.std.specs.Prelude.{ℕ, Bool, false, [], length, Option, None, Some}
+use Rattle.disk_model.specs.declared.mem_disk.MemDisk.{MemDisk}
+use Rattle.disk_model.specs.Calls.{counts_of, told_by}
+use Rattle.disk_model.specs.Faults.{Counts}
+use Rattle.disk_model.specs.Files.{seen_in, IsImageIn, LeftSince}
+use Rattle.disk_model.specs.Images.{Image}
+use Rattle.disk_model.specs.Told.{Told}
+
+abbrev pub seen_of : MemDisk → Image
+seen_of disk = seen_in disk.files
+
+abbrev pub left_by : MemDisk → Image → Type 0
+left_by disk image = IsImageIn disk.files image
+
+abbrev pub moment_of : MemDisk → ℕ
+moment_of disk = length disk.history.items
+
+abbrev pub left_since_by : MemDisk → ℕ → Image → Type 0
+left_since_by disk start image = LeftSince disk.history.items disk.files start image
+
+abbrev pub counts_by : MemDisk → Counts
+counts_by disk = counts_of disk.calls
+
+abbrev pub told_of : MemDisk → Option Told
+told_of disk = Some (told_by disk.calls disk.files)
+
+-- what it tells of its bytes
+abbrev pub done_in : Option Told → Image → Image
+done_in None other = other
+done_in (Some told) other = told.done
+
+abbrev pub no_files : Image
+no_files = record { chooser = []; area_a = []; area_b = [] }
+
+-- a disk of three empty files that is neither armed nor stopped, and can fail or not
+abbrev pub new_told : Bool → Told
+new_told fails =
+    record { fails = fails; arm = None; stopped = false; done = no_files; synced = no_files; touched = λ file place. false }

@@ -1,0 +1,133 @@
+-- What a disk may tell of itself beside its images: when it will stop, and what that stop leaves.
+use Rattle.std.specs.Prelude.{◌≡◌, ◌⊎◌, ⊤, ℕ, ◌+◌, ◌-◌, ◌/◌, ◌%◌, ◌==◌, nat_le, nat_lt, Bool, true, false, not, ◌&&◌, ◌||◌, if◌then◌else◌, List, [], ◌∷◌, length, take, Option, None, Some, Result, Ok, Err}
+use Rattle.disk_model.specs.declared.armed.Arm.{Arm}
+use Rattle.disk_model.specs.declared.fault.FileNo.{FileNo}
+use Rattle.disk_model.specs.declared.fault.FileNo.TheVariants.{Chooser, AreaA, AreaB}
+use Rattle.disk_model.specs.declared.fault.DiskFault.{DiskFault}
+use Rattle.disk_model.specs.declared.fault.DiskFault.TheVariants.{Stopped, Failed, OutOfMemory}
+use Rattle.disk_model.specs.Images.{Image, file_of, with_file, written_over}
+
+pub record Told : Type 0 where
+  -- it can fail
+  pub fails : Bool
+  -- when it stops, where it is to stop, and which image that leaves
+  pub arm : Option Arm
+  pub stopped : Bool
+  -- the bytes of each file, with a call that stopped done
+  pub done : Image
+  -- what the last sync of each file left
+  pub synced : Image
+  -- which bytes of a file were written since, those of a call that stopped included
+  pub touched : FileNo → ℕ → Bool
+
+-- where the disk tells, it does so afterwards too, and the two are so
+abbrev pub Tells : (Told → Told → Type 0) → Option Told → Option Told → Type 0
+Tells Step None new = ⊤
+Tells Step (Some old) None = ⊥
+Tells Step (Some old) (Some new) = Step old new
+
+-- ---- what a call does
+
+abbrev pub is_file : FileNo → FileNo → Bool
+is_file Chooser Chooser = true
+is_file AreaA AreaA = true
+is_file AreaB AreaB = true
+is_file _ _ = false
+
+-- a place is one of so many from an offset on
+abbrev pub is_within : ℕ → ℕ → ℕ → Bool
+is_within at count place = nat_le at place && nat_lt place (at + count)
+
+abbrev pub after_write : FileNo → ℕ → List ℕ → Told → Told
+after_write file at piece told =
+    record told {
+      done = with_file file (written_over at piece (file_of file told.done)) told.done;
+      touched = λ other place. told.touched other place || (is_file file other && is_within at (length piece) place);
+    }
+
+abbrev pub after_cut : FileNo → ℕ → Told → Told
+after_cut file size told = record told { done = with_file file (take size (file_of file told.done)) told.done }
+
+abbrev pub after_sync : FileNo → Told → Told
+after_sync file told =
+    record told {
+      synced = with_file file (file_of file told.done) told.synced;
+      touched = λ other place. told.touched other place && not (is_file file other);
+    }
+
+-- nothing
+abbrev pub no_change : Told → Told
+no_change told = told
+
+-- ---- when it stops
+
+-- the next write, cut or sync stops within
+abbrev pub is_due : Option Arm → Bool
+is_due None = false
+is_due (Some arm) = arm.left == 0
+
+-- one more has succeeded
+abbrev pub one_less : Option Arm → Option Arm
+one_less None = None
+one_less (Some arm) = Some (record arm { left = arm.left - 1 })
+
+-- A write, a cut or a sync with this effect, and this one where it stops within.
+abbrev pub AfterCall : {T : Type 0} → (Told → Told) → (Told → Told) → Result T DiskFault → Told → Told → Type 0
+AfterCall effect stopped_effect (Ok _) old new =
+    (old.stopped ≡ false) × (is_due old.arm ≡ false) × (new ≡ record (effect old) { arm = one_less old.arm })
+AfterCall effect stopped_effect (Err Stopped) old new =
+    ((old.stopped ≡ true) × (new ≡ old)) ⊎ ((old.stopped ≡ false) × (is_due old.arm ≡ true) × (new ≡ record (stopped_effect old) { stopped = true }))
+AfterCall effect stopped_effect (Err Failed) old new = (old.stopped ≡ false) × (old.fails ≡ true) × (new ≡ old)
+AfterCall effect stopped_effect (Err OutOfMemory) old new = (old.stopped ≡ false) × (new ≡ old)
+
+-- a call that only looks
+abbrev pub AfterLook : {T : Type 0} → Result T DiskFault → Told → Told → Type 0
+AfterLook (Ok _) old new = (old.stopped ≡ false) × (new ≡ old)
+AfterLook (Err Stopped) old new = (old.stopped ≡ true) × (new ≡ old)
+AfterLook (Err Failed) old new = (old.stopped ≡ false) × (old.fails ≡ true) × (new ≡ old)
+AfterLook (Err OutOfMemory) old new = ⊥
+
+-- ---- arming, and what a stop leaves
+
+-- a disk that has stopped keeps the image that it is to leave
+abbrev pub after_arm : ℕ → ℕ → Told → Told
+after_arm pass image told = if told.stopped then told else record told { arm = Some (record { left = pass; image = image }) }
+
+abbrev pub after_disarm : Told → Told
+after_disarm told = if told.stopped then told else record told { arm = None }
+
+-- the bytes from a place on, with one byte where they were touched
+abbrev pub overwritten : (ℕ → Bool) → ℕ → ℕ → List ℕ → List ℕ
+overwritten touched byte place [] = []
+overwritten touched byte place (first ∷ rest) =
+    (if touched place then byte else first) ∷ overwritten touched byte (place + 1) rest
+
+-- A file in the image of a number. Modulo 3, the number 0 stands for what the last sync left, 1 for the stopped call
+-- done, and 2 for the same with one byte, the number's third modulo 256, at each place that was touched since the sync.
+abbrev pub file_in_image : ℕ → Told → FileNo → List ℕ
+file_in_image number told file =
+    if number % 3 == 0 then file_of file told.synced
+    else if number % 3 == 1 then file_of file told.done
+    else overwritten (told.touched file) (number / 3 % 256) 0 (file_of file told.done)
+
+abbrev pub image_of : ℕ → Told → Image
+image_of number told =
+    record {
+      chooser = file_in_image number told Chooser;
+      area_a = file_in_image number told AreaA;
+      area_b = file_in_image number told AreaB;
+    }
+
+abbrev pub image_by : Option Arm → Told → Image
+image_by None told = told.done
+image_by (Some arm) told = image_of arm.image told
+
+-- the image that a stop leaves
+abbrev pub image_left : Told → Image
+image_left told = image_by told.arm told
+
+-- where the disk has stopped, the files are the image that the stop leaves, and synced
+abbrev pub after_revive : Told → Told
+after_revive told =
+    if told.stopped then record told { arm = None; stopped = false; done = image_left told; synced = image_left told; touched = λ file place. false }
+    else told

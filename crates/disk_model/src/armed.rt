@@ -1,0 +1,52 @@
+ghost use Rattle.std.specs.Prelude.{◌≡◌, ◌↔◌, ℕ, IsSome};
+ghost use Rattle.disk_model.specs.Images.{Image, NoNewImage};
+ghost use Rattle.disk_model.specs.Told.{Tells, after_arm, after_disarm, after_revive};
+
+use crate::disk::Disk;
+
+/// When a disk stops, and which image that leaves.
+#[derive(Clone, Copy, Debug, PartialEq, Eq)]
+pub struct Arm {
+    /// How many more calls of `write_at`, `cut` and `sync` succeed; the next one stops within.
+    pub left: u32,
+    /// The number of the image. Modulo 3, it is 0 for what the last syncs left, 1 for the stopped call done, and 2 for
+    /// the same with the number's third, modulo 256, in each byte that was written since its file's last sync.
+    pub image: u32,
+}
+
+/// A disk that can be told to stop within a chosen call, and what that leaves. No call takes memory.
+pub trait ArmedDisk: Disk {
+    /// Lets `pass` more calls of `write_at`, `cut` and `sync` succeed, and the next one stop within and leave the image of
+    /// that number. Every call after it is stopped too. A disk that has stopped stays as it is.
+    fn arm(&mut self, pass: u32, image: u32)
+        ensures told { Tells (λ old new. new ≡ after_arm pass image old) (Self.told self.old) (Self.told self.new) }
+        ensures seen { Self.seen self.new ≡ Self.seen self.old }
+        ensures images { (image : Image) → Self.may_leave self.new image ↔ Self.may_leave self.old image }
+        ensures moment { Self.moment self.new ≡ Self.moment self.old }
+        ensures time { (start : ℕ) (image : Image) → Self.left_since self.new start image ↔ Self.left_since self.old start image }
+        ensures honest { Self.honest self.new ↔ Self.honest self.old }
+        ensures counts { Self.counts self.new ≡ Self.counts self.old };
+
+    /// Takes [`ArmedDisk::arm`] back, where no stop has come.
+    fn disarm(&mut self)
+        ensures told { Tells (λ old new. new ≡ after_disarm old) (Self.told self.old) (Self.told self.new) }
+        ensures seen { Self.seen self.new ≡ Self.seen self.old }
+        ensures images { (image : Image) → Self.may_leave self.new image ↔ Self.may_leave self.old image }
+        ensures moment { Self.moment self.new ≡ Self.moment self.old }
+        ensures time { (start : ℕ) (image : Image) → Self.left_since self.new start image ↔ Self.left_since self.old start image }
+        ensures honest { Self.honest self.new ↔ Self.honest self.old }
+        ensures counts { Self.counts self.new ≡ Self.counts self.old };
+
+    /// After a stop, makes the files the image that the stop leaves, all of it synced, and takes calls again. Without a
+    /// stop nothing changes.
+    fn revive(&mut self)
+        ensures told { Tells (λ old new. new ≡ after_revive old) (Self.told self.old) (Self.told self.new) }
+        // The files are an image that the stop may leave.
+        ensures left { Self.honest self.old → Self.may_leave self.old (Self.seen self.new) }
+        ensures no_new_image { Self.honest self.old → NoNewImage (Self.may_leave self.old) (Self.may_leave self.new) }
+        ensures honest { Self.honest self.new ↔ Self.honest self.old }
+        ensures counts { Self.counts self.new ≡ Self.counts self.old };
+
+    /// It tells when it will stop.
+    ghost tells: { (disk : Self) → IsSome (Self.Disk.told disk) };
+}

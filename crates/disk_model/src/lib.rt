@@ -1,0 +1,27 @@
+//! A disk of three files as a replica sees it: what a read gives, and what a stop at any moment may leave.
+//!
+//! Between two syncs of a file each byte that was written, and each past the old end, may be any byte after a stop; the
+//! length may be the old one, the new one or one between; all other bytes stay. A sync that answers Ok puts an end to
+//! that: from then on a stop leaves what a read gives. [`Disk`] says so of each call, at each moment within it too.
+//! [`MemDisk`] is such a disk in memory. It can be told to fail at chosen calls ([`MemDisk::new`]), and to stop within a
+//! chosen one and to leave a chosen image ([`ArmedDisk`]).
+#![tactic(auto)]
+
+mod armed;
+mod calls;
+mod disk;
+mod fault;
+mod mem_disk;
+mod mem_file;
+mod mem_files;
+mod span;
+mod whole;
+
+pub use armed::{Arm, ArmedDisk};
+pub use disk::Disk;
+pub use fault::{DiskFault, FileNo};
+pub use mem_disk::MemDisk;
+pub use whole::{read_file, write_synced};
+
+#[cfg(test)]
+mod tests;

@@ -1,0 +1,55 @@
+ghost use Rattle.std.specs.Prelude.{◌≡◌, ◌↔◌, ◌≤◌, length, IfOk, OnOk, IsErrOf};
+ghost use Rattle.disk_model.specs.declared.fault.DiskFault.TheVariants.{OutOfMemory};
+ghost use Rattle.disk_model.specs.Faults.{HasCause};
+ghost use Rattle.disk_model.specs.Images.{file_of, InFile, Holds, Torn, IsDurable, NoNewImage, LeavesOnly, InFileOnly};
+
+use crate::disk::Disk;
+use crate::fault::{DiskFault, FileNo};
+use std::alloc::Global;
+
+/// Writes over a file's bytes from an offset on, and syncs it. What it had was synced.
+///
+/// # Errors
+///
+/// Those of the disk. After want of memory nothing has changed.
+pub fn write_synced<D: Disk>(
+    disk: &mut D,
+    file: FileNo,
+    at: u64,
+    bytes: &[u8],
+) -> Result<(), DiskFault>
+    requires within { at ≤ length (file_of file (D.seen disk.old)) }
+    requires durable { D.honest disk.old → IsDurable file (D.seen disk.old) (D.may_leave disk.old) }
+    ensures written { OnOk result (InFile file (Holds at bytes.now) (D.seen disk.old) (D.seen disk.new)) }
+    ensures durable { OnOk result (D.honest disk.new → IsDurable file (D.seen disk.new) (D.may_leave disk.new)) }
+    ensures images { D.honest disk.old → LeavesOnly D.moment D.left_since disk.old disk.new
+        (InFileOnly file (D.may_leave disk.old) (Torn at (length bytes.now) (file_of file (D.seen disk.old)))) }
+    ensures unchanged { IsErrOf result OutOfMemory → D.seen disk.new ≡ D.seen disk.old }
+    ensures still_durable { IsErrOf result OutOfMemory → D.honest disk.new → IsDurable file (D.seen disk.new) (D.may_leave disk.new) }
+    ensures honest { D.honest disk.new ↔ D.honest disk.old }
+    ensures cause { HasCause (D.counts disk.old) (D.counts disk.new) result }
+{
+    disk.write_at(file, at, bytes)?;
+    disk.sync(file)
+}
+
+/// All the bytes of a file.
+///
+/// # Errors
+///
+/// Those of the disk, and want of memory for the bytes.
+pub fn read_file<D: Disk>(alloc: Global, disk: &mut D, file: FileNo) -> Result<Vec<u8>, DiskFault>
+    ensures bytes { IfOk result (λ bytes. bytes.items ≡ file_of file (D.seen disk.old)) }
+    ensures seen { D.seen disk.new ≡ D.seen disk.old }
+    ensures durable { (D.honest disk.old → IsDurable file (D.seen disk.old) (D.may_leave disk.old))
+        → D.honest disk.new → IsDurable file (D.seen disk.new) (D.may_leave disk.new) }
+    ensures no_new_image { D.honest disk.old → NoNewImage (D.may_leave disk.old) (D.may_leave disk.new) }
+    ensures images { D.honest disk.old → LeavesOnly D.moment D.left_since disk.old disk.new (D.may_leave disk.old) }
+    ensures honest { D.honest disk.new ↔ D.honest disk.old }
+    ensures cause { HasCause (D.counts disk.old) (D.counts disk.new) result }
+{
+    let size = disk.length(file)? as usize;
+    let mut bytes = vec![in alloc; 0; size]?;
+    disk.read(file, 0, &mut bytes)?;
+    Ok(bytes)
+}
