@@ -1,0 +1,40 @@
+-- A body that is appended: the write behind the gate, and that of the gate.
+use Rattle.std.proofs.Common.{◌≡◌, ℕ, ◌+◌, ◌*◌, ◌≤◌, List, [], ◌∷◌, ◌++◌, length, Some, sym, subst}
+use Rattle.disk_model.specs.declared.fault.FileNo.{FileNo}
+use Rattle.disk_model.specs.Images.{Image, Holds, Torn, LeavesOnly, InFileOnly}
+use Rattle.disk_model.proofs.CallerLemmas.{follows_on, leaves_weaker}
+use Rattle.gate_file.specs.Gates.{AreOpen, IsAtRest, HasBodyBehind, IsStaged}
+use Rattle.gate_file.proofs.GateLemmas.{torn_body, body_behind, open_with_body, rest_before_gate, rest_after_gate}
+use Rattle.disk_model.proofs.RunLemmas.{now_in_run, in_file_through, in_file_weaker}
+
+module _ (file body : List ℕ) (bodies : List (List ℕ)) (rest : IsAtRest file bodies) (long : length body ≡ 56) (mid : List ℕ) (holds : Holds (57 * length bodies + 1) (body ++ 0 ∷ []) file mid) where
+  pub mid_behind : HasBodyBehind mid (length bodies) body
+  mid_behind = subst (λ l. HasBodyBehind l (length bodies) body) (sym holds) (body_behind file body bodies rest long)
+
+  pub mid_open : AreOpen mid bodies
+  mid_open = subst (λ l. AreOpen l bodies) (sym holds) (open_with_body file body bodies rest long)
+
+  pub mid_at_rest : IsAtRest mid bodies
+  mid_at_rest = subst (λ l. IsAtRest l bodies) (sym holds) (rest_before_gate file body bodies rest long)
+
+  pub new_at_rest : (new : List ℕ) → Holds (57 * length bodies) (1 ∷ []) mid new → IsAtRest new (bodies ++ body ∷ [])
+  new_at_rest new opened = rest_after_gate mid body new bodies mid_open mid_behind opened
+
+module _ {D : Type 0} (moment : D → ℕ) (left_since : D → ℕ → Image → Type 0) (may_leave : D → Image → Type 0) (file : FileNo) (body : List ℕ) (bodies : List (List ℕ)) where
+  -- the first write
+  pub body_leaves : (old mid : D) (seen : List ℕ) (count : ℕ) → IsAtRest seen bodies → LeavesOnly moment left_since old mid (InFileOnly file (may_leave old) (Torn (57 * length bodies + 1) count seen))
+      → LeavesOnly moment left_since old mid (InFileOnly file (may_leave old) (IsStaged bodies (Some body)))
+  body_leaves old mid seen count rest run =
+      leaves_weaker moment left_since old mid (InFileOnly file (may_leave old) (Torn (57 * length bodies + 1) count seen)) (InFileOnly file (may_leave old) (IsStaged bodies (Some body))) run
+      (in_file_weaker file (may_leave old) (Torn (57 * length bodies + 1) count seen) (IsStaged bodies (Some body)) (λ bytes torn. torn_body seen body bodies rest count bytes torn))
+
+module _ {D : Type 0} (moment : D → ℕ) (left_since : D → ℕ → Image → Type 0) (may_leave : D → Image → Type 0) (file : FileNo) (Q : List ℕ → Type 0) where
+  -- a second write after a first, that leaves what the first left
+  pub write_after : (old mid new : D) (P : List ℕ → Type 0) → ((start : ℕ) (image : Image) → start ≤ moment mid → may_leave mid image → left_since mid start image) → ((bytes : List ℕ) → P bytes → Q bytes)
+      → LeavesOnly moment left_since old mid (InFileOnly file (may_leave old) Q)
+      → LeavesOnly moment left_since mid new (InFileOnly file (may_leave mid) P)
+      → LeavesOnly moment left_since old new (InFileOnly file (may_leave old) Q)
+  write_after old mid new P counts_now keeps first second =
+      follows_on moment left_since old mid new (InFileOnly file (may_leave old) Q) (InFileOnly file (may_leave mid) P) first second (λ image only.
+      in_file_weaker file (may_leave old) P Q keeps image
+      (in_file_through file (may_leave old) (may_leave mid) Q P (now_in_run moment left_since may_leave old mid (InFileOnly file (may_leave old) Q) counts_now first) image only))

@@ -1,0 +1,6 @@
+pub mod AppendLemmas
+pub mod AttachLemmas
+pub mod FaultLemmas
+pub mod GateLemmas
+pub mod ReadLemmas
+pub mod RewriteLemmas

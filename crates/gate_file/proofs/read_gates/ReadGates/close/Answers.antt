@@ -1,0 +1,46 @@
+use Rattle.std.proofs.Common.{◌≡◌, ◌∷◌, [], ◌*◌, length, subst, arith}
+use Rattle.disk_model.specs.Images.{file_of, Torn, Holds, LeavesOnly, InFileOnly}
+use Rattle.disk_model.proofs.CallerLemmas.{started}
+use Rattle.disk_model.proofs.RunLemmas.{in_file_at_first}
+use Rattle.gate_file.specs.Gates.{IsStaged}
+use Rattle.gate_file.specs.ReadFile.{file_read, bodies_read}
+use Rattle.gate_file.proofs.AttachLemmas.{close_leaves}
+use Rattle.gate_file.proofs.GateLemmas.{rest_after_close}
+use Rattle.gate_file.proofs.read_gates.ReadGates.close.Goals as goal
+
+pub returns-in_err-write_synced-clause-images : goal.returns-in_err-write_synced-clause-images
+returns-in_err-write_synced-clause-images g c bodies pending honest staged =
+    let gates = c.args.self in
+    let file = file_read gates in
+    let old = c.args.disk.now in
+    let now = file_of file (g.D.Disk.seen old) in
+    let found = bodies_read gates in
+    let place : c.len.result * 57 ≡ 57 * length found = omega (arith, c.len.ensures, gates.bodies.ok.0) in
+    let not_closed = c.requires.not_closed c.if-closed.false in
+    let first = started g.D.Disk.moment g.D.Disk.left_since old (InFileOnly file (g.D.Disk.may_leave old) (IsStaged bodies pending)) (λ image left. in_file_at_first file (g.D.Disk.may_leave old) (IsStaged bodies pending) staged image (g.met.D.Disk.only_now old image honest left)) in
+    close_leaves g.D.Disk.moment g.D.Disk.left_since g.D.Disk.may_leave file pending bodies old old c.write_synced.new.disk (g.D.Disk.seen old) found (λ start image le left. g.met.D.Disk.counts_now old start image honest le left) (g.met.D.Disk.seen_is_left old honest) c.requires.has not_closed first
+    (subst (λ at. LeavesOnly g.D.Disk.moment g.D.Disk.left_since old c.write_synced.new.disk (InFileOnly file (g.D.Disk.may_leave old) (Torn at 1 now))) place (c.write_synced.ensures.images honest))
+
+pub returns-clause-images : goal.returns-clause-images
+returns-clause-images g c bodies pending honest staged =
+    let gates = c.args.self in
+    let file = file_read gates in
+    let old = c.args.disk.now in
+    let now = file_of file (g.D.Disk.seen old) in
+    let found = bodies_read gates in
+    let place : c.len.result * 57 ≡ 57 * length found = omega (arith, c.len.ensures, gates.bodies.ok.0) in
+    let not_closed = c.requires.not_closed c.if-closed.false in
+    let first = started g.D.Disk.moment g.D.Disk.left_since old (InFileOnly file (g.D.Disk.may_leave old) (IsStaged bodies pending)) (λ image left. in_file_at_first file (g.D.Disk.may_leave old) (IsStaged bodies pending) staged image (g.met.D.Disk.only_now old image honest left)) in
+    close_leaves g.D.Disk.moment g.D.Disk.left_since g.D.Disk.may_leave file pending bodies old old c.write_synced.new.disk (g.D.Disk.seen old) found (λ start image le left. g.met.D.Disk.counts_now old start image honest le left) (g.met.D.Disk.seen_is_left old honest) c.requires.has not_closed first
+    (subst (λ at. LeavesOnly g.D.Disk.moment g.D.Disk.left_since old c.write_synced.new.disk (InFileOnly file (g.D.Disk.may_leave old) (Torn at 1 now))) place (c.write_synced.ensures.images honest))
+
+pub returns-clause-settled : goal.returns-clause-settled
+returns-clause-settled g c =
+    let gates = c.args.self in
+    let file = file_read gates in
+    let old = c.args.disk.now in
+    let now = file_of file (g.D.Disk.seen old) in
+    let found = bodies_read gates in
+    let place : c.len.result * 57 ≡ 57 * length found = omega (arith, c.len.ensures, gates.bodies.ok.0) in
+    let closed = subst (λ at. Holds at (0 ∷ []) now (file_of file (g.D.Disk.seen c.write_synced.new.disk))) place c.in_ok-write_synced.ensures.written.step in
+    record { at_rest = rest_after_close now (file_of file (g.D.Disk.seen c.write_synced.new.disk)) found c.requires.has c.requires.within closed; durable = c.in_ok-write_synced.ensures.durable }

@@ -1,0 +1,4 @@
+pub mod Faults
+pub mod File
+pub mod Gates
+pub mod ReadFile

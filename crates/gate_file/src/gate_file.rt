@@ -1,0 +1,117 @@
+ghost use Rattle.std.specs.Prelude.{◌≡◌, ◌↔◌, ⊤, ℕ, List, ◌++◌, ◌∷◌, [], Option, Some, IfOk, OnOk, OnErr, IsErrOf};
+ghost use Rattle.cron_io.specs.Faults.{Rose};
+ghost use Rattle.disk_model.specs.Images.{file_of, OthersStay, LeavesOnly, InFileOnly, AllHave};
+ghost use Rattle.gate_file.specs.declared.fault.GateFault.TheVariants.{Stopped, DiskFault, OutOfMemory};
+ghost use Rattle.gate_file.specs.Faults.{HasCountedOn};
+ghost use Rattle.gate_file.specs.Gates.{HasBodies, IsStaged, gated};
+
+use crate::body::Body56;
+use crate::fault::GateFault;
+use crate::read_gates::ReadGates;
+use crate::reading::{STEP, gated, with_closed_gate};
+use disk_model::{Disk, FileNo, write_synced};
+use std::alloc::Global;
+
+// More have no place in memory.
+const MOST_BODIES: usize = 1 << 57;
+
+/// A file of bodies behind gates.
+#[derive(Debug, Drop)]
+pub struct GateFile {
+    pub(crate) file: FileNo,
+    pub(crate) bodies: Vec<Body56>,
+}
+
+impl GateFile {
+    ghost use Rattle.gate_file.specs.File.{file_no, bodies_of, IsSettled};
+
+    /// The bodies that the file has, in order.
+    pub fn bodies(&self) -> &[Body56]
+        ensures { result.now ≡ bodies_of self.now }
+    {
+        &self.bodies
+    }
+
+    /// Attaches a file. What it has is synced, so that an earlier call that failed is decided, and read; where no byte 0
+    /// stands at its tail gate, one is written there, and synced.
+    pub fn attach<D: Disk>(alloc: Global, disk: &mut D, file: FileNo) -> Result<GateFile, GateFault>
+        ensures settled { IfOk result (λ gates. IsSettled D.seen D.may_leave D.honest disk.new gates) }
+        ensures file { IfOk result (λ gates. file_no gates ≡ file) }
+        ensures bodies { IfOk result (λ gates. HasBodies (file_of file (D.seen disk.old)) (bodies_of gates)) }
+        ensures others { OnOk result (OthersStay file (D.seen disk.old) (D.seen disk.new)) }
+
+        // Where an append was cut short, whatever a stop within this call leaves has the bodies from before it, with its body
+        // or without.
+        ensures images { (bodies : List (List ℕ)) (pending : Option (List ℕ)) → D.honest disk.old
+            → AllHave file (IsStaged bodies pending) (D.may_leave disk.old)
+            → LeavesOnly D.moment D.left_since disk.old disk.new
+            (InFileOnly file (D.may_leave disk.old) (IsStaged bodies pending)) }
+
+        ensures honest { D.honest disk.new ↔ D.honest disk.old }
+        ensures stopped { IsErrOf result Stopped → Rose (D.counts disk.old).stops (D.counts disk.new).stops }
+        ensures failed { IsErrOf result DiskFault → Rose (D.counts disk.old).faults (D.counts disk.new).faults }
+        ensures counted { HasCountedOn (D.counts disk.old) (D.counts disk.new) }
+    {
+        ReadGates::read(alloc, disk, file)?.close(disk)
+    }
+
+    /// Writes a file anew, with these bodies and nothing else: it is cut to nothing, written whole, and synced. Until then
+    /// a stop may leave any bytes in it, and after a fault or want of memory the bodies that it had may be gone.
+    pub fn rewrite<D: Disk>(
+        alloc: Global,
+        disk: &mut D,
+        file: FileNo,
+        bodies: Vec<Body56>,
+    ) -> Result<GateFile, GateFault>
+        ensures settled { IfOk result (λ gates. IsSettled D.seen D.may_leave D.honest disk.new gates) }
+        ensures file { IfOk result (λ gates. file_no gates ≡ file) }
+        ensures bodies { IfOk result (λ gates. bodies_of gates ≡ bodies.items) }
+        ensures whole { OnOk result (file_of file (D.seen disk.new) ≡ gated bodies.items) }
+        ensures others { OnOk result (OthersStay file (D.seen disk.old) (D.seen disk.new)) }
+        ensures images { D.honest disk.old → LeavesOnly D.moment D.left_since disk.old disk.new
+            (InFileOnly file (D.may_leave disk.old) (λ bytes. ⊤)) }
+        ensures memory_others { IsErrOf result OutOfMemory → OthersStay file (D.seen disk.old) (D.seen disk.new) }
+        ensures honest { D.honest disk.new ↔ D.honest disk.old }
+        ensures stopped { IsErrOf result Stopped → Rose (D.counts disk.old).stops (D.counts disk.new).stops }
+        ensures failed { IsErrOf result DiskFault → Rose (D.counts disk.old).faults (D.counts disk.new).faults }
+        ensures counted { HasCountedOn (D.counts disk.old) (D.counts disk.new) }
+    {
+        let bytes = gated(alloc, &bodies)?;
+        disk.cut(file, 0)?;
+        disk.write_at(file, 0, &bytes)?;
+        disk.sync(file)?;
+        Ok(GateFile { file, bodies })
+    }
+
+    /// Adds a body. At `Ok` it is in the file whatever a stop does. After want of memory the file has the bodies that it
+    /// had; after any other fault it is to be attached again.
+    pub fn append<D: Disk>(&mut self, disk: &mut D, body: &[u8; 56]) -> Result<(), GateFault>
+        requires { IsSettled D.seen D.may_leave D.honest disk.old self.old }
+        ensures settled { OnOk result (IsSettled D.seen D.may_leave D.honest disk.new self.new) }
+        ensures bodies { OnOk result (bodies_of self.new ≡ bodies_of self.old ++ body.now ∷ []) }
+        ensures others { OnOk result (OthersStay (file_no self.old) (D.seen disk.old) (D.seen disk.new)) }
+        ensures file { file_no self.new ≡ file_no self.old }
+
+        // Whatever a stop within the call leaves has the bodies from before, with the new one or without.
+        ensures images { D.honest disk.old → LeavesOnly D.moment D.left_since disk.old disk.new
+            (InFileOnly (file_no self.old) (D.may_leave disk.old) (IsStaged (bodies_of self.old) (Some body.now))) }
+
+        ensures kept { OnErr result (bodies_of self.new ≡ bodies_of self.old) }
+        ensures memory { IsErrOf result OutOfMemory → IsSettled D.seen D.may_leave D.honest disk.new self.new }
+        ensures memory_others { IsErrOf result OutOfMemory → OthersStay (file_no self.old) (D.seen disk.old) (D.seen disk.new) }
+        ensures honest { D.honest disk.new ↔ D.honest disk.old }
+        ensures stopped { IsErrOf result Stopped → Rose (D.counts disk.old).stops (D.counts disk.new).stops }
+        ensures failed { IsErrOf result DiskFault → Rose (D.counts disk.old).faults (D.counts disk.new).faults }
+        ensures counted { HasCountedOn (D.counts disk.old) (D.counts disk.new) }
+    {
+        if self.bodies.len() >= MOST_BODIES {
+            return Err(GateFault::OutOfMemory);
+        }
+        self.bodies.reserve(1)?;
+        let gate = (self.bodies.len() * STEP) as u64;
+        write_synced(disk, self.file, gate + 1, &with_closed_gate(body))?;
+        write_synced(disk, self.file, gate, &[1])?;
+        self.bodies.push(Body56 { bytes: *body }).unwrap();
+        Ok(())
+    }
+}

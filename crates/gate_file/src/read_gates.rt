@@ -1,0 +1,91 @@
+ghost use Rattle.std.specs.Prelude.{◌≡◌, ◌↔◌, ℕ, List, Option, IfOk, OnOk, IsErrOf};
+ghost use Rattle.cron_io.specs.Faults.{Rose};
+ghost use Rattle.disk_model.specs.Images.{file_of, OthersStay, NoNewImage, LeavesOnly, InFileOnly, AllHave};
+ghost use Rattle.gate_file.specs.declared.fault.GateFault.TheVariants.{Stopped, DiskFault};
+ghost use Rattle.gate_file.specs.Faults.{HasCountedOn};
+ghost use Rattle.gate_file.specs.Gates.{HasBodies, IsStaged};
+
+use crate::body::Body56;
+use crate::fault::GateFault;
+use crate::gate_file::GateFile;
+use crate::reading::{STEP, has_closed_gate, open_bodies};
+use disk_model::{Disk, FileNo, read_file, write_synced};
+use std::alloc::Global;
+
+/// A gated file that was read, and not written yet. Whoever refuses what it has leaves it as it is.
+#[derive(Debug, Drop)]
+pub struct ReadGates {
+    file: FileNo,
+    bodies: Vec<Body56>,
+    // A byte 0 stands at the tail gate.
+    closed: bool,
+}
+
+impl ReadGates {
+    ghost use Rattle.gate_file.specs.File.{file_no, bodies_of, IsSettled};
+    ghost use Rattle.gate_file.specs.ReadFile.{file_read, bodies_read, IsRead};
+
+    /// The bodies that the file has, in order.
+    pub fn bodies(&self) -> &[Body56]
+        ensures { result.now ≡ bodies_read self.now }
+    {
+        &self.bodies
+    }
+
+    /// Syncs a file, so that an earlier call that failed is decided, and reads it.
+    pub fn read<D: Disk>(alloc: Global, disk: &mut D, file: FileNo) -> Result<ReadGates, GateFault>
+        ensures read { IfOk result (λ gates. IsRead D.seen D.may_leave D.honest disk.new gates) }
+        ensures file { IfOk result (λ gates. file_read gates ≡ file) }
+        ensures bodies { IfOk result (λ gates. HasBodies (file_of file (D.seen disk.old)) (bodies_read gates)) }
+        ensures seen { D.seen disk.new ≡ D.seen disk.old }
+        ensures no_new_image { D.honest disk.old → NoNewImage (D.may_leave disk.old) (D.may_leave disk.new) }
+        ensures images { D.honest disk.old → LeavesOnly D.moment D.left_since disk.old disk.new (D.may_leave disk.old) }
+        ensures honest { D.honest disk.new ↔ D.honest disk.old }
+        ensures stopped { IsErrOf result Stopped → Rose (D.counts disk.old).stops (D.counts disk.new).stops }
+        ensures failed { IsErrOf result DiskFault → Rose (D.counts disk.old).faults (D.counts disk.new).faults }
+        ensures counted { HasCountedOn (D.counts disk.old) (D.counts disk.new) }
+    {
+        disk.sync(file)?;
+        let bytes = read_file(alloc, disk, file)?;
+        let bodies = open_bodies(alloc, &bytes)?;
+        let closed = has_closed_gate(&bytes, bodies.len() * STEP);
+        Ok(ReadGates {
+            file,
+            bodies,
+            closed,
+        })
+    }
+
+    /// Writes a byte 0 at the tail gate, where none stands there, and syncs it: then bodies can be appended.
+    pub fn close<D: Disk>(self, disk: &mut D) -> Result<GateFile, GateFault>
+        requires { IsRead D.seen D.may_leave D.honest disk.old self }
+        ensures settled { IfOk result (λ gates. IsSettled D.seen D.may_leave D.honest disk.new gates) }
+        ensures file { IfOk result (λ gates. file_no gates ≡ file_read self) }
+        ensures bodies { IfOk result (λ gates. bodies_of gates ≡ bodies_read self) }
+        ensures others { OnOk result (OthersStay (file_read self) (D.seen disk.old) (D.seen disk.new)) }
+
+        // Where an append was cut short, whatever a stop within this call leaves has the bodies from before it, with its body
+        // or without.
+        ensures images { (bodies : List (List ℕ)) (pending : Option (List ℕ)) → D.honest disk.old
+            → AllHave (file_read self) (IsStaged bodies pending) (D.may_leave disk.old)
+            → LeavesOnly D.moment D.left_since disk.old disk.new
+            (InFileOnly (file_read self) (D.may_leave disk.old) (IsStaged bodies pending)) }
+
+        ensures honest { D.honest disk.new ↔ D.honest disk.old }
+        ensures stopped { IsErrOf result Stopped → Rose (D.counts disk.old).stops (D.counts disk.new).stops }
+        ensures failed { IsErrOf result DiskFault → Rose (D.counts disk.old).faults (D.counts disk.new).faults }
+        ensures counted { HasCountedOn (D.counts disk.old) (D.counts disk.new) }
+    {
+        let ReadGates {
+            file,
+            bodies,
+            closed,
+        } = self;
+        if closed {
+            return Ok(GateFile { file, bodies });
+        }
+        let tail = (bodies.len() * STEP) as u64;
+        write_synced(disk, file, tail, &[0])?;
+        Ok(GateFile { file, bodies })
+    }
+}
