@@ -1,0 +1,13 @@
+pub mod BaseLemmas
+pub mod BodyLemmas
+pub mod ChangeLemmas
+pub mod CopyLemmas
+pub mod CopyRuns
+pub mod DecideLemmas
+pub mod GroupLemmas
+pub mod LogLemmas
+pub mod Machine
+pub mod RecordLemmas
+pub mod SoundLemmas
+pub mod StandLemmas
+pub mod WriteLemmas

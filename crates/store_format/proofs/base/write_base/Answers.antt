@@ -1,0 +1,23 @@
+use Rattle.std.proofs.Common.{refl}
+use Rattle.paxos_base.specs.Vote.{votes_from}
+use Rattle.store_format.specs.Area.{base_records}
+use Rattle.store_format.specs.Records.{AreRecords}
+use Rattle.store_format.proofs.BaseLemmas.{base_stand_for}
+use Rattle.store_format.proofs.WriteLemmas.{base_added, AreRecords-bytes}
+use Rattle.store_format.proofs.base.write_base.Goals as goal
+use Rattle.store_format.proofs.base.write_base.Goals.{In_ok-put_votes_from}
+
+written : (c : In_ok-put_votes_from) → AreRecords c.put_votes_from.new.bodies.items (base_records c.args.kept.now c.args.own c.args.slot c.args.rows.now)
+written c =
+    base_added c.args.kept.now c.args.own c.args.slot c.args.rows.now (votes_from c.args.slot c.args.kept.now.votes) c.new-bodies.result.items c.put_group.new.bodies.items c.put_ballots.new.bodies.items c.put_votes_from.new.bodies.items c.new-bodies.ensures.items refl c.in_ok-put_group.ensures c.in_ok-put_ballots.ensures c.in_ok-put_votes_from.ensures
+
+pub returns-clause-records : goal.returns-clause-records
+returns-clause-records c = written c
+
+pub returns-clause-bodies : goal.returns-clause-bodies
+returns-clause-bodies c =
+    AreRecords-bytes c.put_votes_from.new.bodies.items (base_records c.args.kept.now c.args.own c.args.slot c.args.rows.now) (written c)
+
+pub returns-clause-stand : goal.returns-clause-stand
+returns-clause-stand c jobs sound stand =
+    base_stand_for jobs c.put_votes_from.new.bodies.items c.args.kept.now c.args.own c.args.slot c.args.rows.now (written c) sound stand

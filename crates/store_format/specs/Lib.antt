@@ -1,0 +1,5 @@
+pub mod Area
+pub mod Order
+pub mod Places
+pub mod Records
+pub mod Written

@@ -1,0 +1,85 @@
+-- How a reader goes over the records of an area, one after another.
+use Rattle.std.specs.Prelude.{ℕ, ◌+◌, Bool, true, false, ◌&&◌, ◌==◌, nat_lt, nat_le, max, if◌then◌else◌, Option, None, Some, unwrap_or, List, [], ◌∷◌, ◌++◌, length}
+use Rattle.std.specs.Option.{option_or}
+use Rattle.paxos_base.specs.declared.durable.Durable.{Durable}
+use Rattle.paxos_base.specs.declared.entry.Vote.{Vote}
+use Rattle.paxos_base.specs.Ballot.{round_of}
+use Rattle.paxos_base.specs.Vote.{votes_below, put_vote}
+use Rattle.store_format.specs.declared.body.Record.{Record}
+use Rattle.store_format.specs.declared.body.Record.TheVariants.{Tried, Promised, Voted, Base, Row}
+use Rattle.store_format.specs.declared.place.Place.{Place}
+use Rattle.store_format.specs.declared.place.Place.TheVariants.{Start, Rows, CopyStart, CopyTried, CopyPromised, CopyVotes, Log}
+
+-- the ballot is above the promise
+abbrev pub is_above : ℕ → Option ℕ → Bool
+is_above ballot None = true
+is_above ballot (Some promised) = nat_lt promised ballot
+
+-- the ballot is the promised one or above it
+abbrev pub is_at_least : ℕ → Option ℕ → Bool
+is_at_least ballot None = true
+is_at_least ballot (Some promised) = nat_le promised ballot
+
+-- the change of the record may follow what is kept
+abbrev pub keeps_order : Durable → Record → Bool
+keeps_order kept (Tried ballot) = nat_lt kept.tried (round_of ballot) && is_above ballot kept.promised
+keeps_order kept (Promised ballot) = is_above ballot kept.promised
+keeps_order kept (Voted vote) = is_at_least vote.ballot kept.promised && nat_le kept.base vote.slot
+keeps_order kept (Base slot count) = false
+keeps_order kept (Row slot row) = false
+
+-- the place behind so many rows of a group
+abbrev pub group_place : ℕ → ℕ → Place
+group_place jobs count = if count == jobs then CopyStart else Rows
+
+-- the copy may go on with a Tried
+abbrev pub takes_own : Place → Bool
+takes_own CopyStart = true
+takes_own place = false
+
+-- the copy may go on with a Promised
+abbrev pub takes_promise : Place → Bool
+takes_promise CopyStart = true
+takes_promise CopyTried = true
+takes_promise place = false
+
+-- the copy may go on with votes
+abbrev pub takes_votes : Place → Bool
+takes_votes Start = false
+takes_votes Rows = false
+takes_votes Log = false
+takes_votes place = true
+
+-- all votes are below the slot
+abbrev pub is_behind : ℕ → List Vote → Bool
+is_behind slot votes = length (votes_below slot votes) == length votes
+
+-- the place in the copy behind the record, where the copy goes on with it
+abbrev pub copy_place : Place → Durable → Record → Option Place
+copy_place place kept (Tried ballot) = if takes_own place then Some CopyTried else None
+copy_place place kept (Promised ballot) = if takes_promise place && is_above ballot kept.promised then Some CopyPromised else None
+copy_place place kept (Voted vote) =
+    if takes_votes place && (nat_le kept.base vote.slot && is_behind vote.slot kept.votes) then Some CopyVotes else None
+copy_place place kept (Base slot count) = None
+copy_place place kept (Row slot row) = None
+
+-- the place in the log behind the record, where the log goes on with it
+abbrev pub log_place : Durable → Record → Option Place
+log_place kept item = if keeps_order kept item then Some Log else None
+
+-- the place behind the record, where it may come next
+abbrev pub next_place : ℕ → Place → Durable → Record → Option Place
+next_place jobs Start kept (Base slot count) = if count == jobs then Some (group_place jobs 0) else None
+next_place jobs Rows kept (Row slot row) =
+    if (slot == kept.base) && (row.job == length kept.rows) then Some (group_place jobs (length kept.rows + 1)) else None
+next_place jobs Rows kept item = None
+next_place jobs place kept item = option_or (copy_place place kept item) (log_place kept item)
+
+-- what is kept after the record: the greatest ballot is promised
+abbrev pub taken : Record → Durable → Durable
+taken (Tried ballot) kept = record kept { tried = round_of ballot; promised = Some ballot }
+taken (Promised ballot) kept = record kept { promised = Some ballot }
+taken (Voted vote) kept =
+    record kept { promised = Some (max (unwrap_or kept.promised 0) vote.ballot); votes = put_vote vote kept.votes }
+taken (Base slot count) kept = record kept { base = slot; rows = [] }
+taken (Row slot row) kept = record kept { rows = kept.rows ++ row ∷ [] }

@@ -1,0 +1,65 @@
+-- The records of an area, and the 56 bytes of each.
+use Rattle.std.specs.Prelude.{◌≡◌, ⊤, ℕ, List, [], ◌∷◌, slice_set, Option, None, Some}
+use Rattle.std.specs.List.{last_or, filter_map}
+use Rattle.paxos_base.specs.Packet.{KindField, offset_of}
+use Rattle.paxos_base.specs.Rows.{OpenHasCursor}
+use Rattle.paxos_letter.specs.declared.packet.Packet.{Packet}
+use Rattle.paxos_letter.specs.declared.packet.Packet.TheVariants.{Prepare, Accept, Snap, SnapRow}
+use Rattle.paxos_letter.specs.Letters.{SpellsPacket}
+use Rattle.paxos_letter.specs.Spelling.{packet_bytes}
+use Rattle.store_format.specs.declared.body.Record.{Record}
+use Rattle.store_format.specs.declared.body.Record.TheVariants.{Tried, Promised, Voted, Base, Row}
+
+-- the number of a record's kind
+abbrev pub kind_of : Record → ℕ
+kind_of (Tried ballot) = 1
+kind_of (Promised ballot) = 2
+kind_of (Voted vote) = 3
+kind_of (Base slot count) = 4
+kind_of (Row slot row) = 5
+
+-- the packet that has the fields of a record
+abbrev pub packet_of : Record → Packet
+packet_of (Tried ballot) = Prepare ballot 0
+packet_of (Promised ballot) = Prepare ballot 0
+packet_of (Voted vote) = Accept vote.ballot vote.slot vote.entry
+packet_of (Base slot count) = Snap slot count
+packet_of (Row slot row) = SnapRow slot row
+
+-- the bytes of a record: those of its packet, from 0, with the record's kind in place of the packet's
+abbrev pub record_bytes : Record → List ℕ
+record_bytes item = slice_set (packet_bytes 0 (packet_of item)) (offset_of KindField) (kind_of item)
+
+-- The bytes are those of a record, whose packet is one from member 0 of seven.
+pub record IsRecord (bytes : List ℕ) (item : Record) : Type 0 where
+  pub packet : SpellsPacket 7 0 (packet_of item) (packet_bytes 0 (packet_of item))
+  pub spelled : bytes ≡ record_bytes item
+
+-- the bodies are those of the records, place by place
+abbrev pub AreRecords : List (List ℕ) → List Record → Type 0
+AreRecords [] [] = ⊤
+AreRecords [] (item ∷ items) = ⊥
+AreRecords (body ∷ bodies) [] = ⊥
+AreRecords (body ∷ bodies) (item ∷ items) = IsRecord body item × AreRecords bodies items
+
+-- a row with a launch that is open has a cursor
+abbrev pub RowHasCursor : Record → Type 0
+RowHasCursor (Row slot row) = OpenHasCursor row
+RowHasCursor item = ⊤
+
+-- the ballot that a record is about
+abbrev pub ballot_in : Record → Option ℕ
+ballot_in (Tried ballot) = Some ballot
+ballot_in (Promised ballot) = Some ballot
+ballot_in (Voted vote) = Some vote.ballot
+ballot_in (Base slot count) = None
+ballot_in (Row slot row) = None
+
+-- the ballot of a Tried
+abbrev pub tried_in : Record → Option ℕ
+tried_in (Tried ballot) = Some ballot
+tried_in item = None
+
+-- the replica's own ballot: that of the last Tried
+abbrev pub own_ballot : List Record → Option ℕ
+own_ballot items = last_or None (filter_map tried_in items)

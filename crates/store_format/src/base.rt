@@ -1,0 +1,99 @@
+//! Writing the records of a base.
+ghost use Rattle.std.specs.Prelude.{◌≡◌, ℕ, [], ◌∷◌, ◌++◌, map, IfOk, OnOk};
+ghost use Rattle.paxos_base.specs.declared.durable.Delta.TheVariants.{Base};
+ghost use Rattle.paxos_base.specs.Durable.{after_delta};
+ghost use Rattle.paxos_base.specs.Rows.{OpenHaveCursors, RowsStand};
+ghost use Rattle.paxos_base.specs.Vote.{votes_from};
+ghost use Rattle.store_format.specs.Area.{StandFor, base_records, promise_above, group_of, tried_records, promised_records};
+ghost use Rattle.store_format.specs.Order.{IsSound};
+ghost use Rattle.store_format.specs.Records.{record_bytes, AreRecords, RowHasCursor};
+ghost use Rattle.store_format.specs.Written.{Adds};
+
+use crate::body::{Record, record_bytes};
+use crate::order::is_above;
+use cron_io::OutOfMemory;
+use paxos_base::{Ballot, Durable, JobRow, PACKET_BYTES, RowList, Vote, VoteList, place_of};
+use std::alloc::Global;
+
+// The bodies of an area.
+type Bodies = Vec<[u8; PACKET_BYTES]>;
+
+fn put(item: Record, bodies: &mut Bodies) -> Result<(), OutOfMemory>
+    requires { RowHasCursor item }
+    ensures { OnOk result (Adds (item ∷ []) bodies.old.items bodies.new.items) }
+{
+    bodies.push(record_bytes(&item))?;
+    Ok(())
+}
+
+fn put_rows(slot: u64, rows: &[JobRow], bodies: &mut Bodies) -> Result<(), OutOfMemory>
+    requires { OpenHaveCursors rows.now }
+    ensures { OnOk result (Adds (map (λ row. Record.Row slot row) rows.now) bodies.old.items bodies.new.items) }
+{
+    for row in rows {
+        put(Record::Row { slot, row: *row }, bodies)?;
+    }
+    Ok(())
+}
+
+fn put_group(slot: u64, rows: &RowList, bodies: &mut Bodies) -> Result<(), OutOfMemory>
+    ensures { OnOk result (Adds (group_of slot rows.now) bodies.old.items bodies.new.items) }
+{
+    let count = rows.items.len() as u64;
+    put(Record::Base { slot, count }, bodies)?;
+    put_rows(slot, &rows.items, bodies)
+}
+
+// The promise is written where it is above the replica's own ballot.
+fn put_ballots(
+    own: Option<Ballot>,
+    promised: Option<Ballot>,
+    bodies: &mut Bodies,
+) -> Result<(), OutOfMemory>
+    ensures { OnOk result (Adds (tried_records own ++ promised_records (promise_above own promised)) bodies.old.items bodies.new.items) }
+{
+    if let Some(ballot) = own {
+        put(Record::Tried(ballot), bodies)?;
+    }
+    match promised {
+        Some(promised) if is_above(promised, own) => put(Record::Promised(promised), bodies),
+        _ => Ok(()),
+    }
+}
+
+fn put_votes(votes: &[Vote], bodies: &mut Bodies) -> Result<(), OutOfMemory>
+    ensures { OnOk result (Adds (map (λ vote. Record.Voted vote) votes.now) bodies.old.items bodies.new.items) }
+{
+    for vote in votes {
+        put(Record::Voted(*vote), bodies)?;
+    }
+    Ok(())
+}
+
+fn put_votes_from(slot: u64, votes: &VoteList, bodies: &mut Bodies) -> Result<(), OutOfMemory>
+    ensures { OnOk result (Adds (map (λ vote. Record.Voted vote) (votes_from slot votes.now)) bodies.old.items bodies.new.items) }
+{
+    let votes = &votes.items;
+    put_votes(&votes[place_of(votes, slot)..], bodies)
+}
+
+/// The bodies of what is kept after a base: its group, the replica's own ballot, the promise where it is above that, and
+/// each vote from the base on.
+pub fn write_base(
+    alloc: Global,
+    kept: &Durable,
+    own: Option<Ballot>,
+    slot: u64,
+    rows: &RowList,
+) -> Result<Vec<[u8; PACKET_BYTES]>, OutOfMemory>
+    ensures bodies { IfOk result (λ bodies. bodies.items ≡ map record_bytes (base_records kept.now own slot rows.now)) }
+    ensures records { IfOk result (λ bodies. AreRecords bodies.items (base_records kept.now own slot rows.now)) }
+    ensures stand { (jobs : ℕ) → IsSound kept.now own → RowsStand rows.now jobs
+        → IfOk result (λ bodies. StandFor jobs bodies.items (after_delta (Base slot rows.now) kept.now) own) }
+{
+    let mut bodies = Vec::new(alloc);
+    put_group(slot, rows, &mut bodies)?;
+    put_ballots(own, kept.promised, &mut bodies)?;
+    put_votes_from(slot, &kept.votes, &mut bodies)?;
+    Ok(bodies)
+}

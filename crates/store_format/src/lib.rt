@@ -1,0 +1,40 @@
+//! What the records of a replica's disk area stand for: the state that a replica keeps there, read from records of 56
+//! bytes and written as such.
+//!
+//! A record has the layout of a packet, with from 0 and a kind of its own:
+//!
+//! | Kind | Record | Fields |
+//! |---|---|---|
+//! | 1 | `Tried` | ballot |
+//! | 2 | `Promised` | ballot |
+//! | 3 | `Voted` | slot, ballot, entry |
+//! | 4 | `Base` | slot, old = how many `Row` follow directly |
+//! | 5 | `Row` | slot, tag, job, ballot = launched, old = voided, at = cursor, now = open_now, last |
+//!
+//! An area is a log of changes, `Tried`, `Promised` and `Voted`, from the fresh state on, or begins with the group of a
+//! `Base` and its rows. Then the records directly after the group are a copy of what was kept beside the rows: the longest
+//! run there that is at most one `Tried`, at most one `Promised` above it, and `Voted` records at rising slots from the
+//! base on. After the copy the greatest ballot in it is promised, and the log goes on from there.
+#![tactic(auto)]
+
+mod base;
+mod body;
+mod fault;
+mod laws;
+mod order;
+mod place;
+mod reader;
+mod reading;
+#[cfg(test)]
+mod tests;
+
+pub use base::write_base;
+pub use body::{Record, record_bytes, record_in};
+pub use fault::ReadFault;
+pub use laws::{
+    a_record_brings_its_change, bodies_have_a_first_fault, no_records_stand_for_the_fresh_state,
+    records_differ_in_their_bytes, records_stand_for_one_state, states_are_sound,
+    the_records_of_a_base_stand,
+};
+pub use order::{delta_record, may_follow};
+pub use reading::read_records;

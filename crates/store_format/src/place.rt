@@ -1,0 +1,119 @@
+//! How far a reader has come in an area, and where the next record leads.
+ghost use Rattle.std.specs.Prelude.{◌≡◌, ◌↔◌, IsTrue};
+ghost use Rattle.std.specs.Option.{option_or};
+ghost use Rattle.paxos_base.specs.Vote.{SlotsRise};
+ghost use Rattle.store_format.specs.Places.{takes_own, takes_promise, takes_votes, is_behind, copy_place, log_place, next_place, group_place};
+
+use crate::body::Record;
+use crate::order::{is_above, keeps_order};
+use paxos_base::{Durable, Vote, VoteList, place_of};
+
+/// How far a reader has come in an area.
+#[derive(Clone, Copy, Debug, PartialEq, Eq)]
+pub(crate) enum Place {
+    /// Before the first record.
+    Start,
+    /// In the group of a base, of which there are rows to come.
+    Rows,
+    /// Behind the group.
+    CopyStart,
+    /// In the copy, behind its Tried.
+    CopyTried,
+    /// In the copy, behind its Promised.
+    CopyPromised,
+    /// In the copy, behind a vote.
+    CopyVotes,
+    /// In the log.
+    Log,
+}
+
+// The place behind so many rows of a group.
+fn group_place(jobs: u32, count: usize) -> Place
+    ensures { result ≡ group_place jobs count }
+{
+    if count == jobs as usize {
+        Place::CopyStart
+    } else {
+        Place::Rows
+    }
+}
+
+// All votes are below the slot.
+fn is_behind(slot: u64, votes: &VoteList) -> bool
+    ensures { result ≡ is_behind slot votes.now }
+{
+    place_of(&votes.items, slot) == votes.items.len()
+}
+
+impl Place {
+    /// Whether rows of a group are to come.
+    pub(crate) fn is_in_group(self) -> bool
+        ensures { IsTrue result ↔ (self ≡ Place.Rows) }
+    {
+        matches!(self, Place::Rows)
+    }
+
+    fn takes_own(self) -> bool
+        ensures { result ≡ takes_own self }
+    {
+        matches!(self, Place::CopyStart)
+    }
+
+    fn takes_promise(self) -> bool
+        ensures { result ≡ takes_promise self }
+    {
+        matches!(self, Place::CopyStart | Place::CopyTried)
+    }
+
+    fn takes_votes(self) -> bool
+        ensures { result ≡ takes_votes self }
+    {
+        !matches!(self, Place::Start | Place::Rows | Place::Log)
+    }
+
+    // The place in the copy behind the record, where the copy goes on with it.
+    fn in_copy(self, kept: &Durable, item: &Record) -> Option<Place>
+        ensures { result ≡ copy_place self kept.now item.now }
+    {
+        match *item {
+            Record::Tried(_) if self.takes_own() => Some(Place::CopyTried),
+            Record::Promised(ballot) if self.takes_promise() && is_above(ballot, kept.promised) => {
+                Some(Place::CopyPromised)
+            }
+            Record::Voted(vote)
+                if self.takes_votes()
+                    && kept.base <= vote.slot
+                    && is_behind(vote.slot, &kept.votes) => { Some(Place::CopyVotes) }
+            _ => None,
+        }
+    }
+
+    // The place in the copy or in the log behind the record, where it may come next.
+    fn in_copy_or_log(self, kept: &Durable, item: &Record) -> Option<Place>
+        ensures { result ≡ option_or (copy_place self kept.now item.now) (log_place kept.now item.now) }
+    {
+        match self.in_copy(kept, item) {
+            Some(place) => Some(place),
+            None if keeps_order(kept, item) => Some(Place::Log),
+            None => None,
+        }
+    }
+
+    /// The place behind the record, where it may come next.
+    pub(crate) fn next(self, jobs: u32, kept: &Durable, item: &Record) -> Option<Place>
+        ensures { result ≡ next_place jobs self kept.now item.now }
+    {
+        let rows = kept.rows.items.len();
+        match (self, *item) {
+            (Place::Start, Record::Base { count, .. }) if count == u64::from(jobs) => {
+                Some(group_place(jobs, 0))
+            }
+            (Place::Rows, Record::Row { slot, row })
+                if slot == kept.base && row.job as usize == rows => {
+                Some(group_place(jobs, rows + 1))
+            }
+            (Place::Start, Record::Base { .. }) | (Place::Rows, _) => None,
+            _ => self.in_copy_or_log(kept, item),
+        }
+    }
+}

@@ -1,0 +1,126 @@
+//! A reader of an area's records, which goes from one to the next.
+ghost use Rattle.std.specs.Prelude.{◌≡◌, ◌∷◌, ◌++◌, [], map, max, unwrap_or, None, Some, IfOk, OnOk};
+ghost use Rattle.std.specs.List.{range_with_len};
+ghost use Rattle.std.specs.Option.{option_or};
+ghost use Rattle.paxos_base.specs.Rows.{OpenHasCursor};
+ghost use Rattle.paxos_base.specs.Vote.{put_vote};
+ghost use Rattle.launch_machine.specs.Clerk.{fresh_row};
+ghost use Rattle.store_format.specs.Area.{fresh};
+ghost use Rattle.store_format.specs.Places.{taken};
+ghost use Rattle.store_format.specs.Records.{RowHasCursor, tried_in};
+
+use crate::body::Record;
+use crate::place::Place;
+use cron_io::OutOfMemory;
+use paxos_base::{Ballot, Durable, JobRow, RowList, Vote, VoteList, put_vote};
+use std::alloc::Global;
+
+/// A reader, with what is kept after the records that it has read.
+#[derive(Drop)]
+pub(crate) struct Reader {
+    pub(crate) place: Place,
+    pub(crate) kept: Durable,
+    /// The ballot of the last Tried.
+    pub(crate) own: Option<Ballot>,
+}
+
+fn fresh(job: u32) -> JobRow
+    ensures { result ≡ fresh_row job }
+{
+    JobRow {
+        job,
+        cursor: None,
+        open_now: None,
+        last: None,
+        launched: 0,
+        voided: 0,
+    }
+}
+
+// A fresh row for each job.
+fn fresh_rows(alloc: Global, jobs: u32) -> Result<RowList, OutOfMemory>
+    ensures { IfOk result (λ rows. rows ≡ map fresh_row (range_with_len 0 jobs)) }
+{
+    let items = (0..jobs).map(|job| fresh(job)).collect(alloc)?;
+    Ok(RowList { items })
+}
+
+fn add_vote(votes: &mut VoteList, vote: Vote) -> Result<(), OutOfMemory>
+    ensures { OnOk result (votes.new ≡ put_vote vote votes.old) }
+{
+    votes.items.reserve(1)?;
+    put_vote(&mut votes.items, vote);
+    Ok(())
+}
+
+fn add_row(rows: &mut RowList, row: JobRow) -> Result<(), OutOfMemory>
+    requires { OpenHasCursor row }
+    ensures { OnOk result (rows.new ≡ rows.old ++ row ∷ []) }
+{
+    rows.items.push(row)?;
+    Ok(())
+}
+
+impl Reader {
+    /// A reader before the first record.
+    pub(crate) fn new(alloc: Global, jobs: u32) -> Result<Reader, OutOfMemory>
+        ensures place { IfOk result (λ reader. reader.place ≡ Place.Start) }
+        ensures kept { IfOk result (λ reader. reader.kept ≡ fresh jobs) }
+        ensures own { IfOk result (λ reader. reader.own ≡ None) }
+    {
+        let rows = fresh_rows(alloc, jobs)?;
+        let votes = VoteList {
+            items: Vec::new(alloc),
+        };
+        Ok(Reader {
+            place: Place::Start,
+            kept: Durable {
+                tried: 0,
+                promised: None,
+                votes,
+                base: 0,
+                rows,
+            },
+            own: None,
+        })
+    }
+
+    /// Takes a record, which leads to the place. The greatest ballot so far is promised: in a log each is as great as
+    /// those before it, and a copy has the votes' ballots in any order.
+    pub(crate) fn take(&mut self, place: Place, item: &Record) -> Result<(), OutOfMemory>
+        requires { RowHasCursor item.now }
+        ensures place { OnOk result (self.new.place ≡ place) }
+        ensures kept { OnOk result (self.new.kept ≡ taken item.now self.old.kept) }
+        ensures own { OnOk result (self.new.own ≡ option_or (tried_in item.now) self.old.own) }
+    {
+        self.place = place;
+        match *item {
+            Record::Tried(ballot) => {
+                self.kept.tried = ballot.round();
+                self.kept.promised = Some(ballot);
+                self.own = Some(ballot);
+            }
+            Record::Promised(ballot) => self.kept.promised = Some(ballot),
+            Record::Voted(vote) => {
+                self.kept.promised = Some(greater(self.kept.promised, vote.ballot));
+                return add_vote(&mut self.kept.votes, vote);
+            }
+            Record::Base { slot, .. } => {
+                self.kept.base = slot;
+                self.kept.rows.items.clear();
+            }
+            Record::Row { row, .. } => return add_row(&mut self.kept.rows, row),
+        }
+        Ok(())
+    }
+}
+
+// The greater of the promise and a ballot.
+fn greater(promised: Option<Ballot>, ballot: Ballot) -> Ballot
+    ensures { result ≡ max (unwrap_or promised 0) ballot }
+{
+    match promised {
+        Some(promised) if ballot < promised => promised,
+        _ => ballot,
+    }
+}
