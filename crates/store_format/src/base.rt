@@ -12,17 +12,20 @@ ghost use Rattle.store_format.specs.Written.{Adds};
 use crate::body::{Record, record_bytes};
 use crate::order::is_above;
 use cron_io::OutOfMemory;
-use paxos_base::{Ballot, Durable, JobRow, PACKET_BYTES, RowList, Vote, VoteList, place_of};
+use gate_file::Body56;
+use paxos_base::{Ballot, Durable, JobRow, RowList, Vote, VoteList, place_of};
 use std::alloc::Global;
 
 // The bodies of an area.
-type Bodies = Vec<[u8; PACKET_BYTES]>;
+type Bodies = Vec<Body56>;
 
 fn put(item: Record, bodies: &mut Bodies) -> Result<(), OutOfMemory>
     requires { RowHasCursor item }
     ensures { OnOk result (Adds (item ∷ []) bodies.old.items bodies.new.items) }
 {
-    bodies.push(record_bytes(&item))?;
+    bodies.push(Body56 {
+        bytes: record_bytes(&item),
+    })?;
     Ok(())
 }
 
@@ -85,7 +88,7 @@ pub fn write_base(
     own: Option<Ballot>,
     slot: u64,
     rows: &RowList,
-) -> Result<Vec<[u8; PACKET_BYTES]>, OutOfMemory>
+) -> Result<Vec<Body56>, OutOfMemory>
     ensures bodies { IfOk result (λ bodies. bodies.items ≡ map record_bytes (base_records kept.now own slot rows.now)) }
     ensures records { IfOk result (λ bodies. AreRecords bodies.items (base_records kept.now own slot rows.now)) }
     ensures stand { (jobs : ℕ) → IsSound kept.now own → RowsStand rows.now jobs

@@ -7,7 +7,8 @@ ghost use Rattle.store_format.specs.Order.{IsSound};
 use crate::body::record_in;
 use crate::fault::ReadFault;
 use crate::reader::Reader;
-use paxos_base::{Ballot, Durable, PACKET_BYTES};
+use gate_file::Body56;
+use paxos_base::{Ballot, Durable};
 use std::alloc::Global;
 
 /// What the bodies of an area stand for: what is kept, of a table of that many jobs, and the replica's own ballot, that of
@@ -19,7 +20,7 @@ use std::alloc::Global;
 pub fn read_records(
     alloc: Global,
     jobs: u32,
-    bodies: &[[u8; PACKET_BYTES]],
+    bodies: &[Body56],
 ) -> Result<(Durable, Option<Ballot>), ReadFault>
     ensures found { IfOk result (λ state. StandFor jobs bodies.now state.0 state.1) }
     ensures sound { IfOk result (λ state. IsSound state.0 state.1) }
@@ -31,7 +32,7 @@ pub fn read_records(
     let mut reader = Reader::new(alloc, jobs)?;
     for (number, body) in bodies.iter().enumerate() {
         let record = number as u64;
-        let Some(item) = record_in(body) else {
+        let Some(item) = record_in(&body.bytes) else {
             return Err(ReadFault::Damaged { record });
         };
         let Some(place) = reader.place.next(jobs, &reader.kept, &item) else {

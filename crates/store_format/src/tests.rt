@@ -1,6 +1,7 @@
 ghost use Rattle.std.specs.Prelude.{◌<◌, ◌≤◌, ◌^◌};
 
 use super::*;
+use gate_file::Body56;
 use paxos_base::{Ballot, Durable, Entry, JobRow, PACKET_BYTES, Vote};
 use std::alloc::{AllocError, Global};
 use std::test::*;
@@ -54,10 +55,12 @@ fn base_row(job: u32) -> Record {
     }
 }
 
-fn bodies_of(alloc: Global, items: &[Record]) -> Result<Vec<[u8; PACKET_BYTES]>, AllocError> {
+fn bodies_of(alloc: Global, items: &[Record]) -> Result<Vec<Body56>, AllocError> {
     let mut bodies = Vec::new(alloc);
     for item in items {
-        bodies.push(record_bytes(item))?;
+        bodies.push(Body56 {
+            bytes: record_bytes(item),
+        })?;
     }
     Ok(bodies)
 }

@@ -1,6 +1,6 @@
-use Rattle.std.proofs.Common.{◌≡◌, [], refl, length, take, get_or, sym, ap, subst, ◌∙◌}
+use Rattle.std.proofs.Common.{◌≡◌, ℕ, ◌+◌, ◌<◌, List, [], ◌∷◌, ◌++◌, refl, length, take, get_or, sym, ap, subst, ◌∙◌}
 use Rattle.std.proofs.lemmas.Bool.{false≢true}
-use Rattle.std.proofs.lemmas.List.{take_more}
+use Rattle.std.proofs.lemmas.List.{take_more, get_or_read}
 use Rattle.std.proofs.lemmas.Option.{none-some}
 use Rattle.store_format.specs.Area.{IsFirstFault, StandFor}
 use Rattle.store_format.specs.Places.{next_place}
@@ -10,12 +10,17 @@ use Rattle.store_format.proofs.SoundLemmas.{StandFor-sound}
 use Rattle.store_format.proofs.reading.read_records.Goals as goal
 use Rattle.store_format.proofs.reading.read_records.Goals.{After-drop-reader-in_default, After-drop-reader-in_default-next-2, Else-is_in_group}
 
+-- the bodies up to one, and that one, by the bytes that it has
+up_to : (bodies : List (List ℕ)) (k : ℕ) (item body : List ℕ) → k < length bodies → item ≡ get_or bodies k item → body ≡ item → take (k + 1) bodies ≡ take k bodies ++ body ∷ []
+up_to bodies k item body within is same =
+    take_more bodies k [] within ∙ ap (λ (last : List ℕ). take k bodies ++ last ∷ []) (sym (same ∙ get_or_read bodies k item within is []))
+
 -- a body that is no record
 unread : (c : After-drop-reader-in_default) → IsFirstFault c.args.jobs c.args.bodies.now c.loop-number.number
 unread c =
     let bodies = c.args.bodies.now in
     let k = c.loop-number.number in
-    fault_here c.args.jobs bodies k c.loop-number.reader.place c.loop-number.reader.kept c.loop-number.reader.own (get_or bodies k []) c.ranges.jobs.fits c.loop-number-test.true (take_more bodies k [] c.loop-number-test.true) c.loop-number.invariant
+    fault_here c.args.jobs bodies k c.loop-number.reader.place c.loop-number.reader.kept c.loop-number.reader.own c.body.inside.bytes c.ranges.jobs.fits c.loop-number-test.true (up_to bodies k c.index-bodies-number.result c.body.inside.bytes c.loop-number-test.true c.index-bodies-number.is c.body.view_is) c.loop-number.invariant
     (λ item is. absurd (none-some item (c.in_default.ensures.only item is)))
 
 pub returns-in_default-clause-damaged : goal.returns-in_default-clause-damaged
@@ -31,8 +36,8 @@ unfit : (c : After-drop-reader-in_default-next-2) → IsFirstFault c.args.jobs c
 unfit c =
     let bodies = c.args.bodies.now in
     let k = c.loop-number.number in
-    fault_here c.args.jobs bodies k c.loop-number.reader.place c.loop-number.reader.kept c.loop-number.reader.own (get_or bodies k []) c.ranges.jobs.fits c.loop-number-test.true (take_more bodies k [] c.loop-number-test.true) c.loop-number.invariant
-    (λ other is. ap (next_place c.args.jobs c.loop-number.reader.place c.loop-number.reader.kept) (IsRecord-same (get_or bodies k []) other c.in-Some.item is c.in-Some.ensures.found) ∙ sym c.in_default-next.ensures)
+    fault_here c.args.jobs bodies k c.loop-number.reader.place c.loop-number.reader.kept c.loop-number.reader.own c.body.inside.bytes c.ranges.jobs.fits c.loop-number-test.true (up_to bodies k c.index-bodies-number.result c.body.inside.bytes c.loop-number-test.true c.index-bodies-number.is c.body.view_is) c.loop-number.invariant
+    (λ other is. ap (next_place c.args.jobs c.loop-number.reader.place c.loop-number.reader.kept) (IsRecord-same c.body.inside.bytes other c.in-Some.item is c.in-Some.ensures.found) ∙ sym c.in_default-next.ensures)
 
 pub returns-in_default-next-clause-damaged : goal.returns-in_default-next-clause-damaged
 returns-in_default-next-clause-damaged c j same =
@@ -46,8 +51,8 @@ pub loop-number-preserved : goal.loop-number-preserved
 loop-number-preserved c =
     let bodies = c.args.bodies.now in
     let k = c.loop-number.number in
-    rw (take_more bodies k [] c.loop-number-test.true, c.in_ok-take.ensures.place, c.in_ok-take.ensures.kept, c.in_ok-take.ensures.own)
-    (Behind-next c.args.jobs (take k bodies) c.loop-number.reader.place c.in-Some-next.place c.loop-number.reader.kept c.loop-number.reader.own (get_or bodies k []) c.in-Some.item c.loop-number.invariant c.in-Some.ensures.found (sym c.in-Some-next.ensures))
+    rw (up_to bodies k c.index-bodies-number.result c.body.inside.bytes c.loop-number-test.true c.index-bodies-number.is c.body.view_is, c.in_ok-take.ensures.place, c.in_ok-take.ensures.kept, c.in_ok-take.ensures.own)
+    (Behind-next c.args.jobs (take k bodies) c.loop-number.reader.place c.in-Some-next.place c.loop-number.reader.kept c.loop-number.reader.own c.body.inside.bytes c.in-Some.item c.loop-number.invariant c.in-Some.ensures.found (sym c.in-Some-next.ensures))
 
 pub returns-then-is_in_group-clause-damaged : goal.returns-then-is_in_group-clause-damaged
 returns-then-is_in_group-clause-damaged c j same =
