@@ -15,7 +15,7 @@ pub enum DiskFault {
     Stopped,
     /// The disk failed. What a stop may leave is what the call may have begun.
     Failed,
-    /// Memory ran out, before anything changed. Only a write gives this.
+    /// Memory ran out, before anything changed. Of the calls of a disk only a write gives this.
     OutOfMemory,
 }
 
