@@ -4,8 +4,8 @@ use Rattle.std.proofs.lemmas.List.{drop_all, append-nil}
 use Rattle.std.specs.Bool.{⊤}
 use Rattle.disk_model.specs.declared.fault.FileNo.{FileNo}
 use Rattle.disk_model.specs.Images.{Image, InFile, Holds, Follows, Elapses, LeavesOnly, InFileOnly}
-use Rattle.disk_model.proofs.CallerLemmas.{started, goes_on}
-use Rattle.disk_model.proofs.RunLemmas.{AllInFile, in_file_at_first, in_file_next}
+use Rattle.disk_model.proofs.CallerLemmas.{started, goes_on, leaves_weaker}
+use Rattle.disk_model.proofs.RunLemmas.{AllInFile, in_file_at_first, in_file_next, in_file_weaker}
 
 -- nothing is said of the bytes
 abbrev pub Any : List ℕ → Type 0
@@ -33,3 +33,8 @@ written_alone piece old cut new nothing holds =
     ∙ ap (λ (l : List ℕ). take 0 l ++ (piece ++ drop (0 + length piece) l)) nothing
     ∙ ap (λ (l : List ℕ). piece ++ l) (drop_all (0 + length piece) [] (omega arith))
     ∙ append-nil piece
+
+module _ {D : Type 0} (moment : D → ℕ) (left_since : D → ℕ → Image → Type 0) (may_leave : D → Image → Type 0) (file : FileNo) where
+  -- whatever a run leaves of the file, it leaves the others
+  pub leaves_any : (old new : D) (P : List ℕ → Type 0) → LeavesOnly moment left_since old new (InFileOnly file (may_leave old) P) → LeavesOnly moment left_since old new (InFileOnly file (may_leave old) Any)
+  leaves_any old new P run = leaves_weaker moment left_since old new (InFileOnly file (may_leave old) P) (InFileOnly file (may_leave old) Any) run (in_file_weaker file (may_leave old) P Any (λ bytes has. tt))

@@ -25,6 +25,13 @@ pub struct GateFile {
 impl GateFile {
     ghost use Rattle.gate_file.specs.File.{file_no, bodies_of, IsSettled};
 
+    /// The file's number.
+    pub fn file(&self) -> FileNo
+        ensures { result ≡ file_no self.now }
+    {
+        self.file
+    }
+
     /// The bodies that the file has, in order.
     pub fn bodies(&self) -> &[Body56]
         ensures { result.now ≡ bodies_of self.now }

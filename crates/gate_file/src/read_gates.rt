@@ -1,4 +1,4 @@
-ghost use Rattle.std.specs.Prelude.{◌≡◌, ◌↔◌, ℕ, List, Option, IfOk, OnOk, IsErrOf};
+ghost use Rattle.std.specs.Prelude.{◌≡◌, ◌↔◌, ⊤, ℕ, List, Option, IfOk, OnOk, IsErrOf};
 ghost use Rattle.cron_io.specs.Faults.{Rose};
 ghost use Rattle.disk_model.specs.Images.{file_of, OthersStay, NoNewImage, LeavesOnly, InFileOnly, AllHave};
 ghost use Rattle.gate_file.specs.declared.fault.GateFault.TheVariants.{Stopped, DiskFault};
@@ -71,6 +71,9 @@ impl ReadGates {
             → LeavesOnly D.moment D.left_since disk.old disk.new
             (InFileOnly (file_read self) (D.may_leave disk.old) (IsStaged bodies pending)) }
 
+        // And whatever the file had, the other files are as they were.
+        ensures elsewhere { D.honest disk.old → LeavesOnly D.moment D.left_since disk.old disk.new
+            (InFileOnly (file_read self) (D.may_leave disk.old) (λ bytes. ⊤)) }
         ensures honest { D.honest disk.new ↔ D.honest disk.old }
         ensures stopped { IsErrOf result Stopped → Rose (D.counts disk.old).stops (D.counts disk.new).stops }
         ensures failed { IsErrOf result DiskFault → Rose (D.counts disk.old).faults (D.counts disk.new).faults }

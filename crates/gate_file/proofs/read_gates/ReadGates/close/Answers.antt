@@ -6,6 +6,7 @@ use Rattle.gate_file.specs.Gates.{IsStaged}
 use Rattle.gate_file.specs.ReadFile.{file_read, bodies_read}
 use Rattle.gate_file.proofs.AttachLemmas.{close_leaves}
 use Rattle.gate_file.proofs.GateLemmas.{rest_after_close}
+use Rattle.gate_file.proofs.RewriteLemmas.{leaves_any}
 use Rattle.gate_file.proofs.read_gates.ReadGates.close.Goals as goal
 
 pub returns-in_err-write_synced-clause-images : goal.returns-in_err-write_synced-clause-images
@@ -44,3 +45,17 @@ returns-clause-settled g c =
     let place : c.len.result * 57 ≡ 57 * length found = omega (arith, c.len.ensures, gates.bodies.ok.0) in
     let closed = subst (λ at. Holds at (0 ∷ []) now (file_of file (g.D.Disk.seen c.write_synced.new.disk))) place c.in_ok-write_synced.ensures.written.step in
     record { at_rest = rest_after_close now (file_of file (g.D.Disk.seen c.write_synced.new.disk)) found c.requires.has c.requires.within closed; durable = c.in_ok-write_synced.ensures.durable }
+
+-- ---- the other files
+
+pub returns-in_err-write_synced-clause-elsewhere : goal.returns-in_err-write_synced-clause-elsewhere
+returns-in_err-write_synced-clause-elsewhere g c honest =
+    let old = c.args.disk.now in
+    let file = file_read c.args.self in
+    leaves_any g.D.Disk.moment g.D.Disk.left_since g.D.Disk.may_leave file old c.write_synced.new.disk (Torn (c.len.result * 57) 1 (file_of file (g.D.Disk.seen old))) (c.write_synced.ensures.images honest)
+
+pub returns-clause-elsewhere : goal.returns-clause-elsewhere
+returns-clause-elsewhere g c honest =
+    let old = c.args.disk.now in
+    let file = file_read c.args.self in
+    leaves_any g.D.Disk.moment g.D.Disk.left_since g.D.Disk.may_leave file old c.write_synced.new.disk (Torn (c.len.result * 57) 1 (file_of file (g.D.Disk.seen old))) (c.write_synced.ensures.images honest)
