@@ -1,0 +1,26 @@
+-- Files that are attached: the chooser is synced and read, the selected area is, and its tail gate is closed.
+use Rattle.std.proofs.Common.{◌≡◌, ℕ, ◌∙◌, subst}
+use Rattle.disk_model.specs.declared.fault.FileNo.{FileNo}
+use Rattle.disk_model.specs.declared.fault.FileNo.TheVariants.{Chooser}
+use Rattle.disk_model.specs.Images.{Image, IsDurable, NoNewImage, LeavesOnly, InFileOnly}
+use Rattle.disk_model.proofs.CallerLemmas.{follows_on}
+use Rattle.gate_file.specs.Gates.{IsStaged}
+use Rattle.paxos_base.specs.declared.durable.Durable.{Durable}
+use Rattle.replica_store.specs.Files.{selected, IsAreaStaged, IsRecoverable}
+use Rattle.replica_store.proofs.FileLemmas.{selects_area, selected_staged}
+use Rattle.replica_store.proofs.ImageLemmas.{in_area}
+
+-- two runs that leave no new image
+pub looks_on : {D : Type 0} (moment : D → ℕ) (left_since : D → ℕ → Image → Type 0) (old mid new : D) (first second : Image → Type 0) → LeavesOnly moment left_since old mid first → NoNewImage first second → LeavesOnly moment left_since mid new second
+    → LeavesOnly moment left_since old new first
+looks_on moment left_since old mid new first second run none next = follows_on moment left_since old mid new first second run next none
+
+module _ (jobs : ℕ) (before after : Durable) (seen : Image) (left : Image → Type 0) where
+  -- what stands in the area that was read
+  pub area_staged : (area : FileNo) → selected seen ≡ area → left seen → IsRecoverable jobs before after left → IsAreaStaged jobs before after area left
+  area_staged area is here recoverable = subst (λ file. IsAreaStaged jobs before after file left) is (selected_staged jobs before after left seen recoverable here)
+
+  -- whatever the close of its tail gate leaves
+  pub close_recoverable : (area : FileNo) → selected seen ≡ area → IsDurable Chooser seen left → (staged : IsAreaStaged jobs before after area left) → IsRecoverable jobs before after (InFileOnly area left (IsStaged staged.bodies staged.pending))
+  close_recoverable area is durable staged =
+      in_area jobs before after seen left area staged.bodies staged.pending (λ chooser. selects_area seen (is ∙ chooser)) is durable staged.without staged.with_it

@@ -1,0 +1,5 @@
+pub mod AttachLemmas
+pub mod FaultLemmas
+pub mod FileLemmas
+pub mod ImageLemmas
+pub mod SaveLemmas
