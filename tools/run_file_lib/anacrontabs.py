@@ -1,0 +1,81 @@
+"""What is wrong with a line of an anacrontab, by the rules of docs/TABLES.md."""
+import re
+
+from .crontabs import assignment_of, command_fault, split_word
+from .faults import caused, shown
+
+PERIODS = "@daily @weekly @monthly @yearly @annually".split()
+NUMBER = re.compile("0|[1-9][0-9]{0,3}")
+HOURS = re.compile("(0|[1-9][0-9]?)-(0|[1-9][0-9]?)")
+MOST_BYTES_OF_AN_IDENTIFIER = 64
+
+
+class AnacronLines:
+    """The lines of one anacrontab, judged from the first one on."""
+
+    def __init__(self):
+        self.identifiers = set()
+
+    def group(self, lines):
+        """The lines that are read together: one that ends with a backslash goes on in the next."""
+        groups = [[]]
+        for number, line in enumerate(lines, 1):
+            groups[-1].append(line)
+            if number < len(lines) and not line.endswith("\\"):
+                groups.append([])
+        return groups if lines else []
+
+    def joined(self, lines):
+        """The text of such lines: a backslash and the line's end count as blanks."""
+        return "".join(line[:-1] + "  " if line.endswith("\\") else line for line in lines)
+
+    def is_job(self, text):
+        """Whether a line that is no comment is a job."""
+        return assignment_of(text) is None
+
+    def setting_of(self, text):
+        """The name of the variable that a line sets, where the program heeds it."""
+        name, _ = assignment_of(text) or ("", "")
+        return name if name in ("START_HOURS_RANGE", "RANDOM_DELAY") else None
+
+    def fault_of(self, text):
+        """What is wrong with a line that isn't empty, without the blanks before it, and is no comment."""
+        assignment = assignment_of(text)
+        if assignment is None:
+            return self.job_fault(text)
+        name, value = assignment
+        if name == "START_HOURS_RANGE" and not are_hours(value):
+            return caused(19, "START_HOURS_RANGE isn't two hours from 0 to 24 that rise, as in 3-22")
+        if name == "RANDOM_DELAY" and not NUMBER.fullmatch(value):
+            return caused(20, "RANDOM_DELAY isn't 0 to 9999 minutes")
+        return None
+
+    def job_fault(self, text):
+        """What is wrong with a job: a period, a delay, an identifier and a command."""
+        period, rest = split_word(text)
+        delay, rest = split_word(rest)
+        identifier, command = split_word(rest)
+        if period not in PERIODS and (period == "0" or not NUMBER.fullmatch(period)):
+            return caused(16, f"the period `{shown(period)}` is neither 1 to 9999 days nor the name of one")
+        if not delay:
+            return caused(10, "there is no delay: a job has a period, a delay, an identifier and a command")
+        if not NUMBER.fullmatch(delay):
+            return caused(17, f"the delay `{shown(delay)}` isn't 0 to 9999 minutes")
+        if not identifier:
+            return caused(10, "there is no identifier: a job has a period, a delay, an identifier and a command")
+        if "/" in identifier or len(identifier.encode("utf-8", "replace")) > MOST_BYTES_OF_AN_IDENTIFIER:
+            return caused(18, f"the identifier has a `/` or more than {MOST_BYTES_OF_AN_IDENTIFIER} bytes")
+        return command_fault(command) or self.name_fault(identifier)
+
+    def name_fault(self, identifier):
+        """What is wrong with the identifier of a job that is good otherwise."""
+        if identifier in self.identifiers:
+            return caused(22, f"a job above has the identifier `{shown(identifier)}`")
+        self.identifiers.add(identifier)
+        return None
+
+
+def are_hours(text):
+    """Whether a text is two hours from 0 to 24 that rise."""
+    found = HOURS.fullmatch(text)
+    return bool(found) and int(found[1]) < int(found[2]) <= 24

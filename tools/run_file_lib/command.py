@@ -1,0 +1,158 @@
+"""The command: it reads the words, the tables and the zones, and writes the run file."""
+import os
+
+from .faults import Stop, at, caused, counted, shown, why
+from .labels import label_of
+from .options import head_of, parser
+from .places import MOST_BYTES, OPTION, SPOOL, Finder, Root, Table, read_file, read_regular
+from .tables import JobCount, TableReader, end_fault, lines_of, text_fault
+from .zones import ANOTHER, MachineZone, Zones, machine_zone
+
+
+def run(words, environment, now, streams):
+    """Runs the command, and gives its status."""
+    try:
+        options = parser().parse_args(words)
+        if options.help:
+            streams.output(parser().format_help().encode())
+        else:
+            streams.output(Command(options, environment, streams).run_file(now))
+        return 0
+    except Stop as stop:
+        streams.note(str(stop))
+    except MemoryError:
+        streams.note("run_file: out of memory")
+    except KeyboardInterrupt:
+        streams.note("run_file: interrupted")
+    return 1
+
+
+class Command:
+    """One run of the command."""
+
+    def __init__(self, options, environment, streams):
+        self.options = options
+        self.environment = environment
+        self.streams = streams
+        self.root = Root(options.root)
+        self.zones = self.zones_of_the_run()
+        self.count = JobCount()
+        self.labels = set()
+        self.files = {}
+        self.faults = 0
+
+    def run_file(self, now):
+        """The bytes of the run file."""
+        head = head_of(self.options, now)
+        zone = self.zone_of_the_tables()
+        sections = [line for table in self.tables() for line in self.section(table, zone)]
+        script = self.script()
+        if self.faults:
+            raise Stop(f"run_file: nothing is written, for {counted(self.faults, 'fault')}; --skip leaves out what is at fault")
+        if not self.labels:
+            self.comment("there is no table")
+        lines = [*head, *self.zones.lines(), *sections, "script", *script, "end", ""]
+        data = "\n".join(lines).encode()
+        if len(data) > MOST_BYTES:
+            size = f"the run file would have {len(data):,} bytes, and the program takes {MOST_BYTES:,}"
+            raise Stop(f"run_file: {caused(33, size)}")
+        return data
+
+    def comment(self, text):
+        """Tells what is no fault."""
+        self.streams.note(f"# {text}")
+
+    def tell(self, file, text):
+        """Tells of a file what is no fault."""
+        self.comment(f"{shown(file)} {text}")
+
+    def trouble(self, file, line, text):
+        """Tells a fault: what is at fault is left out by --skip, and stops the command otherwise."""
+        if self.options.skip:
+            self.streams.note(at(file, line, f"left out: {text}"))
+        else:
+            self.faults += 1
+            self.streams.note(at(file, line, text))
+
+    def tell_unreadable(self, file, reason, origin):
+        """Tells that a file or a folder can't be read. Of users' crontabs that is no fault."""
+        if origin == SPOOL:
+            self.tell(file, f"can't be read: {reason}")
+        else:
+            self.trouble(file, 0, f"it can't be read: {reason}")
+
+    def zones_of_the_run(self):
+        """The zones, none of them read yet."""
+        folder = self.options.zoneinfo
+        if folder is not None:
+            return Zones(folder, lambda name: read_regular(os.path.join(folder, name)))
+        usual = "/usr/share/zoneinfo"
+        return Zones(self.root.shown(usual), lambda name: self.root.read(f"{usual}/{name}"))
+
+    def zone_of_the_tables(self):
+        """The name of the zone of all sections."""
+        # The variable is that of this machine, and says nothing of a copied file system.
+        variable = self.environment.get("TZ") if self.options.root == "/" else None
+        named = self.options.zone
+        zone = machine_zone(self.root, variable) if named is None else MachineZone(named, "--zone", 0)
+        fault = self.zones.fault_of(zone.name)
+        if fault:
+            raise Stop(at(zone.source, zone.line, fault if named else f"{fault}; {ANOTHER}"))
+        self.comment(f"the zone of the tables is {zone.name}, by {shown(zone.source)}")
+        return zone.name
+
+    def tables(self):
+        """The tables that the options name, or else those of the root."""
+        options = self.options
+        named = [("system", options.system), ("crontab", options.user), ("anacrontab", options.anacron)]
+        if any(files for _, files in named):
+            return [Table(kind, file, file, OPTION) for kind, files in named for file in files]
+        return Finder(self.root, self.tell, self.tell_unreadable).tables()
+
+    def data_of(self, table):
+        """The bytes of a table; none where it can't be read, or was read already, which is told."""
+        try:
+            if table.origin == OPTION:
+                real, data = os.path.realpath(table.file), read_file(table.file)
+            else:
+                real, data = self.root.real(table.path), self.root.read(table.path)
+        except OSError as fault:
+            self.tell_unreadable(table.file, why(fault), table.origin)
+            return None
+        if real in self.files:
+            self.tell(table.file, f"is passed over: it is {shown(self.files[real])} again")
+            return None
+        self.files[real] = table.file
+        return data
+
+    def section(self, table, zone):
+        """The lines of a table's section."""
+        data = self.data_of(table)
+        if data is None:
+            return []
+        label = label_of(table.path, self.labels)
+        self.labels.add(label)
+        reader = TableReader(table.kind, self.zones, self.count)
+        reader.read(lines_of(data))
+        self.tell(table.file, f"is {label}, {counted(reader.jobs, 'job')}")
+        for trouble in reader.troubles:
+            if self.options.skip or not trouble.follows:
+                self.trouble(table.file, trouble.line, trouble.text)
+        return [f"{table.kind} {label} {zone} {len(reader.kept)}", *reader.kept]
+
+    def script(self):
+        """The lines of the script. The program says what is wrong with them, but for what no line may have."""
+        file = self.options.script
+        if file is None:
+            return []
+        try:
+            lines = lines_of(read_file(file))
+        except OSError as fault:
+            raise Stop(at(file, 0, f"it can't be read: {why(fault)}")) from fault
+        for number, line in enumerate(lines, 1):
+            fault = text_fault(line) or end_fault(line)
+            if fault or line == "end":
+                raise Stop(at(file, number, fault or caused(30, "the line `end` is written by run_file")))
+        if lines:
+            self.comment(f"{shown(file)} is the script; the program takes no command of a script so far (cause 35)")
+        return lines

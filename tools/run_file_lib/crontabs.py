@@ -1,0 +1,103 @@
+"""What is wrong with a line of a crontab or of a system table, by the rules of docs/TABLES.md."""
+import re
+
+from .faults import caused, shown
+from .fields import KINDS, field_fault
+
+BLANKS = re.compile("[ \t]+")
+ASSIGNMENT = re.compile("([A-Za-z_][A-Za-z0-9_]*)[ \t]*=(.*)", re.DOTALL)
+USER = re.compile("[A-Za-z_][A-Za-z0-9_.-]{0,31}")
+NICKNAMES = "@yearly @annually @monthly @weekly @daily @midnight @hourly @reboot".split()
+MOST_BYTES_OF_A_COMMAND = 1000
+
+
+def assignment_of(text):
+    """The name and the value of a line that sets a variable; none where it sets none."""
+    found = ASSIGNMENT.fullmatch(text)
+    if not found:
+        return None
+    value = found[2].strip(" \t")
+    is_quoted = len(value) > 1 and value[0] == value[-1] and value[0] in "\"'"
+    return found[1], value[1:-1] if is_quoted else value
+
+
+def split_word(text):
+    """The first word of a text, and what stands behind the blanks behind it."""
+    word, *rest = BLANKS.split(text, 1)
+    return word, "".join(rest)
+
+
+def command_fault(command):
+    """What is wrong with a command."""
+    if not command:
+        return caused(11, "there is no command")
+    if len(command.encode("utf-8", "replace")) > MOST_BYTES_OF_A_COMMAND:
+        return caused(14, f"the command has more than {MOST_BYTES_OF_A_COMMAND:,} bytes")
+    return None
+
+
+class CrontabLines:
+    """The lines of one crontab, judged from the first one on. In a system table each entry has a user."""
+
+    def __init__(self, is_system, zones):
+        self.is_system = is_system
+        self.zones = zones
+
+    def group(self, lines):
+        """The lines that are read together: each by itself."""
+        return [[line] for line in lines]
+
+    def joined(self, lines):
+        """The text of such lines."""
+        return lines[0]
+
+    def is_job(self, text):
+        """Whether a line that is no comment is an entry."""
+        return assignment_of(text) is None
+
+    def setting_of(self, text):
+        """The name of the variable that a line sets, where the program heeds it."""
+        name, _ = assignment_of(text) or ("", "")
+        return "CRON_TZ" if name == "CRON_TZ" else None
+
+    def fault_of(self, text):
+        """What is wrong with a line that isn't empty, without the blanks before it, and is no comment."""
+        assignment = assignment_of(text)
+        if text.startswith("@"):
+            return self.nickname_fault(text)
+        if assignment is None:
+            return self.entry_fault(text)
+        name, value = assignment
+        return self.zones.fault_of(value) if name == "CRON_TZ" else None
+
+    def nickname_fault(self, text):
+        """What is wrong with an entry of a nickname."""
+        nickname, rest = split_word(text)
+        if nickname not in NICKNAMES:
+            return caused(13, f"`{shown(nickname)}` is no nickname")
+        return self.tail_fault(rest)
+
+    def entry_fault(self, text):
+        """What is wrong with an entry of five fields."""
+        if text.startswith("-") and "~" not in split_word(text)[0]:
+            return caused(1, "the entry begins with a `-`, which asks cron for no line in its log; leave the `-` out")
+        rest = text
+        for kind in KINDS:
+            word, rest = split_word(rest)
+            if not word:
+                return caused(10, f"there is no {kind.name}: an entry has five fields")
+            fault = field_fault(kind, word)
+            if fault:
+                return fault
+        return self.tail_fault(rest)
+
+    def tail_fault(self, text):
+        """What is wrong with what stands behind the fields or the nickname."""
+        if not self.is_system:
+            return command_fault(text)
+        user, command = split_word(text)
+        if not user:
+            return caused(12, "there is no user: each entry of a system table has one")
+        if not USER.fullmatch(user):
+            return caused(12, f"`{shown(user)}` is no user's name")
+        return command_fault(command)

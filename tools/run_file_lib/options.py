@@ -1,0 +1,131 @@
+"""The words of the command line, and the limits of the first lines of a run file."""
+import argparse
+import re
+from datetime import datetime, timedelta
+
+from .faults import Stop, counted, shown
+
+MOST_REPLICAS = 1
+MOST_GRACE = 525_600
+MOST_MINUTES = 576_000
+MOST_DAYS = MOST_MINUTES // 1440
+FIRST, LAST = datetime(1971, 1, 1), datetime(2200, 1, 1)
+STAMP = re.compile("([0-9]{4})-([0-9]{2})-([0-9]{2})T([0-9]{2}):([0-9]{2})Z")
+NUMBER = re.compile("0|[1-9][0-9]{0,8}")
+
+ABOUT = """\
+Writes a run file, which cron_cluster reads, from the tables of a machine: /etc/crontab, /etc/cron.d, the crontabs of users
+where they can be read, and /etc/anacrontab. Standard error says which file became which label, and what is wrong in which line.
+
+  tools/run_file --from 2024-03-30T00:00Z --days 3 > machine.run
+  crates/cron_cluster/out/cron_cluster < machine.run
+"""
+END = """\
+The status is 0 where the run file was written whole. It is 1 where a word, a table, a zone or an output is at fault: then
+standard error has a message, and nothing was written, unless the output failed in the midst.
+"""
+# Each option: its word, what stands behind it, what it does, and an example.
+OPTIONS = [
+    ("--root", "DIR", "the file system whose tables are read; the machine's own, /, by default", "--root /mnt/copy"),
+    ("--from", "STAMP", "the first minute, in UTC; today at 00:00Z by default", "--from 2024-03-31T00:00Z"),
+    ("--days", "N", f"how many days from there on, 1 to {MOST_DAYS}; 1 by default", "--days 3"),
+    ("--until", "STAMP", "in place of --days: the minute behind the last one", "--until 2024-04-01T12:00Z"),
+    ("--grace", "MINUTES", f"how late a launch may be, 0 to {MOST_GRACE} minutes; 0 by default", "--grace 60"),
+    ("--replicas", "N", f"how many replicas there are; the program takes {MOST_REPLICAS} so far", "--replicas 1"),
+    ("--script", "FILE", "the lines between `script` and `end`; none by default", "--script duel.script"),
+    ("--zone", "NAME", "the zone of all tables; the machine's own by default", "--zone Europe/Paris"),
+    ("--zoneinfo", "DIR", "the folder of zones; usr/share/zoneinfo below the root by default", "--zoneinfo ~/zones"),
+    ("--user", "FILE", "this user's crontab, and no table of the root; may be repeated", "--user my.crontab"),
+    ("--system", "FILE", "the same of a system table, whose entries have a user", "--system /etc/cron.d/php"),
+    ("--anacron", "FILE", "the same of an anacrontab", "--anacron /etc/anacrontab"),
+    ("--skip", None, "leave out each line that can't be taken, and say so", "--skip"),
+    ("--help", None, "print this text", "--help"),
+]
+LISTS = ("--user", "--system", "--anacron")
+DEFAULTS = {"--root": "/", "--grace": "0", "--replicas": "1"}
+
+
+class Parser(argparse.ArgumentParser):
+    """A parser whose faults are told as all others are."""
+
+    def error(self, message):
+        raise Stop(f"run_file: {shown(message)}; --help lists the options")
+
+
+def layout(prog):
+    """The layout of the help, whatever the width of the terminal is."""
+    return argparse.RawTextHelpFormatter(prog, max_help_position=20, width=110)
+
+
+def parser():
+    """The parser of the words."""
+    made = Parser(
+        prog="run_file", description=ABOUT, epilog=END, formatter_class=layout, add_help=False, allow_abbrev=False
+    )
+    group = made.add_argument_group("options")
+    for word, value, text, example in OPTIONS:
+        text = f"{text}\nfor example: {example}"
+        if value is None:
+            group.add_argument(word, action="store_true", help=text)
+        elif word in LISTS:
+            group.add_argument(word, action="append", default=[], metavar=value, help=text)
+        else:
+            # `from` is a word of Python.
+            name = "first" if word == "--from" else word[2:]
+            group.add_argument(word, dest=name, default=DEFAULTS.get(word), metavar=value, help=text)
+    return made
+
+
+def number_of(word, text, least, most):
+    """The number behind a word."""
+    if not NUMBER.fullmatch(text) or not least <= int(text) <= most:
+        raise Stop(f"run_file: {word}: `{shown(text)}` is no number from {least} to {most}")
+    return int(text)
+
+
+def instant_of(word, text):
+    """The instant of a stamp behind a word."""
+    found = STAMP.fullmatch(text)
+    try:
+        instant = datetime(*map(int, found.groups())) if found else None
+    except ValueError:
+        instant = None
+    if instant is None:
+        raise Stop(f"run_file: {word}: `{shown(text)}` is no stamp; write it as 2024-03-31T00:00Z")
+    return instant
+
+
+def stamp_of(instant):
+    """The stamp of an instant."""
+    return instant.strftime("%Y-%m-%dT%H:%MZ")
+
+
+def window_of(options, now):
+    """The line of the window."""
+    if options.days is not None and options.until is not None:
+        raise Stop("run_file: --days and --until say the same; take one of them")
+    today = datetime(now.year, now.month, now.day)
+    first = today if options.first is None else instant_of("--from", options.first)
+    if not FIRST <= first < LAST:
+        raise Stop(f"run_file: --from: {first.year} isn't within the years 1971 to 2199")
+    if options.until is None:
+        days = 1 if options.days is None else number_of("--days", options.days, 1, MOST_DAYS)
+        last = first + timedelta(days=days)
+    else:
+        last = instant_of("--until", options.until)
+    if last > LAST:
+        raise Stop(f"run_file: the window ends behind {stamp_of(LAST)}")
+    if last <= first:
+        raise Stop("run_file: the window is empty: --until isn't behind --from")
+    if last - first > timedelta(minutes=MOST_MINUTES):
+        raise Stop(f"run_file: the window is longer than {counted(MOST_DAYS, 'day')}")
+    return f"window {stamp_of(first)} {stamp_of(last)}"
+
+
+def head_of(options, now):
+    """The first four lines of the run file."""
+    replicas = number_of("--replicas", options.replicas, 1, 7)
+    if replicas > MOST_REPLICAS:
+        raise Stop(f"run_file: --replicas: the program takes {counted(MOST_REPLICAS, 'replica')} so far")
+    grace = number_of("--grace", options.grace, 0, MOST_GRACE)
+    return ["cronrun 1", f"replicas {replicas}", window_of(options, now), f"grace {grace}"]

@@ -1,0 +1,143 @@
+"""Where a machine has its tables, and how the files below a root are read."""
+import errno
+import os
+import re
+import stat
+from collections import namedtuple
+
+from .faults import Stop, shown, why
+
+# A table: its kind, its path in the file system that it is of, the file on this machine, and what it is named by: an option, a
+# usual place, or a spool of users' crontabs.
+Table = namedtuple("Table", "kind path file origin")
+OPTION, PLACE, SPOOL = "option", "place", "spool"
+
+MOST_BYTES = 1_048_576
+MOST_LINKS = 40
+# Names of the files in /etc/cron.d that cron takes (cron(8)).
+TAKEN_NAME = re.compile("[A-Za-z0-9_-]+")
+# The folders of users' crontabs: of Debian, of SUSE, and of Red Hat, where the two above may stand too.
+SPOOLS = ["/var/spool/cron/crontabs", "/var/spool/cron/tabs", "/var/spool/cron"]
+
+
+def read_file(file):
+    """The bytes of a file, a pipe or a device."""
+    with open(file, "rb") as opened:
+        data = opened.read(MOST_BYTES + 1)
+    if len(data) > MOST_BYTES:
+        raise OSError(errno.EFBIG, f"it has more than {MOST_BYTES:,} bytes")
+    return data
+
+
+def read_regular(file):
+    """The bytes of a regular file. Opening another kind of file may wait forever."""
+    if not stat.S_ISREG(os.stat(file).st_mode):
+        raise OSError(errno.EINVAL, "it is no regular file")
+    return read_file(file)
+
+
+class Root:
+    """A file system below a folder: that of the machine, or a copy of one."""
+
+    def __init__(self, folder):
+        self.folder = folder
+        if not os.path.isdir(folder):
+            raise Stop(f"run_file: --root: `{shown(folder)}` is no folder")
+
+    def shown(self, path):
+        """Where a path of the file system is on this machine."""
+        return os.path.join(self.folder, path.lstrip("/"))
+
+    def real(self, path):
+        """The same, once links are followed as that file system has them: none leads out of the folder."""
+        left, done, links = path.split("/"), [], 0
+        while left:
+            part = left.pop(0)
+            here = os.path.join(self.folder, *done, part)
+            if part == "..":
+                done = done[:-1]
+            elif part not in ("", ".") and os.path.islink(here):
+                links += 1
+                if links > MOST_LINKS:
+                    raise OSError(errno.ELOOP, os.strerror(errno.ELOOP))
+                target = os.readlink(here)
+                done = [] if target.startswith("/") else done
+                left = target.split("/") + left
+            elif part not in ("", "."):
+                done.append(part)
+        return os.path.join(self.folder, *done)
+
+    def has(self, path):
+        """Whether something stands at a path, be it a link that leads nowhere."""
+        return os.path.lexists(self.shown(path))
+
+    def read(self, path):
+        """The bytes of a regular file."""
+        return read_regular(self.real(path))
+
+    def names_in(self, path):
+        """The names in a folder, in order; none where there is no such folder."""
+        try:
+            return sorted(os.listdir(self.real(path)), key=os.fsencode)
+        except (FileNotFoundError, NotADirectoryError):
+            return []
+
+
+class Finder:
+    """Looks for the tables of a file system. What it passes over is told."""
+
+    def __init__(self, root, tell, tell_unreadable):
+        self.root = root
+        self.tell = tell
+        self.tell_unreadable = tell_unreadable
+
+    def tables(self):
+        """Each table, in order: of the system, of users, and of anacron."""
+        yield from self.single("system", "/etc/crontab")
+        yield from self.packaged("/etc/cron.d")
+        for spool in SPOOLS:
+            yield from self.spooled(spool)
+        yield from self.single("anacrontab", "/etc/anacrontab")
+
+    def single(self, kind, path):
+        """The table at a path, if it is there."""
+        if self.root.has(path):
+            yield Table(kind, path, self.root.shown(path), PLACE)
+
+    def packaged(self, folder):
+        """The system tables in a folder whose names cron takes."""
+        for name in self.names_in(folder, PLACE):
+            path = f"{folder}/{name}"
+            if not TAKEN_NAME.fullmatch(name):
+                self.tell(self.root.shown(path), "is passed over: cron takes names of letters, digits, `_` and `-`")
+            elif self.is_file(path):
+                yield Table("system", path, self.root.shown(path), PLACE)
+
+    def spooled(self, folder):
+        """The crontabs of users in a folder, which have the users' names."""
+        for name in self.names_in(folder, SPOOL):
+            path = f"{folder}/{name}"
+            if path in SPOOLS:
+                continue
+            if name.startswith("."):
+                self.tell(self.root.shown(path), "is passed over: cron takes no name that begins with a dot")
+            elif self.is_file(path):
+                yield Table("crontab", path, self.root.shown(path), SPOOL)
+
+    def names_in(self, folder, origin):
+        """The names in a folder; none where it can't be read, which is told."""
+        try:
+            return self.root.names_in(folder)
+        except OSError as fault:
+            self.tell_unreadable(self.root.shown(folder), why(fault), origin)
+            return []
+
+    def is_file(self, path):
+        """Whether a path isn't a folder, which is told: a folder is no table."""
+        try:
+            is_folder = os.path.isdir(self.root.real(path))
+        except OSError:
+            is_folder = False
+        if is_folder:
+            self.tell(self.root.shown(path), "is passed over: it is a folder")
+        return not is_folder

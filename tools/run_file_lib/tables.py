@@ -1,0 +1,102 @@
+"""The lines of a table: which the program takes, and what is wrong with the others."""
+from collections import namedtuple
+
+from .anacrontabs import AnacronLines
+from .crontabs import CrontabLines
+from .faults import caused
+
+# What is wrong at a line. Where the line itself is good but stands on another one that isn't, it follows from that.
+Trouble = namedtuple("Trouble", "line text follows")
+
+LEFT_OUT = "# left out by run_file"
+MOST_LINES = 65_535
+MOST_JOBS = 1000
+
+
+def lines_of(data):
+    """The lines of a file. A byte that is no UTF-8 stands in them as a lone surrogate."""
+    lines = data.decode("utf-8", "surrogateescape").split("\n")
+    return lines if lines[-1] else lines[:-1]
+
+
+def text_fault(text):
+    """What is wrong with a line whatever it says."""
+    if "\0" in text:
+        return caused(15, "there is a zero byte in the line")
+    if any("\udc80" <= mark <= "\udcff" for mark in text):
+        return caused(15, "the line isn't UTF-8")
+    return None
+
+
+def end_fault(text):
+    """What is wrong with the end of a line that says something."""
+    if text.endswith("\r"):
+        return "the line ends with a carriage return, which would be a part of what it says"
+    return None
+
+
+class JobCount:
+    """How many jobs the tables of a run have."""
+
+    def __init__(self):
+        self.jobs = 0
+
+    def fault_of_one_more(self):
+        """Counts a job; what is wrong where that is one too many."""
+        if self.jobs == MOST_JOBS:
+            return caused(23, f"this job is one too many: a run has at most {MOST_JOBS:,}")
+        self.jobs += 1
+        return None
+
+
+class TableReader:
+    """Reads one table. `kept` are its lines, with a comment in place of each that can't be taken."""
+
+    def __init__(self, kind, zones, count):
+        self.judge = AnacronLines() if kind == "anacrontab" else CrontabLines(kind == "system", zones)
+        self.count = count
+        self.kept = []
+        self.troubles = []
+        self.jobs = 0
+        # The line of each variable in force that can't be taken.
+        self.bad_settings = {}
+
+    def read(self, lines):
+        """Reads the lines of a table."""
+        if len(lines) > MOST_LINES:
+            self.troubles.append(Trouble(0, f"it has more than {MOST_LINES:,} lines, the most of a table", False))
+            return
+        for group in self.judge.group(lines):
+            self.read_group(len(self.kept) + 1, group)
+
+    def read_group(self, number, group):
+        """Reads lines that are read together, from the one of that number on."""
+        text = self.judge.joined(group).lstrip(" \t")
+        says_nothing = not text or text.startswith("#")
+        trouble = self.text_trouble(number, text) if says_nothing else self.trouble_of(number, text)
+        if trouble:
+            self.troubles.append(trouble)
+        self.kept += [LEFT_OUT] * len(group) if trouble else group
+
+    def text_trouble(self, number, text):
+        """What is wrong with an empty line or a comment."""
+        fault = text_fault(text)
+        return Trouble(number, fault, False) if fault else None
+
+    def trouble_of(self, number, text):
+        """What is wrong with a line that says something."""
+        setting = self.judge.setting_of(text)
+        fault = text_fault(text) or end_fault(text) or self.judge.fault_of(text)
+        if setting:
+            self.bad_settings.pop(setting, None)
+        if setting and fault:
+            self.bad_settings[setting] = number
+        if fault or not self.judge.is_job(text):
+            return Trouble(number, fault, False) if fault else None
+        if self.bad_settings:
+            line = min(self.bad_settings.values())
+            return Trouble(number, f"it stands below line {line}, which can't be taken", True)
+        fault = self.count.fault_of_one_more()
+        if not fault:
+            self.jobs += 1
+        return Trouble(number, fault, False) if fault else None
