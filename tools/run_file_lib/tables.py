@@ -64,7 +64,8 @@ class TableReader:
     def read(self, lines):
         """Reads the lines of a table."""
         if len(lines) > MOST_LINES:
-            self.troubles.append(Trouble(0, f"it has more than {MOST_LINES:,} lines, the most of a table", False))
+            fault = caused(29, f"it has more than {MOST_LINES:,} lines, the most of a table")
+            self.troubles.append(Trouble(0, fault, False))
             return
         for group in self.judge.group(lines):
             self.read_group(len(self.kept) + 1, group)

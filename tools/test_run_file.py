@@ -1,0 +1,574 @@
+#!/usr/bin/env python3
+"""Tests of tools/run_file.
+
+Usage: tools/test_run_file.py [NAME..]
+"""
+import importlib.machinery
+import importlib.util
+import os
+import re
+import subprocess
+import tempfile
+import unittest
+from datetime import datetime
+from unittest import mock
+
+from run_file_lib import labels
+from run_file_lib.command import Command, run
+from run_file_lib.faults import Stop
+from run_file_lib.options import OPTIONS
+from run_file_lib.tables import JobCount, TableReader, lines_of
+
+HERE = os.path.dirname(os.path.abspath(__file__))
+TOOL = os.path.join(HERE, "run_file")
+MANUAL = os.path.join(os.path.dirname(HERE), "docs", "TABLES.md")
+NOW = datetime(2024, 3, 30, 17, 45)
+LOOP = "Too many levels of symbolic links"
+NO_FILE = "No such file or directory"
+NOTHING = "run_file: nothing is written, for {}; --skip leaves out what is at fault"
+
+
+def write_zones():
+    """The module tools/testdata/write_zones."""
+    file = os.path.join(HERE, "testdata", "write_zones")
+    loader = importlib.machinery.SourceFileLoader("write_zones", file)
+    module = importlib.util.module_from_spec(importlib.util.spec_from_loader("write_zones", loader))
+    loader.exec_module(module)
+    return module
+
+
+ZONES = write_zones()
+PARIS = ZONES.zone_bytes(ZONES.RULES["Europe/Paris"])
+
+
+class Memory:
+    """Streams in memory."""
+
+    def __init__(self):
+        self.written = b""
+        self.notes = []
+
+    def output(self, data):
+        self.written += data
+
+    def note(self, text):
+        self.notes.append(text)
+
+
+class RunFileTest(unittest.TestCase):
+    """A test with a file system of its own, below the folder `root`."""
+
+    def setUp(self):
+        room = tempfile.TemporaryDirectory()
+        self.addCleanup(room.cleanup)
+        self.root = os.path.join(room.name, "root")
+        self.write("usr/share/zoneinfo/Europe/Paris", PARIS)
+
+    def file(self, path):
+        """Where a path is on this machine."""
+        return os.path.join(self.root, path)
+
+    def write(self, path, data):
+        """Writes a file, with the folders above it; gives where it is."""
+        file = self.file(path)
+        os.makedirs(os.path.dirname(file), exist_ok=True)
+        with open(file, "wb") as opened:
+            opened.write(data if isinstance(data, bytes) else data.encode())
+        return file
+
+    def link(self, path, target):
+        """Makes a link; gives where it is."""
+        os.makedirs(os.path.dirname(self.file(path)), exist_ok=True)
+        os.symlink(target, self.file(path))
+        return self.file(path)
+
+    def ran(self, *words, environment=None):
+        """The status of a run, the lines that it wrote, and its notes."""
+        streams = Memory()
+        status = run(["--root", self.root, *words], environment or {}, NOW, streams)
+        return status, streams.written.decode().split("\n")[:-1], streams.notes
+
+    def lines(self, *words):
+        """The lines of a run that ends well."""
+        status, lines, notes = self.ran(*words)
+        self.assertEqual(status, 0, notes)
+        return lines
+
+    def faults(self, *words):
+        """The notes of a run that ends at a fault, without the comments."""
+        status, lines, notes = self.ran(*words)
+        self.assertEqual((status, lines), (1, []))
+        return [note for note in notes if not note.startswith("# ")]
+
+    def comments(self, *words):
+        """The comments of a run that ends well, without the first, which tells the zone."""
+        status, _, notes = self.ran(*words)
+        self.assertEqual(status, 0, notes)
+        return [note[2:] for note in notes if note.startswith("# ")][1:]
+
+
+class Words(RunFileTest):
+    """The options."""
+
+    def head(self, *words):
+        return self.lines(*words)[1:4]
+
+    def test_defaults(self):
+        day = "window 2024-03-30T00:00Z 2024-03-31T00:00Z"
+        self.assertEqual(self.lines(), ["cronrun 1", "replicas 1", day, "grace 0", "script", "end"])
+
+    def test_from(self):
+        self.assertEqual(self.head("--from", "2024-02-29T12:30Z")[1], "window 2024-02-29T12:30Z 2024-03-01T12:30Z")
+        for text in ("2024-02-30T00:00Z", "2024-02-03", "2024-2-3T00:00Z", "2024-02-03T24:00Z", "\u0662024-02-03T00:00Z"):
+            message = f"run_file: --from: `{text}` is no stamp; write it as 2024-03-31T00:00Z"
+            self.assertEqual(self.faults("--from", text), [message])
+
+    def test_years(self):
+        for year in ("1970", "2200", "0000", "9999"):
+            message = f"run_file: --from: {year} isn't within the years 1971 to 2199"
+            expected = [message] if year != "0000" else ["run_file: --from: `0000-01-01T00:00Z` is no stamp; write it as 2024-03-31T00:00Z"]
+            self.assertEqual(self.faults("--from", f"{year}-01-01T00:00Z"), expected)
+        self.assertEqual(self.head("--from", "2199-12-31T00:00Z")[1], "window 2199-12-31T00:00Z 2200-01-01T00:00Z")
+        message = "run_file: the window ends behind 2200-01-01T00:00Z"
+        self.assertEqual(self.faults("--from", "2199-12-31T00:01Z"), [message])
+
+    def test_days(self):
+        self.assertEqual(self.head("--days", "3")[1], "window 2024-03-30T00:00Z 2024-04-02T00:00Z")
+        self.assertEqual(self.head("--days", "400")[1], "window 2024-03-30T00:00Z 2025-05-04T00:00Z")
+        for text in ("0", "401", "03", "1.5", "", "a week", "99999999999999999999"):
+            self.assertEqual(self.faults("--days", text), [f"run_file: --days: `{text}` is no number from 1 to 400"])
+
+    def test_until(self):
+        self.assertEqual(self.head("--until", "2024-03-30T00:01Z")[1], "window 2024-03-30T00:00Z 2024-03-30T00:01Z")
+        for text, message in (
+            ("2024-03-30T00:00Z", "the window is empty: --until isn't behind --from"),
+            ("2025-05-04T00:01Z", "the window is longer than 400 days"),
+            ("2200-01-01T00:01Z", "the window ends behind 2200-01-01T00:00Z"),
+            ("tomorrow", "--until: `tomorrow` is no stamp; write it as 2024-03-31T00:00Z"),
+        ):
+            self.assertEqual(self.faults("--until", text), [f"run_file: {message}"])
+        both = self.faults("--until", "2024-04-01T00:00Z", "--days", "1")
+        self.assertEqual(both, ["run_file: --days and --until say the same; take one of them"])
+
+    def test_grace(self):
+        self.assertEqual(self.head("--grace", "525600")[2], "grace 525600")
+        message = "run_file: --grace: `525601` is no number from 0 to 525600"
+        self.assertEqual(self.faults("--grace", "525601"), [message])
+
+    def test_replicas(self):
+        self.assertEqual(self.head("--replicas", "1")[0], "replicas 1")
+        self.assertEqual(self.faults("--replicas", "3"), ["run_file: --replicas: the program takes 1 replica so far"])
+        self.assertEqual(self.faults("--replicas", "8"), ["run_file: --replicas: `8` is no number from 1 to 7"])
+
+    def test_script(self):
+        file = self.write("duel", "campaign 0\nround 2024-03-30T00:00Z 1")
+        self.assertEqual(self.lines("--script", file)[4:], ["script", "campaign 0", "round 2024-03-30T00:00Z 1", "end"])
+        comment = f"{file} is the script; the program takes no command of a script so far (cause 35)"
+        self.assertEqual(self.comments("--script", file)[0], comment)
+        self.assertEqual(self.lines("--script", self.write("empty", ""))[4:], ["script", "end"])
+
+    def test_bad_scripts(self):
+        return_fault = "the line ends with a carriage return, which would be a part of what it says"
+        for data, line, message in (
+            (b"heal\nend\n", 2, "the line `end` is written by run_file (cause 30)"),
+            (b"heal\r\n", 1, return_fault),
+            (b"heal \xff\n", 1, "the line isn't UTF-8 (cause 15)"),
+            (b"heal \0\n", 1, "there is a zero byte in the line (cause 15)"),
+        ):
+            file = self.write("duel", data)
+            self.assertEqual(self.faults("--script", file), [f"{file}:{line}: {message}"])
+        missing = self.file("missing")
+        self.assertEqual(self.faults("--script", missing), [f"{missing}: it can't be read: {NO_FILE}"])
+
+    def test_root(self):
+        missing = self.file("missing")
+        self.assertEqual(self.faults("--root", missing), [f"run_file: --root: `{missing}` is no folder"])
+
+    def test_zone(self):
+        self.write("etc/crontab", "0 8 * * * root echo\n")
+        lines = self.lines("--zone", "Europe/Paris")
+        self.assertEqual(lines[4:6], [f"zone Europe/Paris tzif {PARIS.hex()}", "system etc-crontab Europe/Paris 1"])
+        message = f"--zone: there is no zone Mars/Base: {self.file('usr/share/zoneinfo/Mars/Base')}: {NO_FILE} (cause 21)"
+        self.assertEqual(self.faults("--zone", "Mars/Base"), [message])
+
+    def test_zoneinfo(self):
+        file = self.write("zones/Base", PARIS)
+        lines = self.lines("--zoneinfo", os.path.dirname(file), "--zone", "Base")
+        self.assertEqual(lines[4], f"zone Base tzif {PARIS.hex()}")
+
+    def test_tables_by_options(self):
+        self.write("etc/crontab", "0 8 * * * root echo this is no table of the run\n")
+        files = [self.write(f"home/{name}", text) for name, text in (("mine", "@daily x\n"), ("theirs", "@daily root x\n"))]
+        files.append(self.write("home/anacron", "1 5 a x\n"))
+        lines = self.lines("--anacron", files[2], "--user", files[0], "--user", files[1], "--system", files[1])
+        kinds = [line.split(" ")[0] for line in lines if re.match("crontab|system|anacrontab", line)]
+        # The user's table that is the system table too is taken once.
+        self.assertEqual(kinds, ["system", "crontab", "anacrontab"])
+
+    def test_skip(self):
+        file = self.write("etc/crontab", "-5 8 * * * root echo\n0 8 * * * root echo\n")
+        fault = "the entry begins with a `-`, which asks cron for no line in its log; leave the `-` out (cause 1)"
+        self.assertEqual(self.faults(), [f"{file}:1: {fault}", NOTHING.format("1 fault")])
+        self.assertEqual(self.lines("--skip")[5:7], ["# left out by run_file", "0 8 * * * root echo"])
+        self.assertIn(f"{file}:1: left out: {fault}", self.ran("--skip")[2])
+
+    def test_help(self):
+        status, lines, notes = self.ran("--help")
+        self.assertEqual((status, notes), (0, []))
+        for word, _, text, example in OPTIONS:
+            self.assertTrue(any(line.startswith(f"  {word} ") and line.endswith(text) for line in lines), word)
+            self.assertIn(f"for example: {example}", "\n".join(lines))
+
+    def test_other_words(self):
+        end = "; --help lists the options"
+        for words, message in (
+            (["--loud"], "unrecognized arguments: --loud"),
+            (["tables"], "unrecognized arguments: tables"),
+            (["--day", "1"], "unrecognized arguments: --day 1"),
+            (["--days"], "argument --days: expected one argument"),
+            (["a\nb\udcff"], "unrecognized arguments: a\\nb\\udcff"),
+        ):
+            self.assertEqual(self.faults(*words), [f"run_file: {message}{end}"])
+
+
+class Places(RunFileTest):
+    """The tables of a root."""
+
+    def test_order_and_labels(self):
+        for path in ("etc/crontab", "etc/cron.d/b", "etc/cron.d/a_1", "etc/cron.d/-"):
+            self.write(path, "@daily root x\n")
+        for path in ("var/spool/cron/crontabs/bob", "var/spool/cron/tabs/bob", "var/spool/cron/bob"):
+            self.write(path, "@daily x\n")
+        self.write("etc/anacrontab", "1 5 a x\n2 5 b x\n")
+        told = [comment.split(" is ")[1] for comment in self.comments()]
+        names = "etc-crontab cron-d-- cron-d-a_1 cron-d-b crontabs-bob tabs-bob spool-bob".split()
+        self.assertEqual(told, [f"{name}, 1 job" for name in names] + ["etc-anacrontab, 2 jobs"])
+        sections = [line for line in self.lines() if re.fullmatch(r"(system|crontab|anacrontab) \S+ UTC \d", line)]
+        self.assertEqual([line.split(" ")[1] for line in sections], [*names, "etc-anacrontab"])
+
+    def test_what_is_passed_over(self):
+        for path in ("etc/cron.d/a.dpkg-old", "etc/cron.d/a~", "etc/cron.d/folder/a"):
+            self.write(path, "@daily root x\n")
+        for path in ("var/spool/cron/.bob.swp", "var/spool/cron/lastrun/a"):
+            self.write(path, "@daily x\n")
+        by_name = "is passed over: cron takes names of letters, digits, `_` and `-`"
+        expected = [
+            f"{self.file('etc/cron.d/a.dpkg-old')} {by_name}",
+            f"{self.file('etc/cron.d/a~')} {by_name}",
+            f"{self.file('etc/cron.d/folder')} is passed over: it is a folder",
+            f"{self.file('var/spool/cron/.bob.swp')} is passed over: cron takes no name that begins with a dot",
+            f"{self.file('var/spool/cron/lastrun')} is passed over: it is a folder",
+            "there is no table",
+        ]
+        self.assertEqual(self.comments(), expected)
+
+    def test_unreadable_tables(self):
+        files = [self.link(path, "loop") for path in ("etc/cron.d/loop", "etc/anacrontab")]
+        self.link("etc/loop", "loop")
+        faults = [f"{file}: it can't be read: {LOOP}" for file in files]
+        self.assertEqual(self.faults(), [*faults, NOTHING.format("2 faults")])
+        skipped = [note for note in self.ran("--skip")[2] if not note.startswith("# ")]
+        self.assertEqual(skipped, [f"{file}: left out: it can't be read: {LOOP}" for file in files])
+
+    def test_unreadable_folder(self):
+        file = self.link("etc/cron.d", "cron.d")
+        self.assertEqual(self.faults()[0], f"{file}: it can't be read: {LOOP}")
+
+    def test_unreadable_crontabs_of_users(self):
+        self.link("var/spool/cron/crontabs", "crontabs")
+        self.link("var/spool/cron/bob", "bob")
+        told = [f"{self.file(path)} can't be read: {LOOP}" for path in ("var/spool/cron/crontabs", "var/spool/cron/bob")]
+        self.assertEqual(self.comments(), [*told, "there is no table"])
+
+    def test_tables_that_are_no_files(self):
+        os.makedirs(self.file("etc/crontab"))
+        os.mkfifo(self.file("etc/anacrontab"))
+        faults = [f"{self.file(path)}: it can't be read: it is no regular file" for path in ("etc/crontab", "etc/anacrontab")]
+        self.assertEqual(self.faults()[:2], faults)
+
+    def test_long_file(self):
+        file = self.write("etc/crontab", "#" * 1_048_577)
+        self.assertEqual(self.faults()[0], f"{file}: it can't be read: it has more than 1,048,576 bytes")
+
+    def test_links_stay_below_the_root(self):
+        self.write("srv/tables/all", "@daily root x\n")
+        self.link("etc/crontab", "/srv/link/../tables/all")
+        self.link("srv/link", "./other")
+        os.mkdir(self.file("srv/other"))
+        self.link("etc/cron.d/up", "../../../../../../../../../../srv/tables/all")
+        told = f"{self.file('etc/cron.d/up')} is passed over: it is {self.file('etc/crontab')} again"
+        self.assertEqual(self.comments(), [f"{self.file('etc/crontab')} is etc-crontab, 1 job", told])
+
+    def test_link_that_leads_nowhere(self):
+        file = self.link("etc/crontab", "/srv/missing")
+        self.assertEqual(self.faults()[0], f"{file}: it can't be read: {NO_FILE}")
+
+    def test_named_file_that_is_not_there(self):
+        missing = self.file("missing")
+        for word in ("--user", "--system", "--anacron"):
+            self.assertEqual(self.faults(word, missing)[0], f"{missing}: it can't be read: {NO_FILE}")
+
+    def test_names_that_are_no_text(self):
+        self.write(os.fsdecode(b"var/spool/cron/a\xff\n"), "-5 * * * * x\n")
+        fault = self.faults()[0]
+        self.assertTrue(fault.startswith(self.file("var/spool/cron/a\\udcff\\n:1: the entry")), fault)
+
+
+class Labels(unittest.TestCase):
+    """The labels of tables."""
+
+    def test_usual_places(self):
+        for path, label in (
+            ("/etc/crontab", "etc-crontab"),
+            ("/etc/cron.d/php", "cron-d-php"),
+            ("/var/spool/cron/crontabs/alice", "crontabs-alice"),
+            ("/var/spool/cron/tabs/alice", "tabs-alice"),
+            ("/var/spool/cron/d-php", "spool-d-php"),
+            ("/etc/cron.d/" + "a" * 25, "cron-d-" + "a" * 25),
+        ):
+            self.assertEqual(labels.label_of(path, set()), label)
+
+    def test_other_names(self):
+        paths = ["/etc/cron.d/PHP", "/etc/cron.d/" + "a" * 26, "/etc/cron.d/" + "a" * 27, "/var/spool/cron/a.b"]
+        paths += ["/var/spool/cron/A.B", "my.crontab", "./my.crontab", "/", "", "-", "é", "/home/1/2", "/srv/\udcff"]
+        made = [labels.label_of(path, set()) for path in paths]
+        for label in made:
+            self.assertTrue(labels.LABEL.fullmatch(label), label)
+        self.assertEqual(len(set(made)), len(paths))
+        self.assertEqual(made[0], "cron-d-php-" + made[0][-8:])
+        self.assertEqual(made, [labels.label_of(path, {"another"}) for path in paths])
+
+    def test_taken_labels(self):
+        first = labels.label_of("/etc/cron.d/php", {"cron-d-php"})
+        second = labels.label_of("/etc/cron.d/php", {"cron-d-php", first})
+        self.assertEqual(first[:11], "cron-d-php-")
+        self.assertNotEqual(first, second)
+        with self.assertRaises(Stop) as stopped:
+            labels.label_of("/a", mock.MagicMock(__contains__=lambda taken, label: True))
+        self.assertEqual(str(stopped.exception), "/a: there is no label left for this table")
+
+
+class MachineZone(RunFileTest):
+    """The zone of a machine."""
+
+    def zone(self, **environment):
+        """What is told of the zone, of the root /."""
+        return self.ran(environment=environment)[2][0]
+
+    def test_default(self):
+        told = "# the zone of the tables is UTC, by default: there is no /etc/timezone and no /etc/localtime"
+        self.assertEqual(self.zone(), told)
+
+    def test_timezone(self):
+        file = self.write("etc/timezone", "\n Europe/Paris \n")
+        self.link("etc/localtime", "/usr/share/zoneinfo/UTC")
+        self.assertEqual(self.zone(), f"# the zone of the tables is Europe/Paris, by {file}")
+
+    def test_localtime(self):
+        file = self.link("etc/localtime", "../usr/share/zoneinfo/Europe/Paris")
+        self.assertEqual(self.zone(), f"# the zone of the tables is Europe/Paris, by {file}")
+
+    def test_variable(self):
+        # Of a copied file system the variable of this machine says nothing.
+        self.assertIn("UTC", self.zone(TZ="Europe/Paris"))
+        for text in ("Europe/Paris", ":Europe/Paris", "/usr/share/zoneinfo/Europe/Paris"):
+            streams = Memory()
+            words = ["--zoneinfo", self.file("usr/share/zoneinfo"), "--user", self.write("mine", "@daily x\n")]
+            self.assertEqual(run(words, {"TZ": text}, NOW, streams), 0)
+            self.assertEqual(streams.notes[0], "# the zone of the tables is Europe/Paris, by TZ")
+            self.assertIn(f"zone Europe/Paris tzif {PARIS.hex()}", streams.written.decode().split("\n"))
+
+    def test_faults(self):
+        end = "; name the zone by --zone"
+        file = self.write("etc/timezone", "\nMars\0\n")
+        self.assertEqual(self.faults(), [f"{file}:2: `Mars\\x00` is no zone's name (cause 21){end}"])
+        self.write("etc/timezone", "\n\n")
+        self.assertEqual(self.faults(), [f"{file}: it names no zone{end}"])
+        os.remove(file)
+        os.mkdir(file)
+        self.assertEqual(self.faults(), [f"{file}: it can't be read: it is no regular file{end}"])
+        os.rmdir(file)
+        file = self.write("etc/localtime", PARIS)
+        self.assertEqual(self.faults(), [f"{file}: it is no link, and so names no zone{end}"])
+        os.remove(file)
+        self.link("etc/localtime", "/etc/zone")
+        self.assertEqual(self.faults(), [f"{file}: `/etc/zone` is no zone's name (cause 21){end}"])
+
+
+class Lines(RunFileTest):
+    """The lines of tables."""
+
+    def table(self, *lines):
+        """Writes a user's crontab of these lines; gives where it is."""
+        return self.write("var/spool/cron/bob", "\n".join([*lines, ""]))
+
+    def test_zones_of_tables(self):
+        self.table("CRON_TZ = 'Europe/Paris'", "@daily x", "CRON_TZ=UTC", "@daily x", "CRON_TZ=Europe/Paris")
+        zones = [line.split(" ")[1] for line in self.lines() if line.startswith("zone ")]
+        self.assertEqual(zones, ["Europe/Paris"])
+
+    def test_zones_that_are_not_there(self):
+        self.write("usr/share/zoneinfo/tzdata.zi", "# version 2024a\n")
+        folder = self.file("usr/share/zoneinfo")
+        os.mkfifo(os.path.join(folder, "pipe"))
+        for name, message in (
+            ("Mars/Base", f"there is no zone Mars/Base: {folder}/Mars/Base: {NO_FILE} (cause 21)"),
+            ("Europe", f"there is no zone Europe: {folder}/Europe: it is no regular file (cause 21)"),
+            ("pipe", f"there is no zone pipe: {folder}/pipe: it is no regular file (cause 21)"),
+            ("tzdata.zi", "`tzdata.zi` is no zone's name (cause 21)"),
+            ("../../etc/passwd", "`../../etc/passwd` is no zone's name (cause 21)"),
+            ("/Europe/Paris", "`/Europe/Paris` is no zone's name (cause 21)"),
+            ("", "`` is no zone's name (cause 21)"),
+            ("Z" * 65, f"`{'Z' * 65}` is no zone's name (cause 21)"),
+        ):
+            file = self.table("@daily x", f"CRON_TZ={name}", "@daily x")
+            self.assertEqual(self.faults(), [f"{file}:2: {message}", NOTHING.format("1 fault")])
+        self.write("usr/share/zoneinfo/leap", "# leap seconds\n")
+        file = self.table("CRON_TZ=leap")
+        message = f"{file}:1: the zone leap can't be taken: {folder}/leap is no TZif file (cause 32)"
+        self.assertEqual(self.faults()[0], message)
+
+    def test_entries_below_a_zone_that_is_left_out(self):
+        file = self.table("CRON_TZ=Mars", "@daily a", "CRON_TZ=UTC", "@daily b")
+        status, lines, notes = self.ran("--skip")
+        self.assertEqual((status, lines[5:9]), (0, ["# left out by run_file"] * 2 + ["CRON_TZ=UTC", "@daily b"]))
+        self.assertEqual(notes[-1], f"{file}:2: left out: it stands below line 1, which can't be taken")
+
+    def test_last_line_without_newline(self):
+        self.write("var/spool/cron/bob", "# a\n\n@daily x")
+        self.assertEqual(self.lines()[4:8], ["crontab spool-bob UTC 3", "# a", "", "@daily x"])
+
+    def test_empty_table(self):
+        self.write("var/spool/cron/bob", "")
+        self.write("etc/anacrontab", "")
+        self.assertEqual(self.lines()[4:6], ["crontab spool-bob UTC 0", "anacrontab etc-anacrontab UTC 0"])
+
+    def test_anacrontab_lines_that_go_on(self):
+        self.write("etc/anacrontab", "1 5 a \\\n x\n0 5 b \\\n y\n# c \\\n0 5\n1 5 c x\\\n")
+        lines = self.ran("--skip")[1]
+        kept = ["1 5 a \\", " x", "# left out by run_file", "# left out by run_file", "# c \\", "0 5", "1 5 c x\\"]
+        self.assertEqual(lines[5:12], kept)
+
+    def manual_rows(self):
+        """The rows of the manual about lines of tables: the cause, the table, the line, and what to write."""
+        with open(MANUAL, encoding="utf-8") as manual:
+            rows = [[cell.strip() for cell in row.strip("|\n").split("|")] for row in manual if row.startswith("|")]
+        rows = [row for row in rows if len(row) == 6 and row[0].isdigit() and row[1] in ("crontab", "system", "anacrontab")]
+        for cause, kind, line, _, _, instead in rows:
+            text = re.match("`([^`]+)`", line)[1]
+            yield int(cause), kind, text[:-1] + "x" * 1001 if "C of 1,001 bytes" in line else text, instead[1:-1]
+
+    def test_lines_of_the_manual(self):
+        rows = list(self.manual_rows())
+        for cause, kind, line, instead in rows:
+            reader, good = (TableReader(kind, None, JobCount()) for _ in range(2))
+            reader.read([line])
+            self.assertEqual([re.search(r"cause (\d+)", it.text)[1] for it in reader.troubles], [str(cause)], line)
+            good.read([instead])
+            self.assertEqual(good.troubles, [], instead)
+        self.assertEqual({row[0] for row in rows}, set(range(1, 21)) - {15})
+
+    def test_bytes_that_are_no_text(self):
+        self.assertEqual(lines_of(b"a\xc3\nb\n"), ["a\udcc3", "b"])
+        self.assertEqual(lines_of(b"\xed\xa0\x80"), ["\udced\udca0\udc80"])
+
+
+class Limits(RunFileTest):
+    """The limits of a run, at the last value and one beyond."""
+
+    def test_jobs(self):
+        file = self.write("var/spool/cron/bob", "@reboot x\n" * 999)
+        other = self.write("etc/anacrontab", "1 5 a x\n")
+        self.assertEqual(self.ran()[0], 0)
+        self.write("var/spool/cron/bob", "@reboot x\n" * 1001)
+        message = "this job is one too many: a run has at most 1,000 (cause 23)"
+        expected = [f"{file}:1001: {message}", f"{other}:1: {message}", NOTHING.format("2 faults")]
+        self.assertEqual(self.faults(), expected)
+
+    def test_zones(self):
+        for number in range(33):
+            self.write(f"usr/share/zoneinfo/Zone{number}", PARIS)
+        lines = [f"CRON_TZ=Zone{number}" for number in range(33)]
+        file = self.write("var/spool/cron/bob", "\n".join(lines[:32] + ["CRON_TZ=UTC", "CRON_TZ=Zone0"]))
+        self.assertEqual(sum(line.startswith("zone ") for line in self.lines()), 32)
+        self.write("var/spool/cron/bob", "\n".join(lines))
+        message = f"{file}:33: the zone Zone32 is one too many: a run has at most 32 (cause 34)"
+        self.assertEqual(self.faults()[0], message)
+
+    def test_lines_of_a_table(self):
+        file = self.write("var/spool/cron/bob", "#\n" * 65_535)
+        self.assertIn("crontab spool-bob UTC 65535", self.lines())
+        self.write("var/spool/cron/bob", "#\n" * 65_536)
+        message = "it has more than 65,535 lines, the most of a table (cause 29)"
+        self.assertEqual(self.faults()[0], f"{file}: {message}")
+        self.assertEqual(self.ran("--skip")[2][-1], f"{file}: left out: {message}")
+
+    def test_bytes(self):
+        self.write("etc/crontab", "#")
+        rest = 1_048_576 - len("\n".join([*self.lines(), ""]))
+        self.write("etc/crontab", "#" * (rest + 1))
+        self.assertEqual(self.ran()[0], 0)
+        self.write("etc/crontab", "#" * (rest + 2))
+        message = "run_file: the run file would have 1,048,577 bytes, and the program takes 1,048,576 (cause 33)"
+        self.assertEqual(self.faults(), [message])
+
+
+class Ends(RunFileTest):
+    """What the process does where its streams fail, or it is stopped."""
+
+    def process(self, command, **streams):
+        """The status and the standard error of a shell's command, in which $0 is the tool and $1 the root."""
+        words = ["sh", "-c", command, TOOL, self.root]
+        streams.setdefault("stdout", subprocess.PIPE)
+        ran = subprocess.run(words, stderr=subprocess.PIPE, check=False, **streams)
+        return ran.returncode, ran.stdout, ran.stderr.decode().split("\n")[:-1]
+
+    def test_outputs_that_fail(self):
+        for command, reason in (
+            ('"$0" --root "$1" > /dev/full', "No space left on device"),
+            ('"$0" --help > /dev/full', "No space left on device"),
+            ('"$0" --root "$1" >&-', "Bad file descriptor"),
+        ):
+            status, _, notes = self.process(command)
+            self.assertEqual((status, notes[-1]), (1, f"run_file: standard output can't be written: {reason}"))
+
+    def test_closed_pipe(self):
+        for command in ('"$0" --root "$1"', '"$0" --help'):
+            reading, writing = os.pipe()
+            os.close(reading)
+            status, _, notes = self.process(command, stdout=writing)
+            os.close(writing)
+            self.assertEqual((status, notes[-1]), (1, "run_file: standard output can't be written: Broken pipe"))
+
+    def test_notes_that_fail(self):
+        for stream in ("2>&-", "2> /dev/full"):
+            status, written, _ = self.process(f'"$0" --root "$1" --from 2024-03-30T00:00Z {stream}')
+            self.assertEqual((status, written.decode().split("\n")[:-1]), (0, self.lines()))
+
+    def test_standard_input_as_a_table(self):
+        reading, writing = os.pipe()
+        os.write(writing, b"@daily x\n")
+        os.close(writing)
+        status, written, _ = self.process('"$0" --root "$1" --user /dev/stdin', stdin=reading)
+        os.close(reading)
+        self.assertEqual(status, 0)
+        self.assertIn(b"\n@daily x\n", written)
+
+    def test_stops(self):
+        for fault, message in ((KeyboardInterrupt, "interrupted"), (MemoryError, "out of memory")):
+            with mock.patch.object(Command, "tables", side_effect=fault):
+                self.assertEqual(self.faults(), [f"run_file: {message}"])
+
+
+class Testdata(unittest.TestCase):
+    """The zones of testdata."""
+
+    def test_zones_are_as_they_are_written(self):
+        for folder in ZONES.FOLDERS:
+            for name, rule in ZONES.RULES.items():
+                with open(os.path.join(folder, name), "rb") as file:
+                    self.assertEqual(file.read(), ZONES.zone_bytes(rule))
+
+
+if __name__ == "__main__":
+    unittest.main()
