@@ -1,5 +1,5 @@
 #!/usr/bin/env python3
-"""Tests of tools/run_file.
+"""Tests of tools/run_file: its words, the lines of tables, the limits, and its ends.
 
 Usage: tools/test_run_file.py [NAME..]
 """
@@ -13,9 +13,7 @@ import unittest
 from datetime import datetime
 from unittest import mock
 
-from run_file_lib import labels
 from run_file_lib.command import Command, run
-from run_file_lib.faults import Stop
 from run_file_lib.options import OPTIONS
 from run_file_lib.tables import JobCount, TableReader, lines_of
 
@@ -119,15 +117,15 @@ class Words(RunFileTest):
 
     def test_from(self):
         self.assertEqual(self.head("--from", "2024-02-29T12:30Z")[1], "window 2024-02-29T12:30Z 2024-03-01T12:30Z")
-        for text in ("2024-02-30T00:00Z", "2024-02-03", "2024-2-3T00:00Z", "2024-02-03T24:00Z", "\u0662024-02-03T00:00Z"):
+        wrong = ["2024-02-30T00:00Z", "2024-02-03", "2024-2-3T00:00Z", "2024-02-03T24:00Z", "0000-01-01T00:00Z"]
+        for text in [*wrong, "\u0662024-02-03T00:00Z"]:
             message = f"run_file: --from: `{text}` is no stamp; write it as 2024-03-31T00:00Z"
             self.assertEqual(self.faults("--from", text), [message])
 
     def test_years(self):
-        for year in ("1970", "2200", "0000", "9999"):
+        for year in ("1970", "2200", "9999"):
             message = f"run_file: --from: {year} isn't within the years 1971 to 2199"
-            expected = [message] if year != "0000" else ["run_file: --from: `0000-01-01T00:00Z` is no stamp; write it as 2024-03-31T00:00Z"]
-            self.assertEqual(self.faults("--from", f"{year}-01-01T00:00Z"), expected)
+            self.assertEqual(self.faults("--from", f"{year}-01-01T00:00Z"), [message])
         self.assertEqual(self.head("--from", "2199-12-31T00:00Z")[1], "window 2199-12-31T00:00Z 2200-01-01T00:00Z")
         message = "run_file: the window ends behind 2200-01-01T00:00Z"
         self.assertEqual(self.faults("--from", "2199-12-31T00:01Z"), [message])
@@ -231,170 +229,6 @@ class Words(RunFileTest):
             self.assertEqual(self.faults(*words), [f"run_file: {message}{end}"])
 
 
-class Places(RunFileTest):
-    """The tables of a root."""
-
-    def test_order_and_labels(self):
-        for path in ("etc/crontab", "etc/cron.d/b", "etc/cron.d/a_1", "etc/cron.d/-"):
-            self.write(path, "@daily root x\n")
-        for path in ("var/spool/cron/crontabs/bob", "var/spool/cron/tabs/bob", "var/spool/cron/bob"):
-            self.write(path, "@daily x\n")
-        self.write("etc/anacrontab", "1 5 a x\n2 5 b x\n")
-        told = [comment.split(" is ")[1] for comment in self.comments()]
-        names = "etc-crontab cron-d-- cron-d-a_1 cron-d-b crontabs-bob tabs-bob spool-bob".split()
-        self.assertEqual(told, [f"{name}, 1 job" for name in names] + ["etc-anacrontab, 2 jobs"])
-        sections = [line for line in self.lines() if re.fullmatch(r"(system|crontab|anacrontab) \S+ UTC \d", line)]
-        self.assertEqual([line.split(" ")[1] for line in sections], [*names, "etc-anacrontab"])
-
-    def test_what_is_passed_over(self):
-        for path in ("etc/cron.d/a.dpkg-old", "etc/cron.d/a~", "etc/cron.d/folder/a"):
-            self.write(path, "@daily root x\n")
-        for path in ("var/spool/cron/.bob.swp", "var/spool/cron/lastrun/a"):
-            self.write(path, "@daily x\n")
-        by_name = "is passed over: cron takes names of letters, digits, `_` and `-`"
-        expected = [
-            f"{self.file('etc/cron.d/a.dpkg-old')} {by_name}",
-            f"{self.file('etc/cron.d/a~')} {by_name}",
-            f"{self.file('etc/cron.d/folder')} is passed over: it is a folder",
-            f"{self.file('var/spool/cron/.bob.swp')} is passed over: cron takes no name that begins with a dot",
-            f"{self.file('var/spool/cron/lastrun')} is passed over: it is a folder",
-            "there is no table",
-        ]
-        self.assertEqual(self.comments(), expected)
-
-    def test_unreadable_tables(self):
-        files = [self.link(path, "loop") for path in ("etc/cron.d/loop", "etc/anacrontab")]
-        self.link("etc/loop", "loop")
-        faults = [f"{file}: it can't be read: {LOOP}" for file in files]
-        self.assertEqual(self.faults(), [*faults, NOTHING.format("2 faults")])
-        skipped = [note for note in self.ran("--skip")[2] if not note.startswith("# ")]
-        self.assertEqual(skipped, [f"{file}: left out: it can't be read: {LOOP}" for file in files])
-
-    def test_unreadable_folder(self):
-        file = self.link("etc/cron.d", "cron.d")
-        self.assertEqual(self.faults()[0], f"{file}: it can't be read: {LOOP}")
-
-    def test_unreadable_crontabs_of_users(self):
-        self.link("var/spool/cron/crontabs", "crontabs")
-        self.link("var/spool/cron/bob", "bob")
-        told = [f"{self.file(path)} can't be read: {LOOP}" for path in ("var/spool/cron/crontabs", "var/spool/cron/bob")]
-        self.assertEqual(self.comments(), [*told, "there is no table"])
-
-    def test_tables_that_are_no_files(self):
-        os.makedirs(self.file("etc/crontab"))
-        os.mkfifo(self.file("etc/anacrontab"))
-        faults = [f"{self.file(path)}: it can't be read: it is no regular file" for path in ("etc/crontab", "etc/anacrontab")]
-        self.assertEqual(self.faults()[:2], faults)
-
-    def test_long_file(self):
-        file = self.write("etc/crontab", "#" * 1_048_577)
-        self.assertEqual(self.faults()[0], f"{file}: it can't be read: it has more than 1,048,576 bytes")
-
-    def test_links_stay_below_the_root(self):
-        self.write("srv/tables/all", "@daily root x\n")
-        self.link("etc/crontab", "/srv/link/../tables/all")
-        self.link("srv/link", "./other")
-        os.mkdir(self.file("srv/other"))
-        self.link("etc/cron.d/up", "../../../../../../../../../../srv/tables/all")
-        told = f"{self.file('etc/cron.d/up')} is passed over: it is {self.file('etc/crontab')} again"
-        self.assertEqual(self.comments(), [f"{self.file('etc/crontab')} is etc-crontab, 1 job", told])
-
-    def test_link_that_leads_nowhere(self):
-        file = self.link("etc/crontab", "/srv/missing")
-        self.assertEqual(self.faults()[0], f"{file}: it can't be read: {NO_FILE}")
-
-    def test_named_file_that_is_not_there(self):
-        missing = self.file("missing")
-        for word in ("--user", "--system", "--anacron"):
-            self.assertEqual(self.faults(word, missing)[0], f"{missing}: it can't be read: {NO_FILE}")
-
-    def test_names_that_are_no_text(self):
-        self.write(os.fsdecode(b"var/spool/cron/a\xff\n"), "-5 * * * * x\n")
-        fault = self.faults()[0]
-        self.assertTrue(fault.startswith(self.file("var/spool/cron/a\\udcff\\n:1: the entry")), fault)
-
-
-class Labels(unittest.TestCase):
-    """The labels of tables."""
-
-    def test_usual_places(self):
-        for path, label in (
-            ("/etc/crontab", "etc-crontab"),
-            ("/etc/cron.d/php", "cron-d-php"),
-            ("/var/spool/cron/crontabs/alice", "crontabs-alice"),
-            ("/var/spool/cron/tabs/alice", "tabs-alice"),
-            ("/var/spool/cron/d-php", "spool-d-php"),
-            ("/etc/cron.d/" + "a" * 25, "cron-d-" + "a" * 25),
-        ):
-            self.assertEqual(labels.label_of(path, set()), label)
-
-    def test_other_names(self):
-        paths = ["/etc/cron.d/PHP", "/etc/cron.d/" + "a" * 26, "/etc/cron.d/" + "a" * 27, "/var/spool/cron/a.b"]
-        paths += ["/var/spool/cron/A.B", "my.crontab", "./my.crontab", "/", "", "-", "é", "/home/1/2", "/srv/\udcff"]
-        made = [labels.label_of(path, set()) for path in paths]
-        for label in made:
-            self.assertTrue(labels.LABEL.fullmatch(label), label)
-        self.assertEqual(len(set(made)), len(paths))
-        self.assertEqual(made[0], "cron-d-php-" + made[0][-8:])
-        self.assertEqual(made, [labels.label_of(path, {"another"}) for path in paths])
-
-    def test_taken_labels(self):
-        first = labels.label_of("/etc/cron.d/php", {"cron-d-php"})
-        second = labels.label_of("/etc/cron.d/php", {"cron-d-php", first})
-        self.assertEqual(first[:11], "cron-d-php-")
-        self.assertNotEqual(first, second)
-        with self.assertRaises(Stop) as stopped:
-            labels.label_of("/a", mock.MagicMock(__contains__=lambda taken, label: True))
-        self.assertEqual(str(stopped.exception), "/a: there is no label left for this table")
-
-
-class MachineZone(RunFileTest):
-    """The zone of a machine."""
-
-    def zone(self, **environment):
-        """What is told of the zone, of the root /."""
-        return self.ran(environment=environment)[2][0]
-
-    def test_default(self):
-        told = "# the zone of the tables is UTC, by default: there is no /etc/timezone and no /etc/localtime"
-        self.assertEqual(self.zone(), told)
-
-    def test_timezone(self):
-        file = self.write("etc/timezone", "\n Europe/Paris \n")
-        self.link("etc/localtime", "/usr/share/zoneinfo/UTC")
-        self.assertEqual(self.zone(), f"# the zone of the tables is Europe/Paris, by {file}")
-
-    def test_localtime(self):
-        file = self.link("etc/localtime", "../usr/share/zoneinfo/Europe/Paris")
-        self.assertEqual(self.zone(), f"# the zone of the tables is Europe/Paris, by {file}")
-
-    def test_variable(self):
-        # Of a copied file system the variable of this machine says nothing.
-        self.assertIn("UTC", self.zone(TZ="Europe/Paris"))
-        for text in ("Europe/Paris", ":Europe/Paris", "/usr/share/zoneinfo/Europe/Paris"):
-            streams = Memory()
-            words = ["--zoneinfo", self.file("usr/share/zoneinfo"), "--user", self.write("mine", "@daily x\n")]
-            self.assertEqual(run(words, {"TZ": text}, NOW, streams), 0)
-            self.assertEqual(streams.notes[0], "# the zone of the tables is Europe/Paris, by TZ")
-            self.assertIn(f"zone Europe/Paris tzif {PARIS.hex()}", streams.written.decode().split("\n"))
-
-    def test_faults(self):
-        end = "; name the zone by --zone"
-        file = self.write("etc/timezone", "\nMars\0\n")
-        self.assertEqual(self.faults(), [f"{file}:2: `Mars\\x00` is no zone's name (cause 21){end}"])
-        self.write("etc/timezone", "\n\n")
-        self.assertEqual(self.faults(), [f"{file}: it names no zone{end}"])
-        os.remove(file)
-        os.mkdir(file)
-        self.assertEqual(self.faults(), [f"{file}: it can't be read: it is no regular file{end}"])
-        os.rmdir(file)
-        file = self.write("etc/localtime", PARIS)
-        self.assertEqual(self.faults(), [f"{file}: it is no link, and so names no zone{end}"])
-        os.remove(file)
-        self.link("etc/localtime", "/etc/zone")
-        self.assertEqual(self.faults(), [f"{file}: `/etc/zone` is no zone's name (cause 21){end}"])
-
-
 class Lines(RunFileTest):
     """The lines of tables."""
 
@@ -467,6 +301,18 @@ class Lines(RunFileTest):
             good.read([instead])
             self.assertEqual(good.troubles, [], instead)
         self.assertEqual({row[0] for row in rows}, set(range(1, 21)) - {15})
+
+    def test_lines_beside_the_manual(self):
+        """Troubles that the manual has no line of."""
+        delay = "there is no delay: a job has a period, a delay, an identifier and a command (cause 10)"
+        for kind, lines, message in (
+            ("crontab", ["*/ * * * * x"], "a step of the minute is missing (cause 1)"),
+            ("anacrontab", ["1"], delay),
+            ("anacrontab", ["1 5 a x", "7 5 a x"], "a job above has the identifier `a` (cause 22)"),
+        ):
+            reader = TableReader(kind, None, JobCount())
+            reader.read(lines)
+            self.assertEqual([trouble.text for trouble in reader.troubles], [message])
 
     def test_bytes_that_are_no_text(self):
         self.assertEqual(lines_of(b"a\xc3\nb\n"), ["a\udcc3", "b"])
@@ -558,16 +404,6 @@ class Ends(RunFileTest):
         for fault, message in ((KeyboardInterrupt, "interrupted"), (MemoryError, "out of memory")):
             with mock.patch.object(Command, "tables", side_effect=fault):
                 self.assertEqual(self.faults(), [f"run_file: {message}"])
-
-
-class Testdata(unittest.TestCase):
-    """The zones of testdata."""
-
-    def test_zones_are_as_they_are_written(self):
-        for folder in ZONES.FOLDERS:
-            for name, rule in ZONES.RULES.items():
-                with open(os.path.join(folder, name), "rb") as file:
-                    self.assertEqual(file.read(), ZONES.zone_bytes(rule))
 
 
 if __name__ == "__main__":
