@@ -268,6 +268,16 @@ class Lines(RunFileTest):
         self.assertEqual((status, lines[5:9]), (0, ["# left out by run_file"] * 2 + ["CRON_TZ=UTC", "@daily b"]))
         self.assertEqual(notes[-1], f"{file}:2: left out: it stands below line 1, which can't be taken")
 
+    def test_jobs_below_a_setting_that_is_left_out(self):
+        lines = ["RANDOM_DELAY=x", "1 5 a x", "RANDOM_DELAY=0", "START_HOURS_RANGE=x", "1 5 b x", "START_HOURS_RANGE=3-22", "1 5 c x"]
+        file = self.write("etc/anacrontab", "\n".join(lines))
+        status, kept, notes = self.ran("--skip")
+        left_out = "# left out by run_file"
+        expected = [left_out, left_out, lines[2], left_out, left_out, *lines[5:]]
+        self.assertEqual((status, kept[5:12]), (0, expected))
+        for number in (2, 5):
+            self.assertIn(f"{file}:{number}: left out: it stands below line {number - 1}, which can't be taken", notes)
+
     def test_last_line_without_newline(self):
         self.write("var/spool/cron/bob", "# a\n\n@daily x")
         self.assertEqual(self.lines()[4:8], ["crontab spool-bob UTC 3", "# a", "", "@daily x"])
@@ -301,6 +311,27 @@ class Lines(RunFileTest):
             good.read([instead])
             self.assertEqual(good.troubles, [], instead)
         self.assertEqual({row[0] for row in rows}, set(range(1, 21)) - {15})
+
+    def test_lines_at_their_limits(self):
+        """A line at the last value of a limit, which is good, and one beyond, with its cause."""
+        for kind, last, beyond, cause in (
+            ("crontab", "* * * * * " + "x" * 1000, "* * * * * " + "x" * 1001, 14),
+            ("crontab", "* * * * * " + "\u00e9" * 500, "* * * * * " + "\u00e9" * 501, 14),
+            ("crontab", "000000059 23 31 12 7 x", "0000000059 23 31 12 7 x", 2),
+            ("crontab", "0 0 1 1 0 x", "0 0 0 1 0 x", 3),
+            ("crontab", "*/999999999 * * * * x", "*/1000000000 * * * * x", 2),
+            ("system", "@daily " + "a" * 32 + " x", "@daily " + "a" * 33 + " x", 12),
+            ("anacrontab", "9999 9999 a x", "10000 9999 a x", 16),
+            ("anacrontab", "1 0 a x", "1 10000 a x", 17),
+            ("anacrontab", "1 5 " + "a" * 64 + " x", "1 5 " + "a" * 65 + " x", 18),
+            ("anacrontab", "START_HOURS_RANGE=0-24", "START_HOURS_RANGE=0-25", 19),
+            ("anacrontab", "START_HOURS_RANGE=3-4", "START_HOURS_RANGE=4-4", 19),
+            ("anacrontab", "RANDOM_DELAY=9999", "RANDOM_DELAY=10000", 20),
+        ):
+            for line, causes in ((last, []), (beyond, [str(cause)])):
+                reader = TableReader(kind, None, JobCount())
+                reader.read([line])
+                self.assertEqual([re.search(r"cause (\d+)", it.text)[1] for it in reader.troubles], causes, line)
 
     def test_lines_beside_the_manual(self):
         """Troubles that the manual has no line of."""
