@@ -269,7 +269,8 @@ class Lines(RunFileTest):
         self.assertEqual(notes[-1], f"{file}:2: left out: it stands below line 1, which can't be taken")
 
     def test_jobs_below_a_setting_that_is_left_out(self):
-        lines = ["RANDOM_DELAY=x", "1 5 a x", "RANDOM_DELAY=0", "START_HOURS_RANGE=x", "1 5 b x", "START_HOURS_RANGE=3-22", "1 5 c x"]
+        lines = ["RANDOM_DELAY=x", "1 5 a x", "RANDOM_DELAY=0"]
+        lines += ["START_HOURS_RANGE=x", "1 5 b x", "START_HOURS_RANGE=3-22", "1 5 c x"]
         file = self.write("etc/anacrontab", "\n".join(lines))
         status, kept, notes = self.ran("--skip")
         left_out = "# left out by run_file"

@@ -97,7 +97,7 @@ class Command:
         zone = machine_zone(self.root, variable) if named is None else MachineZone(named, "--zone", 0)
         fault = self.zones.fault_of(zone.name)
         if fault:
-            raise Stop(at(zone.source, zone.line, fault if named else f"{fault}; {ANOTHER}"))
+            raise Stop(at(zone.source, zone.line, f"{fault}; {ANOTHER}" if named is None else fault))
         self.comment(f"the zone of the tables is {zone.name}, by {shown(zone.source)}")
         return zone.name
 
