@@ -339,6 +339,7 @@ class Lines(RunFileTest):
         delay = "there is no delay: a job has a period, a delay, an identifier and a command (cause 10)"
         for kind, lines, message in (
             ("crontab", ["*/ * * * * x"], "a step of the minute is missing (cause 1)"),
+            ("system", ["0 8 * * * root "], "there is no command (cause 11)"),
             ("anacrontab", ["1"], delay),
             ("anacrontab", ["1 5 a x", "7 5 a x"], "a job above has the identifier `a` (cause 22)"),
         ):
