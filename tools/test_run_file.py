@@ -347,6 +347,13 @@ class Lines(RunFileTest):
             reader.read(lines)
             self.assertEqual([trouble.text for trouble in reader.troubles], [message])
 
+    def test_comments(self):
+        file = self.write("var/spool/cron/bob", b"# a carriage return\r\n# \xff\n# \0\n\r\n")
+        expected = [(2, "the line isn't UTF-8 (cause 15)"), (3, "there is a zero byte in the line (cause 15)")]
+        expected.append((4, "the line ends with a carriage return, which would be a part of what it says"))
+        faults = [f"{file}:{line}: {text}" for line, text in expected]
+        self.assertEqual(self.faults(), [*faults, NOTHING.format("3 faults")])
+
     def test_bytes_that_are_no_text(self):
         self.assertEqual(lines_of(b"a\xc3\nb\n"), ["a\udcc3", "b"])
         self.assertEqual(lines_of(b"\xed\xa0\x80"), ["\udced\udca0\udc80"])
