@@ -15,5 +15,8 @@ mod store;
 mod tests;
 
 pub use fault::StoreFault;
-pub use laws::{a_settled_store_is_recoverable, a_stop_leaves_one_of_two_states, an_empty_disk_is_recoverable, files_stand_for_one_state};
+pub use laws::{
+    a_settled_store_is_recoverable, a_stop_leaves_one_of_two_states, an_empty_disk_is_recoverable,
+    files_stand_for_one_state,
+};
 pub use store::Store;
