@@ -29,12 +29,16 @@ def rates(program):
     return {(each[1], each[3]): int(each[2]) for each in found}
 
 
-def main():
-    program = sys.argv[1] if len(sys.argv) > 1 else PROGRAM
+def tell(program):
+    """Prints the best of each rate."""
     tries = [rates(program) for _ in range(TRIES)]
     for name, what in tries[0]:
         best = max(each[name, what] for each in tries)
         print(f"{name}: {best:,} {what} a second")
+
+
+def main():
+    tell(sys.argv[1] if len(sys.argv) > 1 else PROGRAM)
 
 
 if __name__ == "__main__":

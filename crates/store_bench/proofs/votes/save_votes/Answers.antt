@@ -1,0 +1,26 @@
+use Rattle.std.proofs.Common.{◌≤◌, arith, subst}
+use Rattle.gate_file.specs.File.{bodies_of}
+use Rattle.acceptor_core.specs.Acceptor.{IsAtLeast}
+use Rattle.paxos_base.specs.declared.durable.Durable.{Durable}
+use Rattle.paxos_base.specs.declared.durable.Delta.TheVariants.{Voted}
+use Rattle.paxos_base.specs.Durable.{after_delta}
+use Rattle.replica_store.proofs.FileLemmas.{bodies_stand_for_one}
+use Rattle.store_bench.proofs.votes.save_votes.Goals as goal
+
+pub save-requires-clause-follows : goal.save-requires-clause-follows
+save-requires-clause-follows c kept keeps =
+    let store = c.loop-slot.store in
+    let takes = c.loop-slot.invariant.takes in
+    let ballot = c.unwrap_or-ballot.result in
+    let slot = c.loop-slot.slot in
+    let below : takes.0.base ≤ slot = omega (arith, takes.1.1.1, c.loop-slot.auto.slot) in
+    subst (λ (durable : Durable). IsAtLeast ballot durable.promised × (durable.base ≤ slot)) (bodies_stand_for_one store.jobs (bodies_of store.gates) takes.0 kept takes.1.0 keeps) (takes.1.1.0, below)
+
+pub loop-slot-preserved : goal.loop-slot-preserved
+unfolding after_delta
+loop-slot-preserved c =
+    let takes = c.loop-slot.invariant.takes in
+    record {
+      settled = c.in_ok-save.ensures.settled;
+      takes = (_, (c.in_ok-save.ensures.keeps takes.0 takes.1.0, (omega arith, takes.1.1.1)));
+    }

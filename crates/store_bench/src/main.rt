@@ -1,0 +1,53 @@
+//! Measures a store on a disk in memory: 100,000 votes that are saved one after another, and the attaching of the disk that
+//! has them. What was done is written to standard output, and how much in a second of the processor to standard error.
+#![tactic(auto)]
+
+mod fault;
+mod votes;
+
+use crate::fault::BenchFault;
+use crate::votes::save_votes;
+use disk_model::MemDisk;
+use due_set::{JobKind, JobSpec, JobTable};
+use replica_store::Store;
+use std::alloc::Global;
+use std::time::{CpuClock, Duration};
+use zone_minutes::{Minute, Window};
+
+// How many votes are saved.
+const VOTES: u32 = 100_000;
+
+fn one_job(alloc: Global) -> Result<JobTable, BenchFault> {
+    let window = Window {
+        from: Minute(28_530_720),
+        until: Minute(28_530_840),
+    };
+    let mut jobs = Vec::new(alloc);
+    jobs.push(JobSpec::new(alloc, "bench:1", 0, JobKind::Never)?)?;
+    Ok(JobTable::in_utc(alloc, window, 0, jobs)?)
+}
+
+fn main(rt: HostRuntime) -> Result<(), BenchFault> {
+    let alloc = rt.alloc();
+    let table = one_job(alloc)?;
+    let mut disk = MemDisk::new(alloc, Vec::new(alloc));
+    let start = rt.thread_cpu_time()?;
+    save_votes(alloc, &mut disk, &table, VOTES)?;
+    let took = rt.thread_cpu_time()?.saturating_sub(start);
+    println!(rt; "{VOTES} votes saved")?;
+    tell(&rt, "saving", took)?;
+    let start = rt.thread_cpu_time()?;
+    let (_, kept) = Store::attach(alloc, &mut disk, &table)?;
+    let took = rt.thread_cpu_time()?.saturating_sub(start);
+    let found = kept.votes.items.len();
+    println!(rt; "{found} votes found")?;
+    tell(&rt, "attaching", took)
+}
+
+// Tells how many votes it would be in a second.
+fn tell(rt: &HostRuntime, name: &str, took: Duration) -> Result<(), BenchFault> {
+    let micros = u64::try_from(took.as_micros()).unwrap_or(u64::MAX);
+    let rate = u64::from(VOTES).saturating_mul(1_000_000) / micros.max(1);
+    eprintln!(rt; "{name}: {rate} votes a second")?;
+    Ok(())
+}
