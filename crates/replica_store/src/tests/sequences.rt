@@ -145,6 +145,14 @@ impl Sequence {
         }
         Ok(())
     }
+
+    fn play_to_the_end(&mut self, rt: &impl Abort, counts: &mut Counts) -> Result<(), Fail> {
+        for _ in 0..5 {
+            self.play_armed(rt, counts)?;
+        }
+        self.play(rt, counts)?;
+        Ok(())
+    }
 }
 
 #[test]
@@ -157,11 +165,7 @@ fn a_disk_keeps_what_a_plain_model_does(rt: HostRuntime) -> Result<(), Fail> {
         lost: 0,
     };
     for number in 0..1_000u64 {
-        let mut sequence = Sequence::new(alloc, number)?;
-        for _ in 0..5 {
-            sequence.play_armed(&rt, &mut counts)?;
-        }
-        sequence.play(&rt, &mut counts)?;
+        Sequence::new(alloc, number)?.play_to_the_end(&rt, &mut counts)?;
     }
     assert!(rt; counts.saved > 9_000, "{counts:?}");
     assert!(rt; counts.found > 400, "{counts:?}");

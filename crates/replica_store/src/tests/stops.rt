@@ -84,7 +84,7 @@ fn stops_of(alloc: Global, rows: &[Row]) -> Result<Vec<Stop>, AllocError> {
     Ok(stops)
 }
 
-// What is saved at last, to see that the disk takes changes as ever.
+// What is saved at last, to see that the disk still takes changes.
 const LATER: [Change; 3] = [Voted(100, 900), Base(99, 99), Voted(101, 901)];
 
 fn takes_more(rt: &impl Abort, seat: &mut Seat, mut want: Plain, stop: Stop) -> Result<(), Fail> {
@@ -164,13 +164,23 @@ fn stop_saving(
     finds_after_the_stop(rt, &mut seat, want, stop)
 }
 
+fn stop_saving_anywhere(
+    rt: &impl Abort,
+    alloc: Global,
+    earlier: &[Change],
+    change: Change,
+    rows: &[Row],
+) -> Result<(), Fail> {
+    for stop in stops_of(alloc, rows)? {
+        stop_saving(rt, alloc, earlier, change, stop)?;
+    }
+    Ok(())
+}
+
 #[test]
 fn a_stop_within_a_save_leaves_its_change_or_not(rt: HostRuntime) -> Result<(), Fail> {
-    let alloc = rt.alloc();
     for (earlier, change, rows) in SAVED {
-        for stop in stops_of(alloc, rows)? {
-            stop_saving(&rt, alloc, earlier, change, stop)?;
-        }
+        stop_saving_anywhere(&rt, rt.alloc(), earlier, change, rows)?;
     }
     Ok(())
 }
@@ -180,7 +190,14 @@ const AT_8: &[Change] = &[Promised(8)];
 const AT_16: &[Change] = &[Promised(8), Promised(16)];
 
 // The bytes of the selected area, and the changes that are found, or those where the second body's gate is found open.
-const ATTACHED: [(&str, &[Change], &[Change], &[Row]); 9] = [
+type AttachRow = (
+    &'static str,
+    &'static [Change],
+    &'static [Change],
+    &'static [Row],
+);
+
+const ATTACHED: [AttachRow; 9] = [
     ("0", &[], &[], &AT_REST),
     ("1p0", AT_8, AT_8, &AT_REST),
     ("1p0q0", AT_8, AT_16, &AT_REST),
@@ -208,18 +225,24 @@ fn stop_attaching(
     finds_after_the_stop(rt, &mut seat, want, stop)
 }
 
+// In the first area and in the second.
+fn stop_attaching_anywhere(rt: &impl Abort, alloc: Global, row: AttachRow) -> Result<(), Fail> {
+    let (text, changes, opened, rows) = row;
+    let bytes = bytes_of(rt, alloc, text)?;
+    for stop in stops_of(alloc, rows)? {
+        let found = if stop.is_found { opened } else { changes };
+        let in_a = [(Chooser, [].as_slice()), (AreaA, bytes.as_slice())];
+        stop_attaching(rt, alloc, in_a, found, stop)?;
+        let in_b = [(Chooser, [1].as_slice()), (AreaB, bytes.as_slice())];
+        stop_attaching(rt, alloc, in_b, found, stop)?;
+    }
+    Ok(())
+}
+
 #[test]
 fn a_stop_within_an_attaching_leaves_what_was_kept(rt: HostRuntime) -> Result<(), Fail> {
-    let alloc = rt.alloc();
-    for (text, changes, opened, rows) in ATTACHED {
-        let bytes = bytes_of(&rt, alloc, text)?;
-        for stop in stops_of(alloc, rows)? {
-            let found = if stop.is_found { opened } else { changes };
-            let in_a = [(Chooser, [].as_slice()), (AreaA, bytes.as_slice())];
-            stop_attaching(&rt, alloc, in_a, found, stop)?;
-            let in_b = [(Chooser, [1].as_slice()), (AreaB, bytes.as_slice())];
-            stop_attaching(&rt, alloc, in_b, found, stop)?;
-        }
+    for row in ATTACHED {
+        stop_attaching_anywhere(&rt, rt.alloc(), row)?;
     }
     Ok(())
 }
