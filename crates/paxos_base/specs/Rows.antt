@@ -1,5 +1,6 @@
 -- Rows of the launch table.
-use Rattle.std.specs.Prelude.{◌≡◌, ℕ, List, length, slice_get, Some, IsSome, All}
+use Rattle.std.specs.Prelude.{◌≡◌, ℕ, List, length, map, slice_get, None, Some, IsSome, All}
+use Rattle.std.specs.List.{range_with_len}
 use Rattle.paxos_base.specs.declared.rows.JobRow.{JobRow}
 
 -- a row with a launch that is open has a cursor
@@ -13,3 +14,11 @@ OpenHaveCursors rows = All OpenHasCursor rows
 pub record RowsStand (rows : List JobRow) (jobs : ℕ) : Type 0 where
   pub count : length rows ≡ jobs
   pub in_order : (k : ℕ) (row : JobRow) → slice_get rows k ≡ Some row → row.job ≡ k
+
+-- the row of a job of which nothing was heard
+abbrev pub fresh_row : ℕ → JobRow
+fresh_row job = record { job = job; cursor = None; open_now = None; last = None; launched = 0; voided = 0 }
+
+-- the launch table at first: a fresh row for each of so many jobs
+abbrev pub fresh_rows : ℕ → List JobRow
+fresh_rows jobs = map fresh_row (range_with_len 0 jobs)

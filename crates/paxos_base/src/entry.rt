@@ -1,4 +1,9 @@
+ghost use Rattle.std.specs.Prelude.{◌≡◌, OnOk, OnErr};
+ghost use Rattle.paxos_base.specs.Vote.{put_vote, votes_from};
+
 use crate::ballot::Ballot;
+use crate::votes::{place_of, put_vote};
+use std::alloc::AllocError;
 use std::marker::Model;
 
 /// How a launch ended: the command was launched, or the launch was given up and is void.
@@ -45,7 +50,7 @@ pub struct Vote {
 }
 
 /// Entries in the order of their slots. Contracts see the list.
-#[derive(Debug, Drop)]
+#[derive(Clone, Debug, Drop)]
 pub struct EntryList {
     pub items: Vec<Entry>,
 }
@@ -60,7 +65,7 @@ impl Model for EntryList {
 }
 
 /// Votes, each at a later slot than those before it. Contracts see the list.
-#[derive(Debug, Drop)]
+#[derive(Clone, Debug, Drop)]
 pub struct VoteList {
     pub items: Vec<Vote>,
 }
@@ -75,4 +80,48 @@ impl Model for VoteList {
     ghost view = { λ list. list.items.items };
 
     ghost invariant = { λ list. SlotsRise list.items.items };
+}
+
+impl PartialEq for VoteList {
+    ghost use Rattle.std.specs.Cmp.Lexicographic.{pointwise, lists_per};
+    ghost use Rattle.paxos_base.specs.contracts.entry.VotePartialEq.TheImpl.Laws.{laws-law};
+
+    ghost eq = { pointwise ⟦<Vote as PartialEq>⟧.eq };
+
+    ghost laws = { lists_per laws-law };
+
+    fn eq(&self, other: &VoteList) -> bool {
+        self.items == other.items
+    }
+}
+
+impl Eq for VoteList {
+    ghost use Rattle.std.specs.Cmp.Lexicographic.{lists_equiv};
+    ghost use Rattle.paxos_base.specs.contracts.entry.VoteEq.TheImpl.Laws.{laws-law};
+
+    ghost laws = { lists_equiv laws-law };
+}
+
+impl VoteList {
+    /// Puts a vote in its place. A vote that was at its slot goes.
+    ///
+    /// # Errors
+    ///
+    /// There is no memory for one vote more; then nothing has changed.
+    pub fn put(&mut self, vote: &Vote) -> Result<(), AllocError>
+        ensures put { OnOk result (self.new ≡ put_vote vote.now self.old) }
+        ensures unchanged { OnErr result (self.new ≡ self.old) }
+    {
+        self.items.reserve(1)?;
+        put_vote(&mut self.items, *vote);
+        Ok(())
+    }
+
+    /// Takes the votes below a slot away.
+    pub fn drop_below(&mut self, slot: u64)
+        ensures { self.new ≡ votes_from slot self.old }
+    {
+        let place = place_of(&self.items, slot);
+        self.items.drain(..place);
+    }
 }

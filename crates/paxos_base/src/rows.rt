@@ -1,6 +1,7 @@
-ghost use Rattle.std.specs.Prelude.{◌↔◌, IsTrue};
-ghost use Rattle.paxos_base.specs.Rows.{RowsStand};
+ghost use Rattle.std.specs.Prelude.{◌≡◌, ◌↔◌, IsTrue, IfOk};
+ghost use Rattle.paxos_base.specs.Rows.{RowsStand, fresh_row, fresh_rows};
 
+use std::alloc::{AllocError, Global};
 use std::marker::Model;
 
 /// A job's row of the launch table.
@@ -20,8 +21,24 @@ pub struct JobRow {
     pub voided: u32,
 }
 
+impl JobRow {
+    /// The row of a job of which nothing was heard.
+    pub fn fresh(job: u32) -> JobRow
+        ensures { result ≡ fresh_row job }
+    {
+        JobRow {
+            job,
+            cursor: None,
+            open_now: None,
+            last: None,
+            launched: 0,
+            voided: 0,
+        }
+    }
+}
+
 /// Rows of the launch table, in which each row with a launch that is open has a cursor. Contracts see the list.
-#[derive(Debug, Drop)]
+#[derive(Clone, Debug, Drop)]
 pub struct RowList {
     pub items: Vec<JobRow>,
 }
@@ -36,6 +53,40 @@ impl Model for RowList {
     ghost view = { λ list. list.items.items };
 
     ghost invariant = { λ list. OpenHaveCursors list.items.items };
+}
+
+impl PartialEq for RowList {
+    ghost use Rattle.std.specs.Cmp.Lexicographic.{pointwise, lists_per};
+    ghost use Rattle.paxos_base.specs.contracts.rows.JobRowPartialEq.TheImpl.Laws.{laws-law};
+
+    ghost eq = { pointwise ⟦<JobRow as PartialEq>⟧.eq };
+
+    ghost laws = { lists_per laws-law };
+
+    fn eq(&self, other: &RowList) -> bool {
+        self.items == other.items
+    }
+}
+
+impl Eq for RowList {
+    ghost use Rattle.std.specs.Cmp.Lexicographic.{lists_equiv};
+    ghost use Rattle.paxos_base.specs.contracts.rows.JobRowEq.TheImpl.Laws.{laws-law};
+
+    ghost laws = { lists_equiv laws-law };
+}
+
+impl RowList {
+    /// A fresh row for each of so many jobs, in the order of their numbers.
+    ///
+    /// # Errors
+    ///
+    /// There is no memory for the rows.
+    pub fn fresh(alloc: Global, jobs: u32) -> Result<RowList, AllocError>
+        ensures { IfOk result (λ rows. rows ≡ fresh_rows jobs) }
+    {
+        let items = (0..jobs).map(|job| JobRow::fresh(job)).collect(alloc)?;
+        Ok(RowList { items })
+    }
 }
 
 /// Whether the rows are those of a table of that many jobs: one row for each job, in the order of their numbers. The

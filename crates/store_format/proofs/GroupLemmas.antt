@@ -7,7 +7,7 @@ use Rattle.std.proofs.lemmas.List.FromFn.{length-map-range_with_len}
 use Rattle.std.proofs.lemmas.Option.{none-some, same_Some}
 use Rattle.paxos_base.specs.declared.durable.Durable.{Durable}
 use Rattle.paxos_base.specs.declared.rows.JobRow.{JobRow}
-use Rattle.launch_machine.specs.Clerk.{fresh_row}
+use Rattle.paxos_base.specs.Rows.{fresh_row}
 use Rattle.store_format.specs.declared.body.Record.{Record}
 use Rattle.store_format.specs.declared.body.Record.TheVariants.{Tried, Promised, Voted, Base, Row}
 use Rattle.store_format.specs.declared.place.Place.{Place}

@@ -5,7 +5,7 @@ use Rattle.std.specs.Prelude.{IfSome, FitsSigned, pos, if◌then◌else◌}
 use Rattle.std.specs.List.{flat_map}
 use Rattle.std.proofs.lemmas.List.{set-set, set-get_or}
 use Rattle.paxos_base.specs.Packet.{FromField, TagField, ZeroField, JobField, BallotField, SlotField, OldField, AtField, NowField, LastField}
-use Rattle.launch_machine.specs.Clerk.{fresh_row}
+use Rattle.paxos_base.specs.Rows.{fresh_row}
 use Rattle.paxos_letter.specs.declared.packet.Packet.{Packet}
 use Rattle.paxos_letter.specs.declared.packet.Packet.TheVariants.{Prepare, Accept, Snap, SnapRow}
 use Rattle.paxos_letter.specs.Fields.{field_bytes, fields_in}

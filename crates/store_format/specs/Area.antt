@@ -1,13 +1,12 @@
 -- What the records of an area stand for, and the first of them that is at fault.
 use Rattle.std.specs.Prelude.{◌≡◌, ◌⊎◌, ℕ, ◌+◌, ◌<◌, ◌≤◌, nat_lt, if◌then◌else◌, Option, None, Some, List, [], ◌∷◌, ◌++◌, length, map, take, All, Contains, IfSome}
-use Rattle.std.specs.List.{filter_map, range_with_len}
+use Rattle.std.specs.List.{filter_map}
 use Rattle.paxos_base.specs.declared.durable.Durable.{Durable}
 use Rattle.paxos_base.specs.declared.entry.Vote.{Vote}
 use Rattle.paxos_base.specs.declared.rows.JobRow.{JobRow}
-use Rattle.paxos_base.specs.Rows.{RowsStand}
+use Rattle.paxos_base.specs.Rows.{RowsStand, fresh_rows}
 use Rattle.paxos_base.specs.Vote.{SlotsRise, votes_from}
 use Rattle.acceptor_core.specs.Acceptor.{IsAbove}
-use Rattle.launch_machine.specs.Clerk.{fresh_row}
 use Rattle.store_format.specs.declared.body.Record.{Record}
 use Rattle.store_format.specs.declared.body.Record.TheVariants.{Tried, Promised, Voted, Base, Row}
 use Rattle.store_format.specs.Order.{IsLog, own_round}
@@ -15,7 +14,7 @@ use Rattle.store_format.specs.Records.{AreRecords, ballot_in, own_ballot}
 
 -- what a replica keeps at first: nothing was tried, promised or voted for, and each job's row is fresh
 abbrev pub fresh : ℕ → Durable
-fresh jobs = record { tried = 0; promised = None; votes = []; base = 0; rows = map fresh_row (range_with_len 0 jobs) }
+fresh jobs = record { tried = 0; promised = None; votes = []; base = 0; rows = fresh_rows jobs }
 
 -- the group of a base: its slot and how many rows follow, and then the rows, each with that slot
 abbrev pub group_of : ℕ → List JobRow → List Record

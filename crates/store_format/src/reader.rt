@@ -4,7 +4,7 @@ ghost use Rattle.std.specs.List.{range_with_len};
 ghost use Rattle.std.specs.Option.{option_or};
 ghost use Rattle.paxos_base.specs.Rows.{OpenHasCursor};
 ghost use Rattle.paxos_base.specs.Vote.{put_vote};
-ghost use Rattle.launch_machine.specs.Clerk.{fresh_row};
+ghost use Rattle.paxos_base.specs.Rows.{fresh_row};
 ghost use Rattle.store_format.specs.Area.{fresh};
 ghost use Rattle.store_format.specs.Places.{taken};
 ghost use Rattle.store_format.specs.Records.{RowHasCursor, tried_in};
@@ -22,27 +22,6 @@ pub(crate) struct Reader {
     pub(crate) kept: Durable,
     /// The ballot of the last Tried.
     pub(crate) own: Option<Ballot>,
-}
-
-fn fresh(job: u32) -> JobRow
-    ensures { result ≡ fresh_row job }
-{
-    JobRow {
-        job,
-        cursor: None,
-        open_now: None,
-        last: None,
-        launched: 0,
-        voided: 0,
-    }
-}
-
-// A fresh row for each job.
-fn fresh_rows(alloc: Global, jobs: u32) -> Result<RowList, OutOfMemory>
-    ensures { IfOk result (λ rows. rows ≡ map fresh_row (range_with_len 0 jobs)) }
-{
-    let items = (0..jobs).map(|job| fresh(job)).collect(alloc)?;
-    Ok(RowList { items })
 }
 
 fn add_vote(votes: &mut VoteList, vote: Vote) -> Result<(), OutOfMemory>
@@ -68,7 +47,7 @@ impl Reader {
         ensures kept { IfOk result (λ reader. reader.kept ≡ fresh jobs) }
         ensures own { IfOk result (λ reader. reader.own ≡ None) }
     {
-        let rows = fresh_rows(alloc, jobs)?;
+        let rows = RowList::fresh(alloc, jobs)?;
         let votes = VoteList {
             items: Vec::new(alloc),
         };

@@ -123,11 +123,3 @@ pub fn merged(best: &VoteList, votes: &[Vote]) -> Result<VoteList, OutOfMemory>
     let items = best_of(*best.items.allocator(), &best.items, votes)?;
     Ok(VoteList { items })
 }
-
-/// Equal votes.
-pub fn copy_of(votes: &VoteList) -> Result<VoteList, OutOfMemory>
-    ensures { IfOk result (λ copy. copy ≡ votes.now) }
-{
-    let items = votes.items.clone()?;
-    Ok(VoteList { items })
-}

@@ -3,7 +3,7 @@ ghost use Rattle.paxos_base.specs.Members.{has_majority, only_member};
 ghost use Rattle.term_core.specs.Best.{best_of};
 ghost use Rattle.term_core.specs.Term.{answer_to_proposal, answer_to_tick, after_accepted, after_advance, after_ballot, after_promise, after_proposal, after_tick, best_votes, candidacy, chosen_by, gathered, has_asked, is_ended_by, is_leader};
 
-use crate::best::{copy_of, merged};
+use crate::best::merged;
 use crate::fault::ProposeFault;
 use crate::flight::Flight;
 use cron_io::OutOfMemory;
@@ -302,7 +302,7 @@ impl Term {
                 ballot: *ballot,
                 first: *first,
                 heard: *heard,
-                best: copy_of(best)?,
+                best: best.clone()?,
             },
             Term::Leader {
                 ballot,
@@ -310,7 +310,7 @@ impl Term {
                 flight,
             } => Term::Leader {
                 ballot: *ballot,
-                best: copy_of(best)?,
+                best: best.clone()?,
                 flight: *flight,
             },
         };

@@ -1,6 +1,6 @@
 use Rattle.std.proofs.Common.{[]}
 use Rattle.paxos_base.specs.declared.rows.JobRow.{JobRow}
-use Rattle.launch_machine.specs.Clerk.{fresh_row}
+use Rattle.paxos_base.specs.Rows.{fresh_row}
 use Rattle.store_format.specs.declared.body.Record.TheVariants.{Row}
 use Rattle.store_format.proofs.WriteLemmas.{Adds-more_at}
 use Rattle.store_format.proofs.base.put_rows.Goals as goal
