@@ -14,16 +14,15 @@ use Rattle.due_set.proofs.ExistLemmas.{next_up_to}
 use Rattle.due_set.proofs.OpenLemmas.{opening_has_come}
 use Rattle.due_set.proofs.Rising.{Contains-head, Contains-tail}
 use Rattle.cluster_sched.specs.declared.row.SchedRow.{SchedRow}
-use Rattle.launch_machine.specs.Clerk.{IsClerkOf, TakesEnd, fresh_rows}
+use Rattle.launch_machine.specs.Clerk.{IsClerkOf, TakesEnd}
 use Rattle.launch_machine.specs.Intent.{MayCall, NoCall}
 use Rattle.launch_machine.specs.Machine.{HasRoom, Launches, StandsFor}
 use Rattle.launch_machine.specs.Next.{StartsNoMore}
-use Rattle.launch_machine.proofs.ExistLemmas.{starts_exist}
 use Rattle.launch_machine.proofs.MachineLemmas.{is_some_below}
-use Rattle.launch_machine.proofs.StartLemmas.{starts_front, starts_rise}
-use Rattle.launch_law.specs.Fits.{Fits, IsHeld, StartsInOrder}
+use Rattle.launch_law.specs.Fits.{Fits, IsHeld}
 use Rattle.launch_law.specs.Launched.{IsCalledAt, IsWanted, LaunchesEachDue, OpensBy}
 use Rattle.launch_law.specs.Settled.{IsSettled}
+use Rattle.launch_law.proofs.OrderLemmas.{in_order}
 use Rattle.launch_law.proofs.PeriodLemmas.{started_apart}
 use Rattle.launch_clerk.specs.Walk.{Agrees, AreIdle, IsAtMinute, IsCounted, IsOfMinute, IsOpenNow}
 use Rattle.launch_clerk.proofs.DayLemmas.{IsInReach, day_in_reach, instant_in_reach}
@@ -99,16 +98,6 @@ has_room table log rows held job at minute agrees here takes = in_room (slice_ge
         let b : row.voided ≡ takes.row.voided = ap (λ (r : JobRow). r.voided) same in
         let most : takes.row.launched + takes.row.voided < 120_968_640 = few in
         (omega arith, omega arith)
-
-in_order : (table : Table) (log : List Entry) (rows : List JobRow) (job : ℕ) → IsClerkOf table log rows → StartsInOrder table log job
-in_order table log rows job clerk =
-    let found = starts_exist table (fresh_rows table) log rows job clerk in
-    record {
-      instants = found.0;
-      starts = found.1;
-      rising = starts_rise table log job found.0 found.1;
-      first = λ other. starts_front table log job found.0 other found.1;
-    }
 
 pub fits : (table : Table) (log : List Entry) (rows : List JobRow) (held : List SchedRow) → Agrees table log rows held → Fits table log held
 fits table log rows held agrees = record {

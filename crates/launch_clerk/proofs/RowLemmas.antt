@@ -13,7 +13,8 @@ use Rattle.paxos_base.specs.declared.rows.JobRow.{JobRow}
 use Rattle.due_set.specs.Table.{Table, IsAfter}
 use Rattle.due_set.proofs.CountLemmas.{abs_below}
 use Rattle.due_set.proofs.TableLemmas.{cases_ltℤ}
-use Rattle.launch_machine.specs.Clerk.{Applies, TakesStart, TakesEnd, fresh_row, fresh_rows, opened_row, closed_row, with_row}
+use Rattle.paxos_base.specs.Rows.{fresh_row}
+use Rattle.launch_machine.specs.Clerk.{Applies, TakesStart, TakesEnd, first_rows, opened_row, closed_row, with_row}
 use Rattle.launch_machine.proofs.MachineLemmas.{is_some_below, same_or_not, set_there}
 use Rattle.launch_machine.proofs.StartLemmas.{changed}
 use Rattle.launch_clerk.proofs.DayLemmas.{IsInReach}
@@ -72,10 +73,10 @@ fresh_is a (suc n) (suc k) row e =
     let same : a + 1 + k ≡ a + suc k = omega arith in
     fresh_is (a + 1) n k row e ∙ ap fresh_row same
 
-pub fresh_at : (table : Table) (job : ℕ) (row : JobRow) → slice_get (fresh_rows table) job ≡ Some row → row ≡ fresh_row (0 + job)
+pub fresh_at : (table : Table) (job : ℕ) (row : JobRow) → slice_get (first_rows table) job ≡ Some row → row ≡ fresh_row (0 + job)
 fresh_at table job row e = fresh_is 0 (length table.jobs) job row e
 
-pub fresh_idle : (table : Table) → AreIdle (fresh_rows table)
+pub fresh_idle : (table : Table) → AreIdle (first_rows table)
 fresh_idle table job row e = ap (λ (r : JobRow). r.open_now) (fresh_at table job row e)
 
 -- later than the cursor or not

@@ -14,7 +14,7 @@ use Rattle.due_set.proofs.Rising.{Contains-none}
 use Rattle.cluster_sched.specs.Held.{Answers}
 use Rattle.cluster_sched.specs.declared.row.SchedRow.{SchedRow}
 use Rattle.launch_machine.specs.Answers.{IsCallKind}
-use Rattle.launch_machine.specs.Clerk.{Applies, MayStart, TakesStart, TakesEnd, fresh_rows, opened_row, closed_row, with_row}
+use Rattle.launch_machine.specs.Clerk.{Applies, MayStart, TakesStart, TakesEnd, first_rows, opened_row, closed_row, with_row}
 use Rattle.launch_machine.specs.Intent.{MayCall, NoCall, NoStart}
 use Rattle.launch_machine.specs.Machine.{HasRoom, Launches, StandsFor}
 use Rattle.launch_machine.specs.Next.{IsNextStart}
@@ -31,7 +31,7 @@ pub on_ok : {T E : Type 0} (result : Result T E) {P Q : Type 0} → OnOk result 
 on_ok (Ok x) p f = f p
 on_ok (Err e) p f = tt
 
-pub begun_rests : (table : Table) (machine : Launches) (log : List Entry) (held : List SchedRow) → IsWithinLimits table.window → machine.rows ≡ fresh_rows table → StandsFor table machine
+pub begun_rests : (table : Table) (machine : Launches) (log : List Entry) (held : List SchedRow) → IsWithinLimits table.window → machine.rows ≡ first_rows table → StandsFor table machine
     → log ≡ [] → held ≡ [] → IsResting table log machine held
 begun_rests table machine log held limits rows stands log_is held_is = record {
   stands = stands;
@@ -40,11 +40,11 @@ begun_rests table machine log held limits rows stands log_is held_is = record {
   past = λ row job at now among takes. absurd (Contains-none row (subst (λ (h : List SchedRow). Contains h row) held_is among));
 }
   where
-    agrees_log : Agrees table log (fresh_rows table) []
-    agrees_log = subst (λ (l : List Entry). Agrees table l (fresh_rows table) []) (sym log_is) (begun table limits)
+    agrees_log : Agrees table log (first_rows table) []
+    agrees_log = subst (λ (l : List Entry). Agrees table l (first_rows table) []) (sym log_is) (begun table limits)
 
-    agrees_held : Agrees table log (fresh_rows table) held
-    agrees_held = subst (Agrees table log (fresh_rows table)) (sym held_is) agrees_log
+    agrees_held : Agrees table log (first_rows table) held
+    agrees_held = subst (Agrees table log (first_rows table)) (sym held_is) agrees_log
 
     agrees_rows : Agrees table log machine.rows held
     agrees_rows = subst (λ (r : List JobRow). Agrees table log r held) (sym rows) agrees_held

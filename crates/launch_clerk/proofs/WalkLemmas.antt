@@ -14,7 +14,7 @@ use Rattle.due_set.specs.Anacron.{IsJobOpen}
 use Rattle.due_set.specs.Table.{Table, IsAfter, IsJobDue, IsRunByPeriod}
 use Rattle.due_set.proofs.Rising.{Contains-none}
 use Rattle.cluster_sched.specs.declared.row.SchedRow.{SchedRow}
-use Rattle.launch_machine.specs.Clerk.{Applies, MayStart, TakesStart, TakesEnd, fresh_rows, opened_row, closed_row, with_row}
+use Rattle.launch_machine.specs.Clerk.{Applies, MayStart, TakesStart, TakesEnd, first_rows, opened_row, closed_row, with_row}
 use Rattle.launch_machine.proofs.ClerkLemmas.{IsClerkOf-push}
 use Rattle.launch_machine.proofs.MachineLemmas.{TakesStart-same, opens_by_period, same_or_not, same_row}
 use Rattle.launch_machine.proofs.StartLemmas.{may_start_later}
@@ -30,10 +30,10 @@ use Rattle.launch_clerk.proofs.LatestLemmas.{called_held, latest_is, opens_soone
 use Rattle.launch_clerk.proofs.RowLemmas.{after_or_not, both_ways, counted_end, counted_start, fresh_at, not_after, open_there, row_after, row_here, row_there, rows_ended, rows_started, takes_there}
 
 -- at first nothing was called, and a job that may open can be started
-opened_first : (table : Table) (job : ℕ) (now date : ℤ) → OpensBy table [] job now date → TakesStart table (fresh_rows table) job date now
+opened_first : (table : Table) (job : ℕ) (now date : ℤ) → OpensBy table [] job now date → TakesStart table (first_rows table) job date now
 opened_first table job now date by = by_last by.last by.latest by.opens
   where
-    by_last : (last : Option ℤ) → IsLatest [] job now last → IsJobOpen table job last last now date → TakesStart table (fresh_rows table) job date now
+    by_last : (last : Option ℤ) → IsLatest [] job now last → IsJobOpen table job last last now date → TakesStart table (first_rows table) job date now
     by_last None none opens = record {
       row = record { job = job; cursor = None; open_now = None; last = None; launched = 0; voided = 0 };
       is_row = fresh_in table job (slice_get_within table.jobs job opens.job opens.is_in.is_job);
@@ -43,7 +43,7 @@ opened_first table job now date by = by_last by.last by.latest by.opens
     by_last (Some last) known opens = absurd (Contains-none known.called.row known.called.among)
 
 -- an empty log agrees with an empty scheduler
-pub begun : (table : Table) → IsWithinLimits table.window → Agrees table [] (fresh_rows table) []
+pub begun : (table : Table) → IsWithinLimits table.window → Agrees table [] (first_rows table) []
 begun table limits = record {
   limits = limits;
   clerk = refl;

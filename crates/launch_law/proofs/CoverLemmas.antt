@@ -11,7 +11,8 @@ use Rattle.paxos_base.specs.declared.entry.Kind.TheVariants.{Launch, Void}
 use Rattle.paxos_base.specs.declared.rows.JobRow.{JobRow}
 use Rattle.due_set.specs.Anacron.{IsJobOpen}
 use Rattle.due_set.specs.Table.{Table, IsAfter, IsJobDue}
-use Rattle.launch_machine.specs.Clerk.{Applies, AppliesAll, IsClerkOf, MayStart, TakesStart, TakesEnd, fresh_row, fresh_rows, opened_row, closed_row, with_row}
+use Rattle.paxos_base.specs.Rows.{fresh_row}
+use Rattle.launch_machine.specs.Clerk.{Applies, AppliesAll, IsClerkOf, MayStart, TakesStart, TakesEnd, first_rows, opened_row, closed_row, with_row}
 use Rattle.launch_machine.proofs.ClerkLemmas.{IsClerkOf-push}
 use Rattle.launch_machine.proofs.MachineLemmas.{due_by_instant, opens_by_period, same_or_not, set_there}
 use Rattle.launch_machine.proofs.StartLemmas.{changed}
@@ -163,4 +164,4 @@ cover_fresh table job a (suc n) (suc k) row e = cover_fresh table job (a + 1) n 
 -- the rows of a log are covered
 pub clerk_covers : (table : Table) (log : List Entry) (rows : List JobRow) (job : ℕ) → IsClerkOf table log rows → HasCover table log rows job
 clerk_covers table log rows job clerk =
-    cover_along table [] log (fresh_rows table) rows job refl clerk (cover_fresh table job 0 (length table.jobs) job)
+    cover_along table [] log (first_rows table) rows job refl clerk (cover_fresh table job 0 (length table.jobs) job)

@@ -8,7 +8,7 @@ use Rattle.paxos_base.specs.declared.rows.JobRow.{JobRow}
 use Rattle.due_set.specs.Table.{Table}
 use Rattle.due_set.proofs.Rising.{Contains-cases, Contains-none}
 use Rattle.cluster_sched.specs.declared.row.SchedRow.{SchedRow}
-use Rattle.launch_machine.specs.Clerk.{IsClerkOf, TakesEffect, fresh_rows}
+use Rattle.launch_machine.specs.Clerk.{IsClerkOf, TakesEffect, first_rows}
 use Rattle.launch_machine.proofs.ClerkLemmas.{AppliesAll-same}
 use Rattle.launch_law.specs.Fits.{AreAllEffective, IsBacked, IsEffective}
 
@@ -66,7 +66,7 @@ effective_cases table log last entry rows clerk known =
     elim (last_split log last known.before known.after entry known.parts) [
       | inl (same, is) ↦
           let clerks : IsClerkOf table log known.takes.0 = subst (λ (l : List Entry). IsClerkOf table l known.takes.0) same known.takes.1 in
-          let rows_are : known.takes.0 ≡ rows = AppliesAll-same table (fresh_rows table) log known.takes.0 rows clerks clerk in
+          let rows_are : known.takes.0 ≡ rows = AppliesAll-same table (first_rows table) log known.takes.0 rows clerks clerk in
           inl (is, subst (TakesEffect table rows) is (subst (λ (r : List JobRow). TakesEffect table r entry) rows_are known.takes.2))
       | inr found ↦ inr (record { before = known.before; after = found.after; parts = found.parts; takes = known.takes })
     ]

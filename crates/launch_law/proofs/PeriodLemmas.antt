@@ -18,7 +18,8 @@ use Rattle.due_set.proofs.OpenLemmas.{IsPeriodOver-since}
 use Rattle.due_set.proofs.TableLemmas.{same_job}
 use Rattle.cluster_sched.specs.Held.{AreNamedOnce}
 use Rattle.cluster_sched.specs.declared.row.SchedRow.{SchedRow}
-use Rattle.launch_machine.specs.Clerk.{Applies, AppliesAll, IsClerkOf, TakesStart, TakesEnd, TakesEffect, fresh_row, fresh_rows, opened_row, closed_row, with_row}
+use Rattle.paxos_base.specs.Rows.{fresh_row}
+use Rattle.launch_machine.specs.Clerk.{Applies, AppliesAll, IsClerkOf, TakesStart, TakesEnd, TakesEffect, first_rows, opened_row, closed_row, with_row}
 use Rattle.launch_machine.proofs.ClerkLemmas.{IsClerkOf-push}
 use Rattle.launch_machine.proofs.MachineLemmas.{closed_cursor, may_start_on, same_or_not, set_there}
 use Rattle.launch_machine.proofs.StartLemmas.{changed, may_start_later}
@@ -248,9 +249,9 @@ fresh_in a (suc n) (suc k) row e = fresh_in (a + 1) n k row e
 
 -- the rows of a log say what it started and ended
 pub clerk_dates : (table : Table) (log : List Entry) (rows : List JobRow) (job : ℕ) → IsClerkOf table log rows → HasDates table log rows job
-clerk_dates table log rows job clerk = dates_along table [] log (fresh_rows table) rows job refl clerk at_first
+clerk_dates table log rows job clerk = dates_along table [] log (first_rows table) rows job refl clerk at_first
   where
-    at_first : HasDates table [] (fresh_rows table) job
+    at_first : HasDates table [] (first_rows table) job
     at_first row is_row = record {
       started = λ t (now, effective). absurd (nothing_effective table (Start job t now) effective);
       launched = λ t effective. absurd (nothing_effective table (End job t Launch) effective);

@@ -13,7 +13,8 @@ use Rattle.due_set.specs.Calls.{HasCome}
 use Rattle.due_set.specs.Table.{Table, IsAfter, IsJobDue}
 use Rattle.due_set.specs.declared.job.JobKind.{JobKind}
 use Rattle.due_set.proofs.ExistLemmas.{next_up_to}
-use Rattle.launch_machine.specs.Clerk.{Applies, AppliesAll, IsClerkOf, fresh_row, fresh_rows, opened_row, closed_row}
+use Rattle.paxos_base.specs.Rows.{fresh_row}
+use Rattle.launch_machine.specs.Clerk.{Applies, AppliesAll, IsClerkOf, first_rows, opened_row, closed_row}
 use Rattle.launch_machine.proofs.MachineLemmas.{is_some_below}
 use Rattle.launch_law.specs.Fits.{HasStart, HasEnd}
 use Rattle.launch_law.specs.Settled.{IsSettled}
@@ -38,7 +39,7 @@ row_of : (table : Table) (log : List Entry) (rows : List JobRow) (job : ℕ) →
     → (row : JobRow) × (slice_get rows job ≡ Some row)
 row_of table log rows job clerk lt =
     let count : length rows ≡ length table.jobs =
-    AppliesAll-length table (fresh_rows table) log rows clerk ∙ length-map-range_with_len fresh_row 0 (length table.jobs) in
+    AppliesAll-length table (first_rows table) log rows clerk ∙ length-map-range_with_len fresh_row 0 (length table.jobs) in
     is_some_below rows job (subst (λ (n : ℕ). job < n) (sym count) lt)
 
 module _ (table : Table) (log : List Entry) (now : ℤ) (job : ℕ) (at : ℤ) (settled : IsSettled table log now)

@@ -16,7 +16,8 @@ use Rattle.due_set.proofs.Rising.{Contains-head}
 use Rattle.cluster_sched.specs.Held.{AreNamedOnce}
 use Rattle.cluster_sched.specs.declared.row.SchedRow.{SchedRow}
 use Rattle.launch_machine.specs.Answers.{IsCallKind}
-use Rattle.launch_machine.specs.Clerk.{MayStart, TakesStart, fresh_row, fresh_rows}
+use Rattle.paxos_base.specs.Rows.{fresh_row}
+use Rattle.launch_machine.specs.Clerk.{MayStart, TakesStart, first_rows}
 use Rattle.launch_machine.proofs.ExistLemmas.{starts_of_exist}
 use Rattle.launch_machine.proofs.StartLemmas.{starts_front, starts_rise}
 use Rattle.launch_law.specs.Fits.{Fits, HasEnd, IsBacked, IsHeld}
@@ -32,10 +33,10 @@ abbrev pub void_log : ℕ → ℤ → ℤ → List Entry
 void_log job at started = Start job at started ∷ End job at Void ∷ []
 
 -- at first each job has a fresh row
-pub fresh_in : (table : Table) (job : ℕ) → job < length table.jobs → slice_get (fresh_rows table) job ≡ Some (fresh_row job)
+pub fresh_in : (table : Table) (job : ℕ) → job < length table.jobs → slice_get (first_rows table) job ≡ Some (fresh_row job)
 fresh_in table job below =
-    let count : length (fresh_rows table) ≡ length table.jobs = length-map-range_with_len fresh_row 0 (length table.jobs) in
-    slice_get-get_or (fresh_rows table) job (fresh_row job) (omega arith)
+    let count : length (first_rows table) ≡ length table.jobs = length-map-range_with_len fresh_row 0 (length table.jobs) in
+    slice_get-get_or (first_rows table) job (fresh_row job) (omega arith)
     ∙ ap Some (get_or-map-range_with_len fresh_row 0 (length table.jobs) job job (fresh_row job) below (omega arith))
 
 void_ended : (table : Table) (job : ℕ) (at started called : ℤ) (by j : ℕ) (t : ℤ) (kind : Kind) → HasEnd table (void_log job at started) j t kind
@@ -58,7 +59,7 @@ void_ended table job at started called by j t kind known =
 module _ (table : Table) (job : ℕ) (at started called : ℤ) (by : ℕ) (spec : Job) (zone : TimeZone) (sound : IsSound table)
     (may : MayStart table job (fresh_row job) at started) (is_in : IsJobIn table job spec zone) (called_then : HasCome spec.kind zone at called)
     (is_void : IsCallKind table job at called Void) where
-  takes : TakesStart table (fresh_rows table) job at started
+  takes : TakesStart table (first_rows table) job at started
   takes = record {
     row = fresh_row job;
     is_row = fresh_in table job (slice_get_within table.jobs job spec is_in.is_job);
@@ -68,7 +69,7 @@ module _ (table : Table) (job : ℕ) (at started called : ℤ) (by : ℕ) (spec 
 
   backed : IsBacked table (void_log job at started) (void_row job at called by)
   backed = record {
-    start = (started, record { before = []; after = End job at Void ∷ []; parts = refl; takes = (fresh_rows table, refl, takes) });
+    start = (started, record { before = []; after = End job at Void ∷ []; parts = refl; takes = (first_rows table, refl, takes) });
     spec = spec;
     zone = zone;
     is_in = is_in;

@@ -112,6 +112,15 @@ pub fn what_was_started_is_a_period_apart()
         → ArePeriodsApart table held }
 {}
 
+/// What is held once, was started and had come, beside ends that say what is held, fits whatever log it is: then a job's starts
+/// come in order, none left out, and its launches are a period apart.
+pub fn what_is_named_once_and_backed_fits()
+    ensures { (table : Table) (log : List Entry) (held : List SchedRow) → IsSound table → AreNamedOnce held
+        → All (IsBacked table log) held
+        → ((job : ℕ) (at : ℤ) (kind : Kind) → HasEnd table log job at kind → IsHeld held job at kind)
+        → Fits table log held }
+{}
+
 /// Before an instant a job has one latest launch at most.
 pub fn a_job_has_one_latest_launch()
     ensures { (held : List SchedRow) (job : ℕ) (now : ℤ) (a b : Option ℤ)

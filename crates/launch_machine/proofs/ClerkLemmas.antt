@@ -3,7 +3,7 @@ use Rattle.std.proofs.Common.{◌≡◌, inl, inr, ◌↔◌, List, [], ◌∷�
 use Rattle.paxos_base.specs.declared.entry.Entry.{Entry}
 use Rattle.paxos_base.specs.declared.rows.JobRow.{JobRow}
 use Rattle.due_set.specs.Table.{Table}
-use Rattle.launch_machine.specs.Clerk.{Applies, AppliesAll, IsClerkOf, fresh_rows}
+use Rattle.launch_machine.specs.Clerk.{Applies, AppliesAll, IsClerkOf, first_rows}
 
 -- an entry that takes effect has one outcome, and so has one that takes none
 pub Applies-same : (table : Table) (old : List JobRow) (entry : Entry) (a b : List JobRow) → Applies table old entry a → Applies table old entry b → a ≡ b
@@ -35,6 +35,6 @@ AppliesAll-pop table old (first ∷ entries) entry new (middle, step, rest) =
 pub IsClerkOf-push : (table : Table) (entries : List Entry) (entry : Entry) (rows : List JobRow)
     → IsClerkOf table (entries ++ entry ∷ []) rows ↔ ((before : List JobRow) × IsClerkOf table entries before × Applies table before entry rows)
 IsClerkOf-push table entries entry rows = (
-  AppliesAll-pop table (fresh_rows table) entries entry rows,
-  λ (before, known, step). AppliesAll-push table (fresh_rows table) entries entry before rows known step,
+  AppliesAll-pop table (first_rows table) entries entry rows,
+  λ (before, known, step). AppliesAll-push table (first_rows table) entries entry before rows known step,
 )

@@ -12,7 +12,7 @@ use Rattle.due_set.proofs.CountLemmas.{IsNextDue-same}
 use Rattle.due_set.proofs.DecideLemmas.{IsDecided, decided_both, decided_either, decided_le, decided_same}
 use Rattle.due_set.proofs.ExistLemmas.{next_or_none}
 use Rattle.due_set.proofs.OpenLemmas.{open_or_not, opens_on_one_date}
-use Rattle.launch_machine.specs.Clerk.{Applies, AppliesAll, IsClerkOf, MayStart, TakesStart, TakesEnd, TakesEffect, fresh_rows, rows_after}
+use Rattle.launch_machine.specs.Clerk.{Applies, AppliesAll, IsClerkOf, MayStart, TakesStart, TakesEnd, TakesEffect, first_rows, rows_after}
 use Rattle.launch_machine.specs.Starts.{AddsEnd, AddsStart, EndsFrom, EndsJob, EndsOf, StartsFrom, StartsJob, StartsOf}
 use Rattle.launch_machine.proofs.ClerkLemmas.{Applies-same}
 use Rattle.launch_machine.proofs.MachineLemmas.{same_or_not, same_row}
@@ -87,7 +87,7 @@ one_applied table sound rows entry = elim (takes_or_not table sound rows entry) 
   | inr not ↦ (rows, inr (not, refl))
 ]
 
-all_applied : (table : Table) → IsSound table → (rows : List JobRow) (entries : List Entry) → (last : List JobRow) × AppliesAll table rows entries last
+pub all_applied : (table : Table) → IsSound table → (rows : List JobRow) (entries : List Entry) → (last : List JobRow) × AppliesAll table rows entries last
 all_applied table sound rows [] = (rows, refl)
 all_applied table sound rows (entry ∷ entries) =
     let step = one_applied table sound rows entry in
@@ -96,7 +96,7 @@ all_applied table sound rows (entry ∷ entries) =
 
 -- entries leave a launch table
 pub clerk_exists : (table : Table) → IsSound table → (entries : List Entry) → (rows : List JobRow) × IsClerkOf table entries rows
-clerk_exists table sound entries = all_applied table sound (fresh_rows table) entries
+clerk_exists table sound entries = all_applied table sound (first_rows table) entries
 
 -- whether an entry that is applied starts a launch of the job
 starts_or_not : (table : Table) (rows : List JobRow) (entry : Entry) (middle : List JobRow) (job : ℕ) (later : List ℤ) → Applies table rows entry middle
@@ -176,11 +176,11 @@ ends_exist table rows (entry ∷ entries) last job kind (middle, step, rest) =
 
 pub starts_of_exist : (table : Table) → IsSound table → (entries : List Entry) (job : ℕ) → (instants : List ℤ) × StartsOf table entries job instants
 starts_of_exist table sound entries job =
-    let clerk = clerk_exists table sound entries in starts_exist table (fresh_rows table) entries clerk.0 job clerk.1
+    let clerk = clerk_exists table sound entries in starts_exist table (first_rows table) entries clerk.0 job clerk.1
 
 pub ends_of_exist : (table : Table) → IsSound table → (entries : List Entry) (job : ℕ) (kind : Kind) → (count : ℕ) × EndsOf table entries job kind count
 ends_of_exist table sound entries job kind =
-    let clerk = clerk_exists table sound entries in ends_exist table (fresh_rows table) entries clerk.0 job kind clerk.1
+    let clerk = clerk_exists table sound entries in ends_exist table (first_rows table) entries clerk.0 job kind clerk.1
 
 -- an entry adds one start, or none
 AddsStart-same : (table : Table) (rows : List JobRow) (entry : Entry) (job : ℕ) (later a b : List ℤ) → AddsStart table rows entry job later a
@@ -203,7 +203,7 @@ StartsFrom-same table rows (entry ∷ entries) job a b (middle, later, step, add
     AddsStart-same table rows entry job later a b adds (subst (λ (l : List ℤ). AddsStart table rows entry job l b) same adds_b)
 
 pub StartsOf-same : (table : Table) (entries : List Entry) (job : ℕ) (a b : List ℤ) → StartsOf table entries job a → StartsOf table entries job b → a ≡ b
-StartsOf-same table entries job a b = StartsFrom-same table (fresh_rows table) entries job a b
+StartsOf-same table entries job a b = StartsFrom-same table (first_rows table) entries job a b
 
 AddsEnd-same : (rows : List JobRow) (entry : Entry) (job : ℕ) (kind : Kind) (later a b : ℕ) → AddsEnd rows entry job kind later a
     → AddsEnd rows entry job kind later b → a ≡ b
@@ -222,4 +222,4 @@ EndsFrom-same table rows (entry ∷ entries) job kind a b (middle, later, step, 
     AddsEnd-same rows entry job kind later a b adds (subst (λ (n : ℕ). AddsEnd rows entry job kind n b) same adds_b)
 
 pub EndsOf-same : (table : Table) (entries : List Entry) (job : ℕ) (kind : Kind) (a b : ℕ) → EndsOf table entries job kind a → EndsOf table entries job kind b → a ≡ b
-EndsOf-same table entries job kind a b = EndsFrom-same table (fresh_rows table) entries job kind a b
+EndsOf-same table entries job kind a b = EndsFrom-same table (first_rows table) entries job kind a b

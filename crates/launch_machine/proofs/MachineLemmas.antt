@@ -2,7 +2,6 @@
 use Rattle.std.proofs.Common.{◌≡◌, ◌≢◌, ℕ, zero, suc, ◌+◌, ◌<◌, ◌≤◌, ◌⊎◌, inl, inr, ◌↔◌, List, [], ◌∷◌, ◌++◌, length, get_or, Option, None, Some, ℤ, ◌≤ℤ◌, Bool, IsTrue, true, false, refl, sym, ap, ◌∙◌, subst, arith, length-append}
 use Rattle.std.specs.Prelude.{map, IfNone, IfOk, IfSome, IsSome, Result, Ok, Err, slice_get, slice_set}
 use Rattle.std.proofs.Math.ListN.{set, length-set}
-use Rattle.std.proofs.lemmas.Bool.Decides.{leb_tells}
 use Rattle.std.proofs.lemmas.Int.{ints}
 use Rattle.std.proofs.lemmas.Option.{slice_get_within, get_or_from_slice_get, slice_get-get_or}
 use Rattle.std.specs.List.{range_with_len}
@@ -20,7 +19,8 @@ use Rattle.due_set.proofs.CountLemmas.{IsNextDue-same}
 use Rattle.due_set.proofs.OpenLemmas.{opens_on_one_date}
 use Rattle.due_set.proofs.TableLemmas.{IsRunByPeriod-kind}
 use Rattle.paxos_base.specs.declared.entry.Entry.TheVariants.{Start}
-use Rattle.launch_machine.specs.Clerk.{Applies, MayStart, TakesStart, fresh_row, opened_row, closed_row}
+use Rattle.paxos_base.specs.Rows.{fresh_row}
+use Rattle.launch_machine.specs.Clerk.{Applies, MayStart, TakesStart, opened_row, closed_row}
 use Rattle.launch_machine.specs.Intent.{MayCall, NoCall, NoStart}
 use Rattle.launch_machine.specs.Machine.{AreBeside, IsFirstStartOf, IsFirstToStart}
 

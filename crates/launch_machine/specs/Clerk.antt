@@ -1,21 +1,17 @@
 -- What the entries of the log do to the launch table: one clerk, who goes over one list.
-use Rattle.std.specs.Prelude.{◌≡◌, ◌⊎◌, ℕ, ◌+◌, List, [], ◌∷◌, None, Some, ℤ, ◌≤ℤ◌, length, map, slice_get, slice_set, slice_index_or}
-use Rattle.std.specs.List.{range_with_len}
+use Rattle.std.specs.Prelude.{◌≡◌, ◌⊎◌, ℕ, ◌+◌, List, [], ◌∷◌, None, Some, ℤ, ◌≤ℤ◌, length, slice_get, slice_set, slice_index_or}
 use Rattle.paxos_base.specs.declared.entry.Entry.{Entry}
 use Rattle.paxos_base.specs.declared.entry.Entry.TheVariants.{Noop, Start, End}
 use Rattle.paxos_base.specs.declared.entry.Kind.{Kind}
 use Rattle.paxos_base.specs.declared.entry.Kind.TheVariants.{Launch, Void}
 use Rattle.paxos_base.specs.declared.rows.JobRow.{JobRow}
+use Rattle.paxos_base.specs.Rows.{fresh_row, fresh_rows}
 use Rattle.due_set.specs.Anacron.{IsJobOpen}
 use Rattle.due_set.specs.Table.{Table, IsNextDue}
 
--- the row of a job of which nothing was heard
-abbrev pub fresh_row : ℕ → JobRow
-fresh_row job = record { job = job; cursor = None; open_now = None; last = None; launched = 0; voided = 0 }
-
 -- the launch table at first: a fresh row for each job
-abbrev pub fresh_rows : Table → List JobRow
-fresh_rows table = map fresh_row (range_with_len 0 (length table.jobs))
+abbrev pub first_rows : Table → List JobRow
+first_rows table = fresh_rows (length table.jobs)
 
 -- the launch is the job's next due instant, and has come; of a job that runs by its period, it is a date on which it may open now
 abbrev pub MayStart : Table → ℕ → JobRow → ℤ → ℤ → Type 0
@@ -74,4 +70,4 @@ AppliesAll table old (entry ∷ entries) new =
 
 -- the launch table of a list of entries
 abbrev pub IsClerkOf : Table → List Entry → List JobRow → Type 0
-IsClerkOf table entries rows = AppliesAll table (fresh_rows table) entries rows
+IsClerkOf table entries rows = AppliesAll table (first_rows table) entries rows

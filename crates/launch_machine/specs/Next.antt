@@ -1,5 +1,5 @@
 -- When a launch can be started next, of all the jobs.
-use Rattle.std.specs.Prelude.{◌≡◌, ℕ, List, ℤ, ◌≤ℤ◌}
+use Rattle.std.specs.Prelude.{ℕ, List, ℤ, ◌≤ℤ◌}
 use Rattle.paxos_base.specs.declared.rows.JobRow.{JobRow}
 use Rattle.due_set.specs.Table.{Table}
 use Rattle.launch_machine.specs.Clerk.{TakesStart}

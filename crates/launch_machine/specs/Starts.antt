@@ -5,7 +5,7 @@ use Rattle.paxos_base.specs.declared.entry.Entry.TheVariants.{Start, End}
 use Rattle.paxos_base.specs.declared.entry.Kind.{Kind}
 use Rattle.paxos_base.specs.declared.rows.JobRow.{JobRow}
 use Rattle.due_set.specs.Table.{Table}
-use Rattle.launch_machine.specs.Clerk.{TakesStart, TakesEnd, Applies, fresh_rows}
+use Rattle.launch_machine.specs.Clerk.{TakesStart, TakesEnd, Applies, first_rows}
 
 -- the entry is a start of the job that takes effect
 pub record StartsJob (table : Table) (rows : List JobRow) (entry : Entry) (job : ℕ) (at : ℤ) : Type 0 where
@@ -34,7 +34,7 @@ StartsFrom table rows (entry ∷ entries) job instants =
 
 -- the instants of the job's starts that take effect, in the order of the entries
 abbrev pub StartsOf : Table → List Entry → ℕ → List ℤ → Type 0
-StartsOf table entries job instants = StartsFrom table (fresh_rows table) entries job instants
+StartsOf table entries job instants = StartsFrom table (first_rows table) entries job instants
 
 -- an end of the job with the kind that takes effect is one more
 abbrev pub AddsEnd : List JobRow → Entry → ℕ → Kind → ℕ → ℕ → Type 0
@@ -50,4 +50,4 @@ EndsFrom table rows (entry ∷ entries) job kind count =
 
 -- how many of the job's ends with the kind take effect
 abbrev pub EndsOf : Table → List Entry → ℕ → Kind → ℕ → Type 0
-EndsOf table entries job kind count = EndsFrom table (fresh_rows table) entries job kind count
+EndsOf table entries job kind count = EndsFrom table (first_rows table) entries job kind count

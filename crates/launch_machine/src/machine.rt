@@ -3,7 +3,7 @@ ghost use Rattle.zone_minutes.specs.Window.{IsInWindow};
 ghost use Rattle.paxos_base.specs.Rows.{RowsStand, OpenHasCursor};
 ghost use Rattle.due_set.specs.Table.{Table, IsSound};
 ghost use Rattle.launch_machine.specs.Answers.{IsEffect, IsIntent};
-ghost use Rattle.launch_machine.specs.Clerk.{Applies, fresh_rows};
+ghost use Rattle.launch_machine.specs.Clerk.{Applies, first_rows};
 ghost use Rattle.launch_machine.specs.Machine.{CanCount, HasRoom, StandsFor};
 ghost use Rattle.launch_machine.specs.Next.{IsNextStart, StartsNoMore};
 
@@ -65,11 +65,11 @@ impl Model for Machine {
 impl Machine {
     /// A machine that has heard of no launch.
     pub fn new(alloc: Global, table: &JobTable) -> Result<Machine, OutOfMemory>
-        ensures rows { IfOk result (λ machine. machine.rows ≡ fresh_rows table.now) }
+        ensures rows { IfOk result (λ machine. machine.rows ≡ first_rows table.now) }
         ensures stands { IfOk result (λ machine. StandsFor table.now machine) }
         ensures sound { IsSound table.now }
     {
-        let rows = row::fresh_rows(alloc, table.jobs())?;
+        let rows = row::first_rows(alloc, table.jobs())?;
         let starts = starts_of(alloc, table, &rows)?;
         let calls = calls_of(alloc, table, &rows)?;
         Ok(Machine {

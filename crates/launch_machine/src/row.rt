@@ -1,31 +1,17 @@
 //! Changes of the rows.
-ghost use Rattle.std.specs.Prelude.{◌≡◌, ◌↔◌, ◌+◌, ◌<◌, ◌^◌, map, IfOk, IsTrue};
-ghost use Rattle.std.specs.List.{range_with_len};
-ghost use Rattle.launch_machine.specs.Clerk.{TakesEnd, fresh_row, opened_row, closed_row};
+ghost use Rattle.std.specs.Prelude.{◌≡◌, ◌↔◌, ◌+◌, ◌<◌, ◌^◌, IfOk, IsTrue};
+ghost use Rattle.paxos_base.specs.Rows.{fresh_rows};
+ghost use Rattle.launch_machine.specs.Clerk.{TakesEnd, opened_row, closed_row};
 
 use cron_io::OutOfMemory;
-use paxos_base::{JobRow, Kind};
+use paxos_base::{JobRow, Kind, RowList};
 use std::alloc::Global;
 
-/// The row of a job of which nothing was heard.
-pub fn fresh(job: u32) -> JobRow
-    ensures { result ≡ fresh_row job }
-{
-    JobRow {
-        job,
-        cursor: None,
-        open_now: None,
-        last: None,
-        launched: 0,
-        voided: 0,
-    }
-}
-
 /// A fresh row for each job.
-pub fn fresh_rows(alloc: Global, jobs: u32) -> Result<Vec<JobRow>, OutOfMemory>
-    ensures { IfOk result (λ rows. rows.items ≡ map fresh_row (range_with_len 0 jobs)) }
+pub fn first_rows(alloc: Global, jobs: u32) -> Result<Vec<JobRow>, OutOfMemory>
+    ensures { IfOk result (λ rows. rows.items ≡ fresh_rows jobs) }
 {
-    Ok((0..jobs).map(|job| fresh(job)).collect(alloc)?)
+    Ok(RowList::fresh(alloc, jobs)?.items)
 }
 
 /// Whether the job is in the table and open at the instant.

@@ -3,7 +3,7 @@ use Rattle.std.proofs.lemmas.Int.{ints, to_z-of_z}
 use Rattle.jiff.specs.Types.{TimeZone}
 use Rattle.due_set.specs.Calls.{HasCome}
 use Rattle.due_set.specs.Table.{Job, IsJobIn}
-use Rattle.launch_machine.specs.Clerk.{fresh_row}
+use Rattle.paxos_base.specs.Rows.{fresh_row}
 use Rattle.launch_machine.proofs.MachineLemmas.{no_call, one_call}
 use Rattle.launch_machine.proofs.choice.call_at.Goals as goal
 

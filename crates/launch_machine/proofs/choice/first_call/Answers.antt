@@ -1,4 +1,4 @@
-use Rattle.std.proofs.Common.{◌≡◌, ◌<◌, length, FitsSigned, w64, arith}
+use Rattle.std.proofs.Common.{◌<◌, length, FitsSigned, w64, arith}
 use Rattle.std.proofs.lemmas.Int.{ints, to_z-of_z}
 use Rattle.least_tree.specs.Least.{HasNoneAtMost, IsFirstAtMost}
 use Rattle.launch_machine.specs.Intent.{IsFirstCall, MayCall}

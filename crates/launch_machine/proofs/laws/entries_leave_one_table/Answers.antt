@@ -1,4 +1,4 @@
-use Rattle.launch_machine.specs.Clerk.{fresh_rows}
+use Rattle.launch_machine.specs.Clerk.{first_rows}
 use Rattle.launch_machine.proofs.ClerkLemmas.{Applies-same, AppliesAll-same}
 use Rattle.launch_machine.proofs.ExistLemmas.{clerk_exists}
 use Rattle.launch_machine.proofs.laws.entries_leave_one_table.Goals as goal
@@ -10,4 +10,4 @@ pub returns-clause-one : goal.returns-clause-one
 returns-clause-one c = Applies-same
 
 pub returns-clause-all : goal.returns-clause-all
-returns-clause-all c table entries a b p q = AppliesAll-same table (fresh_rows table) entries a b p q
+returns-clause-all c table entries a b p q = AppliesAll-same table (first_rows table) entries a b p q

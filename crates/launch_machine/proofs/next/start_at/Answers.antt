@@ -1,11 +1,12 @@
-use Rattle.std.proofs.Common.{◌≡◌, ◌<◌, ◌≤ℤ◌, ℤ, Some, length, get_or, FitsSigned, to_z, of_z, w64, ap, ◌∙◌, subst, arith}
+use Rattle.std.proofs.Common.{◌<◌, ℤ, Some, length, get_or, FitsSigned, to_z, of_z, w64, ap, ◌∙◌, subst, arith}
 use borrow.Author.Differences.{le-false}
 use Rattle.std.specs.Prelude.{IfNone, IfSome}
 use Rattle.std.proofs.lemmas.Int.{ints, to_z-of_z}
 use Rattle.std.proofs.lemmas.Option.{slice_get-get_or}
 use Rattle.paxos_base.specs.declared.rows.JobRow.{JobRow}
 use Rattle.due_set.proofs.TableLemmas.{IfNone-map}
-use Rattle.launch_machine.specs.Clerk.{MayStart, TakesStart, fresh_row}
+use Rattle.paxos_base.specs.Rows.{fresh_row}
+use Rattle.launch_machine.specs.Clerk.{MayStart, TakesStart}
 use Rattle.launch_machine.proofs.MachineLemmas.{IfSome-map, same_row}
 use Rattle.launch_machine.proofs.NextLemmas.{idle_first, no_start_before, start_none}
 use Rattle.launch_machine.proofs.next.start_at.Goals as goal

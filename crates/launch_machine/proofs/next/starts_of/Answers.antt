@@ -1,6 +1,6 @@
 use Rattle.std.proofs.Common.{◌<◌, length, get_or, arith}
 use Rattle.std.proofs.lemmas.Option.{slice_get-get_or}
-use Rattle.launch_machine.specs.Clerk.{fresh_row}
+use Rattle.paxos_base.specs.Rows.{fresh_row}
 use Rattle.launch_machine.specs.Machine.{IsStartBeside}
 use Rattle.launch_machine.proofs.MachineLemmas.{beside_all, beside_push, beside_built}
 use Rattle.launch_machine.proofs.next.starts_of.Goals as goal

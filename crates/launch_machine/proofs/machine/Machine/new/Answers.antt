@@ -2,7 +2,7 @@ use Rattle.std.proofs.Common.{List, length, ap, subst, ◌∙◌}
 use Rattle.std.proofs.lemmas.List.FromFn.{length-map-range_with_len}
 use Rattle.paxos_base.specs.Rows.{RowsStand}
 use Rattle.paxos_base.specs.declared.rows.JobRow.{JobRow}
-use Rattle.launch_machine.specs.Clerk.{fresh_row}
+use Rattle.paxos_base.specs.Rows.{fresh_row}
 use Rattle.launch_machine.specs.Machine.{AreCalls, AreStarts}
 use Rattle.launch_machine.proofs.MachineLemmas.{fresh_open, fresh_stand}
 use Rattle.launch_machine.proofs.machine.Machine.new.Goals as goal

@@ -1,4 +1,4 @@
-use Rattle.std.proofs.Common.{◌≡◌, List, ℤ, Option, FitsSigned, w64, arith, ap, subst, ◌∙◌}
+use Rattle.std.proofs.Common.{FitsSigned, w64, arith, subst}
 use Rattle.std.proofs.lemmas.Int.{ints, to_z-of_z}
 use Rattle.least_tree.specs.Least.{HasNone, IsLeast}
 use Rattle.launch_machine.specs.Machine.{Launches}

@@ -1,7 +1,7 @@
-use Rattle.std.proofs.Common.{◌≡◌, length, sym, subst, arith}
+use Rattle.std.proofs.Common.{length, sym, subst}
 use Rattle.std.specs.Prelude.{slice_set}
 use Rattle.std.proofs.lemmas.List.Elements.{All-set}
-use Rattle.paxos_base.specs.Rows.{OpenHasCursor, RowsStand}
+use Rattle.paxos_base.specs.Rows.{OpenHasCursor}
 use Rattle.launch_machine.specs.Machine.{AreCalls, AreStarts, IsCallBeside, IsStartBeside, Launches, StandsFor}
 use Rattle.launch_machine.proofs.MachineLemmas.{beside_set, row_put}
 use Rattle.launch_machine.proofs.machine.Machine.put.Goals as goal
