@@ -1,21 +1,23 @@
 -- Each act that may be done keeps what is known to be chosen.
-use Rattle.std.proofs.Common.{◌≡◌, ℕ, ◌+◌, ◌-◌, ◌<◌, ◌≤◌, Some, None, List, [], length, drop, ltb, refl, ◌∙◌, inl, inr, arith, subst}
+use Rattle.std.proofs.Common.{◌≡◌, ℕ, ◌+◌, ◌-◌, ◌<◌, ◌≤◌, Some, None, Option, List, [], length, drop, ltb, refl, ◌∙◌, inl, inr, arith, subst}
 use Rattle.std.specs.List.{Contains}
 use Rattle.std.proofs.Math.ListN.{drop_of_length-le}
 use Rattle.std.proofs.lemmas.Bool.{cases_Bool}
 use Rattle.paxos_base.specs.Durable.{after_delta}
 use Rattle.paxos_base.specs.declared.entry.Entry.{Entry}
+use Rattle.paxos_base.specs.declared.entry.Kind.{Kind}
 use Rattle.paxos_base.specs.declared.entry.Vote.{Vote}
 use Rattle.due_set.specs.Table.{Table}
 use Rattle.term_core.specs.Term.{after_advance, after_ballot, after_tick, is_ended_by}
 use Rattle.term_core.specs.declared.flight.Flight.{Flight}
 use Rattle.term_core.specs.declared.term.Term.{Term}
 use Rattle.term_core.specs.declared.term.Term.TheVariants.{Follower, Candidate, Leader}
-use Rattle.step_law.specs.Act.{Act, Observe, Stand, Gather, TakeLead, Pledge, Cast, Launch, Count, Wait, Learn, Rebase, Call, Send, Restart, after_act, after_gathering, as_leader}
-use Rattle.step_law.specs.May.{May, Ending, HasSaid}
+use Rattle.step_law.specs.Act.{Act, Observe, Stand, Gather, TakeLead, Pledge, Cast, Propose, Count, Wait, Learn, Rebase, Call, Send, Restart, after_act, after_gathering, as_leader}
+use Rattle.step_law.specs.May.{May, HasSaid}
 use Rattle.step_law.specs.Coherent.{FitsTerm}
 use Rattle.step_law.specs.State.{prefix_of}
 use Rattle.agree_law.specs.Agree.{HasCast}
+use Rattle.step_law.specs.Step.{Event}
 use Rattle.agree_law.specs.World.{CastVote, Doing, MayDo, World, after_doing, cast_after}
 use Rattle.agree_law.proofs.Growing.{cast_now, cast_stays, each_replica, found_there, said_cases}
 use Rattle.agree_law.proofs.Kept.{Kept, says_may}
@@ -97,39 +99,39 @@ counts_one_more n w by from ballot best flight kept known few member leader said
     }
 
 -- a new flight has the vote of its proposer
-counts_first : (n by me : ℕ) (cast : List CastVote) (vote : Vote) → by < n → n ≤ 7 → me ≡ by → AreCounted n (cast_after by (Launch me vote) cast) vote.ballot (new_flight vote.slot vote.entry me)
+counts_first : (n by me : ℕ) (cast : List CastVote) (vote : Vote) → by < n → n ≤ 7 → me ≡ by → AreCounted n (cast_after by (Propose me vote) cast) vote.ballot (new_flight vote.slot vote.entry me)
 counts_first n by me cast vote member few mine = record {
   below = λ q has. omega (arith, only_cases me q (omega (arith, mine, member, few)) has, mine, member);
   each = λ q has.
       let it : q ≡ by = only_cases me q (omega (arith, mine, member, few)) has ∙ mine in
-      rw it (cast_now by (Launch me vote) cast vote refl);
+      rw it (cast_now by (Propose me vote) cast vote refl);
 }
 
-counts_here : (n : ℕ) (table : Table) (w : World) (by : ℕ) (act : Act) → Kept n w → AreKnown n w → n ≤ 7 → MayDo n table w (record { by = by; act = act }) → Counts n (cast_after by act w.cast) (after_act act (w.replicas by)).term
+counts_here : (n : ℕ) (table : Table) (w : World) (by : ℕ) (event : Option Event) (answer : Option Kind) (act : Act) → Kept n w → AreKnown n w → n ≤ 7 → MayDo n table w (record { by = by; event = event; answer = answer; act = act }) → Counts n (cast_after by act w.cast) (after_act act (w.replicas by)).term
 unfolding after_act after_delta May
-counts_here n table w by (Observe ballot) kept known few may = counts_after_ballot n w.cast ballot (w.replicas by).term (known.flights by may.member)
-counts_here n table w by (Stand me ballot) kept known few may = tt
-counts_here n table w by (Gather from votes) kept known few may = counts_after_gathering n w.cast from votes (w.replicas by).term (known.flights by may.member)
-counts_here n table w by TakeLead kept known few may = counts_as_leader n w.cast (w.replicas by).term (known.flights by may.member)
-counts_here n table w by (Pledge ballot) kept known few may = known.flights by may.member
-counts_here n table w by (Cast vote) kept known few may = counts_on n by (Cast vote) w.cast (w.replicas by).term (known.flights by may.member)
-counts_here n table w by (Launch me vote) kept known few may =
+counts_here n table w by event answer (Observe ballot) kept known few may = counts_after_ballot n w.cast ballot (w.replicas by).term (known.flights by may.member)
+counts_here n table w by event answer (Stand me ballot) kept known few may = tt
+counts_here n table w by event answer (Gather from votes) kept known few may = counts_after_gathering n w.cast from votes (w.replicas by).term (known.flights by may.member)
+counts_here n table w by event answer TakeLead kept known few may = counts_as_leader n w.cast (w.replicas by).term (known.flights by may.member)
+counts_here n table w by event answer (Pledge ballot) kept known few may = known.flights by may.member
+counts_here n table w by event answer (Cast vote) kept known few may = counts_on n by (Cast vote) w.cast (w.replicas by).term (known.flights by may.member)
+counts_here n table w by event answer (Propose me vote) kept known few may =
     rw may.may.leader (counts_first n by me w.cast vote may.member few may.may.is_me)
-counts_here n table w by (Count from) kept known few may =
+counts_here n table w by event answer (Count from) kept known few may =
     rw may.may.leader (counts_one_more n w by from may.may.ballot may.may.best may.may.flight kept known few may.member may.may.leader may.may.accepted)
-counts_here n table w by Wait kept known few may = counts_after_tick n w.cast (w.replicas by).term (known.flights by may.member)
-counts_here n table w by (Learn slot entry) kept known few may = counts_after_advance n w.cast (prefix_of (w.replicas by) + 1) (w.replicas by).term (known.flights by may.member)
-counts_here n table w by (Rebase slot rows) kept known few may = counts_after_advance n w.cast slot (w.replicas by).term (known.flights by may.member)
-counts_here n table w by (Call row) kept known few may = known.flights by may.member
-counts_here n table w by (Send whom message) kept known few may = known.flights by may.member
-counts_here n table w by (Restart me) kept known few may = tt
+counts_here n table w by event answer Wait kept known few may = counts_after_tick n w.cast (w.replicas by).term (known.flights by may.member)
+counts_here n table w by event answer (Learn slot entry) kept known few may = counts_after_advance n w.cast (prefix_of (w.replicas by) + 1) (w.replicas by).term (known.flights by may.member)
+counts_here n table w by event answer (Rebase slot rows) kept known few may = counts_after_advance n w.cast slot (w.replicas by).term (known.flights by may.member)
+counts_here n table w by event answer (Call row) kept known few may = known.flights by may.member
+counts_here n table w by event answer (Send whom message) kept known few may = known.flights by may.member
+counts_here n table w by event answer (Restart me) kept known few may = tt
 
 flights_after : (n : ℕ) (table : Table) (w : World) (doing : Doing) → Kept n w → AreKnown n w → n ≤ 7 → MayDo n table w doing → (q : ℕ) → q < n → Counts n (after_doing doing.by doing.act w).cast ((after_doing doing.by doing.act w).replicas q).term
 unfolding after_doing
 flights_after n table w doing kept known few may q =
     each_replica (λ q s. q < n → Counts n (cast_after doing.by doing.act w.cast) s.term)
     doing.by (after_act doing.act (w.replicas doing.by)) w.replicas q
-    (λ member. counts_here n table w doing.by doing.act kept known few may)
+    (λ member. counts_here n table w doing.by doing.event doing.answer doing.act kept known few may)
     (λ other member. counts_on n doing.by doing.act w.cast (w.replicas q).term (known.flights q member))
 
 accepted_after : (n : ℕ) (table : Table) (w : World) (doing : Doing) → Kept n w → AreKnown n w → MayDo n table w doing → (q ballot slot : ℕ) → HasSaid (after_doing doing.by doing.act w).said q (Accepted ballot slot) → HasVote (after_doing doing.by doing.act w).cast q ballot slot
@@ -140,7 +142,7 @@ accepted_after n table w doing kept known may q ballot slot has =
           let was = known.accepted q ballot slot old in
           record { entry = was.entry; has = cast_stays doing.by doing.act w.cast q (vote_for slot ballot was.entry) was.has }
       | inr now ↦
-          let says = says_may (setting_of n table w doing.by may.answered) (w.replicas doing.by) doing.act (Accepted ballot slot) now.1 may.may in
+          let says = says_may (setting_of n table w doing.by doing.event) (w.replicas doing.by) doing.act (Accepted ballot slot) now.1 may.may in
           let mine = kept.stored doing.by (vote_for slot ballot says.entry) (found_there slot (w.replicas doing.by).kept.votes (vote_for slot ballot says.entry) says.voted) in
           record { entry = says.entry; has = rw now.0 (cast_stays doing.by doing.act w.cast doing.by (vote_for slot ballot says.entry) mine) }
     ]
@@ -151,12 +153,12 @@ known_after n table w doing known may q slot entry has =
     elim (said_cases doing.by doing.act w.said q (Known slot entry) has) [
       | inl old ↦ chosen_on n doing.by doing.act w.cast slot entry (known.known q slot entry old)
       | inr now ↦ chosen_on n doing.by doing.act w.cast slot entry (known.learned doing.by slot entry
-          (says_may (setting_of n table w doing.by may.answered) (w.replicas doing.by) doing.act (Known slot entry) now.1 may.may))
+          (says_may (setting_of n table w doing.by doing.event) (w.replicas doing.by) doing.act (Known slot entry) now.1 may.may))
     ]
 
 -- what may be learned is chosen
-learn_chosen : (n : ℕ) (table : Table) (w : World) (by : ℕ) (answered : List Ending) (slot : ℕ) (entry : Entry) → AreKnown n w → by < n → MayLearn (record { me = by; members = n }) w.said (w.replicas by) slot entry → IsChosen n w.cast slot entry
-learn_chosen n table w by answered slot entry known member may = elim may.known [
+learn_chosen : (n : ℕ) (table : Table) (w : World) (by : ℕ) (slot : ℕ) (entry : Entry) → AreKnown n w → by < n → MayLearn (record { me = by; members = n }) w.said (w.replicas by) slot entry → IsChosen n w.cast slot entry
+learn_chosen n table w by slot entry known member may = elim may.known [
   | inl told ↦ known.known told.0 slot entry told.1
   | inr counted ↦
       let counts : AreCounted n w.cast counted.ballot counted.flight = subst (λ term. Counts n w.cast term) counted.leader (known.flights by member) in
@@ -170,15 +172,15 @@ learn_chosen n table w by answered slot entry known member may = elim may.known 
 ]
 
 -- the entries that a replica has learned are chosen, also after an act of its own
-learned_here : (n : ℕ) (table : Table) (w : World) (by : ℕ) (act : Act) → AreKnown n w → MayDo n table w (record { by = by; act = act }) → (slot : ℕ) (entry : Entry) → Contains (known_from (after_act act (w.replicas by)).kept.base (after_act act (w.replicas by)).learned) (Known slot entry) → IsChosen n w.cast slot entry
+learned_here : (n : ℕ) (table : Table) (w : World) (by : ℕ) (event : Option Event) (answer : Option Kind) (act : Act) → AreKnown n w → MayDo n table w (record { by = by; event = event; answer = answer; act = act }) → (slot : ℕ) (entry : Entry) → Contains (known_from (after_act act (w.replicas by)).kept.base (after_act act (w.replicas by)).learned) (Known slot entry) → IsChosen n w.cast slot entry
 unfolding after_act after_delta May
-learned_here n table w by (Learn at new) known may slot entry has =
+learned_here n table w by event answer (Learn at new) known may slot entry has =
     elim (Contains-push_cases (known_from (w.replicas by).kept.base (w.replicas by).learned) (Known ((w.replicas by).kept.base + length (w.replicas by).learned) new) (Known slot entry) (rw (known-push (w.replicas by).kept.base (w.replicas by).learned new) at has)) [
       | inl old ↦ known.learned by slot entry old
       | inr same ↦
           let slots : at ≡ slot = may.may.next ∙ known_slot same in
           let entries : new ≡ entry = known_entry same in
-          rw (← slots, ← entries) (learn_chosen n table w by may.answered at new known may.member may.may)
+          rw (← slots, ← entries) (learn_chosen n table w by at new known may.member may.may)
     ]
   where
     known_slot : {s t : ℕ} {d e : Entry} → Known s d ≡ Known t e → s ≡ t
@@ -186,36 +188,36 @@ learned_here n table w by (Learn at new) known may slot entry has =
 
     known_entry : {s t : ℕ} {d e : Entry} → Known s d ≡ Known t e → d ≡ e
     known_entry same = cc
-learned_here n table w by (Rebase at rows) known may slot entry has =
+learned_here n table w by event answer (Rebase at rows) known may slot entry has =
     let none : drop (at - (w.replicas by).kept.base) (w.replicas by).learned ≡ [] =
     drop_of_length-le (w.replicas by).learned (omega (arith, may.may.up)) in
     absurd (nothing (rw none at has))
   where
     nothing : Contains [] (Known slot entry) → ⊥
     nothing (k, within, is) = omega (arith, within)
-learned_here n table w by (Restart me) known may slot entry (k, within, is) = absurd (omega (arith, within))
-learned_here n table w by act known may slot entry has = known.learned by slot entry has
+learned_here n table w by event answer (Restart me) known may slot entry (k, within, is) = absurd (omega (arith, within))
+learned_here n table w by event answer act known may slot entry has = known.learned by slot entry has
 
 learned_state_after : (n : ℕ) (table : Table) (w : World) (doing : Doing) → AreKnown n w → MayDo n table w doing → (q slot : ℕ) (entry : Entry) → Contains (known_from ((after_doing doing.by doing.act w).replicas q).kept.base ((after_doing doing.by doing.act w).replicas q).learned) (Known slot entry) → IsChosen n (after_doing doing.by doing.act w).cast slot entry
 unfolding after_doing
 learned_state_after n table w doing known may q slot entry =
     each_replica (λ q s. Contains (known_from s.kept.base s.learned) (Known slot entry) → IsChosen n (cast_after doing.by doing.act w.cast) slot entry)
     doing.by (after_act doing.act (w.replicas doing.by)) w.replicas q
-    (λ has. chosen_on n doing.by doing.act w.cast slot entry (learned_here n table w doing.by doing.act known may slot entry has))
+    (λ has. chosen_on n doing.by doing.act w.cast slot entry (learned_here n table w doing.by doing.event doing.answer doing.act known may slot entry has))
     (λ other has. chosen_on n doing.by doing.act w.cast slot entry (known.learned q slot entry has))
 
-rows_after : (n : ℕ) (table : Table) (w : World) (by : ℕ) (act : Act) → AreKnown n w → MayDo n table w (record { by = by; act = act }) → (row : Learning) → Contains (learned_after by act w.learned) row → IsChosen n (cast_after by act w.cast) row.slot row.entry
+rows_after : (n : ℕ) (table : Table) (w : World) (by : ℕ) (event : Option Event) (answer : Option Kind) (act : Act) → AreKnown n w → MayDo n table w (record { by = by; event = event; answer = answer; act = act }) → (row : Learning) → Contains (learned_after by act w.learned) row → IsChosen n (cast_after by act w.cast) row.slot row.entry
 unfolding May
-rows_after n table w by (Learn slot entry) known may row has =
+rows_after n table w by event answer (Learn slot entry) known may row has =
     elim (Contains-push_cases w.learned (record { by = by; slot = slot; entry = entry }) row has) [
       | inl old ↦ known.rows row old
-      | inr same ↦ rw (← same) (learn_chosen n table w by may.answered slot entry known may.member may.may)
+      | inr same ↦ rw (← same) (learn_chosen n table w by slot entry known may.member may.may)
     ]
-rows_after n table w by act known may row has = chosen_on n by act w.cast row.slot row.entry (known.rows row has)
+rows_after n table w by event answer act known may row has = chosen_on n by act w.cast row.slot row.entry (known.rows row has)
 
 learns_after : (n : ℕ) (table : Table) (w : World) (doing : Doing) → AreKnown n w → MayDo n table w doing → LearnsChosen n (after_doing doing.by doing.act w)
 unfolding after_doing
-learns_after n table w doing known may = rows_after n table w doing.by doing.act known may
+learns_after n table w doing known may = rows_after n table w doing.by doing.event doing.answer doing.act known may
 
 pub known_on : (n : ℕ) (table : Table) (w : World) (doing : Doing) → Kept n w → AreKnown n w → n ≤ 7 → MayDo n table w doing → AreKnown n (after_doing doing.by doing.act w)
 known_on n table w doing kept known few may = record {

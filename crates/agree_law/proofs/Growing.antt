@@ -10,7 +10,7 @@ use Rattle.paxos_base.specs.declared.durable.Durable.{Durable}
 use Rattle.paxos_base.specs.declared.entry.Vote.{Vote}
 use Rattle.paxos_base.proofs.PutLemmas.{at_put, at_from}
 use Rattle.term_core.specs.declared.term.Term.TheVariants.{Leader}
-use Rattle.step_law.specs.Act.{Act, Observe, Stand, Gather, TakeLead, Pledge, Cast, Launch, Count, Wait, Learn, Rebase, Call, Send, Restart, after_act}
+use Rattle.step_law.specs.Act.{Act, Observe, Stand, Gather, TakeLead, Pledge, Cast, Propose, Count, Wait, Learn, Rebase, Call, Send, Restart, after_act}
 use Rattle.step_law.specs.May.{HasSaid, May, Saying, Setting}
 use Rattle.step_law.specs.Message.{Message}
 use Rattle.step_law.specs.Coherent.{IsCoherent, FitsTerm}
@@ -22,7 +22,7 @@ use Rattle.agree_law.specs.World.{CastVote, cast_after, said_after, with_replica
 -- the act casts the vote
 abbrev pub Casts : Act → Vote → Type 0
 Casts (Cast mine) vote = mine ≡ vote
-Casts (Launch me mine) vote = mine ≡ vote
+Casts (Propose me mine) vote = mine ≡ vote
 Casts act vote = ⊥
 
 -- the act says the message
@@ -37,7 +37,7 @@ cast_cases by (Cast mine) cast q vote has =
       | inl old ↦ inl old
       | inr same ↦ inr (sym (ap (λ row. row.by) same), ap (λ row. row.vote) same)
     ]
-cast_cases by (Launch me mine) cast q vote has =
+cast_cases by (Propose me mine) cast q vote has =
     elim (Contains-push_cases cast (record { by = by; vote = mine }) (record { by = q; vote = vote }) has) [
       | inl old ↦ inl old
       | inr same ↦ inr (sym (ap (λ row. row.by) same), ap (λ row. row.vote) same)
@@ -47,13 +47,13 @@ cast_cases by act cast q vote has = inl has
 -- a vote that was cast stays cast
 pub cast_stays : (by : ℕ) (act : Act) (cast : List CastVote) (q : ℕ) (vote : Vote) → HasCast cast q vote → HasCast (cast_after by act cast) q vote
 cast_stays by (Cast mine) cast q vote has = Contains-append_left cast (record { by = by; vote = mine } ∷ []) (record { by = q; vote = vote }) has
-cast_stays by (Launch me mine) cast q vote has = Contains-append_left cast (record { by = by; vote = mine } ∷ []) (record { by = q; vote = vote }) has
+cast_stays by (Propose me mine) cast q vote has = Contains-append_left cast (record { by = by; vote = mine } ∷ []) (record { by = q; vote = vote }) has
 cast_stays by act cast q vote has = has
 
 -- what an act casts is cast
 pub cast_now : (by : ℕ) (act : Act) (cast : List CastVote) (vote : Vote) → Casts act vote → HasCast (cast_after by act cast) by vote
 cast_now by (Cast mine) cast vote casts = rw casts (Contains-push cast (record { by = by; vote = vote }))
-cast_now by (Launch me mine) cast vote casts = rw casts (Contains-push cast (record { by = by; vote = vote }))
+cast_now by (Propose me mine) cast vote casts = rw casts (Contains-push cast (record { by = by; vote = vote }))
 cast_now by act cast vote casts = absurd casts
 
 -- what was said was said before, or is said now
@@ -154,10 +154,10 @@ goes_on setting state (Pledge ballot) sound may =
     let rest = unchanged state.kept (Pledge ballot) in
     record { promised = omega (arith, may.above); tried = omega arith; base = omega arith; votes = rest.votes; stored = rest.stored }
 goes_on setting state (Cast vote) sound may = goes_on_by_vote setting.self state vote (Cast vote) refl may.promised sound
-goes_on setting state (Launch me vote) sound may =
+goes_on setting state (Propose me vote) sound may =
     let fits : FitsTerm setting.self state.kept (prefix_of state) (Leader vote.ballot may.best None) =
     subst (λ term. FitsTerm setting.self state.kept (prefix_of state) term) may.leader sound.term in
-    goes_on_by_vote setting.self state vote (Launch me vote) refl (omega (arith, fits.0.promised)) sound
+    goes_on_by_vote setting.self state vote (Propose me vote) refl (omega (arith, fits.0.promised)) sound
 goes_on setting state (Rebase slot rows) sound may = record {
   promised = omega arith;
   tried = omega arith;
@@ -179,5 +179,5 @@ goes_on setting state (Send whom message) sound may = unchanged state.kept (Send
 pub casts_stored : (state : State) (act : Act) (vote : Vote) → Casts act vote → (vote_at vote.slot (after_act act state).kept.votes ≡ Some vote) × (promised_in (after_act act state).kept ≡ vote.ballot)
 unfolding after_act after_delta
 casts_stored state (Cast mine) vote casts = rw casts (at_put vote.slot vote state.kept.votes ∙ rw (eq-eqb vote.slot vote.slot refl) refl, refl)
-casts_stored state (Launch me mine) vote casts = rw casts (at_put vote.slot vote state.kept.votes ∙ rw (eq-eqb vote.slot vote.slot refl) refl, refl)
+casts_stored state (Propose me mine) vote casts = rw casts (at_put vote.slot vote state.kept.votes ∙ rw (eq-eqb vote.slot vote.slot refl) refl, refl)
 casts_stored state act vote casts = absurd casts

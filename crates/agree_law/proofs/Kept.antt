@@ -10,7 +10,7 @@ use Rattle.term_core.specs.Term.{after_advance, after_ballot, after_tick, is_end
 use Rattle.term_core.specs.declared.flight.Flight.{Flight}
 use Rattle.term_core.specs.declared.term.Term.{Term}
 use Rattle.term_core.specs.declared.term.Term.TheVariants.{Follower, Candidate, Leader}
-use Rattle.step_law.specs.Act.{Act, Cast, Launch, Send, after_counting, after_gathering, as_leader}
+use Rattle.step_law.specs.Act.{Act, Cast, Propose, Send, after_counting, after_gathering, as_leader}
 use Rattle.step_law.specs.May.{May, MayPropose, MaySend, LeadsIn, Setting, HasSaid}
 use Rattle.step_law.specs.Message.{Message, Accept}
 use Rattle.step_law.specs.Propose.{vote_of}
@@ -55,13 +55,13 @@ pub data Origin (setting : Setting) (state : State) (vote : Vote) : Type 0 where
 pub casts_origin : (setting : Setting) (state : State) (act : Act) (vote : Vote) → Casts act vote → May setting state act → Origin setting state vote
 unfolding May
 casts_origin setting state (Cast mine) vote casts may = subst (λ v. Origin setting state v) casts (asked_by may.from may.asked)
-casts_origin setting state (Launch me mine) vote casts may = subst (λ v. Origin setting state v) casts (proposed_by me may)
+casts_origin setting state (Propose me mine) vote casts may = subst (λ v. Origin setting state v) casts (proposed_by me may)
 casts_origin setting state act vote casts may = absurd casts
 
 -- an act casts one vote at most
 pub casts_one : (act : Act) (u v : Vote) → Casts act u → Casts act v → u ≡ v
 casts_one (Cast mine) u v a b = sym a ∙ b
-casts_one (Launch me mine) u v a b = sym a ∙ b
+casts_one (Propose me mine) u v a b = sym a ∙ b
 casts_one act u v a b = absurd a
 
 -- a proposal is of the proposer's own ballot

@@ -1,5 +1,5 @@
 -- Each act that may be done keeps what replicas keep of their votes.
-use Rattle.std.proofs.Common.{◌≡◌, ℕ, ◌+◌, ◌-◌, ◌<◌, ◌≤◌, Some, None, List, [], ◌∷◌, ◌++◌, length, drop, sym, ap, ◌∙◌, inl, inr, arith, subst, length-append}
+use Rattle.std.proofs.Common.{◌≡◌, ℕ, ◌+◌, ◌-◌, ◌<◌, ◌≤◌, Some, None, Option, List, [], ◌∷◌, ◌++◌, length, drop, sym, ap, ◌∙◌, inl, inr, arith, subst, length-append}
 use Rattle.std.specs.List.{Contains}
 use Rattle.std.proofs.lemmas.List.{length-drop}
 use Rattle.paxos_base.specs.Ballot.{member_of, round_of}
@@ -9,25 +9,26 @@ use Rattle.paxos_base.specs.declared.entry.Vote.{Vote}
 use Rattle.due_set.specs.Table.{Table}
 use Rattle.term_core.specs.declared.term.Term.{Term}
 use Rattle.term_core.specs.declared.term.Term.TheVariants.{Follower, Candidate, Leader}
-use Rattle.step_law.specs.Act.{Act, Observe, Stand, Gather, TakeLead, Pledge, Cast, Launch, Count, Wait, Learn, Rebase, Call, Send, Restart, after_act}
-use Rattle.step_law.specs.May.{May, Ending, Setting, HasSaid}
+use Rattle.step_law.specs.Act.{Act, Observe, Stand, Gather, TakeLead, Pledge, Cast, Propose, Count, Wait, Learn, Rebase, Call, Send, Restart, after_act}
+use Rattle.step_law.specs.May.{May, Setting, HasSaid}
 use Rattle.step_law.specs.Message.{Message, Accept}
 use Rattle.step_law.specs.Coherent.{IsCoherent, FitsTerm}
 use Rattle.step_law.specs.State.{prefix_of, promised_in}
 use Rattle.step_law.proofs.SoundLemmas.{act_sound}
 use Rattle.agree_law.specs.Agree.{HasCast}
+use Rattle.step_law.specs.Step.{Event}
 use Rattle.agree_law.specs.World.{Doing, MayDo, World, after_doing, cast_after}
 use Rattle.agree_law.proofs.Growing.{Casts, IsLater, cast_cases, cast_now, cast_stays, casts_stored, each_replica, found_there, goes_on, said_cases}
 use Rattle.agree_law.proofs.Kept.{Kept, asked_by, proposed_by, Owns, casts_one, casts_origin, leads_own, own_ballot, owns_after_advance, owns_after_ballot, owns_after_counting, owns_after_gathering, owns_after_tick, owns_as_leader, owns_fewer, says_may}
 
 -- the setting in which a replica acts
-abbrev pub setting_of : ℕ → Table → World → ℕ → List Ending → Setting
-setting_of n table w by answered = record { self = record { me = by; members = n }; table = table; said = w.said; answered = answered }
+abbrev pub setting_of : ℕ → Table → World → ℕ → Option Event → Setting
+setting_of n table w by event = record { self = record { me = by; members = n }; table = table; event = event; said = w.said; answered = w.answered }
 
 below_after : (n : ℕ) (table : Table) (w : World) (doing : Doing) → Kept n w → MayDo n table w doing → (q : ℕ) (vote : Vote) → HasCast (after_doing doing.by doing.act w).cast q vote → vote.ballot ≤ promised_in ((after_doing doing.by doing.act w).replicas q).kept
 unfolding after_doing
 below_after n table w doing kept may q vote =
-    let go = goes_on (setting_of n table w doing.by may.answered) (w.replicas doing.by) doing.act (kept.sound doing.by may.member) may.may in
+    let go = goes_on (setting_of n table w doing.by doing.event) (w.replicas doing.by) doing.act (kept.sound doing.by may.member) may.may in
     each_replica (λ q s. HasCast (cast_after doing.by doing.act w.cast) q vote → vote.ballot ≤ promised_in s.kept)
     doing.by (after_act doing.act (w.replicas doing.by)) w.replicas q
     (λ has. elim (cast_cases doing.by doing.act w.cast doing.by vote has) [
@@ -42,7 +43,7 @@ below_after n table w doing kept may q vote =
 latest_after : (n : ℕ) (table : Table) (w : World) (doing : Doing) → Kept n w → MayDo n table w doing → (q : ℕ) (vote : Vote) → HasCast (after_doing doing.by doing.act w).cast q vote → ((after_doing doing.by doing.act w).replicas q).kept.base ≤ vote.slot → IsLater (vote_at vote.slot ((after_doing doing.by doing.act w).replicas q).kept.votes) vote.ballot
 unfolding after_doing
 latest_after n table w doing kept may q vote =
-    let go = goes_on (setting_of n table w doing.by may.answered) (w.replicas doing.by) doing.act (kept.sound doing.by may.member) may.may in
+    let go = goes_on (setting_of n table w doing.by doing.event) (w.replicas doing.by) doing.act (kept.sound doing.by may.member) may.may in
     each_replica (λ q s. HasCast (cast_after doing.by doing.act w.cast) q vote → s.kept.base ≤ vote.slot → IsLater (vote_at vote.slot s.kept.votes) vote.ballot)
     doing.by (after_act doing.act (w.replicas doing.by)) w.replicas q
     (λ has within. elim (cast_cases doing.by doing.act w.cast doing.by vote has) [
@@ -60,7 +61,7 @@ latest_after n table w doing kept may q vote =
 stored_after : (n : ℕ) (table : Table) (w : World) (doing : Doing) → Kept n w → MayDo n table w doing → (q : ℕ) (vote : Vote) → Contains ((after_doing doing.by doing.act w).replicas q).kept.votes vote → HasCast (after_doing doing.by doing.act w).cast q vote
 unfolding after_doing
 stored_after n table w doing kept may q vote =
-    let go = goes_on (setting_of n table w doing.by may.answered) (w.replicas doing.by) doing.act (kept.sound doing.by may.member) may.may in
+    let go = goes_on (setting_of n table w doing.by doing.event) (w.replicas doing.by) doing.act (kept.sound doing.by may.member) may.may in
     each_replica (λ q s. Contains s.kept.votes vote → HasCast (cast_after doing.by doing.act w.cast) q vote)
     doing.by (after_act doing.act (w.replicas doing.by)) w.replicas q
     (λ has. elim (go.stored vote has) [
@@ -75,7 +76,7 @@ accepts_after n table w doing kept may q vote has =
     elim (said_cases doing.by doing.act w.said q (Accept vote) has) [
       | inl old ↦ let before = kept.accepts q vote old in (cast_stays doing.by doing.act w.cast q vote before.0, before.1)
       | inr now ↦
-          let says = says_may (setting_of n table w doing.by may.answered) (w.replicas doing.by) doing.act (Accept vote) now.1 may.may in
+          let says = says_may (setting_of n table w doing.by doing.event) (w.replicas doing.by) doing.act (Accept vote) now.1 may.may in
           let sound = kept.sound doing.by may.member in
           let mine = leads_own (record { me = doing.by; members = n }) (w.replicas doing.by) vote.ballot (w.replicas doing.by).term sound.term says.1 in
           let cast = cast_stays doing.by doing.act w.cast doing.by vote (kept.stored doing.by vote (found_there vote.slot (w.replicas doing.by).kept.votes vote says.0)) in
@@ -87,7 +88,7 @@ unfolding after_doing
 proposed_after n table w doing kept may q vote has =
     elim (cast_cases doing.by doing.act w.cast q vote has) [
       | inl old ↦ cast_stays doing.by doing.act w.cast (member_of vote.ballot) vote (kept.proposed q vote old)
-      | inr now ↦ elim (casts_origin (setting_of n table w doing.by may.answered) (w.replicas doing.by) doing.act vote now.1 may.may) [
+      | inr now ↦ elim (casts_origin (setting_of n table w doing.by doing.event) (w.replicas doing.by) doing.act vote now.1 may.may) [
         | asked_by from said ↦
             let asked = kept.accepts from vote said in
             cast_stays doing.by doing.act w.cast (member_of vote.ballot) vote (rw asked.1 asked.0)
@@ -100,12 +101,12 @@ proposed_after n table w doing kept may q vote has =
 rounds_after : (n : ℕ) (table : Table) (w : World) (doing : Doing) → Kept n w → MayDo n table w doing → (q : ℕ) (vote : Vote) → HasCast (after_doing doing.by doing.act w).cast q vote → member_of vote.ballot ≡ q → round_of vote.ballot ≤ ((after_doing doing.by doing.act w).replicas q).kept.tried
 unfolding after_doing
 rounds_after n table w doing kept may q vote =
-    let go = goes_on (setting_of n table w doing.by may.answered) (w.replicas doing.by) doing.act (kept.sound doing.by may.member) may.may in
+    let go = goes_on (setting_of n table w doing.by doing.event) (w.replicas doing.by) doing.act (kept.sound doing.by may.member) may.may in
     each_replica (λ q s. HasCast (cast_after doing.by doing.act w.cast) q vote → member_of vote.ballot ≡ q → round_of vote.ballot ≤ s.kept.tried)
     doing.by (after_act doing.act (w.replicas doing.by)) w.replicas q
     (λ has mine. elim (cast_cases doing.by doing.act w.cast doing.by vote has) [
       | inl old ↦ omega (arith, kept.rounds doing.by vote old mine, go.tried)
-      | inr now ↦ elim (casts_origin (setting_of n table w doing.by may.answered) (w.replicas doing.by) doing.act vote now.1 may.may) [
+      | inr now ↦ elim (casts_origin (setting_of n table w doing.by doing.event) (w.replicas doing.by) doing.act vote now.1 may.may) [
         | asked_by from said ↦
             let asked = kept.accepts from vote said in
             let old : HasCast w.cast doing.by vote = rw (sym mine ∙ asked.1) asked.0 in
@@ -133,7 +134,7 @@ proposal_is_first n w by vote best kept member leader at b old has slots ballots
 -- a new vote and an old one of its slot and ballot are one
 once_new : (n : ℕ) (table : Table) (w : World) (doing : Doing) → Kept n w → MayDo n table w doing → (b : ℕ) (u v : Vote) → Casts doing.act u → HasCast w.cast b v → u.slot ≡ v.slot → u.ballot ≡ v.ballot → u ≡ v
 once_new n table w doing kept may b u v casts has slots ballots =
-    elim (casts_origin (setting_of n table w doing.by may.answered) (w.replicas doing.by) doing.act u casts may.may) [
+    elim (casts_origin (setting_of n table w doing.by doing.event) (w.replicas doing.by) doing.act u casts may.may) [
       | asked_by from said ↦ kept.once from b u v (kept.accepts from u said).0 has slots ballots
       | proposed_by me proposal ↦
           absurd (proposal_is_first n w doing.by u proposal.best kept may.member proposal.leader proposal.slot b v has slots ballots)
@@ -154,18 +155,18 @@ once_after n table w doing kept may a b u v has_u has_v slots ballots =
     ]
 
 -- the votes in the term's own ballot after an act of the replica itself
-owns_here : (n : ℕ) (table : Table) (w : World) (by : ℕ) (act : Act) (answered : List Ending) → Kept n w → by < n → May (setting_of n table w by answered) (w.replicas by) act → Owns (cast_after by act w.cast) by (prefix_of (after_act act (w.replicas by))) (after_act act (w.replicas by)).term
+owns_here : (n : ℕ) (table : Table) (w : World) (by : ℕ) (event : Option Event) (act : Act) → Kept n w → by < n → May (setting_of n table w by event) (w.replicas by) act → Owns (cast_after by act w.cast) by (prefix_of (after_act act (w.replicas by))) (after_act act (w.replicas by)).term
 unfolding after_act after_delta May
-owns_here n table w by (Observe ballot) answered kept member may =
+owns_here n table w by event (Observe ballot) kept member may =
     owns_after_ballot w.cast by (prefix_of (w.replicas by)) ballot (w.replicas by).term (kept.owns by member)
-owns_here n table w by (Stand me ballot) answered kept member may =
+owns_here n table w by event (Stand me ballot) kept member may =
     λ vote has is. let low = kept.rounds by vote has (rw is may.own) in omega (arith, low, may.higher, ap round_of is)
-owns_here n table w by (Gather from votes) answered kept member may =
+owns_here n table w by event (Gather from votes) kept member may =
     owns_after_gathering w.cast by (prefix_of (w.replicas by)) from votes (w.replicas by).term (kept.owns by member)
-owns_here n table w by TakeLead answered kept member may =
+owns_here n table w by event TakeLead kept member may =
     owns_as_leader w.cast by (prefix_of (w.replicas by)) (w.replicas by).term (kept.owns by member)
-owns_here n table w by (Pledge ballot) answered kept member may = kept.owns by member
-owns_here n table w by (Cast vote) answered kept member may =
+owns_here n table w by event (Pledge ballot) kept member may = kept.owns by member
+owns_here n table w by event (Cast vote) kept member may =
     go (w.replicas by).term (kept.sound by member).term (kept.owns by member)
   where
     asked : HasCast w.cast may.from vote × (member_of vote.ballot ≡ may.from)
@@ -185,37 +186,37 @@ owns_here n table w by (Cast vote) answered kept member may =
     go (Candidate ballot first heard best) fits owns = λ other has is. owns other (old ballot fits.member other has is) is
     go (Leader ballot best None) fits owns = λ other has is. owns other (old ballot fits.0.member other has is) is
     go (Leader ballot best (Some flight)) fits owns = λ other has is. owns other (old ballot fits.0.member other has is) is
-owns_here n table w by (Launch me vote) answered kept member may =
-    rw may.leader (λ (other : Vote) (has : HasCast (cast_after by (Launch me vote) w.cast) by other) (is : other.ballot ≡ vote.ballot). elim (cast_cases by (Launch me vote) w.cast by other has) [
+owns_here n table w by event (Propose me vote) kept member may =
+    rw may.leader (λ (other : Vote) (has : HasCast (cast_after by (Propose me vote) w.cast) by other) (is : other.ballot ≡ vote.ballot). elim (cast_cases by (Propose me vote) w.cast by other has) [
       | inl before ↦ inl (owns other before is)
       | inr now ↦ inr (sym now.1)
     ])
   where
     owns : Owns w.cast by (prefix_of (w.replicas by)) (Leader vote.ballot may.best None)
     owns = subst (λ term. Owns w.cast by (prefix_of (w.replicas by)) term) may.leader (kept.owns by member)
-owns_here n table w by (Count from) answered kept member may =
+owns_here n table w by event (Count from) kept member may =
     owns_after_counting w.cast by (prefix_of (w.replicas by)) from (w.replicas by).term (kept.owns by member)
-owns_here n table w by Wait answered kept member may =
+owns_here n table w by event Wait kept member may =
     owns_after_tick w.cast by (prefix_of (w.replicas by)) (w.replicas by).term (kept.owns by member)
-owns_here n table w by (Learn slot entry) answered kept member may =
+owns_here n table w by event (Learn slot entry) kept member may =
     let longer : (w.replicas by).kept.base + length ((w.replicas by).learned ++ entry ∷ []) ≡ prefix_of (w.replicas by) + 1 =
     omega (arith, length-append (w.replicas by).learned (entry ∷ [])) in
     rw longer (owns_after_advance (record { me = by; members = n }) (w.replicas by) w.cast by (prefix_of (w.replicas by) + 1) (w.replicas by).term (omega arith) (kept.sound by member).term (kept.owns by member))
-owns_here n table w by (Rebase slot rows) answered kept member may =
+owns_here n table w by event (Rebase slot rows) kept member may =
     let short : length (drop (slot - (w.replicas by).kept.base) (w.replicas by).learned) ≡ 0 =
     omega (arith, may.up, length-drop (slot - (w.replicas by).kept.base) (w.replicas by).learned) in
     let at : slot + length (drop (slot - (w.replicas by).kept.base) (w.replicas by).learned) ≡ slot = omega (arith, short) in
     rw at (owns_after_advance (record { me = by; members = n }) (w.replicas by) w.cast by slot (w.replicas by).term may.up (kept.sound by member).term (kept.owns by member))
-owns_here n table w by (Call row) answered kept member may = kept.owns by member
-owns_here n table w by (Send whom message) answered kept member may = kept.owns by member
-owns_here n table w by (Restart me) answered kept member may = tt
+owns_here n table w by event (Call row) kept member may = kept.owns by member
+owns_here n table w by event (Send whom message) kept member may = kept.owns by member
+owns_here n table w by event (Restart me) kept member may = tt
 
 owns_after : (n : ℕ) (table : Table) (w : World) (doing : Doing) → Kept n w → MayDo n table w doing → (q : ℕ) → q < n → Owns (after_doing doing.by doing.act w).cast q (prefix_of ((after_doing doing.by doing.act w).replicas q)) ((after_doing doing.by doing.act w).replicas q).term
 unfolding after_doing
 owns_after n table w doing kept may q =
     each_replica (λ q s. q < n → Owns (cast_after doing.by doing.act w.cast) q (prefix_of s) s.term)
     doing.by (after_act doing.act (w.replicas doing.by)) w.replicas q
-    (λ member. owns_here n table w doing.by doing.act may.answered kept member may.may)
+    (λ member. owns_here n table w doing.by doing.event doing.act kept member may.may)
     (λ other member. owns_fewer w.cast (cast_after doing.by doing.act w.cast) q (prefix_of (w.replicas q)) (w.replicas q).term
     (λ vote has. elim (cast_cases doing.by doing.act w.cast q vote has) [ inl old ↦ old | inr now ↦ absurd (other now.0) ])
     (kept.owns q member))
@@ -225,7 +226,7 @@ unfolding after_doing
 sound_after n table w doing kept may q =
     each_replica (λ q s. q < n → IsCoherent (record { me = q; members = n }) s)
     doing.by (after_act doing.act (w.replicas doing.by)) w.replicas q
-    (λ member. act_sound (setting_of n table w doing.by may.answered) (w.replicas doing.by) doing.act (kept.sound doing.by member) may.may)
+    (λ member. act_sound (setting_of n table w doing.by doing.event) (w.replicas doing.by) doing.act (kept.sound doing.by member) may.may)
     (λ other member. kept.sound q member)
 
 members_after : (n : ℕ) (table : Table) (w : World) (doing : Doing) → Kept n w → MayDo n table w doing → (q : ℕ) (vote : Vote) → HasCast (after_doing doing.by doing.act w).cast q vote → q < n

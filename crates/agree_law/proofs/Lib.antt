@@ -1,6 +1,8 @@
+pub mod Answering
 pub mod Chosen
 pub mod ChosenLemmas
 pub mod Growing
+pub mod GuardLemmas
 pub mod Kept
 pub mod KeptLemmas
 pub mod LogLemmas

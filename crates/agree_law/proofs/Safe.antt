@@ -59,7 +59,7 @@ between_on by act cast older later between = record {
 gives_way_on : (n : ℕ) (table : Table) (w : World) (doing : Doing) → Kept n w → MayDo n table w doing → (q : ℕ) (vote : Vote) → GivesWay w.cast (promised_in (w.replicas q).kept) q vote → GivesWay (after_doing doing.by doing.act w).cast (promised_in ((after_doing doing.by doing.act w).replicas q).kept) q vote
 unfolding after_doing
 gives_way_on n table w doing kept may q vote =
-    let go = goes_on (setting_of n table w doing.by may.answered) (w.replicas doing.by) doing.act (kept.sound doing.by may.member) may.may in
+    let go = goes_on (setting_of n table w doing.by doing.event) (w.replicas doing.by) doing.act (kept.sound doing.by may.member) may.may in
     each_replica (λ q s. GivesWay w.cast (promised_in (w.replicas q).kept) q vote → GivesWay (cast_after doing.by doing.act w.cast) (promised_in s.kept) q vote)
     doing.by (after_act doing.act (w.replicas doing.by)) w.replicas q
     (λ gives. record {
@@ -115,7 +115,7 @@ unfolding after_doing
 safe_after n table w doing kept told safe may q vote has =
     elim (cast_cases doing.by doing.act w.cast q vote has) [
       | inl old ↦ safe_on n table w doing kept may vote (safe q vote old)
-      | inr now ↦ elim (casts_origin (setting_of n table w doing.by may.answered) (w.replicas doing.by) doing.act vote now.1 may.may) [
+      | inr now ↦ elim (casts_origin (setting_of n table w doing.by doing.event) (w.replicas doing.by) doing.act vote now.1 may.may) [
         | asked_by from said ↦ safe_on n table w doing kept may vote (safe from vote (kept.accepts from vote said).0)
         | proposed_by me proposal ↦
             let led : IsLed n w (prefix_of (w.replicas doing.by)) vote.ballot proposal.best =

@@ -1,11 +1,12 @@
 -- The launch table of each replica is that of chosen entries.
-use Rattle.std.proofs.Common.{◌≡◌, ℕ, ◌+◌, ◌≤◌, List, [], ◌∷◌, ◌++◌, length, inl, inr, arith, subst, length-append, suc}
+use Rattle.std.proofs.Common.{◌≡◌, ℕ, ◌+◌, ◌≤◌, Option, List, [], ◌∷◌, ◌++◌, length, inl, inr, arith, subst, length-append, suc}
 use Rattle.std.specs.List.{Contains}
 use Rattle.std.proofs.lemmas.List.Elements.{Contains-push, Contains-append_left, Contains-append_right}
 use Rattle.paxos_base.specs.Durable.{after_delta}
 use Rattle.paxos_base.specs.declared.entry.Entry.{Entry}
+use Rattle.paxos_base.specs.declared.entry.Kind.{Kind}
 use Rattle.due_set.specs.Table.{Table}
-use Rattle.step_law.specs.Act.{Act, Observe, Stand, Gather, TakeLead, Pledge, Cast, Launch, Count, Wait, Learn, Rebase, Call, Send, Restart, after_act}
+use Rattle.step_law.specs.Act.{Act, Observe, Stand, Gather, TakeLead, Pledge, Cast, Propose, Count, Wait, Learn, Rebase, Call, Send, Restart, after_act}
 use Rattle.step_law.specs.May.{May, HasSaid}
 use Rattle.step_law.specs.State.{prefix_of}
 use Rattle.agree_law.specs.World.{CastVote, Doing, MayDo, World, after_doing, cast_after}
@@ -17,7 +18,7 @@ use Rattle.paxos_base.specs.declared.rows.JobRow.{JobRow}
 use Rattle.launch_machine.specs.Clerk.{AppliesAll}
 use Rattle.step_law.specs.Hear.{known_from}
 use Rattle.step_law.specs.Message.{Known, Snap}
-use Rattle.step_law.specs.Step.{IsLaunchTable}
+use Rattle.step_law.specs.Step.{Event, IsLaunchTable}
 use Rattle.agree_law.specs.Agree.{IsChosen}
 use Rattle.agree_law.specs.Log.{AreChosen, IsLog}
 use Rattle.agree_law.proofs.Chosen.{AreKnown}
@@ -76,32 +77,32 @@ all_of n table first w q rows known tables is_table =
       applied = applied_append table first (w.replicas q).kept.rows rows base.entries (w.replicas q).learned base.applied is_table;
     }
 
-base_here : (n : ℕ) (table : Table) (first : List JobRow) (w : World) (by : ℕ) (act : Act) → AreKnown n w → Tables n table first w → MayDo n table w (record { by = by; act = act }) → IsTableAt n table first w.cast (after_act act (w.replicas by)).kept.base (after_act act (w.replicas by)).kept.rows
+base_here : (n : ℕ) (table : Table) (first : List JobRow) (w : World) (by : ℕ) (event : Option Event) (answer : Option Kind) (act : Act) → AreKnown n w → Tables n table first w → MayDo n table w (record { by = by; event = event; answer = answer; act = act }) → IsTableAt n table first w.cast (after_act act (w.replicas by)).kept.base (after_act act (w.replicas by)).kept.rows
 unfolding after_act after_delta May
-base_here n table first w by (Rebase slot rows) known tables may = elim may.may.rows_of [
+base_here n table first w by event answer (Rebase slot rows) known tables may = elim may.may.rows_of [
   | inl mine ↦ rw mine.0 (all_of n table first w by rows known tables mine.1)
   | inr told ↦ tables.snaps told.0 slot rows told.1
 ]
-base_here n table first w by (Observe ballot) known tables may = tables.bases by
-base_here n table first w by (Stand me ballot) known tables may = tables.bases by
-base_here n table first w by (Gather from votes) known tables may = tables.bases by
-base_here n table first w by TakeLead known tables may = tables.bases by
-base_here n table first w by (Pledge ballot) known tables may = tables.bases by
-base_here n table first w by (Cast vote) known tables may = tables.bases by
-base_here n table first w by (Launch me vote) known tables may = tables.bases by
-base_here n table first w by (Count from) known tables may = tables.bases by
-base_here n table first w by Wait known tables may = tables.bases by
-base_here n table first w by (Learn slot entry) known tables may = tables.bases by
-base_here n table first w by (Call row) known tables may = tables.bases by
-base_here n table first w by (Send whom message) known tables may = tables.bases by
-base_here n table first w by (Restart me) known tables may = tables.bases by
+base_here n table first w by event answer (Observe ballot) known tables may = tables.bases by
+base_here n table first w by event answer (Stand me ballot) known tables may = tables.bases by
+base_here n table first w by event answer (Gather from votes) known tables may = tables.bases by
+base_here n table first w by event answer TakeLead known tables may = tables.bases by
+base_here n table first w by event answer (Pledge ballot) known tables may = tables.bases by
+base_here n table first w by event answer (Cast vote) known tables may = tables.bases by
+base_here n table first w by event answer (Propose me vote) known tables may = tables.bases by
+base_here n table first w by event answer (Count from) known tables may = tables.bases by
+base_here n table first w by event answer Wait known tables may = tables.bases by
+base_here n table first w by event answer (Learn slot entry) known tables may = tables.bases by
+base_here n table first w by event answer (Call row) known tables may = tables.bases by
+base_here n table first w by event answer (Send whom message) known tables may = tables.bases by
+base_here n table first w by event answer (Restart me) known tables may = tables.bases by
 
 bases_after : (n : ℕ) (table : Table) (first : List JobRow) (w : World) (doing : Doing) → AreKnown n w → Tables n table first w → MayDo n table w doing → (q : ℕ) → IsTableAt n table first (after_doing doing.by doing.act w).cast ((after_doing doing.by doing.act w).replicas q).kept.base ((after_doing doing.by doing.act w).replicas q).kept.rows
 unfolding after_doing
 bases_after n table first w doing known tables may q =
     each_replica (λ q s. IsTableAt n table first (cast_after doing.by doing.act w.cast) s.kept.base s.kept.rows)
     doing.by (after_act doing.act (w.replicas doing.by)) w.replicas q
-    (table_on n table first doing.by doing.act w.cast _ _ (base_here n table first w doing.by doing.act known tables may))
+    (table_on n table first doing.by doing.act w.cast _ _ (base_here n table first w doing.by doing.event doing.answer doing.act known tables may))
     (λ other. table_on n table first doing.by doing.act w.cast _ _ (tables.bases q))
 
 snaps_after : (n : ℕ) (table : Table) (first : List JobRow) (w : World) (doing : Doing) → Tables n table first w → MayDo n table w doing → (q slot : ℕ) (rows : List JobRow) → HasSaid (after_doing doing.by doing.act w).said q (Snap slot rows) → IsTableAt n table first (after_doing doing.by doing.act w).cast slot rows
@@ -110,7 +111,7 @@ snaps_after n table first w doing tables may q slot rows has =
     elim (said_cases doing.by doing.act w.said q (Snap slot rows) has) [
       | inl old ↦ table_on n table first doing.by doing.act w.cast slot rows (tables.snaps q slot rows old)
       | inr now ↦
-          let says = says_may (setting_of n table w doing.by may.answered) (w.replicas doing.by) doing.act (Snap slot rows) now.1 may.may in
+          let says = says_may (setting_of n table w doing.by doing.event) (w.replicas doing.by) doing.act (Snap slot rows) now.1 may.may in
           table_on n table first doing.by doing.act w.cast slot rows (rw (says.0, says.1) (tables.bases doing.by))
     ]
 

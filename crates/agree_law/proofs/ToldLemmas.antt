@@ -8,6 +8,7 @@ use Rattle.std.proofs.lemmas.Bool.{cases_Bool, le-leb}
 use Rattle.paxos_base.specs.Durable.{after_delta}
 use Rattle.paxos_base.specs.Members.{AllBelow, HasMember, no_members, only_member, with_member}
 use Rattle.paxos_base.specs.Vote.{vote_at, votes_from}
+use Rattle.paxos_base.specs.declared.entry.Kind.{Kind}
 use Rattle.paxos_base.specs.declared.entry.Vote.{Vote}
 use Rattle.paxos_base.proofs.MemberLemmas.{has_member-set}
 use Rattle.paxos_base.proofs.PutLemmas.{at_from}
@@ -17,11 +18,12 @@ use Rattle.term_core.specs.Term.{after_advance, after_ballot, after_tick, is_end
 use Rattle.term_core.specs.declared.term.Term.{Term}
 use Rattle.term_core.specs.declared.term.Term.TheVariants.{Follower, Candidate, Leader}
 use Rattle.term_core.proofs.LawLemmas.{held_or_higher, heard_or_higher}
-use Rattle.step_law.specs.Act.{Act, Observe, Stand, Gather, TakeLead, Pledge, Cast, Launch, Count, Wait, Learn, Rebase, Call, Send, Restart, after_act, after_counting}
+use Rattle.step_law.specs.Act.{Act, Observe, Stand, Gather, TakeLead, Pledge, Cast, Propose, Count, Wait, Learn, Rebase, Call, Send, Restart, after_act, after_counting}
 use Rattle.step_law.specs.May.{May, MayPromise, HasSaid}
 use Rattle.step_law.specs.Message.{Promise}
 use Rattle.step_law.specs.State.{prefix_of, promised_in}
 use Rattle.step_law.proofs.VoteLemmas.{found_vote}
+use Rattle.step_law.specs.Step.{Event}
 use Rattle.agree_law.specs.World.{CastVote, Doing, MayDo, World, after_doing, cast_after, with_replica}
 use Rattle.agree_law.proofs.Growing.{IsLater, cast_cases, cast_stays, casts_stored, each_replica, from_there, goes_on, put_cases, said_cases}
 use Rattle.agree_law.proofs.Kept.{Kept, says_may}
@@ -32,7 +34,7 @@ use Rattle.agree_law.proofs.Told.{Heeds, AreBacked, IsRallied, IsLed, HasHeard, 
 heeds_on : (n : ℕ) (table : Table) (w : World) (doing : Doing) → Kept n w → MayDo n table w doing → (q ballot first : ℕ) (votes : List Vote) → Heeds w.cast (promised_in (w.replicas q).kept) q ballot first votes → Heeds (after_doing doing.by doing.act w).cast (promised_in ((after_doing doing.by doing.act w).replicas q).kept) q ballot first votes
 unfolding after_doing
 heeds_on n table w doing kept may q ballot first votes =
-    let go = goes_on (setting_of n table w doing.by may.answered) (w.replicas doing.by) doing.act (kept.sound doing.by may.member) may.may in
+    let go = goes_on (setting_of n table w doing.by doing.event) (w.replicas doing.by) doing.act (kept.sound doing.by may.member) may.may in
     each_replica (λ q s. Heeds w.cast (promised_in (w.replicas q).kept) q ballot first votes → Heeds (cast_after doing.by doing.act w.cast) (promised_in s.kept) q ballot first votes)
     doing.by (after_act doing.act (w.replicas doing.by)) w.replicas q
     (λ heeds. record {
@@ -101,7 +103,7 @@ promises_after n table w doing kept told may q ballot first votes has =
     elim (said_cases doing.by doing.act w.said q (Promise ballot first votes) has) [
       | inl old ↦ promised_on n table w doing kept may q ballot first votes (told.promises q ballot first votes old)
       | inr now ↦
-          let says = says_may (setting_of n table w doing.by may.answered) (w.replicas doing.by) doing.act (Promise ballot first votes) now.1 may.may in
+          let says = says_may (setting_of n table w doing.by doing.event) (w.replicas doing.by) doing.act (Promise ballot first votes) now.1 may.may in
           promised_on n table w doing kept may q ballot first votes (subst (λ p. IsPromised w p ballot first votes) (sym now.0) (new_promise n w doing.by ballot first votes kept says))
     ]
 
@@ -132,9 +134,9 @@ only_cases me m small has =
     elim (with_cases me no_members m small has) [ inl same ↦ same | inr none ↦ absurd (none_there m none) ]
 
 -- a candidate heeds its own ballot
-stands : (n : ℕ) (table : Table) (w : World) (by me ballot : ℕ) → Kept n w → n ≤ 7 → MayDo n table w (record { by = by; act = Stand me ballot }) → IsRallied n (after_doing by (Stand me ballot) w) (prefix_of (w.replicas by)) ballot (prefix_of (w.replicas by)) (only_member me) (votes_from (prefix_of (w.replicas by)) (w.replicas by).kept.votes)
+stands : (n : ℕ) (table : Table) (w : World) (by : ℕ) (event : Option Event) (answer : Option Kind) (me ballot : ℕ) → Kept n w → n ≤ 7 → MayDo n table w (record { by = by; event = event; answer = answer; act = Stand me ballot }) → IsRallied n (after_doing by (Stand me ballot) w) (prefix_of (w.replicas by)) ballot (prefix_of (w.replicas by)) (only_member me) (votes_from (prefix_of (w.replicas by)) (w.replicas by).kept.votes)
 unfolding after_doing after_act after_delta May
-stands n table w by me ballot kept few may = record {
+stands n table w by event answer me ballot kept few may = record {
   up = omega arith;
   below = λ m has. omega (arith, only_cases me m (omega (arith, mine, may.member, few)) has, mine, may.member);
   each = λ m has. heeds m (only_cases me m (omega (arith, mine, may.member, few)) has ∙ mine);
@@ -231,61 +233,61 @@ heard_after_advance n w prefix later (Leader ballot best None) heard = heard
 heard_after_advance n w prefix later (Leader ballot best (Some flight)) heard = heard
 
 -- what the term of the replica that acts has heard
-heard_here : (n : ℕ) (table : Table) (w : World) (by : ℕ) (act : Act) → Kept n w → Told n w → n ≤ 7 → MayDo n table w (record { by = by; act = act }) → HasHeard n (after_doing by act w) (prefix_of (after_act act (w.replicas by))) (after_act act (w.replicas by)).term
+heard_here : (n : ℕ) (table : Table) (w : World) (by : ℕ) (event : Option Event) (answer : Option Kind) (act : Act) → Kept n w → Told n w → n ≤ 7 → MayDo n table w (record { by = by; event = event; answer = answer; act = act }) → HasHeard n (after_doing by act w) (prefix_of (after_act act (w.replicas by))) (after_act act (w.replicas by)).term
 unfolding after_act after_delta May
-heard_here n table w by (Observe ballot) kept told few may =
+heard_here n table w by event answer (Observe ballot) kept told few may =
     heard_after_ballot n (after_doing by (Observe ballot) w) (prefix_of (w.replicas by)) ballot (w.replicas by).term
-    (heard_on n table w (record { by = by; act = Observe ballot }) kept may (prefix_of (w.replicas by)) (prefix_of (w.replicas by)) (w.replicas by).term (omega arith) (told.terms by may.member))
-heard_here n table w by (Stand me ballot) kept told few may = stands n table w by me ballot kept few may
-heard_here n table w by (Gather from votes) kept told few may =
+    (heard_on n table w (record { by = by; event = event; answer = answer; act = Observe ballot }) kept may (prefix_of (w.replicas by)) (prefix_of (w.replicas by)) (w.replicas by).term (omega arith) (told.terms by may.member))
+heard_here n table w by event answer (Stand me ballot) kept told few may = stands n table w by event answer me ballot kept few may
+heard_here n table w by event answer (Gather from votes) kept told few may =
     rw may.may.candidate
-    (rallied_on n table w (record { by = by; act = Gather from votes }) kept may (prefix_of (w.replicas by)) (prefix_of (w.replicas by)) may.may.ballot may.may.first (with_member from may.may.heard) (best_of may.may.best votes) (omega arith)
+    (rallied_on n table w (record { by = by; event = event; answer = answer; act = Gather from votes }) kept may (prefix_of (w.replicas by)) (prefix_of (w.replicas by)) may.may.ballot may.may.first (with_member from may.may.heard) (best_of may.may.best votes) (omega arith)
     (gathers n w (prefix_of (w.replicas by)) may.may.ballot may.may.first may.may.heard from may.may.best votes
     (kept.speakers from (Promise may.may.ballot may.may.first votes) may.may.promise) few
     (subst (λ term. HasHeard n w (prefix_of (w.replicas by)) term) may.may.candidate (told.terms by may.member))
     (told.promises from may.may.ballot may.may.first votes may.may.promise)))
-heard_here n table w by TakeLead kept told few may =
+heard_here n table w by event answer TakeLead kept told few may =
     rw may.may.candidate (record {
       heard = may.may.heard;
       first = may.may.first;
       majority = may.may.majority;
-      rallied = rallied_on n table w (record { by = by; act = TakeLead }) kept may (prefix_of (w.replicas by)) (prefix_of (w.replicas by)) may.may.ballot may.may.first may.may.heard may.may.best (omega arith)
+      rallied = rallied_on n table w (record { by = by; event = event; answer = answer; act = TakeLead }) kept may (prefix_of (w.replicas by)) (prefix_of (w.replicas by)) may.may.ballot may.may.first may.may.heard may.may.best (omega arith)
           (subst (λ term. HasHeard n w (prefix_of (w.replicas by)) term) may.may.candidate (told.terms by may.member));
     })
-heard_here n table w by (Pledge ballot) kept told few may =
-    heard_on n table w (record { by = by; act = Pledge ballot }) kept may (prefix_of (w.replicas by)) (prefix_of (w.replicas by)) (w.replicas by).term (omega arith) (told.terms by may.member)
-heard_here n table w by (Cast vote) kept told few may =
-    heard_on n table w (record { by = by; act = Cast vote }) kept may (prefix_of (w.replicas by)) (prefix_of (w.replicas by)) (w.replicas by).term (omega arith) (told.terms by may.member)
-heard_here n table w by (Launch me vote) kept told few may =
+heard_here n table w by event answer (Pledge ballot) kept told few may =
+    heard_on n table w (record { by = by; event = event; answer = answer; act = Pledge ballot }) kept may (prefix_of (w.replicas by)) (prefix_of (w.replicas by)) (w.replicas by).term (omega arith) (told.terms by may.member)
+heard_here n table w by event answer (Cast vote) kept told few may =
+    heard_on n table w (record { by = by; event = event; answer = answer; act = Cast vote }) kept may (prefix_of (w.replicas by)) (prefix_of (w.replicas by)) (w.replicas by).term (omega arith) (told.terms by may.member)
+heard_here n table w by event answer (Propose me vote) kept told few may =
     rw may.may.leader
-    (led_on n table w (record { by = by; act = Launch me vote }) kept may (prefix_of (w.replicas by)) (prefix_of (w.replicas by)) vote.ballot may.may.best (omega arith)
+    (led_on n table w (record { by = by; event = event; answer = answer; act = Propose me vote }) kept may (prefix_of (w.replicas by)) (prefix_of (w.replicas by)) vote.ballot may.may.best (omega arith)
     (subst (λ term. HasHeard n w (prefix_of (w.replicas by)) term) may.may.leader (told.terms by may.member)))
-heard_here n table w by (Count from) kept told few may =
+heard_here n table w by event answer (Count from) kept told few may =
     heard_after_counting n (after_doing by (Count from) w) (prefix_of (w.replicas by)) from (w.replicas by).term
-    (heard_on n table w (record { by = by; act = Count from }) kept may (prefix_of (w.replicas by)) (prefix_of (w.replicas by)) (w.replicas by).term (omega arith) (told.terms by may.member))
-heard_here n table w by Wait kept told few may =
+    (heard_on n table w (record { by = by; event = event; answer = answer; act = Count from }) kept may (prefix_of (w.replicas by)) (prefix_of (w.replicas by)) (w.replicas by).term (omega arith) (told.terms by may.member))
+heard_here n table w by event answer Wait kept told few may =
     heard_after_tick n (after_doing by Wait w) (prefix_of (w.replicas by)) (w.replicas by).term
-    (heard_on n table w (record { by = by; act = Wait }) kept may (prefix_of (w.replicas by)) (prefix_of (w.replicas by)) (w.replicas by).term (omega arith) (told.terms by may.member))
-heard_here n table w by (Learn slot entry) kept told few may =
+    (heard_on n table w (record { by = by; event = event; answer = answer; act = Wait }) kept may (prefix_of (w.replicas by)) (prefix_of (w.replicas by)) (w.replicas by).term (omega arith) (told.terms by may.member))
+heard_here n table w by event answer (Learn slot entry) kept told few may =
     let longer : prefix_of (w.replicas by) ≤ (w.replicas by).kept.base + length ((w.replicas by).learned ++ entry ∷ []) =
     omega (arith, length-append (w.replicas by).learned (entry ∷ [])) in
     heard_after_advance n (after_doing by (Learn slot entry) w) _ (prefix_of (w.replicas by) + 1) (w.replicas by).term
-    (heard_on n table w (record { by = by; act = Learn slot entry }) kept may (prefix_of (w.replicas by)) ((w.replicas by).kept.base + length ((w.replicas by).learned ++ entry ∷ [])) (w.replicas by).term longer (told.terms by may.member))
-heard_here n table w by (Rebase slot rows) kept told few may =
+    (heard_on n table w (record { by = by; event = event; answer = answer; act = Learn slot entry }) kept may (prefix_of (w.replicas by)) ((w.replicas by).kept.base + length ((w.replicas by).learned ++ entry ∷ [])) (w.replicas by).term longer (told.terms by may.member))
+heard_here n table w by event answer (Rebase slot rows) kept told few may =
     heard_after_advance n (after_doing by (Rebase slot rows) w) _ slot (w.replicas by).term
-    (heard_on n table w (record { by = by; act = Rebase slot rows }) kept may (prefix_of (w.replicas by)) (slot + length (drop (slot - (w.replicas by).kept.base) (w.replicas by).learned)) (w.replicas by).term (omega (arith, may.may.up)) (told.terms by may.member))
-heard_here n table w by (Call row) kept told few may =
-    heard_on n table w (record { by = by; act = Call row }) kept may (prefix_of (w.replicas by)) (prefix_of (w.replicas by)) (w.replicas by).term (omega arith) (told.terms by may.member)
-heard_here n table w by (Send whom message) kept told few may =
-    heard_on n table w (record { by = by; act = Send whom message }) kept may (prefix_of (w.replicas by)) (prefix_of (w.replicas by)) (w.replicas by).term (omega arith) (told.terms by may.member)
-heard_here n table w by (Restart me) kept told few may = tt
+    (heard_on n table w (record { by = by; event = event; answer = answer; act = Rebase slot rows }) kept may (prefix_of (w.replicas by)) (slot + length (drop (slot - (w.replicas by).kept.base) (w.replicas by).learned)) (w.replicas by).term (omega (arith, may.may.up)) (told.terms by may.member))
+heard_here n table w by event answer (Call row) kept told few may =
+    heard_on n table w (record { by = by; event = event; answer = answer; act = Call row }) kept may (prefix_of (w.replicas by)) (prefix_of (w.replicas by)) (w.replicas by).term (omega arith) (told.terms by may.member)
+heard_here n table w by event answer (Send whom message) kept told few may =
+    heard_on n table w (record { by = by; event = event; answer = answer; act = Send whom message }) kept may (prefix_of (w.replicas by)) (prefix_of (w.replicas by)) (w.replicas by).term (omega arith) (told.terms by may.member)
+heard_here n table w by event answer (Restart me) kept told few may = tt
 
 terms_after : (n : ℕ) (table : Table) (w : World) (doing : Doing) → Kept n w → Told n w → n ≤ 7 → MayDo n table w doing → (q : ℕ) → q < n → HasHeard n (after_doing doing.by doing.act w) (prefix_of ((after_doing doing.by doing.act w).replicas q)) ((after_doing doing.by doing.act w).replicas q).term
 unfolding after_doing
 terms_after n table w doing kept told few may q =
     each_replica (λ q s. q < n → HasHeard n (after_doing doing.by doing.act w) (prefix_of s) s.term)
     doing.by (after_act doing.act (w.replicas doing.by)) w.replicas q
-    (λ member. heard_here n table w doing.by doing.act kept told few may)
+    (λ member. heard_here n table w doing.by doing.event doing.answer doing.act kept told few may)
     (λ other member. heard_on n table w doing kept may (prefix_of (w.replicas q)) (prefix_of (w.replicas q)) (w.replicas q).term (omega arith) (told.terms q member))
 
 pub told_after : (n : ℕ) (table : Table) (w : World) (doing : Doing) → Kept n w → Told n w → n ≤ 7 → MayDo n table w doing → Told n (after_doing doing.by doing.act w)

@@ -1,5 +1,5 @@
 -- All that holds of a world, from its beginning on.
-use Rattle.std.proofs.Common.{◌≡◌, ℕ, ◌≤◌, List, [], ◌∷◌, arith}
+use Rattle.std.proofs.Common.{◌≡◌, ℕ, ◌≤◌, List, [], arith}
 use Rattle.std.specs.List.{Contains}
 use Rattle.paxos_base.specs.declared.entry.Entry.{Entry}
 use Rattle.due_set.specs.Table.{Table}
@@ -9,7 +9,7 @@ use Rattle.agree_law.proofs.Told.{Told}
 use Rattle.paxos_base.specs.declared.rows.JobRow.{JobRow}
 use Rattle.step_law.proofs.SoundLemmas.{start_sound}
 use Rattle.agree_law.specs.Agree.{IsChosen, LearnsOne}
-use Rattle.agree_law.specs.World.{AllMayDo, after_all, first_world, fresh}
+use Rattle.agree_law.specs.World.{first_world, fresh}
 use Rattle.agree_law.proofs.Chosen.{AreKnown}
 use Rattle.agree_law.proofs.ChosenLemmas.{known_on}
 use Rattle.agree_law.proofs.KeptLemmas.{kept_after}
@@ -64,11 +64,6 @@ whole_after n table w doing few whole may = record {
   safe = safe_after n table w doing whole.kept whole.told whole.safe may;
   known = known_on n table w doing whole.kept whole.known few may;
 }
-
-pub whole_after_all : (n : ℕ) (table : Table) (w : World) (doings : List Doing) → n ≤ 7 → IsWhole n w → AllMayDo n table w doings → IsWhole n (after_all doings w)
-whole_after_all n table w [] few whole may = whole
-whole_after_all n table w (doing ∷ doings) few whole may =
-    whole_after_all n table (after_doing doing.by doing.act w) doings few (whole_after n table w doing few whole may.0) may.1
 
 pub first_is_whole : (n : ℕ) (rows : List JobRow) → IsWhole n (first_world rows)
 first_is_whole n rows = first_whole n rows

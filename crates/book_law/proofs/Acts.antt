@@ -1,5 +1,5 @@
 -- What the acts of one replica come to in a world.
-use Rattle.std.proofs.Common.{◌≡◌, ℕ, Bool, true, false, eqb, List, [], ◌∷◌, ◌++◌, map, refl, sym, ap, ◌∙◌, inl, inr, arith, append-nil, if◌then◌else◌}
+use Rattle.std.proofs.Common.{◌≡◌, ℕ, Bool, true, false, eqb, Option, Some, None, List, [], ◌∷◌, ◌++◌, map, refl, sym, ap, ◌∙◌, inl, inr, arith, append-nil, if◌then◌else◌}
 use Rattle.std.specs.List.{Contains, filter}
 use Rattle.std.proofs.lemmas.Bool.{cases_Bool, eqb-true, eq-eqb}
 use Rattle.std.proofs.lemmas.List.{append_assoc}
@@ -7,15 +7,19 @@ use Rattle.std.proofs.lemmas.List.Elements.{Contains-push, Contains-push_cases, 
 use Rattle.paxos_base.specs.Durable.{after_delta}
 use Rattle.paxos_base.specs.declared.durable.Delta.{Delta}
 use Rattle.paxos_base.specs.declared.durable.Delta.TheVariants.{Tried, Promised, Voted, Base}
+use Rattle.paxos_base.specs.declared.entry.Kind.{Kind}
 use Rattle.paxos_base.specs.declared.entry.Vote.{Vote}
-use Rattle.step_law.specs.Act.{Act, Observe, Stand, Gather, TakeLead, Pledge, Cast, Launch, Count, Wait, Learn, Rebase, Call, Send, Restart, after_act}
+use Rattle.cluster_sched.specs.declared.row.SchedRow.{SchedRow}
+use Rattle.step_law.specs.Act.{Act, Observe, Stand, Gather, TakeLead, Pledge, Cast, Propose, Count, Wait, Learn, Rebase, Call, Send, Restart, after_act}
 use Rattle.step_law.specs.Folds.{after_acts, deltas_by, deltas_of, learnt_by, learnt_of}
-use Rattle.step_law.specs.May.{HasSaid, Saying}
+use Rattle.step_law.specs.May.{Ending, HasSaid, Saying}
+use Rattle.step_law.proofs.Lists.{cons_cases, nothing_in}
 use Rattle.step_law.specs.Message.{Message, Whom}
 use Rattle.step_law.specs.State.{State}
 use Rattle.step_law.specs.declared.out.LearntRow.{LearntRow}
 use Rattle.agree_law.specs.Transition.{is_silent}
-use Rattle.agree_law.specs.World.{CastVote, Learning, World, after_all, after_doing, cast_after, doings_of, learned_after, said_after, with_replica}
+use Rattle.step_law.specs.Step.{Event}
+use Rattle.agree_law.specs.World.{CastVote, Learning, World, after_all, after_doing, after_done, answered_after, cast_after, doings_of, learned_after, said_after, with_replica}
 use Rattle.book_law.specs.Book.{vote_of_delta, votes_by, votes_of}
 
 -- the votes of a replica
@@ -38,16 +42,16 @@ pub with_here : (by : ℕ) (state : State) (replicas : ℕ → State) → with_r
 with_here by state replicas = rw (eq-eqb by by refl) refl
 
 -- a replica has the state after its acts, and the others are as they were
-pub all_replicas : (by : ℕ) (acts : List Act) (w : World) (q : ℕ) → (after_all (doings_of by acts) w).replicas q ≡ with_replica by (after_acts acts (w.replicas by)) w.replicas q
+pub all_replicas : (by : ℕ) (event : Option Event) (answer : Option Kind) (acts : List Act) (w : World) (q : ℕ) → (after_all (doings_of by event answer acts) w).replicas q ≡ with_replica by (after_acts acts (w.replicas by)) w.replicas q
 unfolding after_doing
-all_replicas by [] w q = with_same by w.replicas q
-all_replicas by (act ∷ acts) w q =
-    all_replicas by acts (after_doing by act w) q
+all_replicas by event answer [] w q = with_same by w.replicas q
+all_replicas by event answer (act ∷ acts) w q =
+    all_replicas by event answer acts (after_done (record { by = by; event = event; act = act; answer = answer }) w) q
     ∙ rw (with_here by (after_act act (w.replicas by)) w.replicas) (with_twice by (after_act act (w.replicas by)) (after_acts acts (after_act act (w.replicas by))) w.replicas q)
 
 cast_is : (by : ℕ) (act : Act) (cast : List CastVote) → cast_after by act cast ≡ cast ++ cast_rows by (votes_by act)
 cast_is by (Cast vote) cast = refl
-cast_is by (Launch me vote) cast = refl
+cast_is by (Propose me vote) cast = refl
 cast_is by act cast = sym (append-nil cast)
 
 learned_is : (by : ℕ) (act : Act) (learned : List Learning) → learned_after by act learned ≡ learned ++ learned_rows by (learnt_by act)
@@ -60,51 +64,74 @@ map-append f [] ys = refl
 map-append f (x ∷ xs) ys = ap (λ rest. f x ∷ rest) (map-append f xs ys)
 
 -- their votes join those that were cast
-pub all_cast : (by : ℕ) (acts : List Act) (w : World) → (after_all (doings_of by acts) w).cast ≡ w.cast ++ cast_rows by (votes_of acts)
+pub all_cast : (by : ℕ) (event : Option Event) (answer : Option Kind) (acts : List Act) (w : World) → (after_all (doings_of by event answer acts) w).cast ≡ w.cast ++ cast_rows by (votes_of acts)
 unfolding after_doing
-all_cast by [] w = sym (append-nil w.cast)
-all_cast by (act ∷ acts) w =
-    all_cast by acts (after_doing by act w)
+all_cast by event answer [] w = sym (append-nil w.cast)
+all_cast by event answer (act ∷ acts) w =
+    all_cast by event answer acts (after_done (record { by = by; event = event; act = act; answer = answer }) w)
     ∙ ap (λ cast. cast ++ cast_rows by (votes_of acts)) (cast_is by act w.cast)
     ∙ append_assoc w.cast (cast_rows by (votes_by act)) (cast_rows by (votes_of acts))
     ∙ ap (λ rows. w.cast ++ rows) (sym (map-append _ (votes_by act) (votes_of acts)))
 
 -- their learned entries join those that were learned
-pub all_learned : (by : ℕ) (acts : List Act) (w : World) → (after_all (doings_of by acts) w).learned ≡ w.learned ++ learned_rows by (learnt_of acts)
+pub all_learned : (by : ℕ) (event : Option Event) (answer : Option Kind) (acts : List Act) (w : World) → (after_all (doings_of by event answer acts) w).learned ≡ w.learned ++ learned_rows by (learnt_of acts)
 unfolding after_doing
-all_learned by [] w = sym (append-nil w.learned)
-all_learned by (act ∷ acts) w =
-    all_learned by acts (after_doing by act w)
+all_learned by event answer [] w = sym (append-nil w.learned)
+all_learned by event answer (act ∷ acts) w =
+    all_learned by event answer acts (after_done (record { by = by; event = event; act = act; answer = answer }) w)
     ∙ ap (λ learned. learned ++ learned_rows by (learnt_of acts)) (learned_is by act w.learned)
     ∙ append_assoc w.learned (learned_rows by (learnt_by act)) (learned_rows by (learnt_of acts))
     ∙ ap (λ rows. w.learned ++ rows) (sym (map-append _ (learnt_by act) (learnt_of acts)))
+
+-- what was answered stays answered
+answered_more : (by : ℕ) (act : Act) (answer : Option Kind) (answered : List Ending) (ending : Ending) → Contains answered ending → Contains (answered_after by act answer answered) ending
+answered_more by (Call row) (Some kind) answered ending has = Contains-append_left answered (record { to = by; job = row.name.job; at = row.name.at; kind = kind } ∷ []) ending has
+answered_more by (Call row) None answered ending has = has
+answered_more by act answer answered ending has = has
+
+pub all_answered_more : (by : ℕ) (event : Option Event) (answer : Option Kind) (acts : List Act) (w : World) (ending : Ending) → Contains w.answered ending → Contains (after_all (doings_of by event answer acts) w).answered ending
+unfolding after_doing
+all_answered_more by event answer [] w ending has = has
+all_answered_more by event answer (act ∷ acts) w ending has =
+    all_answered_more by event answer acts (after_done (record { by = by; event = event; act = act; answer = answer }) w) ending (answered_more by act answer w.answered ending has)
+
+-- the answer to a call that the acts make is answered
+pub all_answered : (by : ℕ) (event : Option Event) (kind : Kind) (acts : List Act) (w : World) (row : SchedRow) → Contains acts (Call row)
+    → Contains (after_all (doings_of by event (Some kind) acts) w).answered (record { to = by; job = row.name.job; at = row.name.at; kind = kind })
+unfolding after_doing
+all_answered by event kind [] w row has = nothing_in has
+all_answered by event kind (act ∷ acts) w row has = elim (cons_cases act acts (Call row) has) [
+  | inl same ↦ all_answered_more by event (Some kind) acts (after_done (record { by = by; event = event; act = act; answer = Some kind }) w) _
+      (rw same (Contains-push w.answered (record { to = by; job = row.name.job; at = row.name.at; kind = kind })))
+  | inr later ↦ all_answered by event kind acts (after_done (record { by = by; event = event; act = act; answer = Some kind }) w) row later
+]
 
 -- what was said stays said
 said_more : (by : ℕ) (act : Act) (said : List Saying) (saying : Saying) → Contains said saying → Contains (said_after by act said) saying
 said_more by (Send whom mine) said saying has = Contains-append_left said (record { by = by; message = mine } ∷ []) saying has
 said_more by act said saying has = has
 
-pub all_said_more : (by : ℕ) (acts : List Act) (w : World) (saying : Saying) → Contains w.said saying → Contains (after_all (doings_of by acts) w).said saying
+pub all_said_more : (by : ℕ) (event : Option Event) (answer : Option Kind) (acts : List Act) (w : World) (saying : Saying) → Contains w.said saying → Contains (after_all (doings_of by event answer acts) w).said saying
 unfolding after_doing
-all_said_more by [] w saying has = has
-all_said_more by (act ∷ acts) w saying has = all_said_more by acts (after_doing by act w) saying (said_more by act w.said saying has)
+all_said_more by event answer [] w saying has = has
+all_said_more by event answer (act ∷ acts) w saying has = all_said_more by event answer acts (after_done (record { by = by; event = event; act = act; answer = answer }) w) saying (said_more by act w.said saying has)
 
 -- a message that the acts send
 abbrev pub Sends : List Act → Message → Type 0
 Sends acts message = (whom : Whom) × Contains acts (Send whom message)
 
 -- what the acts send is said
-pub all_said : (by : ℕ) (acts : List Act) (w : World) (message : Message) → Sends acts message → HasSaid (after_all (doings_of by acts) w).said by message
+pub all_said : (by : ℕ) (event : Option Event) (answer : Option Kind) (acts : List Act) (w : World) (message : Message) → Sends acts message → HasSaid (after_all (doings_of by event answer acts) w).said by message
 unfolding after_doing
-all_said by [] w message (whom, (k, within, is)) = absurd (omega (arith, within))
-all_said by (act ∷ acts) w message (whom, has) =
+all_said by event answer [] w message (whom, (k, within, is)) = absurd (omega (arith, within))
+all_said by event answer (act ∷ acts) w message (whom, has) =
     elim (Contains-append_cases (act ∷ []) acts (Send whom message) has) [
       | inl here ↦ elim (Contains-push_cases [] act (Send whom message) here) [
         | inl (k, within, is) ↦ absurd (omega (arith, within))
-        | inr same ↦ all_said_more by acts (after_doing by act w) (record { by = by; message = message })
+        | inr same ↦ all_said_more by event answer acts (after_done (record { by = by; event = event; act = act; answer = answer }) w) (record { by = by; message = message })
             (rw same (Contains-push w.said (record { by = by; message = message })))
       ]
-      | inr later ↦ all_said by acts (after_doing by act w) message (whom, later)
+      | inr later ↦ all_said by event answer acts (after_done (record { by = by; event = event; act = act; answer = answer }) w) message (whom, later)
     ]
 
 -- ---- a stop within a step
@@ -114,7 +141,7 @@ abbrev has_delta : Act → Bool
 has_delta (Stand me ballot) = true
 has_delta (Pledge ballot) = true
 has_delta (Cast vote) = true
-has_delta (Launch me vote) = true
+has_delta (Propose me vote) = true
 has_delta (Rebase slot rows) = true
 has_delta act = false
 
@@ -141,7 +168,7 @@ quiet (Gather from votes) state none = (refl, refl, refl)
 quiet TakeLead state none = (refl, refl, refl)
 quiet (Pledge ballot) state none = absurd cc
 quiet (Cast vote) state none = absurd cc
-quiet (Launch me vote) state none = absurd cc
+quiet (Propose me vote) state none = absurd cc
 quiet (Count from) state none = (refl, refl, refl)
 quiet Wait state none = (refl, refl, refl)
 quiet (Learn slot entry) state none = (refl, refl, refl)
@@ -159,7 +186,7 @@ loud (Gather from votes) state some = absurd cc
 loud TakeLead state some = absurd cc
 loud (Pledge ballot) state some = (Promised ballot, refl, refl, refl, refl)
 loud (Cast vote) state some = (Voted vote, refl, refl, refl, refl)
-loud (Launch me vote) state some = (Voted vote, refl, refl, refl, refl)
+loud (Propose me vote) state some = (Voted vote, refl, refl, refl, refl)
 loud (Count from) state some = absurd cc
 loud Wait state some = absurd cc
 loud (Learn slot entry) state some = absurd cc

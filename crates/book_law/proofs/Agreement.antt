@@ -3,7 +3,8 @@ use Rattle.std.proofs.Common.{◌≡◌, ℕ, zero, suc, ◌≤◌, Some, List, 
 use Rattle.std.specs.List.{slice_get}
 use Rattle.paxos_base.specs.declared.entry.Entry.{Entry}
 use Rattle.due_set.specs.Table.{Table}
-use Rattle.launch_machine.specs.Clerk.{fresh_rows}
+use Rattle.launch_machine.specs.Clerk.{first_rows}
+use Rattle.launch_machine.proofs.ExistLemmas.{all_applied}
 use Rattle.agree_law.specs.Agree.{IsChosen}
 use Rattle.agree_law.specs.Log.{FollowsLog, IsLog}
 use Rattle.agree_law.specs.Transition.{after_transitions}
@@ -30,22 +31,22 @@ cut_finds (y ∷ xs) (suc k) (suc i) x is = let rest = cut_finds xs k i x is in 
 pub cut_is_legal : (n : ℕ) (table : Table) (book : List Row) (k : ℕ) → IsLegal n table book → IsLegal n table (take k book)
 cut_is_legal n table book k legal i row is =
     let found = cut_finds book k i row is in
-    subst (λ rows. MayFollow n table (standing_after n (fresh_rows table) rows) row.turn row) (sym found.1) (legal i row found.0)
+    subst (λ rows. MayFollow n table (standing_after n (first_rows table) rows) row.turn row) (sym found.1) (legal i row found.0)
 
 -- ---- agreement
 
 -- a world that comes to what a legal book comes to
 record Stands (n : ℕ) (table : Table) (book : List Row) : Type 0 where
   w : World
-  followed : IsFollowed n table (fresh_rows table) w
-  matches : Matches n (length table.jobs) (standing_after n (fresh_rows table) book) (votes_in book) (learned_in book) w
+  followed : IsFollowed n table (first_rows table) w
+  matches : Matches n (length table.jobs) (standing_after n (first_rows table) book) (votes_in book) (learned_in book) w
 
 stands : (n : ℕ) (table : Table) (book : List Row) → n ≤ 7 → IsLegal n table book → Stands n table book
 stands n table book few legal =
     let to = reaches n table book legal in
     record {
-      w = after_transitions n to.turns (first_world (fresh_rows table));
-      followed = transitions_followed n table (fresh_rows table) (first_world (fresh_rows table)) to.turns few (first_followed n table (fresh_rows table)) to.are;
+      w = after_transitions n to.turns (first_world (first_rows table));
+      followed = transitions_followed n table (first_rows table) (first_world (first_rows table)) to.turns few (first_followed n table (first_rows table)) to.are;
       matches = to.matches;
     }
 
@@ -55,6 +56,9 @@ agrees n table book few legal = record {
   one = λ a b has_a has_b slots.
       whole_one n there.w a.slot a.entry b.entry whole (whole.known.rows a (there.matches.learned_of a has_a)) (rw slots (whole.known.rows b (there.matches.learned_of b has_b)));
   follow = λ log is_log who runs. follow log (subst (λ cast. IsLog n cast log) (sym there.matches.cast) is_log) who;
+  has_table = λ sound who runs.
+      let state = (standing_after n (first_rows table) book).replicas who in
+      all_applied table sound state.kept.rows state.learned;
 }
   where
     there : Stands n table book
@@ -63,11 +67,11 @@ agrees n table book few legal = record {
     whole : IsWhole n there.w
     whole = there.followed.whole
 
-    follow : (log : List Entry) → IsLog n there.w.cast log → (who : ℕ) → FollowsLog table log ((standing_after n (fresh_rows table) book).replicas who)
+    follow : (log : List Entry) → IsLog n there.w.cast log → (who : ℕ) → FollowsLog table log ((standing_after n (first_rows table) book).replicas who)
     follow log is_log who =
         subst (λ s. FollowsLog table log s) (there.matches.replicas who) (record {
-          short = short_of n table (fresh_rows table) there.w log who whole there.followed.tables is_log;
-          table_is = λ rows is_table. (follows n table (fresh_rows table) there.w log who rows whole there.followed.tables is_log is_table).1;
+          short = short_of n table (first_rows table) there.w log who whole there.followed.tables is_log;
+          table_is = λ rows is_table. (follows n table (first_rows table) there.w log who rows whole there.followed.tables is_log is_table).1;
         })
 
 pub book_log : (n : ℕ) (table : Table) (book : List Row) → n ≤ 7 → IsLegal n table book → (log : List Entry) × IsLog n (votes_in book) log

@@ -13,7 +13,8 @@ use Rattle.due_set.specs.Due.{Matches}
 use Rattle.due_set.specs.Table.{IsJobDue, IsJobIn, IsNextDue, Job, Table}
 use Rattle.due_set.specs.declared.job.JobKind.TheVariants.{Crontab}
 use Rattle.launch_machine.specs.Answers.{IsCallKind}
-use Rattle.launch_machine.specs.Clerk.{TakesStart, fresh_row, fresh_rows}
+use Rattle.paxos_base.specs.Rows.{fresh_row}
+use Rattle.launch_machine.specs.Clerk.{TakesStart, first_rows}
 use Rattle.launch_machine.specs.Intent.{IsFirstCall, NoCall}
 use Rattle.paxos_base.specs.declared.entry.Kind.TheVariants.{Launch}
 use Rattle.paxos_base.specs.declared.rows.JobRow.{JobRow}
@@ -71,13 +72,13 @@ due = record {
 next : IsNextDue busy 0 None (pos 0)
 next = record { due = due; later = tt; least = λ other is after. is.inside.since }
 
-takes : TakesStart busy (fresh_rows busy) 0 (pos 0) (pos 0)
+takes : TakesStart busy (first_rows busy) 0 (pos 0) (pos 0)
 takes = record { row = fresh_row 0; is_row = refl; idle = refl; may = inl (next, grind arith) }
 
 nothing_below : (before : ℕ) → before < 0 → ⊥
 nothing_below before less = omega (arith, less)
 
-no_call : NoCall busy (fresh_rows busy) (pos 0)
+no_call : NoCall busy (first_rows busy) (pos 0)
 no_call zero at may = let row : fresh_row 0 ≡ may.row = cc in let shut : None ≡ Some may.since = ap (λ r. r.open_now) row ∙ may.is_open in cc
 no_call (suc job) at may = let none : None ≡ Some may.row = may.is_row in cc
 

@@ -1,7 +1,7 @@
 -- Turns that no book of two replicas without jobs may begin with.
 use Rattle.std.proofs.Common.{◌≡◌, ℕ, ℤ, pos, Bool, true, false, Option, Some, None, List, [], ◌∷◌, length, refl, ap, arith, subst}
 use Rattle.std.specs.List.{Contains, slice_get}
-use Rattle.launch_machine.specs.Clerk.{fresh_rows}
+use Rattle.launch_machine.specs.Clerk.{first_rows}
 use Rattle.launch_machine.specs.declared.machine.Intent.TheVariants as intent
 use Rattle.paxos_base.specs.Members.{with_member}
 use Rattle.cluster_sched.specs.declared.row.SchedRow.{SchedRow}
@@ -70,7 +70,7 @@ one_letter_of_a_campaign row (takes, brings) =
     one (letter ∷ other ∷ letters) zips = absurd zips.1
 
 -- a replica that has stopped takes no turn
-pub no_turn_of_a_stopped : (first row : Row) (cause : Cause) (made : Option CallRow) → first.turn ≡ Stopped 0 None false → MayFollow 2 no_jobs (standing_after 2 (fresh_rows no_jobs) (first ∷ [])) (Did 0 cause made) row → ⊥
+pub no_turn_of_a_stopped : (first row : Row) (cause : Cause) (made : Option CallRow) → first.turn ≡ Stopped 0 None false → MayFollow 2 no_jobs (standing_after 2 (first_rows no_jobs) (first ∷ [])) (Did 0 cause made) row → ⊥
 unfolding after_row
 no_turn_of_a_stopped first row cause made is (takes, brings) =
     let runs : false ≡ true = subst (λ turn. (after_row 2 beginning turn first.event first.letters).runs 0 ≡ true) is takes.runs in cc
@@ -91,7 +91,7 @@ no_plan row job at is (takes, brings) =
     none there = cc
 
 -- a letter is heard by its addressee alone
-pub no_other_addressee : (first row : Row) (made : Option CallRow) → first.turn ≡ Did 0 Campaign None → MayFollow 2 no_jobs beginning first.turn first → MayFollow 2 no_jobs (standing_after 2 (fresh_rows no_jobs) (first ∷ [])) (Did 0 (Hear 0) made) row → ⊥
+pub no_other_addressee : (first row : Row) (made : Option CallRow) → first.turn ≡ Did 0 Campaign None → MayFollow 2 no_jobs beginning first.turn first → MayFollow 2 no_jobs (standing_after 2 (first_rows no_jobs) (first ∷ [])) (Did 0 (Hear 0) made) row → ⊥
 unfolding step campaign sent_by with_member after_row
 no_other_addressee first row made is may (takes, brings) =
     let began : MayFollow 2 no_jobs beginning (Did 0 Campaign None) first = subst (λ turn. MayFollow 2 no_jobs beginning turn first) is may in

@@ -5,7 +5,7 @@ use Rattle.paxos_letter.specs.Letters.{Spells}
 use Rattle.paxos_letter.specs.Spelling.{spelling}
 use Rattle.paxos_letter.specs.declared.packet.Packet.{Packet}
 use Rattle.paxos_letter.specs.declared.packet.Packet.TheVariants as packet
-use Rattle.launch_machine.specs.Clerk.{fresh_rows}
+use Rattle.launch_machine.specs.Clerk.{first_rows}
 use Rattle.launch_machine.specs.declared.machine.Intent.TheVariants as intent
 use Rattle.step_law.specs.Act.{after_act}
 use Rattle.step_law.specs.Folds.{calls_by, deltas_by, learnt_by, sent_by}
@@ -67,7 +67,7 @@ abbrev pub some_book : List Row
 some_book = stands_for ∷ promises ∷ takes_lead ∷ ticks ∷ refuses ∷ stops ∷ starts ∷ stops_within ∷ starts_too ∷ []
 
 abbrev standing_at : ℕ → Standing
-standing_at k = standing_after 2 (fresh_rows no_jobs) (take k some_book)
+standing_at k = standing_after 2 (first_rows no_jobs) (take k some_book)
 
 prepare_spells : Spells 2 0 (packet.Prepare 8 0 ∷ []) (one_letter 0 (packet.Prepare 8 0))
 prepare_spells = record {

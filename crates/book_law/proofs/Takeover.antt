@@ -5,7 +5,7 @@ use Rattle.paxos_letter.specs.Letters.{Spells}
 use Rattle.paxos_letter.specs.Spelling.{spelling}
 use Rattle.paxos_letter.specs.declared.packet.Packet.{Packet}
 use Rattle.paxos_letter.specs.declared.packet.Packet.TheVariants as packet
-use Rattle.launch_machine.specs.Clerk.{AppliesAll, fresh_rows}
+use Rattle.launch_machine.specs.Clerk.{AppliesAll, first_rows}
 use Rattle.launch_machine.specs.declared.machine.Intent.TheVariants as intent
 use Rattle.paxos_base.specs.Durable.{after_delta}
 use Rattle.paxos_base.specs.Members.{with_member}
@@ -63,7 +63,7 @@ module _ (table : Table) (job : ℕ) (at now : ℤ) where
   done_call_row = record { row = launch_row job at now; fate = Done; answer = Some (launch_row job at now) }
 
   abbrev start_event : Event
-  start_event = Tick now (record { rows = fresh_rows table; intent = intent.Start job at })
+  start_event = Tick now (record { rows = first_rows table; intent = intent.Start job at })
 
   abbrev call_event : Event
   call_event = Tick now (record { rows = started_rows table job at now; intent = intent.Call job at Launch })
@@ -138,7 +138,7 @@ module _ (table : Table) (job : ℕ) (at now : ℤ) where
   book = r0 ∷ r1 ∷ r2 ∷ r3 ∷ r4 ∷ r5 ∷ r6 ∷ r7 ∷ r8 ∷ r9 ∷ r10 ∷ r11 ∷ r12 ∷ r13 ∷ r14 ∷ r15 ∷ r16 ∷ r17 ∷ r18 ∷ r19 ∷ r20 ∷ []
 
   abbrev standing_at : ℕ → Standing
-  standing_at k = standing_after 3 (fresh_rows table) (take k book)
+  standing_at k = standing_after 3 (first_rows table) (take k book)
 
   prepare8_spells : AsksFor table job at now → Spells 3 0 (packet.Prepare 8 0 ∷ []) (spelling 0 (packet.Prepare 8 0 ∷ []))
   prepare8_spells asks = record {
@@ -218,7 +218,7 @@ module _ (table : Table) (job : ℕ) (at now : ℤ) where
   }
 
   -- the launch table after the start
-  started : AsksFor table job at now → AppliesAll table (fresh_rows table) (start_of job at now ∷ []) (started_rows table job at now)
+  started : AsksFor table job at now → AppliesAll table (first_rows table) (start_of job at now ∷ []) (started_rows table job at now)
   started asks = (started_rows table job at now, inl (asks.start.1.takes, refl), refl)
 
   may0 : AsksFor table job at now → MayFollow 3 table (standing_at 0) r0.turn r0
@@ -245,7 +245,7 @@ module _ (table : Table) (job : ℕ) (at now : ℤ) where
   may3 : AsksFor table job at now → MayFollow 3 table (standing_at 3) r3.turn r3
   unfolding step campaign propose answer tick hear hear_all line on_prepare on_promise on_accept on_accepted on_known after_row after_act after_delta deltas_by learnt_by calls_by sent_by with_member votes_from votes_below put_vote vote_at with_vote packets_of messages_of
   may3 asks = (
-    record { member = lit< tt; runs = refl; event_of = (asks.inside, record { rows = fresh_rows table; intent = intent.Start job at }, refl); planned = (refl, asks.start) },
+    record { member = lit< tt; runs = refl; event_of = (asks.inside, record { rows = first_rows table; intent = intent.Start job at }, refl); planned = (refl, asks.start) },
     record { letters = (record { to = refl; spells = accept8_spells asks }, (record { to = refl; spells = accept8_spells asks }, tt)); votes = refl; learnt = refl; call = refl },
   )
 
@@ -296,7 +296,7 @@ module _ (table : Table) (job : ℕ) (at now : ℤ) where
   may12 : AsksFor table job at now → MayFollow 3 table (standing_at 12) r12.turn r12
   unfolding step campaign propose answer tick hear hear_all line on_prepare on_promise on_accept on_accepted on_known after_row after_act after_delta deltas_by learnt_by calls_by sent_by with_member votes_from votes_below put_vote vote_at with_vote packets_of messages_of
   may12 asks = (
-    record { member = lit< tt; runs = refl; event_of = (asks.inside, record { rows = fresh_rows table; intent = intent.Start job at }, refl); planned = (refl, asks.start) },
+    record { member = lit< tt; runs = refl; event_of = (asks.inside, record { rows = first_rows table; intent = intent.Start job at }, refl); planned = (refl, asks.start) },
     record { letters = (record { to = refl; spells = accept10_spells asks }, (record { to = refl; spells = accept10_spells asks }, tt)); votes = refl; learnt = refl; call = refl },
   )
 

@@ -11,7 +11,7 @@ use Rattle.paxos_base.specs.declared.rows.JobRow.{JobRow}
 use Rattle.cluster_sched.specs.Fates.{added, call}
 use Rattle.cluster_sched.specs.declared.row.Name.{Name}
 use Rattle.cluster_sched.specs.declared.row.SchedRow.{SchedRow}
-use Rattle.step_law.specs.Act.{Act, Cast, Launch}
+use Rattle.step_law.specs.Act.{Act, Cast, Propose}
 use Rattle.step_law.specs.Folds.{after_acts, deltas_of}
 use Rattle.step_law.specs.State.{Identity, State, started}
 use Rattle.step_law.specs.Step.{Event, step}
@@ -173,7 +173,7 @@ learned_in book = flat_map (λ row. map (λ (learnt : LearntRow). record { by = 
 -- the votes of an act
 abbrev pub votes_by : Act → List Vote
 votes_by (Cast vote) = vote ∷ []
-votes_by (Launch me vote) = vote ∷ []
+votes_by (Propose me vote) = vote ∷ []
 votes_by act = []
 
 -- the votes of some acts

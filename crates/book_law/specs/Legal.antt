@@ -2,7 +2,7 @@
 use Rattle.std.specs.Prelude.{◌≡◌, ℕ, ◌<◌, Bool, true, false, List, [], ◌∷◌, length, take, Option, None, Some, Result, Ok, Err, slice_get, Contains}
 use Rattle.zone_minutes.specs.Window.{IsInWindow}
 use Rattle.due_set.specs.Table.{Table}
-use Rattle.launch_machine.specs.Clerk.{fresh_rows}
+use Rattle.launch_machine.specs.Clerk.{first_rows}
 use Rattle.paxos_base.specs.declared.durable.Delta.{Delta}
 use Rattle.paxos_base.specs.declared.entry.Vote.{Vote}
 use Rattle.cluster_sched.specs.Fates.{call}
@@ -114,4 +114,4 @@ MayFollow members table standing (Arrived number) row = IsLate standing number �
 abbrev pub IsLegal : ℕ → Table → List Row → Type 0
 IsLegal members table book =
     (number : ℕ) (row : Row) → slice_get book number ≡ Some row
-    → MayFollow members table (standing_after members (fresh_rows table) (take number book)) row.turn row
+    → MayFollow members table (standing_after members (first_rows table) (take number book)) row.turn row

@@ -1,7 +1,7 @@
 -- Some turns of two replicas over a table without jobs.
 use Rattle.std.specs.Prelude.{pos, true, false, List, [], ◌∷◌, None, Some}
 use Rattle.due_set.specs.Table.{Table}
-use Rattle.launch_machine.specs.Clerk.{fresh_rows}
+use Rattle.launch_machine.specs.Clerk.{first_rows}
 use Rattle.book_law.specs.Book.{Standing, first_standing}
 use Rattle.book_law.specs.declared.turn.Cause.TheVariants.{Campaign, Tick, Hear}
 use Rattle.book_law.specs.declared.turn.Turn.{Turn}
@@ -29,4 +29,4 @@ some_turns =
 
 -- what stands before the first turn of two replicas over that table
 abbrev pub beginning : Standing
-beginning = first_standing 2 (fresh_rows no_jobs)
+beginning = first_standing 2 (first_rows no_jobs)

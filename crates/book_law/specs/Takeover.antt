@@ -10,7 +10,7 @@ use Rattle.paxos_base.specs.declared.rows.JobRow.{JobRow}
 use Rattle.cluster_sched.specs.declared.fate.Fate.TheVariants.{Done, Late}
 use Rattle.cluster_sched.specs.declared.row.SchedRow.{SchedRow}
 use Rattle.launch_machine.specs.Answers.{IsIntent}
-use Rattle.launch_machine.specs.Clerk.{fresh_rows, rows_after}
+use Rattle.launch_machine.specs.Clerk.{first_rows, rows_after}
 use Rattle.launch_machine.specs.declared.machine.Intent.TheVariants as intent
 use Rattle.agree_law.specs.World.{Learning}
 use Rattle.book_law.specs.declared.turn.Cause.TheVariants.{Campaign, Tick, Hear, Answer}
@@ -23,12 +23,12 @@ start_of job at now = entry.Start job at now
 
 -- the launch table after that start alone
 abbrev pub started_rows : Table → ℕ → (at now : ℤ) → List JobRow
-started_rows table job at now = rows_after (fresh_rows table) (start_of job at now)
+started_rows table job at now = rows_after (first_rows table) (start_of job at now)
 
 -- At a clock reading in its window the table asks for the start of a launch, and then for its call.
 pub record AsksFor (table : Table) (job : ℕ) (at now : ℤ) : Type 0 where
   pub inside : IsInWindow table.window now
-  pub start : IsIntent table (fresh_rows table) now (intent.Start job at)
+  pub start : IsIntent table (first_rows table) now (intent.Start job at)
   pub call : IsIntent table (started_rows table job at now) now (intent.Call job at Launch)
   pub job_fits : job < 2 ^ 32
   pub at_fits : FitsSigned w64 at

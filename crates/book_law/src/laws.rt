@@ -1,23 +1,29 @@
 //! Laws of books. Each is the contract of a function that does nothing.
-ghost use Rattle.std.specs.Prelude.{◌≡◌, ◌≤◌, ℕ, ℤ, pos, Bool, true, false, List, [], ◌∷◌, length, map, take, Option, None, Some, Contains};
+ghost use Rattle.std.specs.Prelude.{◌≡◌, ◌≢◌, ◌⊎◌, ◌≤◌, ℕ, ℤ, pos, Bool, true, false, List, [], ◌∷◌, ◌++◌, length, map, take, slice_get, Option, None, Some, Contains};
 ghost use Rattle.paxos_base.specs.declared.entry.Entry.{Entry};
-ghost use Rattle.due_set.specs.Table.{Table};
-ghost use Rattle.launch_machine.specs.Clerk.{fresh_rows};
+ghost use Rattle.due_set.specs.Table.{IsSound, Table};
+ghost use Rattle.paxos_base.specs.declared.rows.JobRow.{JobRow};
+ghost use Rattle.launch_machine.specs.Clerk.{first_rows};
 ghost use Rattle.launch_machine.specs.declared.machine.Intent.TheVariants.{Start};
+ghost use Rattle.cluster_sched.specs.Held.{AreNamedOnce};
+ghost use Rattle.cluster_sched.specs.declared.row.Name.{Name};
 ghost use Rattle.cluster_sched.specs.declared.row.SchedRow.{SchedRow};
 ghost use Rattle.step_law.specs.Folds.{calls_of};
+ghost use Rattle.step_law.specs.Step.{Event, IsLaunchTable};
 ghost use Rattle.step_law.specs.Step as told;
+ghost use Rattle.step_law.specs.declared.out.OutLetter.{OutLetter};
 ghost use Rattle.agree_law.specs.Agree.{IsChosen};
 ghost use Rattle.agree_law.specs.Log.{FollowsLog, IsLog};
 ghost use Rattle.agree_law.specs.World.{Learning};
 ghost use Rattle.book_law.specs.Agrees.{Agrees};
-ghost use Rattle.book_law.specs.Book.{Row, Standing, acts_at, learned_in, standing_after, votes_in};
+ghost use Rattle.book_law.specs.Book.{Row, Standing, acts_at, after_row, learned_in, standing_after, turn_of, under, votes_in};
 ghost use Rattle.book_law.specs.Legal.{IsLegal, MayFollow};
 ghost use Rattle.book_law.specs.Takeover.{AsksFor, learned_twice, takeover};
 ghost use Rattle.book_law.specs.Some.{beginning, no_jobs, some_turns};
 ghost use Rattle.book_law.specs.declared.turn.CallRow.{CallRow};
 ghost use Rattle.book_law.specs.declared.turn.Cause.{Cause};
 ghost use Rattle.book_law.specs.declared.turn.Cause.TheVariants.{Campaign, Tick, Hear, Answer};
+ghost use Rattle.book_law.specs.declared.turn.Turn.{Turn};
 ghost use Rattle.book_law.specs.declared.turn.Turn.TheVariants.{Did, Stopped, Restarted, Arrived};
 
 /// Each legal book of one to seven replicas agrees, after each of its turns: what was learned was chosen, no two entries were
@@ -72,13 +78,13 @@ pub fn some_turns_are_not_legal()
         → MayFollow 2 no_jobs beginning (Did 0 (Tick (record { 0 = pos 0 })) None) row → ⊥ }
     ensures addressee { (first row : Row) (made : Option CallRow) → first.turn ≡ Did 0 Campaign None
         → MayFollow 2 no_jobs beginning first.turn first
-        → MayFollow 2 no_jobs (standing_after 2 (fresh_rows no_jobs) (first ∷ [])) (Did 0 (Hear 0) made) row → ⊥ }
+        → MayFollow 2 no_jobs (standing_after 2 (first_rows no_jobs) (first ∷ [])) (Did 0 (Hear 0) made) row → ⊥ }
     ensures second { (standing : Standing) (row : Row) (number : ℕ) → Contains standing.arrived number
         → MayFollow 2 no_jobs standing (Arrived number) row → ⊥ }
     ensures unmade { (standing : Standing) (row : Row) (who : ℕ) (cause : Cause) (call : SchedRow) (calls : List SchedRow)
         → calls_of (acts_at 2 standing who row.event) ≡ call ∷ calls → MayFollow 2 no_jobs standing (Did who cause None) row → ⊥ }
     ensures stopped { (first row : Row) (cause : Cause) (made : Option CallRow) → first.turn ≡ Stopped 0 None false
-        → MayFollow 2 no_jobs (standing_after 2 (fresh_rows no_jobs) (first ∷ [])) (Did 0 cause made) row → ⊥ }
+        → MayFollow 2 no_jobs (standing_after 2 (first_rows no_jobs) (first ∷ [])) (Did 0 cause made) row → ⊥ }
 {}
 
 /// There is a legal book with a takeover for each table that asks for a start, and then for its call: with votes in two
@@ -98,6 +104,72 @@ pub fn what_agreement_says()
     ensures one { (members : ℕ) (table : Table) (book : List Row) (a b : Learning) → Agrees members table book
         → Contains (learned_in book) a → Contains (learned_in book) b → a.slot ≡ b.slot → a.entry ≡ b.entry }
     ensures follow { (members : ℕ) (table : Table) (book : List Row) (log : List Entry) (who : ℕ) → Agrees members table book
-        → IsLog members (votes_in book) log → (standing_after members (fresh_rows table) book).runs who ≡ true
-        → FollowsLog table log ((standing_after members (fresh_rows table) book).replicas who) }
+        → IsLog members (votes_in book) log → (standing_after members (first_rows table) book).runs who ≡ true
+        → FollowsLog table log ((standing_after members (first_rows table) book).replicas who) }
+    ensures has_table { (members : ℕ) (table : Table) (book : List Row) (who : ℕ) → Agrees members table book → IsSound table
+        → (standing_after members (first_rows table) book).runs who ≡ true
+        → (rows : List JobRow) × IsLaunchTable table ((standing_after members (first_rows table) book).replicas who) rows }
+{}
+
+/// Whatever turn comes, what is held under a name stays held, and no name gains a second row.
+pub fn a_held_name_stays()
+    ensures stays { (members : ℕ) (standing : Standing) (turn : Turn) (event : Event) (letters : List OutLetter) (name : Name) (row : SchedRow)
+        → under name standing.held ≡ Some row → under name (after_row members standing turn event letters).held ≡ Some row }
+    ensures once { (members : ℕ) (standing : Standing) (turn : Turn) (event : Event) (letters : List OutLetter)
+        → AreNamedOnce standing.held → AreNamedOnce (after_row members standing turn event letters).held }
+{}
+
+/// After its turn a replica has the answer to the call that it made, and none where it made none or none came; a stop takes the
+/// answer away; no other turn changes what waits for it. A replica that takes an answer takes the one that waits: its launch,
+/// and what that came to.
+pub fn an_answer_waits_after_an_answered_call()
+    ensures none { (members : ℕ) (standing : Standing) (who : ℕ) (cause : Cause) (event : Event) (letters : List OutLetter)
+        → (after_row members standing (Did who cause None) event letters).waits who ≡ None }
+    ensures made { (members : ℕ) (standing : Standing) (who : ℕ) (cause : Cause) (call : CallRow) (event : Event) (letters : List OutLetter)
+        → (after_row members standing (Did who cause (Some call)) event letters).waits who ≡ call.answer }
+    ensures stop { (members : ℕ) (standing : Standing) (who : ℕ) (cause : Option Cause) (kept : Bool) (event : Event) (letters : List OutLetter)
+        → (after_row members standing (Stopped who cause kept) event letters).waits who ≡ None }
+    ensures others { (members : ℕ) (standing : Standing) (turn : Turn) (event : Event) (letters : List OutLetter) (other : ℕ)
+        → other ≢ turn_of turn → (after_row members standing turn event letters).waits other ≡ standing.waits other }
+    ensures start { (members : ℕ) (standing : Standing) (who : ℕ) (event : Event) (letters : List OutLetter)
+        → (after_row members standing (Restarted who) event letters).waits ≡ standing.waits }
+    ensures arrival { (members : ℕ) (standing : Standing) (number : ℕ) (event : Event) (letters : List OutLetter)
+        → (after_row members standing (Arrived number) event letters).waits ≡ standing.waits }
+    ensures taken { (members : ℕ) (table : Table) (standing : Standing) (who : ℕ) (made : Option CallRow) (row : Row)
+        → MayFollow members table standing (Did who Answer made) row
+        → (waiting : SchedRow) × (rows : List JobRow) × (standing.waits who ≡ Some waiting)
+        × (row.event ≡ told.Answer waiting.name.job waiting.name.at waiting.kind rows) }
+{}
+
+/// A call of a turn is the one that the step asks for, and the answer to it is the row that is held under its name, or the
+/// call's own where none is.
+pub fn a_call_is_what_the_step_asks_for()
+    ensures asked { (members : ℕ) (table : Table) (standing : Standing) (who : ℕ) (cause : Cause) (made : CallRow) (row : Row)
+        → MayFollow members table standing (Did who cause (Some made)) row
+        → calls_of (acts_at members standing who row.event) ≡ made.row ∷ [] }
+    ensures answer { (members : ℕ) (table : Table) (standing : Standing) (who : ℕ) (cause : Cause) (made : CallRow) (row : Row) (answer : SchedRow)
+        → MayFollow members table standing (Did who cause (Some made)) row → made.answer ≡ Some answer
+        → (under made.row.name standing.held ≡ Some answer) ⊎ ((under made.row.name standing.held ≡ None) × (answer ≡ made.row)) }
+{}
+
+/// A stop leaves the scheduler's rows, the late calls, those that have arrived, and the letters.
+pub fn a_stop_leaves_what_is_outside()
+    ensures held { (members : ℕ) (standing : Standing) (who : ℕ) (cause : Option Cause) (kept : Bool) (event : Event) (letters : List OutLetter)
+        → (after_row members standing (Stopped who cause kept) event letters).held ≡ standing.held }
+    ensures late { (members : ℕ) (standing : Standing) (who : ℕ) (cause : Option Cause) (kept : Bool) (event : Event) (letters : List OutLetter)
+        → (after_row members standing (Stopped who cause kept) event letters).late ≡ standing.late }
+    ensures arrived { (members : ℕ) (standing : Standing) (who : ℕ) (cause : Option Cause) (kept : Bool) (event : Event) (letters : List OutLetter)
+        → (after_row members standing (Stopped who cause kept) event letters).arrived ≡ standing.arrived }
+    ensures posted { (members : ℕ) (standing : Standing) (who : ℕ) (cause : Option Cause) (kept : Bool) (event : Event) (letters : List OutLetter)
+        → (after_row members standing (Stopped who cause kept) event letters).posted ≡ standing.posted }
+{}
+
+/// What arrives is a late call that has not arrived before; then its name is held, and it has arrived.
+pub fn a_late_call_arrives_once()
+    ensures late { (members : ℕ) (table : Table) (standing : Standing) (number : ℕ) (row : Row)
+        → MayFollow members table standing (Arrived number) row
+        → (call : SchedRow) × (slice_get standing.late number ≡ Some call) × (Contains standing.arrived number → ⊥)
+        × (first : SchedRow) × (under call.name (after_row members standing (Arrived number) row.event row.letters).held ≡ Some first) }
+    ensures marked { (members : ℕ) (standing : Standing) (number : ℕ) (event : Event) (letters : List OutLetter)
+        → (after_row members standing (Arrived number) event letters).arrived ≡ standing.arrived ++ number ∷ [] }
 {}

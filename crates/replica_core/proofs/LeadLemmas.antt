@@ -23,7 +23,7 @@ use Rattle.term_core.specs.declared.flight.Flight.{Flight}
 use Rattle.term_core.specs.declared.term.Term.{Term}
 use Rattle.term_core.specs.declared.term.Term.TheVariants.{Follower, Candidate, Leader}
 use Rattle.term_core.proofs.BestLemmas.{AllBelow, below_last}
-use Rattle.step_law.specs.Act.{Act, Launch, Learn, Send, Stand, Wait, after_act}
+use Rattle.step_law.specs.Act.{Act, Propose, Learn, Send, Stand, Wait, after_act}
 use Rattle.step_law.specs.Folds.{calls_by, deltas_by, learnt_by}
 use Rattle.step_law.specs.Message.{Accept, Known, Others, Outside, Prepare}
 use Rattle.step_law.specs.Propose.{answer, campaign, end_if, is_open, lead_if, lead_on, next_ballot, propose, tick, vote_of, wait}
@@ -134,32 +134,32 @@ chosen-acts kept old new slot entry at chooses =
     ∙ sym (done-append (Learn slot entry ∷ []) (Send Others (Known slot entry) ∷ []) (drafted kept old))
 
 -- the first two acts of a proposal, which leave the first slot that isn't learned where it is
-abbrev pub launched : ℕ → Vote → List Act
-launched me vote = Launch me vote ∷ Send Others (Accept vote) ∷ []
+abbrev pub proposed : ℕ → Vote → List Act
+proposed me vote = Propose me vote ∷ Send Others (Accept vote) ∷ []
 
-launched-prefix : (kept : Kept) (old middle : Draft) (me : ℕ) (vote : Vote) → Goes old middle (launched me vote) → prefix_of (drafted kept middle).state ≡ prefix_of (drafted kept old).state
+proposed-prefix : (kept : Kept) (old middle : Draft) (me : ℕ) (vote : Vote) → Goes old middle (proposed me vote) → prefix_of (drafted kept middle).state ≡ prefix_of (drafted kept old).state
 unfolding after_act after_delta
-launched-prefix kept old middle me vote goes = ap (λ desk. prefix_of desk.state) (goes kept)
+proposed-prefix kept old middle me vote goes = ap (λ desk. prefix_of desk.state) (goes kept)
 
 pub proposes : (acceptor : AcceptorState) (learner : LearnerState) (old middle new : Draft) (self : Identity) (vote : Vote) → has_majority self.members (only_member self.me) ≡ false
-    → Goes old middle (Launch self.me vote ∷ []) → Goes middle new (Send Others (Accept vote) ∷ [])
+    → Goes old middle (Propose self.me vote ∷ []) → Goes middle new (Send Others (Accept vote) ∷ [])
     → Does acceptor learner old new (λ state. propose self vote)
 unfolding propose
 proposes acceptor learner old middle new self vote waits first second kept is =
-    rw waits (goes-on old middle new (Launch self.me vote ∷ []) (Send Others (Accept vote) ∷ []) first second kept)
+    rw waits (goes-on old middle new (Propose self.me vote ∷ []) (Send Others (Accept vote) ∷ []) first second kept)
 
 pub proposes-alone : (acceptor : AcceptorState) (learner : LearnerState) (old middle sent new : Draft) (self : Identity) (vote : Vote) → has_majority self.members (only_member self.me) ≡ true
-    → vote.slot ≡ next_slot learner old → Goes old middle (Launch self.me vote ∷ []) → Goes middle sent (Send Others (Accept vote) ∷ [])
+    → vote.slot ≡ next_slot learner old → Goes old middle (Propose self.me vote ∷ []) → Goes middle sent (Send Others (Accept vote) ∷ [])
     → Chooses sent new vote.slot vote.entry → Does acceptor learner old new (λ state. propose self vote)
 unfolding propose
 proposes-alone acceptor learner old middle sent new self vote alone at first second chooses kept is =
-    let goes : Goes old sent (launched self.me vote) = goes-on old middle sent (Launch self.me vote ∷ []) (Send Others (Accept vote) ∷ []) first second in
+    let goes : Goes old sent (proposed self.me vote) = goes-on old middle sent (Propose self.me vote ∷ []) (Send Others (Accept vote) ∷ []) first second in
     let here : vote.slot ≡ prefix_of (drafted kept sent).state =
-    at ∙ sym (drafted-prefix acceptor learner old kept is) ∙ sym (launched-prefix kept old sent self.me vote goes) in
+    at ∙ sym (drafted-prefix acceptor learner old kept is) ∙ sym (proposed-prefix kept old sent self.me vote goes) in
     rw alone
     (chosen-acts kept sent new vote.slot vote.entry here chooses
     ∙ ap (done (Learn vote.slot vote.entry ∷ Send Others (Known vote.slot vote.entry) ∷ [])) (goes kept)
-    ∙ sym (done-append (launched self.me vote) (Learn vote.slot vote.entry ∷ Send Others (Known vote.slot vote.entry) ∷ []) (drafted kept old)))
+    ∙ sym (done-append (proposed self.me vote) (Learn vote.slot vote.entry ∷ Send Others (Known vote.slot vote.entry) ∷ []) (drafted kept old)))
 
 pub makes_proposal : (core : Core) (old new : Draft) (vote : Vote) → IsWhole core → drafted (kept_of core) old ≡ idle_desk core
     → Does core.acceptor core.learner old new (λ state. propose (identity_of core) vote) → Makes core (propose (identity_of core) vote) new

@@ -1,6 +1,6 @@
 -- How high the counts of a launch table are.
 use Rattle.std.specs.Prelude.{ℕ, List, [], ◌∷◌, max, slice_index_or}
-use Rattle.launch_machine.specs.Clerk.{fresh_row}
+use Rattle.paxos_base.specs.Rows.{fresh_row}
 use Rattle.paxos_base.specs.declared.entry.Entry.{Entry}
 use Rattle.paxos_base.specs.declared.entry.Entry.TheVariants.{End}
 use Rattle.paxos_base.specs.declared.rows.JobRow.{JobRow}

@@ -80,7 +80,7 @@ impl Core {
             tried: self.tried,
             acceptor: self.acceptor.copy()?,
             learner: self.learner.copy()?,
-            rows: copy_of(&self.rows)?,
+            rows: self.rows.clone()?,
             machine: self.machine.copy()?,
             term: self.term.copy()?,
             seen: self.seen,
@@ -254,21 +254,13 @@ fn bind(term: &mut Term, votes: VoteList)
     }
 }
 
-// Equal rows.
-fn copy_of(rows: &RowList) -> Result<RowList, OutOfMemory>
-    ensures { IfOk result (λ copy. copy ≡ rows.now) }
-{
-    let items = rows.items.clone()?;
-    Ok(RowList { items })
-}
-
 // The machine of a launch table that is one of the table of jobs.
 fn machine_of(alloc: Global, table: &JobTable, rows: &RowList) -> Result<Machine, OutOfMemory>
     requires { RowsStand rows.now (length table.now.jobs) }
     ensures rows { IfOk result (λ machine. machine.rows ≡ rows.now) }
     ensures stands { IfOk result (λ machine. StandsFor table.now machine) }
 {
-    match Machine::from_rows(alloc, table, copy_of(rows)?)? {
+    match Machine::from_rows(alloc, table, rows.clone()?)? {
         Some(machine) => Ok(machine),
         None => unreachable!(),
     }

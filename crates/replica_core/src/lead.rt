@@ -221,12 +221,12 @@ impl Core {
             ballot,
             entry: bound_by(best, slot, entry),
         };
-        self.launch(&mut draft, vote)?;
+        self.propose_vote(&mut draft, vote)?;
         Ok(draft)
     }
 
     // Votes for its own proposal, and asks all for their votes. Where it alone is a majority, the entry is chosen at once.
-    fn launch(&self, draft: &mut Draft, vote: Vote) -> Result<(), OutOfMemory>
+    fn propose_vote(&self, draft: &mut Draft, vote: Vote) -> Result<(), OutOfMemory>
         requires me { self.now.me < self.now.members }
         requires few { self.now.members ≤ 7 }
         requires change { draft.old.change ≡ None }
@@ -238,7 +238,7 @@ impl Core {
         ensures does { OnOk result (Does self.now.acceptor self.now.learner draft.old draft.new (λ state. propose (identity_of self.now) vote)) }
         ensures ready { OnOk result (IsReady self.now draft.new) }
     {
-        draft.launch(self.me, vote);
+        draft.propose(self.me, vote);
         draft.send_accept(Target::Others, &vote)?;
         if self.is_alone() {
             draft.choose(vote.slot, vote.entry)

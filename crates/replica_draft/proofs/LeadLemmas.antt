@@ -7,7 +7,7 @@ use Rattle.term_core.specs.Term.{after_proposal, after_tick}
 use Rattle.term_core.specs.declared.term.Term.{Term}
 use Rattle.term_core.specs.declared.term.Term.TheVariants.{Follower, Candidate, Leader}
 use Rattle.cluster_sched.specs.declared.row.SchedRow.{SchedRow}
-use Rattle.step_law.specs.Act.{Call, Launch, Wait, after_act}
+use Rattle.step_law.specs.Act.{Call, Propose, Wait, after_act}
 use Rattle.step_law.specs.Folds.{calls_by, deltas_by, learnt_by}
 use Rattle.replica_draft.specs.Draft.{Kept, done, drafted, said_by, with_best}
 use Rattle.replica_draft.specs.declared.draft.Change.TheVariants.{Voted}
@@ -26,7 +26,7 @@ with_best-after_tick best (Leader own votes None) = refl
 with_best-after_tick best (Leader own votes (Some flight)) = refl
 
 pub drafted-launch : (kept : Kept) (old : Draft) (term : Term) (me : ℕ) (vote : Vote) → old.change ≡ None → term ≡ after_proposal vote.slot vote.entry me old.term
-    → drafted kept (record old { term = term; change = Some (Voted vote) }) ≡ done (Launch me vote ∷ []) (drafted kept old)
+    → drafted kept (record old { term = term; change = Some (Voted vote) }) ≡ done (Propose me vote ∷ []) (drafted kept old)
 unfolding after_act deltas_by learnt_by said_by calls_by
 drafted-launch kept old term me vote none is =
     rw (

@@ -1,5 +1,5 @@
 ghost use Rattle.std.specs.Prelude.{◌≡◌, ℕ, ◌+◌, ◌^◌, ◌<◌, ◌≤◌, ◌++◌, None, Some, Ok, [], ◌∷◌, OnOk, length, map, drop};
-ghost use Rattle.step_law.specs.Act.{Call, Cast, Launch, Learn, Observe, Pledge, Send, Wait};
+ghost use Rattle.step_law.specs.Act.{Call, Cast, Propose, Learn, Observe, Pledge, Send, Wait};
 ghost use Rattle.step_law.specs.Heard.{old_vote, packets_of};
 ghost use Rattle.step_law.specs.Hear.{known_from, send_all};
 ghost use Rattle.step_law.specs.Message.{Message, Accept, Accepted, AskFrom, Known, Lead, Nack, Only, Others, Prepare, Promise};
@@ -283,11 +283,11 @@ impl Draft {
     }
 
     /// Proposes an entry as the leader, who has no flight, and votes for it.
-    pub fn launch(&mut self, me: u8, vote: Vote)
+    pub fn propose(&mut self, me: u8, vote: Vote)
         requires me { me < 7 }
         requires change { self.old.change ≡ None }
         requires leads { answer_to_proposal self.old.term ≡ Ok vote.ballot }
-        ensures goes { Goes self.old self.new (Launch me vote ∷ []) }
+        ensures goes { Goes self.old self.new (Propose me vote ∷ []) }
         ensures term { self.new.term ≡ after_proposal vote.slot vote.entry me self.old.term }
         ensures learnt { self.new.learnt ≡ self.old.learnt }
     {

@@ -17,10 +17,10 @@ use Rattle.term_core.specs.Term.{after_ballot, is_fourth, new_flight, accepted_b
 use Rattle.term_core.specs.declared.flight.Flight.{Flight}
 use Rattle.term_core.specs.declared.term.Term.{Term}
 use Rattle.term_core.specs.declared.term.Term.TheVariants.{Follower, Candidate, Leader}
-use Rattle.step_law.specs.Act.{Act, Observe, Gather, Cast, Launch, Count, Send, after_act}
+use Rattle.step_law.specs.Act.{Act, Observe, Gather, Cast, Propose, Count, Send, after_act}
 use Rattle.step_law.specs.Folds.{after_acts}
 use Rattle.step_law.specs.Hear.{ask_below, cast_new, hear, hear_all, is_vote_of, known_from, line, on_prepare, on_promise, on_accept, on_accepted, on_known, on_ask, on_lead, send_all, shows_gap}
-use Rattle.step_law.specs.May.{May, AllMay, Saying, Setting, HasSaid, IsFollower, HasNoOther, IsNamed, none_named, by_saying, IsHeard, MayEnter, WasSaid}
+use Rattle.step_law.specs.May.{May, AllMay, Saying, Setting, HasSaid, IsFollower, HasNoOther, IsNamed, none_named, by_saying, TellsWhatWasSaid, MayEnter, WasSaid}
 use Rattle.step_law.specs.Step.{Event, Campaign, Tick, Hear, Answer, IsLaunchTable, IsPlanned, Plan, step}
 use Rattle.launch_machine.specs.Answers.{IsIntent}
 use Rattle.launch_machine.specs.declared.machine.Intent.{Intent}
@@ -137,13 +137,13 @@ told_may setting state from ballot slot vote promised own at voted =
     (record { promised = promised; entry = vote.entry; voted = voted ∙ same }, ask_may setting state from slot)
 
 -- the answer to a proposal that may be voted for
-voted_may : (setting : Setting) (state : State) (from : ℕ) (vote : Vote) → IsCoherent setting.self state → vote.ballot ≤ state.seen → IsNotBelow vote.ballot state.term → HasSaid setting.said from (Accept vote) → promised_in state.kept ≤ vote.ballot → AllMay setting state (cast_new vote state ++ (Send (Only from) (Accepted vote.ballot vote.slot) ∷ ask_below from vote.slot state))
+voted_may : (setting : Setting) (state : State) (from : ℕ) (vote : Vote) → IsCoherent setting.self state → vote.ballot ≤ state.seen → IsNotBelow vote.ballot state.term → HasSaid setting.said from (Accept vote) → promised_in state.kept ≤ vote.ballot → state.kept.base ≤ vote.slot → AllMay setting state (cast_new vote state ++ (Send (Only from) (Accepted vote.ballot vote.slot) ∷ ask_below from vote.slot state))
 unfolding May after_act after_delta
-voted_may setting state from vote sound seen not_low said least = go (vote_at vote.slot state.kept.votes) refl
+voted_may setting state from vote sound seen not_low said least from_base = go (vote_at vote.slot state.kept.votes) refl
   where
     go : (found : Option Vote) → vote_at vote.slot state.kept.votes ≡ found → AllMay setting state ((if is_vote_of vote.ballot found then [] else Cast vote ∷ []) ++ (Send (Only from) (Accepted vote.ballot vote.slot) ∷ ask_below from vote.slot state))
     go None is = (
-      record { from = from; asked = said; promised = least; seen = seen; alone = no_other setting.self state vote.ballot state.term sound.term not_low least; first = λ again. let no : false ≡ true = rw is at again in cc },
+      record { from = from; asked = said; from_base = from_base; promised = least; seen = seen; alone = no_other setting.self state vote.ballot state.term sound.term not_low least; first = λ again. let no : false ≡ true = rw is at again in cc },
       told_may setting (after_act (Cast vote) state) from vote.ballot vote.slot vote refl refl refl (at_put vote.slot vote state.kept.votes ∙ rw (eq-eqb vote.slot vote.slot refl) refl),
     )
     go (Some found) is = elim (cases_Bool (eqb found.ballot vote.ballot)) [
@@ -152,7 +152,7 @@ voted_may setting state from vote sound seen not_low said least = go (vote_at vo
           let there = found_vote (IsUpTo (promised_in state.kept)) vote.slot state.kept.votes found sound.votes is in
           rw again (told_may setting state from vote.ballot vote.slot found (omega (arith, there.1, least, same)) same there.0 is)
       | inr new ↦ rw new (
-        record { from = from; asked = said; promised = least; seen = seen; alone = no_other setting.self state vote.ballot state.term sound.term not_low least; first = λ again. both_ways (eqb found.ballot vote.ballot) new (rw is at again) },
+        record { from = from; asked = said; from_base = from_base; promised = least; seen = seen; alone = no_other setting.self state vote.ballot state.term sound.term not_low least; first = λ again. both_ways (eqb found.ballot vote.ballot) new (rw is at again) },
         told_may setting (after_act (Cast vote) state) from vote.ballot vote.slot vote refl refl refl (at_put vote.slot vote state.kept.votes ∙ rw (eq-eqb vote.slot vote.slot refl) refl),
       )
     ]
@@ -167,7 +167,7 @@ on_accept_may setting state from vote sound seen not_low said =
       | inr least ↦
           rw least (elim (cases_Bool (ltb vote.slot state.kept.base)) [
             | inl behind ↦ rw behind tt
-            | inr kept ↦ rw kept (voted_may setting state from vote sound seen not_low said (ltb-false vote.ballot (promised_in state.kept) least))
+            | inr kept ↦ rw kept (voted_may setting state from vote sound seen not_low said (ltb-false vote.ballot (promised_in state.kept) least) (ltb-false vote.slot state.kept.base kept))
           ])
     ]
 
@@ -299,11 +299,11 @@ next_is_higher me seen tried promised small up =
     max_below : (x y z : ℕ) → x < z → y < z → max x y + 1 ≤ z
     max_below x y z p q = let r : max x y ≤ z - 1 = max-le (omega (arith, p)) (omega (arith, q)) in omega (arith, r, p)
 
-campaign_may : (setting : Setting) (state : State) → setting.self.me < 8 → IsCoherent setting.self state → AllMay setting state (campaign setting.self state)
+campaign_may : (setting : Setting) (state : State) → setting.event ≡ Some Campaign → setting.self.me < 8 → IsCoherent setting.self state → AllMay setting state (campaign setting.self state)
 unfolding campaign May after_act after_delta
-campaign_may setting state small sound =
+campaign_may setting state told small sound =
     let next = next_is_higher setting.self.me state.seen state.kept.tried (promised_in state.kept) small sound.promised in (
-      record { is_me = refl; own = next.2; higher = next.0; above = next.1 },
+      record { told = told; is_me = refl; own = next.2; higher = next.0; above = next.1 },
       ((refl, (refl, refl)), lead_may setting _ _ _ _ _ refl),
     )
 
@@ -314,7 +314,7 @@ propose_may setting state ballot best entry is may =
       record { is_me = refl; best = best; leader = is; slot = refl; entry = entry; may = may; bound = refl },
       (
         (at_put vote.slot vote state.kept.votes ∙ rw (eq-eqb vote.slot vote.slot refl) refl, rw is refl),
-        choose_may setting (after_act (Launch setting.self.me vote) state) ballot best (new_flight vote.slot vote.entry setting.self.me) (rw is refl) refl,
+        choose_may setting (after_act (Propose setting.self.me vote) state) ballot best (new_flight vote.slot vote.entry setting.self.me) (rw is refl) refl,
       ),
     )
 
@@ -362,11 +362,11 @@ answer_may setting state entry open_now (Leader ballot best None) is may = go (v
     go (bound ∷ others) now so = tt
 
 -- each act of a step may be done where it is
-pub step_may : (setting : Setting) (state : State) (event : Event) → setting.self.me < 8 → IsCoherent setting.self state → IsPlanned setting.table state event → IsHeard setting event → AllMay setting state (step setting.self event state)
+pub step_may : (setting : Setting) (state : State) (event : Event) → setting.event ≡ Some event → setting.self.me < 8 → IsCoherent setting.self state → IsPlanned setting.table state event → TellsWhatWasSaid setting event → AllMay setting state (step setting.self event state)
 unfolding step tick answer
-step_may setting state Campaign small sound planned heard = campaign_may setting state small sound
-step_may setting state (Tick now plan) small sound planned heard = tick_may setting state now plan state.term refl sound planned.0 planned.1
-step_may setting state (Hear from messages) small sound planned heard = hear_all_may setting state from messages false sound heard
-step_may setting state (Answer job at kind rows) small sound planned heard =
+step_may setting state Campaign told small sound planned heard = campaign_may setting state told small sound
+step_may setting state (Tick now plan) told small sound planned heard = tick_may setting state now plan state.term refl sound planned.0 planned.1
+step_may setting state (Hear from messages) told small sound planned heard = hear_all_may setting state from messages false sound heard
+step_may setting state (Answer job at kind rows) told small sound planned heard =
     answer_may setting state (End job at kind) (is_open job at rows) state.term refl
     (λ open_there. record { rows = rows; rows_are = planned; open_there = open_there; answered = heard })

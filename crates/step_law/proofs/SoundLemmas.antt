@@ -16,7 +16,7 @@ use Rattle.term_core.specs.Term.{after_advance, after_ballot, after_tick, is_end
 use Rattle.term_core.specs.declared.flight.Flight.{Flight}
 use Rattle.term_core.specs.declared.term.Term.{Term}
 use Rattle.term_core.specs.declared.term.Term.TheVariants.{Follower, Candidate, Leader}
-use Rattle.step_law.specs.Act.{Act, Observe, Stand, Gather, TakeLead, Pledge, Cast, Launch, Count, Wait, Learn, Rebase, Call, Send, Restart, after_act, after_counting, after_gathering, as_leader}
+use Rattle.step_law.specs.Act.{Act, Observe, Stand, Gather, TakeLead, Pledge, Cast, Propose, Count, Wait, Learn, Rebase, Call, Send, Restart, after_act, after_counting, after_gathering, as_leader}
 use Rattle.step_law.specs.Hear.{is_vote_of}
 use Rattle.step_law.specs.May.{May, Setting, HasNoOther, IsFollower}
 use Rattle.step_law.specs.Propose.{vote_of}
@@ -189,7 +189,7 @@ act_sound setting state (Cast vote) sound may = record {
   term = fits_after_vote setting.self state.kept (prefix_of state) vote state.term may.alone may.first sound.term;
   votes = AreUpTo-put vote state.kept.votes (AreUpTo-more (promised_in state.kept) vote.ballot state.kept.votes may.promised sound.votes);
 }
-act_sound setting state (Launch me vote) sound may =
+act_sound setting state (Propose me vote) sound may =
     let fits : FitsTerm setting.self state.kept (prefix_of state) (Leader vote.ballot may.best None) =
     subst (λ term. FitsTerm setting.self state.kept (prefix_of state) term) may.leader sound.term in
     let same : promised_in state.kept ≡ vote.ballot = fits.0.promised in

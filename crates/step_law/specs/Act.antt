@@ -30,7 +30,7 @@ pub data Act : Type 0 where
   -- votes for another's proposal
   Cast : (vote : Vote) → Act
   -- as the leader, proposes an entry, and votes for it
-  Launch : (me : ℕ) → (vote : Vote) → Act
+  Propose : (me : ℕ) → (vote : Vote) → Act
   -- as the leader, counts a vote for its proposal
   Count : (from : ℕ) → Act
   -- as the leader, waits for votes one tick more
@@ -97,7 +97,7 @@ after_act (Gather from votes) state = with_term (after_gathering from votes stat
 after_act TakeLead state = with_term (as_leader state.term) state
 after_act (Pledge ballot) state = with_delta (Promised ballot) state
 after_act (Cast vote) state = with_delta (Voted vote) state
-after_act (Launch me vote) state = with_term (after_proposal vote.slot vote.entry me state.term) (with_delta (Voted vote) state)
+after_act (Propose me vote) state = with_term (after_proposal vote.slot vote.entry me state.term) (with_delta (Voted vote) state)
 after_act (Count from) state = with_term (after_counting from state.term) state
 after_act Wait state = with_term (after_tick state.term) state
 after_act (Learn slot entry) state = after_learning entry state

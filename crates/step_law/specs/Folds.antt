@@ -4,7 +4,7 @@ use Rattle.std.specs.List.{flat_map, range_with_len}
 use Rattle.paxos_base.specs.declared.durable.Delta.{Delta}
 use Rattle.paxos_base.specs.declared.durable.Delta.TheVariants.{Tried, Promised, Voted, Base}
 use Rattle.cluster_sched.specs.declared.row.SchedRow.{SchedRow}
-use Rattle.step_law.specs.Act.{Act, Stand, Pledge, Cast, Launch, Learn, Rebase, Call, Send, after_act}
+use Rattle.step_law.specs.Act.{Act, Stand, Pledge, Cast, Propose, Learn, Rebase, Call, Send, after_act}
 use Rattle.step_law.specs.Message.{Message, goes_to}
 use Rattle.step_law.specs.State.{State, Identity}
 use Rattle.step_law.specs.declared.out.LearntRow.{LearntRow}
@@ -19,7 +19,7 @@ unfoldable pub deltas_by : Act → List Delta
 deltas_by (Stand me ballot) = Tried ballot ∷ []
 deltas_by (Pledge ballot) = Promised ballot ∷ []
 deltas_by (Cast vote) = Voted vote ∷ []
-deltas_by (Launch me vote) = Voted vote ∷ []
+deltas_by (Propose me vote) = Voted vote ∷ []
 deltas_by (Rebase slot rows) = Base slot rows ∷ []
 deltas_by act = []
 

@@ -1,5 +1,5 @@
 -- When a replica may do what: the guard of each act, on its state and on what was said.
-use Rattle.std.specs.Prelude.{◌≡◌, ◌⊎◌, ℕ, ◌<◌, ◌≤◌, ⊤, All, List, [], ◌∷◌, None, Some, Contains, IsTrue, ℤ}
+use Rattle.std.specs.Prelude.{◌≡◌, ◌⊎◌, ℕ, ◌<◌, ◌≤◌, ⊤, All, List, [], ◌∷◌, Option, None, Some, Contains, IsTrue, ℤ}
 use Rattle.std.specs.List.{AllByRecursion}
 use Rattle.paxos_base.specs.Ballot.{member_of, round_of}
 use Rattle.paxos_base.specs.Members.{has_majority}
@@ -17,7 +17,7 @@ use Rattle.due_set.specs.Table.{Table}
 use Rattle.launch_machine.specs.Answers.{IsIntent}
 use Rattle.launch_machine.specs.declared.machine.Intent.TheVariants as intent
 use Rattle.step_law.specs.Step.{Event, Campaign, Tick, Hear, Answer, IsLaunchTable}
-use Rattle.step_law.specs.Act.{Act, Observe, Stand, Gather, TakeLead, Pledge, Cast, Launch, Count, Wait, Learn, Rebase, Call, Send, Restart, after_act}
+use Rattle.step_law.specs.Act.{Act, Observe, Stand, Gather, TakeLead, Pledge, Cast, Propose, Count, Wait, Learn, Rebase, Call, Send, Restart, after_act}
 use Rattle.step_law.specs.Hear.{is_vote_of, known_from}
 use Rattle.step_law.specs.Message.{Message, Prepare, Promise, Accept, Accepted, Nack, Known, AskFrom, Snap, Lead, Mention, ballot_in}
 use Rattle.step_law.specs.Propose.{bound_by, is_open}
@@ -28,16 +28,19 @@ pub record Saying : Type 0 where
   pub by : ℕ
   pub message : Message
 
--- a launch, and what it came to
+-- the replica that the scheduler has told, and what it told: a launch, and what it came to
 pub record Ending : Type 0 where
+  pub to : ℕ
   pub job : ℕ
   pub at : ℤ
   pub kind : Kind
 
--- a replica, the table of jobs, what was said so far by any replica, and what the scheduler has answered to this one
+-- A replica, the table of jobs, the event that the replica acts on, or none where it starts, what was said so far by any replica,
+-- and what the scheduler has answered.
 pub record Setting : Type 0 where
   pub self : Identity
   pub table : Table
+  pub event : Option Event
   pub said : List Saying
   pub answered : List Ending
 
@@ -55,10 +58,11 @@ abbrev pub WasSaid : List Saying → ℕ → Message → Type 0
 WasSaid said from (Mention ballot) = (slot : ℕ) × (votes : List Vote) × HasSaid said from (Promise ballot slot votes)
 WasSaid said from message = HasSaid said from message
 
--- it takes up a ballot of its own that is above all that it has tried and promised
-pub record MayStand (self : Identity) (state : State) (me ballot : ℕ) : Type 0 where
-  pub is_me : me ≡ self.me
-  pub own : member_of ballot ≡ self.me
+-- it was told to campaign, and takes up a ballot of its own that is above all that it has tried and promised
+pub record MayStand (setting : Setting) (state : State) (me ballot : ℕ) : Type 0 where
+  pub told : setting.event ≡ Some Campaign
+  pub is_me : me ≡ setting.self.me
+  pub own : member_of ballot ≡ setting.self.me
   pub higher : state.kept.tried < round_of ballot
   pub above : promised_in state.kept < ballot
 
@@ -98,10 +102,12 @@ pub record MayPledge (state : State) (ballot : ℕ) : Type 0 where
   pub seen : ballot ≤ state.seen
   pub follower : IsFollower state.term
 
--- it was asked for the vote, has promised no higher ballot, competes in no other, and has not voted there in this one
+-- It was asked for the vote, at a slot from its base on, has promised no higher ballot, competes in no other, and has not voted
+-- there in this one.
 pub record MayCast (said : List Saying) (state : State) (vote : Vote) : Type 0 where
   pub from : ℕ
   pub asked : HasSaid said from (Accept vote)
+  pub from_base : state.kept.base ≤ vote.slot
   pub promised : promised_in state.kept ≤ vote.ballot
   pub seen : vote.ballot ≤ state.seen
   pub alone : HasNoOther vote.ballot state.term
@@ -118,7 +124,7 @@ pub record MayEnd (setting : Setting) (state : State) (job : ℕ) (at : ℤ) (ki
   pub rows : List JobRow
   pub rows_are : IsLaunchTable setting.table state rows
   pub open_there : IsTrue (is_open job at rows)
-  pub answered : Contains setting.answered (record { job = job; at = at; kind = kind })
+  pub answered : Contains setting.answered (record { to = setting.self.me; job = job; at = at; kind = kind })
 
 -- the entries that a leader may propose of its own accord
 abbrev pub MayEnter : Setting → State → Entry → Type 0
@@ -203,6 +209,11 @@ pub record MayRebase (setting : Setting) (state : State) (slot : ℕ) (rows : Li
   pub up : prefix_of state ≤ slot
   pub rows_of : ((slot ≡ prefix_of state) × IsLaunchTable setting.table state rows) ⊎ ((from : ℕ) × HasSaid setting.said from (Snap slot rows))
 
+-- it starts, as itself
+pub record MayRestart (setting : Setting) (me : ℕ) : Type 0 where
+  pub told : setting.event ≡ None
+  pub is_me : me ≡ setting.self.me
+
 -- its launch table asks for the call of a launch that is open
 pub record MayCallFor (setting : Setting) (state : State) (row : SchedRow) : Type 0 where
   pub by : row.by ≡ setting.self.me
@@ -213,28 +224,28 @@ pub record MayCallFor (setting : Setting) (state : State) (row : SchedRow) : Typ
 -- when a replica may do what
 unfoldable pub May : Setting → State → Act → Type 0
 May setting state (Observe ballot) = IsNamed setting.said ballot
-May setting state (Stand me ballot) = MayStand setting.self state me ballot
+May setting state (Stand me ballot) = MayStand setting state me ballot
 May setting state (Gather from votes) = MayGather setting.said state from votes
 May setting state TakeLead = MayLead setting.self state
 May setting state (Pledge ballot) = MayPledge state ballot
 May setting state (Cast vote) = MayCast setting.said state vote
-May setting state (Launch me vote) = MayPropose setting state me vote
+May setting state (Propose me vote) = MayPropose setting state me vote
 May setting state (Count from) = MayCount setting.said state from
 May setting state Wait = ⊤
 May setting state (Learn slot entry) = MayLearn setting.self setting.said state slot entry
 May setting state (Rebase slot rows) = MayRebase setting state slot rows
 May setting state (Call row) = MayCallFor setting state row
 May setting state (Send whom message) = MaySend state message
-May setting state (Restart me) = me ≡ setting.self.me
+May setting state (Restart me) = MayRestart setting me
 
 -- each of some acts may be done where it is
 abbrev pub AllMay : Setting → State → List Act → Type 0
 AllMay setting state [] = ⊤
 AllMay setting state (act ∷ acts) = May setting state act × AllMay setting (after_act act state) acts
 
--- what is heard was said: the messages of a letter by its sender, an answer by the scheduler
-abbrev pub IsHeard : Setting → Event → Type 0
-IsHeard setting Campaign = ⊤
-IsHeard setting (Tick now plan) = ⊤
-IsHeard setting (Hear from messages) = AllByRecursion (WasSaid setting.said from) messages
-IsHeard setting (Answer job at kind rows) = Contains setting.answered (record { job = job; at = at; kind = kind })
+-- what an event tells was said: the messages of a letter by its sender, an answer by the scheduler
+abbrev pub TellsWhatWasSaid : Setting → Event → Type 0
+TellsWhatWasSaid setting Campaign = ⊤
+TellsWhatWasSaid setting (Tick now plan) = ⊤
+TellsWhatWasSaid setting (Hear from messages) = AllByRecursion (WasSaid setting.said from) messages
+TellsWhatWasSaid setting (Answer job at kind rows) = Contains setting.answered (record { to = setting.self.me; job = job; at = at; kind = kind })

@@ -35,6 +35,19 @@ ballot_in (Snap slot rows) = 0
 ballot_in (Lead ballot slot) = ballot
 ballot_in (Mention ballot) = ballot
 
+-- the slot that a message names, or 0
+abbrev pub slot_in : Message → ℕ
+slot_in (Prepare ballot slot) = slot
+slot_in (Promise ballot slot votes) = slot
+slot_in (Accept vote) = vote.slot
+slot_in (Accepted ballot slot) = slot
+slot_in (Nack ballot promised) = 0
+slot_in (Known slot entry) = slot
+slot_in (AskFrom slot) = slot
+slot_in (Snap slot rows) = slot
+slot_in (Lead ballot slot) = slot
+slot_in (Mention ballot) = 0
+
 -- to whom a message goes: to one replica, to all others, or to the others outside a set
 pub data Whom : Type 0 where
   Only : (member : ℕ) → Whom

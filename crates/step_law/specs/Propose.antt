@@ -16,7 +16,7 @@ use Rattle.term_core.specs.declared.term.Term.{Term}
 use Rattle.term_core.specs.declared.term.Term.TheVariants.{Follower, Candidate, Leader}
 use Rattle.launch_machine.specs.declared.machine.Intent.{Intent}
 use Rattle.launch_machine.specs.declared.machine.Intent.TheVariants as intent
-use Rattle.step_law.specs.Act.{Act, Stand, TakeLead, Launch, Wait, Learn, Call, Send}
+use Rattle.step_law.specs.Act.{Act, Stand, TakeLead, Propose, Wait, Learn, Call, Send}
 use Rattle.step_law.specs.Message.{Prepare, Accept, Known, Lead, Others, Outside}
 use Rattle.step_law.specs.State.{State, Identity, prefix_of}
 
@@ -44,7 +44,7 @@ choose_if members accepted slot entry =
 -- chosen at once.
 unfoldable pub propose : Identity → Vote → List Act
 propose self vote =
-    Launch self.me vote ∷ Send Others (Accept vote) ∷ choose_if self.members (only_member self.me) vote.slot vote.entry
+    Propose self.me vote ∷ Send Others (Accept vote) ∷ choose_if self.members (only_member self.me) vote.slot vote.entry
 
 -- A leader is free in what it proposes but where a vote binds it ("Paxos Made Simple", section 2.2).
 abbrev pub bound_by : Option Vote → Entry → Entry

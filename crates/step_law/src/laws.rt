@@ -1,20 +1,29 @@
 //! Laws of a replica's step. Each is the contract of a function that does nothing.
-ghost use Rattle.std.specs.Prelude.{◌≡◌, ◌≤◌, ◌<◌, ℕ, List, flat_map, length};
+ghost use Rattle.std.specs.Prelude.{◌≡◌, ◌≢◌, ◌≤◌, ◌<◌, ◌^◌, ◌↔◌, ℕ, true, List, Some, Contains, flat_map, length};
+ghost use Rattle.paxos_base.specs.Ballot.{round_of};
+ghost use Rattle.paxos_base.specs.Members.{HasMember};
+ghost use Rattle.paxos_base.specs.Vote.{vote_at};
 ghost use Rattle.paxos_base.specs.declared.durable.Durable.{Durable};
-ghost use Rattle.step_law.specs.Act.{Act, after_act};
-ghost use Rattle.step_law.specs.Folds.{after_acts, deltas_of};
+ghost use Rattle.paxos_base.specs.declared.entry.Entry.{Entry};
+ghost use Rattle.paxos_base.specs.declared.entry.Vote.{Vote};
+ghost use Rattle.paxos_letter.specs.declared.packet.Packet.{Packet};
+ghost use Rattle.term_core.specs.declared.term.Term.TheVariants.{Candidate};
+ghost use Rattle.cluster_sched.specs.declared.row.SchedRow.{SchedRow};
+ghost use Rattle.step_law.specs.Act.{Act, Call, Learn, Send, Stand, after_act};
+ghost use Rattle.step_law.specs.Folds.{Addressed, after_acts, calls_of, deltas_of, learnt_of, letters_of, sent_to};
 ghost use Rattle.step_law.specs.Heard.{heard_as, messages_of, packets_of};
-ghost use Rattle.step_law.specs.May.{AllMay, IsHeard, May, Setting};
-ghost use Rattle.step_law.specs.Message.{Message};
+ghost use Rattle.step_law.specs.Letters.{heard_in, is_small_letter};
+ghost use Rattle.step_law.specs.May.{AllMay, TellsWhatWasSaid, May, Setting};
+ghost use Rattle.step_law.specs.Message.{Message, Only, Others, Outside, Whom, ballot_in, goes_to, slot_in};
 ghost use Rattle.step_law.specs.Coherent.{AreUpTo, IsCoherent};
-ghost use Rattle.step_law.specs.State.{State, Identity, promised_in, started};
+ghost use Rattle.step_law.specs.State.{State, Identity, prefix_of, promised_in, started};
 ghost use Rattle.step_law.specs.Step.{AsksOnce, Event, IsPlanned, step};
 
 /// Each act of a step may be done where it is: its guard holds of the state that the acts before it left, and of what was
 /// said. What holds of every act that may be done holds of every step.
 pub fn each_act_may_be_done()
-    ensures { (setting : Setting) (event : Event) (state : State) → setting.self.me < 8 → IsCoherent setting.self state
-        → IsPlanned setting.table state event → IsHeard setting event → AllMay setting state (step setting.self event state) }
+    ensures { (setting : Setting) (event : Event) (state : State) → setting.event ≡ Some event → setting.self.me < 8
+        → IsCoherent setting.self state → IsPlanned setting.table state event → TellsWhatWasSaid setting event → AllMay setting state (step setting.self event state) }
 {}
 
 /// An act that may be done leaves a coherent replica, so a step does, and a replica is coherent from its start on.
@@ -36,4 +45,47 @@ pub fn a_step_has_one_delta_at_most()
 /// for each of its votes.
 pub fn messages_are_heard_as_they_are_spelled()
     ensures { (messages : List Message) → messages_of (flat_map packets_of messages) ≡ flat_map heard_as messages }
+{}
+
+/// Whom a message reaches: the one that it is for, all but its sender, or those of them that a set leaves out.
+pub fn a_message_reaches_whom_it_is_for()
+    ensures only { (me other member : ℕ) → (goes_to me (Only other) member ≡ true) ↔ (member ≡ other) }
+    ensures others { (me member : ℕ) → (goes_to me Others member ≡ true) ↔ (member ≢ me) }
+    ensures outside { (me set member : ℕ) → (goes_to me (Outside set) member ≡ true) ↔ ((member ≢ me) × (HasMember set member → ⊥)) }
+{}
+
+/// The letters of some acts carry what they send: each message to each replica that it reaches, and nothing else. A letter has
+/// all that is sent to its replica, in order.
+pub fn letters_carry_what_is_sent()
+    ensures each { (self : Identity) (acts : List Act) (whom : Whom) (message : Message) (member : ℕ) → Contains acts (Send whom message)
+        → member < self.members → goes_to self.me whom member ≡ true
+        → (letter : Addressed) × Contains (letters_of self acts) letter × (letter.to ≡ member) × Contains letter.messages message }
+    ensures none_else { (self : Identity) (acts : List Act) (letter : Addressed) (message : Message) → Contains (letters_of self acts) letter
+        → Contains letter.messages message → (whom : Whom) × Contains acts (Send whom message) × (goes_to self.me whom letter.to ≡ true) }
+    ensures whole { (self : Identity) (acts : List Act) (letter : Addressed) → Contains (letters_of self acts) letter
+        → (letter.to < self.members) × (letter.messages ≡ sent_to self.me letter.to acts) }
+{}
+
+/// What some acts learn and whom they call for is what they name.
+pub fn acts_bring_what_they_name()
+    ensures learnt { (acts : List Act) (slot : ℕ) (entry : Entry)
+        → Contains (learnt_of acts) (record { slot = slot; entry = entry }) ↔ Contains acts (Learn slot entry) }
+    ensures calls { (acts : List Act) (row : SchedRow) → Contains (calls_of acts) row ↔ Contains acts (Call row) }
+{}
+
+/// A replica that stands for leader asks for votes from its prefix on, and begins with its own.
+pub fn a_candidate_begins_with_its_own_votes()
+    ensures { (me ballot : ℕ) (state : State) → (heard : ℕ) × (best : List Vote)
+        × ((after_act (Stand me ballot) state).term ≡ Candidate ballot (prefix_of state) heard best)
+        × ((slot : ℕ) → prefix_of state ≤ slot → vote_at slot best ≡ vote_at slot state.kept.votes) }
+{}
+
+/// What is heard of a letter names no ballot and no slot beyond the bounds that a replica counts with, and a letter within them
+/// is heard whole.
+pub fn letters_are_heard_within_bounds()
+    ensures ballot { (jobs : ℕ) (packets : List Packet) (message : Message) → Contains (heard_in jobs packets) message
+        → round_of (ballot_in message) < 2 ^ 59 }
+    ensures slot { (jobs : ℕ) (packets : List Packet) (message : Message) → Contains (heard_in jobs packets) message
+        → slot_in message < 2 ^ 62 }
+    ensures whole { (jobs : ℕ) (packets : List Packet) → is_small_letter jobs packets ≡ true → heard_in jobs packets ≡ messages_of packets }
 {}

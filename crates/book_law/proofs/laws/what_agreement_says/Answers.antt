@@ -8,3 +8,6 @@ returns-clause-one c = λ members table book a b agrees. agrees.one a b
 
 pub returns-clause-follow : goal.returns-clause-follow
 returns-clause-follow c = λ members table book log who agrees is_log runs. agrees.follow log is_log who runs
+
+pub returns-clause-has_table : goal.returns-clause-has_table
+returns-clause-has_table c = λ members table book who agrees sound runs. agrees.has_table sound who runs

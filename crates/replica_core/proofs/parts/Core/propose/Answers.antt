@@ -4,4 +4,4 @@ use Rattle.replica_core.proofs.parts.Core.propose.Goals as goal
 pub returns-clause-makes : goal.returns-clause-makes
 returns-clause-makes c =
     rw (← own-prefix c.args.self.now c.requires.whole, ← c.prefix-slot.ensures, ← c.bound_by.ensures)
-    (makes_proposal c.args.self.now c.begin-draft.result c.launch.new.draft _ c.requires.whole c.begin-draft.ensures.idle c.in_ok-launch.ensures.does)
+    (makes_proposal c.args.self.now c.begin-draft.result c.propose_vote.new.draft _ c.requires.whole c.begin-draft.ensures.idle c.in_ok-propose_vote.ensures.does)
