@@ -1,5 +1,4 @@
 use crate::command::Extent;
-use crate::disk::{copy_of, store};
 use crate::fault::{PlayFault, Refusal};
 use crate::hour::empty_disk;
 use crate::running::Running;
@@ -43,7 +42,7 @@ impl<'a> Host<'a> {
 
     /// Starts the replica with what is on its disk.
     pub fn start(&mut self) -> Result<(), PlayFault> {
-        let durable = copy_of(&self.durable)?;
+        let durable = self.durable.clone()?;
         let replica = Running::start(self.me, self.members, self.table, durable)?;
         self.replica = Some(replica);
         self.call = None;
@@ -112,7 +111,7 @@ impl<'a> Host<'a> {
     /// Stores what a step changes on the disk, and writes it.
     pub fn store(&mut self, delta: Delta, text: &mut Text) -> Result<(), PlayFault> {
         text.put_delta("  delta ", &delta)?;
-        store(&mut self.durable, delta)?;
+        self.durable.apply(delta)?;
         Ok(())
     }
 

@@ -6,7 +6,6 @@
 
 mod cluster;
 mod command;
-mod disk;
 mod fault;
 mod host;
 mod hour;
