@@ -3,7 +3,5 @@
 #![tactic(auto)]
 
 mod learner;
-#[cfg(test)]
-mod tests;
 
 pub use learner::{Learner, Learnt};

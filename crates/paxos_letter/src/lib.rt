@@ -34,8 +34,6 @@ mod packet;
 mod reading;
 mod rules;
 mod single;
-#[cfg(test)]
-mod tests;
 mod writing;
 
 pub use fault::{LetterFault, OwnedFault};

@@ -17,8 +17,6 @@ mod out;
 mod parts;
 mod plan;
 mod replica;
-#[cfg(test)]
-mod tests;
 
 pub use input::{Input, StepFault};
 pub use laws::{a_step_has_one_outcome, a_step_keeps_the_table};

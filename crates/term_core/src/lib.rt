@@ -3,15 +3,11 @@
 //! and says what has become of the term.
 #![tactic(auto)]
 
-#[cfg(test)]
-mod ballot_tests;
 mod best;
 mod fault;
 mod flight;
 mod laws;
 mod term;
-#[cfg(test)]
-mod tests;
 
 pub use best::best_of;
 pub use fault::ProposeFault;

@@ -176,7 +176,7 @@ impl Term {
     }
 
     // Whether the term is a leader's.
-    pub(crate) fn is_leader(&self) -> bool
+    fn is_leader(&self) -> bool
         ensures { result ≡ is_leader self.now }
     {
         matches!(self, Term::Leader { .. })

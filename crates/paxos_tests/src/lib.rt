@@ -1,0 +1,26 @@
+//! Tests of what no clause of the crates of Paxos says: numbers and bytes by outside vectors, and protocols played step by
+//! step.
+#![tactic(auto)]
+
+#[cfg(test)]
+mod acceptor;
+#[cfg(test)]
+mod ballot;
+#[cfg(test)]
+mod base;
+#[cfg(test)]
+mod builders;
+#[cfg(test)]
+mod fault_rows;
+#[cfg(test)]
+mod learner;
+#[cfg(test)]
+mod letter;
+#[cfg(test)]
+mod letter_rows;
+#[cfg(test)]
+mod term;
+#[cfg(test)]
+mod term_rows;
+#[cfg(test)]
+mod votes;
