@@ -9,8 +9,6 @@ use Rattle.std.proofs.lemmas.List.Concat.{flat_map-cons}
 use Rattle.std.proofs.lemmas.List.Folds.{flat_map-map}
 use Rattle.paxos_letter.specs.declared.fault.LetterFault.{LetterFault}
 use Rattle.paxos_letter.specs.declared.fault.LetterFault.TheVariants.{BadLength, BadKind, NotZero, BadMember, BadGroup}
-use Rattle.paxos_letter.specs.declared.fault.OwnedFault.{OwnedFault}
-use Rattle.paxos_letter.specs.declared.fault.OwnedFault.TheVariants.{Letter, OutOfMemory}
 use Rattle.paxos_letter.specs.declared.fields.Fields.{Fields}
 use Rattle.paxos_letter.specs.declared.group.Group.{Group}
 use Rattle.paxos_letter.specs.declared.packet.Packet.{Packet}
@@ -19,7 +17,7 @@ use Rattle.paxos_letter.specs.Fields.{bytes_of, fields_in, all_in, FitPacketFiel
 use Rattle.paxos_letter.specs.Spelling.{fields_of, packet_bytes, spelling, AllFit}
 use Rattle.paxos_letter.specs.Rules.{keeps_kind, keeps_zeros, keeps_members}
 use Rattle.paxos_letter.specs.Groups.{no_group, is_filled, keeps_group, after, keep_groups}
-use Rattle.paxos_letter.specs.Letters.{IsLetter, Spells, LettersHavePackets, LettersBreakNoRule, fault_at, or_later, fault_from, has_bad_length, sender_of, fault_of, IsFault}
+use Rattle.paxos_letter.specs.Letters.{IsLetter, Spells, LettersHavePackets, LettersBreakNoRule, fault_at, or_later, fault_from, has_bad_length, sender_of, fault_of}
 use Rattle.paxos_letter.proofs.FieldLemmas.{AreBytes, spelled_so, all_fit, read_again}
 use Rattle.paxos_letter.proofs.PacketBack.{same_packets, fields_of-zeros}
 use Rattle.paxos_letter.proofs.ReadLemmas.{fault_at-none}
@@ -191,18 +189,18 @@ pub letter_again : (members from : ℕ) (packets : List Packet) (bytes : List �
 letter_again members from packets bytes spells =
     spelled_again members from packets bytes spells.letter.some spells.fits spells.spelled
 
-letter_none : (members from : ℕ) (packets : List Packet) (bytes : List ℕ) → Spells members from packets bytes → fault_of members bytes ≡ None
+-- a letter has no fault
+pub letter_none : (members from : ℕ) (packets : List Packet) (bytes : List ℕ) → Spells members from packets bytes → fault_of members bytes ≡ None
 letter_none members from packets bytes spells =
     let letter = spells.letter in
     let sound : Sound members from no_group packets = record { kinds = letter.kinds; members_keep = letter.members_keep; groups = letter.groups } in
     (letter_again members from packets bytes spells).fault ∙ Sound-none members from no_group 0 packets sound
 
--- a letter has no fault
-pub no_fault_of_letter : (members from : ℕ) (packets : List Packet) (bytes : List ℕ) → Spells members from packets bytes
-    → (fault : OwnedFault) → IsFault fault (fault_of members bytes) → fault ≡ OutOfMemory
-no_fault_of_letter members from packets bytes spells (Letter f) is =
-    absurd (none_some f (sym (letter_none members from packets bytes spells) ∙ is))
-no_fault_of_letter members from packets bytes spells OutOfMemory is = refl
+-- a letter isn't read where there is a fault
+pub no_fault_of_letter : (members from : ℕ) (packets : List Packet) (bytes : List ℕ) (fault : LetterFault) {X : Type 0} → Spells members from packets bytes
+    → fault_of members bytes ≡ Some fault → X
+no_fault_of_letter members from packets bytes fault spells is =
+    absurd (none_some fault (sym (letter_none members from packets bytes spells) ∙ is))
 
 pub same_letter : (members from sender : ℕ) (packets items : List Packet) (bytes : List ℕ) → Spells members from packets bytes
     → all_fields_of sender items ≡ all_in bytes → (sender_of bytes ≡ from) × (items ≡ packets)

@@ -53,27 +53,59 @@ keeps_members-seven members sender fields few e =
     and_from _ _ (and_from _ _ (lt-ltb fields.from 7 (omega arith)) (eq-eqb fields.from fields.from refl))
     (and_from _ _ (seven (has_ballot fields) members fields.ballot few ballots.0) (seven (has_old_ballot fields) members fields.old few ballots.1))
 
--- so many packets were read, and the first fault of all is that of those that are left
-pub record Reading (members sender : ℕ) (group : Group) (number at : ℕ) (packets : List (List ℕ)) (items : List Packet) : Type 0 where
+-- the first fault of all packets is that of those that are left
+pub record Testing (members sender : ℕ) (group : Group) (number at : ℕ) (packets : List (List ℕ)) : Type 0 where
   pub counted : number ≡ at
   pub fault : fault_from members sender group number (map fields_in (drop at packets)) ≡ fault_from members sender no_group 0 (map fields_in packets)
-  pub found : map (fields_of sender) items ≡ map fields_in (take at packets)
 
-pub Reading-next : (members sender : ℕ) (group : Group) (number at : ℕ) (packets : List (List ℕ)) (items : List Packet) (packet : List ℕ) (fields : Fields) (item : Packet) → at < length packets
-    → fields ≡ fields_in (get_or packets at packet) → fault_at members sender group number fields ≡ None → fields_of fields.from item ≡ fields
-    → Reading members sender group number at packets items → Reading members sender (after group fields) (number + 1) (at + 1) packets (items ++ item ∷ [])
-Reading-next members sender group number at packets items packet fields item lt is none item-is r =
-    let keeps = fault_at-none members sender group number fields none in
+-- the packet at a place is the first of those that are left
+first_left : (members sender : ℕ) (group : Group) (number at : ℕ) (packets : List (List ℕ)) (packet : List ℕ) (fields : Fields) → at < length packets → fields ≡ fields_in (get_or packets at packet)
+    → fault_from members sender group number (map fields_in (drop at packets))
+    ≡ or_later (fault_at members sender group number fields) (fault_from members sender (after group fields) (number + 1) (map fields_in (drop (at + 1) packets)))
+first_left members sender group number at packets packet fields lt is =
     let rest : List Fields = map fields_in (drop (at + 1) packets) in
-    let one : fault_from members sender group number (map fields_in (drop at packets)) ≡ fault_from members sender (after group fields) (number + 1) rest =
     ap (λ (left : List (List ℕ)). fault_from members sender group number (map fields_in left)) (drop_more packets at packet lt)
     ∙ ap (λ (f : Fields). or_later (fault_at members sender group number f) (fault_from members sender (after group f) (number + 1) rest)) (sym is)
-    ∙ ap (λ (fault : Option LetterFault). or_later fault (fault_from members sender (after group fields) (number + 1) rest)) none in
+
+pub Testing-next : (members sender : ℕ) (group : Group) (number at : ℕ) (packets : List (List ℕ)) (packet : List ℕ) (fields : Fields) → at < length packets
+    → fields ≡ fields_in (get_or packets at packet) → fault_at members sender group number fields ≡ None
+    → Testing members sender group number at packets → Testing members sender (after group fields) (number + 1) (at + 1) packets
+Testing-next members sender group number at packets packet fields lt is none t =
+    let rest : Option LetterFault = fault_from members sender (after group fields) (number + 1) (map fields_in (drop (at + 1) packets)) in
+    record {
+      counted = ap (λ (n : ℕ). n + 1) t.counted;
+      fault = sym (first_left members sender group number at packets packet fields lt is ∙ ap (λ (fault : Option LetterFault). or_later fault rest) none) ∙ t.fault;
+    }
+
+-- so many packets of a letter were read, and those that are left break no rule behind them
+pub record Reading (members sender at : ℕ) (packets : List (List ℕ)) (items : List Packet) : Type 0 where
+  pub group : Group
+  pub none : fault_from members sender group at (map fields_in (drop at packets)) ≡ None
+  pub found : map (fields_of sender) items ≡ map fields_in (take at packets)
+
+pub Reading-first : (members sender : ℕ) (packets : List (List ℕ)) → fault_from members sender no_group 0 (map fields_in packets) ≡ None → Reading members sender 0 packets []
+Reading-first members sender packets none = record { group = no_group; none = none; found = refl }
+
+later_none : (first later : Option LetterFault) → or_later first later ≡ None → (first ≡ None) × (later ≡ None)
+later_none None later e = (refl, e)
+later_none (Some fault) later e = absurd cc
+
+-- the next packet keeps each rule
+pub Reading-keeps : (members sender at : ℕ) (packets : List (List ℕ)) (items : List Packet) (packet : List ℕ) (fields : Fields) → at < length packets
+    → fields ≡ fields_in (get_or packets at packet) → (r : Reading members sender at packets items) → KeepsAll members sender r.group fields
+Reading-keeps members sender at packets items packet fields lt is r =
+    fault_at-none members sender r.group at fields (later_none _ _ (sym (first_left members sender r.group at at packets packet fields lt is) ∙ r.none)).0
+
+pub Reading-next : (members sender at : ℕ) (packets : List (List ℕ)) (items : List Packet) (packet : List ℕ) (fields : Fields) (item : Packet) → at < length packets
+    → fields ≡ fields_in (get_or packets at packet) → fields_of fields.from item ≡ fields
+    → Reading members sender at packets items → Reading members sender (at + 1) packets (items ++ item ∷ [])
+Reading-next members sender at packets items packet fields item lt is item-is r =
+    let keeps = Reading-keeps members sender at packets items packet fields lt is r in
     let same : fields_of sender item ≡ fields_in (get_or packets at packet) =
     ap (λ (from : ℕ). fields_of from item) (sym (keeps_members-sender members sender fields keeps.members_keep)) ∙ item-is ∙ is in
     record {
-      counted = ap (λ (n : ℕ). n + 1) r.counted;
-      fault = sym one ∙ r.fault;
+      group = after r.group fields;
+      none = (later_none _ _ (sym (first_left members sender r.group at at packets packet fields lt is) ∙ r.none)).1;
       found = map_push (fields_of sender) items item
           ∙ ap (λ (front : List Fields). front ++ fields_of sender item ∷ []) r.found
           ∙ ap (λ (f : Fields). map fields_in (take at packets) ++ f ∷ []) same

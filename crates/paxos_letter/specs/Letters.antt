@@ -1,11 +1,11 @@
 -- Letters, and the first rule that bytes break.
-use Rattle.std.specs.Prelude.{◌≡◌, ◌≢◌, ◌↔◌, ◌⊎◌, ⊤, ℕ, ◌+◌, ◌*◌, ◌%◌, ◌<◌, Bool, not, ◌||◌, ◌==◌, if◌then◌else◌, IsTrue, List, [], ◌∷◌, length, map, slice_index, Option, None, Some, Result, Ok, Err}
+use Rattle.std.specs.Prelude.{◌≡◌, ◌≢◌, ◌↔◌, ℕ, ◌+◌, ◌*◌, ◌%◌, ◌<◌, Bool, not, ◌||◌, ◌==◌, if◌then◌else◌, IsTrue, List, [], ◌∷◌, length, map, slice_index, Option, None, Some, Result, Ok, Err}
 use Rattle.std.specs.List.{AllByRecursion}
 use Rattle.paxos_base.specs.Packet.{offset_of, FromField}
 use Rattle.paxos_letter.specs.declared.fault.LetterFault.{LetterFault}
 use Rattle.paxos_letter.specs.declared.fault.LetterFault.TheVariants.{BadLength, BadKind, NotZero, BadMember, BadGroup}
 use Rattle.paxos_letter.specs.declared.fault.OwnedFault.{OwnedFault}
-use Rattle.paxos_letter.specs.declared.fault.OwnedFault.TheVariants.{Letter, OutOfMemory}
+use Rattle.paxos_letter.specs.declared.fault.OwnedFault.TheVariants.{OutOfMemory}
 use Rattle.paxos_letter.specs.declared.fields.Fields.{Fields}
 use Rattle.paxos_letter.specs.declared.group.Group.{Group}
 use Rattle.paxos_letter.specs.declared.packet.Packet.{Packet}
@@ -70,19 +70,10 @@ abbrev pub fault_of : ℕ → List ℕ → Option LetterFault
 fault_of members bytes =
     if has_bad_length bytes then Some (BadLength 0) else fault_from members (sender_of bytes) no_group 0 (all_in bytes)
 
--- a fault that was answered is the first, unless memory ran out
-abbrev pub IsFault : OwnedFault → Option LetterFault → Type 0
-IsFault (Letter fault) first = first ≡ Some fault
-IsFault OutOfMemory first = ⊤
-
 -- the packets of the sender were read, unless memory ran out
 abbrev pub ReadsPackets : ℕ → List Packet → Result OwnedLetter OwnedFault → Type 0
 ReadsPackets from packets (Ok letter) = (letter.from ≡ from) × (letter.packets ≡ packets)
 ReadsPackets from packets (Err fault) = fault ≡ OutOfMemory
-
--- the fault was answered, unless memory ran out
-abbrev pub AnswersFault : LetterFault → Result OwnedLetter OwnedFault → Type 0
-AnswersFault fault result = (result ≡ Err (Letter fault)) ⊎ (result ≡ Err OutOfMemory)
 
 -- bytes spell no two letters
 abbrev pub LettersDiffer : Type 0

@@ -11,8 +11,10 @@ use Rattle.launch_machine.specs.Answers.{IsIntent}
 use Rattle.launch_machine.specs.declared.machine.Intent.{Intent}
 use Rattle.launch_machine.proofs.ClerkLemmas.{AppliesAll-same}
 use Rattle.launch_machine.specs.Clerk.{AppliesAll}
+use Rattle.launch_machine.specs.Machine.{Launches}
 use Rattle.step_law.specs.Act.{Act}
-use Rattle.step_law.specs.Letters.{heard_in}
+use Rattle.step_law.specs.Letters.{IsHeardAs, heard_in}
+use Rattle.step_law.specs.State.{Identity}
 use Rattle.step_law.specs.Step.{Event, Plan, step}
 use Rattle.step_law.specs.Step as told
 use Rattle.step_law.specs.declared.out.LearntRow.{LearntRow}
@@ -20,7 +22,7 @@ use Rattle.replica_draft.specs.Draft.{entries_in}
 use Rattle.replica_draft.proofs.OneLemmas.{same-letters}
 use Rattle.replica_core.specs.Outcome.{IsSameOutcome}
 use Rattle.replica_core.specs.Replica.{ReplicaState}
-use Rattle.replica_core.specs.Step.{IsAskedFor, IsEventOf, Steps, Takes}
+use Rattle.replica_core.specs.Step.{IsAlike, IsAskedFor, IsEventOf, Steps, Takes}
 use Rattle.replica_core.specs.declared.input.Input.{Input}
 use Rattle.replica_core.specs.declared.input.Input.TheVariants as input
 use Rattle.replica_core.specs.declared.out.StepOut.{StepOut}
@@ -81,9 +83,42 @@ same_acts table old one other acts first second a b =
       call = same_option first.call second.call (sym a.call ∙ b.call);
     }
 
-pub one_outcome : (table : Table) (given : Input) (old one other : ReplicaState) (first second : StepOut) → Steps table given old one first → Steps table given old other second
+-- what two steps of one replica come to
+from_one : (table : Table) (given : Input) (old one other : ReplicaState) (first second : StepOut) → Steps table given old one first → Steps table given old other second
     → IsSameOutcome one other first second
-one_outcome table given old one other first second a b =
+from_one table given old one other first second a b =
     let event = one_event table old given a.event b.event a.event_is b.event_is in
     same_acts table old one other (step old.identity b.event old.state) first second
     (subst (λ (event : Event). Takes table old one (step old.identity event old.state) first) event a.took) b.took
+
+-- ---- Replicas that are alike
+
+event_alike : (table : Table) (old other : ReplicaState) (given : Input) (event : Event) → IsAlike old other → IsEventOf table other given event → IsEventOf table old given event
+event_alike table old other input.Campaign event alike is = is
+event_alike table old other (input.Tick now) event alike (plan, asked, is) =
+    (plan, record { rows = asked.rows ∙ sym (ap (λ (machine : Launches). machine.rows) alike.machine); intent = asked.intent }, is)
+event_alike table old other (input.Hear bytes) event alike (from, messages, heard, is) =
+    let members : other.identity.members ≡ old.identity.members = sym (ap (λ (identity : Identity). identity.members) alike.identity) in
+    (from, messages, subst (λ (members : ℕ). IsHeardAs members (length table.jobs) bytes.now from messages) members heard, is)
+event_alike table old other (input.Answer job at kind) event alike is =
+    is ∙ ap (told.Answer job at kind) (sym (ap (λ (machine : Launches). machine.rows) alike.machine))
+
+took_alike : (table : Table) (old other new : ReplicaState) (event : Event) (out : StepOut) → IsAlike old other → Takes table other new (step other.identity event other.state) out
+    → Takes table old new (step old.identity event old.state) out
+took_alike table old other new event out alike took =
+    record {
+      identity = took.identity ∙ sym alike.identity;
+      state = rw (alike.identity, alike.state) took.state;
+      machine = rw alike.machine took.machine;
+      of_table = took.of_table;
+      delta = rw (alike.identity, alike.state) took.delta;
+      letters = rw (alike.identity, alike.state) took.letters;
+      learnt = rw (alike.identity, alike.state) took.learnt;
+      call = rw (alike.identity, alike.state) took.call;
+    }
+
+pub one_outcome : (table : Table) (given : Input) (old other one two : ReplicaState) (first second : StepOut) → IsAlike old other → Steps table given old one first
+    → Steps table given other two second → IsSameOutcome one two first second
+one_outcome table given old other one two first second alike a b =
+    from_one table given old one two first second a
+    (record { event = b.event; event_is = event_alike table old other given b.event alike b.event_is; took = took_alike table old other two b.event second alike b.took })

@@ -1,5 +1,5 @@
 -- A step of a replica: what it is told, and what comes of it.
-use Rattle.std.specs.Prelude.{◌≡◌, ◌⊎◌, ℕ, ◌+◌, ◌<◌, ◌≤◌, ◌^◌, List, length, Option, None, Some, Result, Err, ⊤, ℤ, false}
+use Rattle.std.specs.Prelude.{◌≡◌, ℕ, ◌+◌, ◌<◌, ◌≤◌, ◌^◌, List, length, Option, None, Some, Result, Ok, Err, ⊤, ℤ, false}
 use Rattle.std.specs.Option.{option_to_list}
 use Rattle.paxos_letter.specs.Letters.{fault_of}
 use Rattle.paxos_letter.specs.declared.fault.LetterFault.{LetterFault}
@@ -14,7 +14,7 @@ use Rattle.step_law.specs.Hear.{hear_all}
 use Rattle.step_law.specs.Letters.{IsHeardAs}
 use Rattle.step_law.specs.Message.{Message}
 use Rattle.step_law.specs.State.{prefix_of}
-use Rattle.step_law.specs.Step.{Event, Plan, step}
+use Rattle.step_law.specs.Step.{Event, IsLaunchTable, Plan, step}
 use Rattle.step_law.specs.Step as told
 use Rattle.replica_draft.specs.Draft.{done, drafted, entries_in}
 use Rattle.replica_draft.specs.Letters.{AreLettersFrom}
@@ -34,9 +34,10 @@ pub record IsAlike (one other : ReplicaState) : Type 0 where
   pub state : one.state ≡ other.state
   pub machine : one.machine ≡ other.machine
 
--- the replica is one of this table of jobs
-abbrev pub IsOfTable : Table → ReplicaState → Type 0
-IsOfTable table replica = StandsFor table replica.machine
+-- the replica is one of this table of jobs: its launch table is one of that table, and has the rows that its state comes to
+pub record IsOfTable (table : Table) (replica : ReplicaState) : Type 0 where
+  pub stands : StandsFor table replica.machine
+  pub rows : IsLaunchTable table replica.state replica.machine.rows
 
 -- the launch table asks for this at a clock reading
 pub record IsAskedFor (table : Table) (replica : ReplicaState) (now : ℤ) (plan : Plan) : Type 0 where
@@ -110,11 +111,8 @@ abbrev pub fault_in : ℕ → Input → Option LetterFault
 fault_in members (Hear bytes) = fault_of members bytes.now
 fault_in members input = None
 
--- a fault that was answered is the first, unless memory ran out
-abbrev pub IsFault : StepFault → Option LetterFault → Type 0
-IsFault (Letter fault) first = first ≡ Some fault
-IsFault OutOfMemory first = ⊤
-
--- the fault was answered, unless memory ran out
-abbrev pub AnswersFault : {X : Type 0} → LetterFault → Result X StepFault → Type 0
-AnswersFault fault result = (result ≡ Err (Letter fault)) ⊎ (result ≡ Err OutOfMemory)
+-- the rule that an answer says a letter breaks, where it says so
+abbrev pub fault_told : {X : Type 0} → Result X StepFault → Option LetterFault
+fault_told (Ok answer) = None
+fault_told (Err (Letter fault)) = Some fault
+fault_told (Err OutOfMemory) = None

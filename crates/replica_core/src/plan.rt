@@ -1,14 +1,13 @@
 //! What is done at an input.
-ghost use Rattle.std.specs.Prelude.{◌≡◌, ℕ, List, Some, false, IfOk, IfErr};
+ghost use Rattle.std.specs.Prelude.{◌≡◌, ℕ, List, false, IfOk};
 ghost use Rattle.paxos_letter.specs.Letters.{Spells, fault_of};
-ghost use Rattle.paxos_letter.specs.declared.fault.LetterFault.{LetterFault};
 ghost use Rattle.launch_machine.specs.Machine.{StandsFor};
 ghost use Rattle.step_law.specs.Hear.{hear_all};
 ghost use Rattle.step_law.specs.Letters.{heard_in};
 ghost use Rattle.step_law.specs.Step.{Event, step};
 ghost use Rattle.replica_draft.specs.Letters.{AreLettersFrom};
 ghost use Rattle.replica_core.specs.Replica.{IsAlikeCore, IsReady, IsSmall, IsWhole, Makes, identity_of, state_of};
-ghost use Rattle.replica_core.specs.Step.{AnswersFault, Hears, IsFault, IsInputInside, MakesStep, fault_in};
+ghost use Rattle.replica_core.specs.Step.{Hears, IsInputInside, MakesStep, fault_in, fault_told};
 
 use crate::bounds::is_small_letter;
 use crate::input::{Input, StepFault};
@@ -27,8 +26,7 @@ impl Core {
         requires inside { IsInputInside table.now input }
         ensures makes { IfOk result (λ draft. MakesStep table.now input.entry self.now draft) }
         ensures ready { IfOk result (λ draft. IsReady self.now draft) }
-        ensures fault { IfErr result (λ fault. IsFault fault (fault_in self.now.members input.entry)) }
-        ensures faulty { (fault : LetterFault) → fault_in self.now.members input.entry ≡ Some fault → AnswersFault fault result }
+        ensures fault { fault_told result ≡ fault_in self.now.members input.entry }
     {
         match input {
             Input::Campaign => Ok(self.campaign()?),
@@ -44,8 +42,7 @@ impl Core {
         requires small { IsSmall (state_of self.now) self.now.machine.rows }
         ensures makes { IfOk result (λ draft. Hears table.now bytes.now self.now draft) }
         ensures ready { IfOk result (λ draft. IsReady self.now draft) }
-        ensures fault { IfErr result (λ fault. IsFault fault (fault_of self.now.members bytes.now)) }
-        ensures faulty { (fault : LetterFault) → fault_of self.now.members bytes.now ≡ Some fault → AnswersFault fault result }
+        ensures fault { fault_told result ≡ fault_of self.now.members bytes.now }
     {
         match read_letter(self.alloc, bytes, self.members) {
             Ok(letter) => Ok(self.hear_packets(table.jobs(), &letter)?),

@@ -1,12 +1,11 @@
-ghost use Rattle.std.specs.Prelude.{◌≡◌, ◌↔◌, ◌<◌, ◌≤◌, ◌^◌, IsTrue, List, Some, IfOk, IfErr, OnErr, length};
+ghost use Rattle.std.specs.Prelude.{◌≡◌, ◌↔◌, ◌<◌, ◌≤◌, ◌^◌, IsTrue, List, IfOk, OnErr, length};
 ghost use Rattle.std.specs.Option.{option_to_list};
 ghost use Rattle.paxos_base.specs.Rows.{RowsStand};
-ghost use Rattle.paxos_letter.specs.declared.fault.LetterFault.{LetterFault};
 ghost use Rattle.step_law.specs.Act.{Act};
 ghost use Rattle.step_law.specs.Folds.{deltas_of};
 ghost use Rattle.step_law.specs.State.{prefix_of, started};
 ghost use Rattle.replica_core.specs.Replica.{IsSmall, ReplicaState};
-ghost use Rattle.replica_core.specs.Step.{AnswersFault, CanTake, IsAlike, IsFault, IsInputInside, IsOfTable, Plans, PlansStep, Steps, Takes, fault_in};
+ghost use Rattle.replica_core.specs.Step.{CanTake, IsAlike, IsInputInside, IsOfTable, Plans, PlansStep, Steps, Takes, fault_in, fault_told};
 
 use crate::input::{Input, StepFault};
 use crate::out::StepOut;
@@ -115,6 +114,10 @@ impl Replica {
     }
 
     /// Plans a step, and makes the room that it needs. The replica stays as it is.
+    ///
+    /// # Errors
+    ///
+    /// Bytes that are no letter, or want of memory, where they are one. The replica stays as it is also then.
     pub fn plan(&mut self, table: &JobTable, input: Input<'_>) -> Result<Planned, StepFault>
         requires of_table { IsOfTable table.now self.old }
         requires small { IsSmall self.old.state self.old.machine.rows }
@@ -122,9 +125,8 @@ impl Replica {
         ensures alike { IsAlike self.new self.old }
         ensures planned { IfOk result (λ planned. PlansStep table.now input.entry self.old planned) }
         ensures can { IfOk result (λ planned. CanTake self.new planned) }
-        // The bytes of a letter are refused exactly where they break a rule, unless memory runs out.
-        ensures fault { IfErr result (λ fault. IsFault fault (fault_in self.old.identity.members input.entry)) }
-        ensures faulty { (fault : LetterFault) → fault_in self.old.identity.members input.entry ≡ Some fault → AnswersFault fault result }
+        // The bytes of a letter are refused exactly where they break a rule, for the first that they break.
+        ensures fault { fault_told result ≡ fault_in self.old.identity.members input.entry }
     {
         let draft = self.core.draft(table, input)?;
         let letters = self.core.letters(&draft)?;
@@ -146,16 +148,15 @@ impl Replica {
     ///
     /// # Errors
     ///
-    /// Bytes that are no letter, or want of memory. The replica is as it was.
+    /// Bytes that are no letter, or want of memory, where they are one. The replica is as it was.
     pub fn step(&mut self, table: &JobTable, input: Input<'_>) -> Result<StepOut, StepFault>
         requires of_table { IsOfTable table.now self.old }
         requires small { IsSmall self.old.state self.old.machine.rows }
         requires inside { IsInputInside table.now input }
         ensures steps { IfOk result (λ out. Steps table.now input.entry self.old self.new out) }
         ensures err { OnErr result (IsAlike self.new self.old) }
-        // The bytes of a letter are refused exactly where they break a rule, unless memory runs out.
-        ensures fault { IfErr result (λ fault. IsFault fault (fault_in self.old.identity.members input.entry)) }
-        ensures faulty { (fault : LetterFault) → fault_in self.old.identity.members input.entry ≡ Some fault → AnswersFault fault result }
+        // The bytes of a letter are refused exactly where they break a rule, for the first that they break.
+        ensures fault { fault_told result ≡ fault_in self.old.identity.members input.entry }
     {
         let planned = self.plan(table, input)?;
         Ok(self.complete(table, planned))

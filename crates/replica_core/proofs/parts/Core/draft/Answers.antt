@@ -22,3 +22,6 @@ returns-in_ok-answer-in-Answer-clause-makes c =
     let fits : FitsSigned w64 c.in-Answer.at = omega (arith, ints) in
     let makes = simp to_z-of_z at c.in_ok-answer-in-Answer.ensures.makes in
     rw c.in-Answer.is (answer-step c.args.table.now c.in-Answer.job c.in-Answer.at c.in-Answer.kind c.args.self.now c.in_ok-answer-in-Answer.field-0 makes)
+
+pub returns-in-Hear-clause-fault : goal.returns-in-Hear-clause-fault
+returns-in-Hear-clause-fault c = rw c.in-Hear.is c.hear_letter.ensures.fault

@@ -1,0 +1,6 @@
+use Rattle.paxos_letter.proofs.ReadLemmas.{Testing}
+use Rattle.paxos_letter.proofs.reading.first_fault.Given as goal
+
+abbrev pub invariant-loop-packet : goal.invariant-loop-packet
+invariant-loop-packet l =
+    Testing l.members l.sender l.group l.number l.packet-index l.packets
