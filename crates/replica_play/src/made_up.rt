@@ -1,14 +1,14 @@
 //! The letters that a scenario makes up.
 use crate::fault::PlayFault;
-use crate::parse::{member_of, split};
+use crate::parse::{member_of, number_of, split};
 use std::alloc::Global;
 
 // The number of a ballot that is written as round and replica.
 fn ballot_number(word: &str) -> Result<u64, PlayFault> {
     let (round, member) = word.split_once('.').ok_or(PlayFault::BadBallot)?;
     let member = member_of(member)?;
-    match round.parse::<u64>() {
-        Ok(round) if round < 1 << 61 => Ok(8 * round + u64::from(member)),
+    match number_of(round) {
+        Some(round) if round < 1 << 61 => Ok(8 * round + u64::from(member)),
         _ => Err(PlayFault::BadBallot),
     }
 }
@@ -33,9 +33,9 @@ fn place_of(words: &str) -> Result<(u64, u64), PlayFault> {
         Some((ballot, slot)) => (ballot_number(ballot)?, slot),
         None => (0, words),
     };
-    match slot.parse::<u64>() {
-        Ok(slot) => Ok((ballot, slot)),
-        Err(_) => Err(PlayFault::BadNumber),
+    match number_of(slot) {
+        Some(slot) => Ok((ballot, slot)),
+        None => Err(PlayFault::BadNumber),
     }
 }
 
@@ -54,8 +54,8 @@ fn put_packet(from: u8, words: &str, bytes: &mut Vec<u8>) -> Result<(), PlayFaul
 /// The bytes of a letter from a replica, by the words of its packets with `; ` between them.
 pub fn letter_bytes(alloc: Global, from: u8, packets: &str) -> Result<Vec<u8>, PlayFault> {
     let mut bytes = Vec::new(alloc);
-    for words in packets.split(';') {
-        put_packet(from, words.trim_start(), &mut bytes)?;
+    for words in packets.split("; ") {
+        put_packet(from, words, &mut bytes)?;
     }
     Ok(bytes)
 }

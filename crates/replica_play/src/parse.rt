@@ -1,8 +1,9 @@
 //! How commands are read.
-ghost use Rattle.std.specs.Prelude.{◌<◌, IfOk};
+ghost use Rattle.std.specs.Prelude.{◌≡◌, ◌<◌, IfOk, IfSome, decimal};
 
 use crate::command::{Command, Event, Extent};
 use crate::fault::PlayFault;
+use itoa::Buffer;
 use paxos_base::Kind;
 use zone_minutes::read_stamp;
 
@@ -11,27 +12,43 @@ pub fn split(text: &str) -> Result<(&str, &str), PlayFault> {
     text.split_once(' ').ok_or(PlayFault::MissingWord)
 }
 
+/// A number, which is written without a sign and without zeros in front.
+pub fn number_of(word: &str) -> Option<u64>
+    ensures { IfSome result (λ number. word.now ≡ decimal number) }
+{
+    let number = word.parse::<u64>().ok()?;
+    let mut digits = Buffer::new();
+    if digits.format(number) == word {
+        Some(number)
+    } else {
+        None
+    }
+}
+
 /// A replica's number.
 pub fn member_of(word: &str) -> Result<u8, PlayFault>
     ensures { IfOk result (λ member. member < 7) }
 {
-    match word.parse::<u8>() {
-        Ok(member) if member < 7 => Ok(member),
+    match number_of(word) {
+        Some(member) if member < 7 => Ok(member as u8),
         _ => Err(PlayFault::BadMember),
     }
 }
 
 // How many replicas there are.
 fn members_of(word: &str) -> Result<u8, PlayFault> {
-    match word.parse::<u8>() {
-        Ok(members) if 1 <= members && members <= 7 => Ok(members),
+    match number_of(word) {
+        Some(members) if 1 <= members && members <= 7 => Ok(members as u8),
         _ => Err(PlayFault::BadCount),
     }
 }
 
 // A letter's number.
 fn letter_of(word: &str) -> Result<usize, PlayFault> {
-    word.parse::<usize>().map_err(|_| PlayFault::BadNumber)
+    match number_of(word) {
+        Some(letter) => Ok(letter as usize),
+        None => Err(PlayFault::BadNumber),
+    }
 }
 
 fn kind_of(word: &str) -> Result<Kind, PlayFault> {
