@@ -356,7 +356,8 @@ fn refused_sources(rt: HostRuntime) -> Result<(), Fail> {
     Ok(())
 }
 
-/// An instant of the year 2024 in Paris, and its run: the first instant, the end, and how many minutes clocks are ahead.
+/// An instant of the 400 days from 2024-01-01T00:00Z on in Paris, and its run: the first instant, the end, and how many
+/// minutes clocks are ahead.
 struct RunRow {
     at: i64,
     from: i64,
@@ -378,30 +379,30 @@ const RUNS: &[RunRow] = &[
         ahead: 120,
     },
     RunRow {
-        at: 28_928_159,
+        at: 28_977_119,
         from: 28_833_180,
-        until: 28_928_160,
+        until: 28_977_120,
         ahead: 60,
     },
 ];
 
-fn year_in_paris(alloc: Global) -> Result<ZoneRuns, Fail>
+fn days_in_paris(alloc: Global) -> Result<ZoneRuns, Fail>
     ensures from { IfOk result (λ zone. zone.from ≡ pos 28_401_120) }
-    ensures until { IfOk result (λ zone. zone.until ≡ pos 28_928_160) }
+    ensures until { IfOk result (λ zone. zone.until ≡ pos 28_977_120) }
 {
     let window = Window {
         from: Minute(28_401_120),
-        until: Minute(28_928_160),
+        until: Minute(28_977_120),
     };
     Ok(ZoneRuns::build(alloc, &Posix(PARIS), window)?)
 }
 
 #[test]
 fn runs_of_a_rule(rt: HostRuntime) -> Result<(), Fail> {
-    let zone = year_in_paris(rt.alloc())?;
+    let zone = days_in_paris(rt.alloc())?;
     for row in RUNS {
-        if row.at < 28_401_120 || 28_928_160 <= row.at {
-            return Err(Fail::from("not in the year"));
+        if row.at < 28_401_120 || 28_977_120 <= row.at {
+            return Err(Fail::from("not in the window"));
         }
         let run = zone.run_at(Minute(row.at));
         let known = run.from.0 == row.from && run.until.0 == row.until;
