@@ -2,19 +2,13 @@
 #![tactic(auto)]
 
 mod call;
-#[cfg(test)]
-mod counting;
 mod fate;
 mod fault;
 mod laws;
 mod ledger;
-#[cfg(test)]
-mod ledger_tests;
 mod name;
 mod row;
 mod scheduler;
-#[cfg(test)]
-mod tests;
 
 pub use call::call_by_name;
 pub use fate::Fate;
