@@ -4,3 +4,4 @@ pub mod LedgerLemmas
 pub mod NameLemmas
 pub mod StampLemmas
 pub mod HeldLemmas
+pub mod RoomLemmas

@@ -1,10 +1,12 @@
 //! Laws of names and of held rows. Each is the contract of a function that does nothing.
-ghost use Rattle.std.specs.Prelude.{◌≡◌, ◌⊎◌, ◌++◌, ℕ, Bool, List, Option, Some, Result, Ok, slice_get};
+ghost use Rattle.std.specs.Prelude.{◌≡◌, ◌⊎◌, ◌++◌, ◌+◌, ◌≤◌, ◌<◌, ℕ, Bool, List, length, Option, Some, Result, Ok, Err, slice_get};
+ghost use Rattle.cron_io.specs.declared.out_of_memory.OutOfMemory.{OutOfMemory};
 ghost use Rattle.due_set.specs.Table.{Table, IsSound};
 ghost use Rattle.cluster_sched.specs.Calls.{IsCall};
-ghost use Rattle.cluster_sched.specs.Fates.{Arrives, Calls, CallsByName, Creates, CreatesRow, Holdings, IsUnchanged, LooksUp};
-ghost use Rattle.cluster_sched.specs.Held.{Answers, AreNamedOnce, Follows, IsFirstUnder, IsLookedUp, MayGoLate};
+ghost use Rattle.cluster_sched.specs.Fates.{Arrives, Calls, CallsByName, Creates, CreatesRow, Holdings, IsArrival, IsUnchanged, LooksUp};
+ghost use Rattle.cluster_sched.specs.Held.{Answers, AreNamedOnce, Follows, IsFirstUnder, IsLookedUp, MayGoLate, NoneUnder};
 ghost use Rattle.cluster_sched.specs.Names.{IsNameIn, name_text};
+ghost use Rattle.cluster_sched.specs.declared.fate.Fate.{Fate};
 ghost use Rattle.cluster_sched.specs.declared.fault.CallFault.{CallFault};
 ghost use Rattle.cluster_sched.specs.declared.row.Name.{Name};
 ghost use Rattle.cluster_sched.specs.declared.row.SchedRow.{SchedRow};
@@ -86,4 +88,26 @@ pub fn ledgers_always_answer()
         → (result : Result SchedRow CallFault) × (new : Holdings) × CallsByName old row result new }
     ensures arrivals { (old : Holdings) (row : SchedRow)
         → (stands : Bool) × (new : Holdings) × Arrives old row stands new }
+{}
+
+/// A ledger never holds fewer rows, and room for more, than before: a call leaves at least the room that it found, less the
+/// rows that it adds.
+pub fn calls_leave_their_room()
+    ensures creations { (old new : Holdings) (row : SchedRow) (result : Result SchedRow CallFault)
+        → Creates old row result new → (length old.held + old.spare) ≤ (length new.held + new.spare) }
+    ensures calls { (old new : Holdings) (row : SchedRow) (result : Result SchedRow CallFault)
+        → Calls old row result new → (length old.held + old.spare) ≤ (length new.held + new.spare) }
+    ensures arrivals { (late : Option SchedRow) (old new : Holdings) (result : Result Bool OutOfMemory)
+        → IsArrival late old result new → (length old.held + old.spare) ≤ (length new.held + new.spare) }
+{}
+
+/// A ledger wants memory only for a row under whose name none is held, and no call that is to be answered wants it where
+/// there is room.
+pub fn memory_is_wanted_for_new_names()
+    ensures creations { (old new : Holdings) (row : SchedRow)
+        → Creates old row (Err CallFault.OutOfMemory) new → NoneUnder old.held row.name }
+    ensures calls { (old new : Holdings) (row : SchedRow)
+        → Calls old row (Err CallFault.OutOfMemory) new → NoneUnder old.held row.name }
+    ensures room { (old new : Holdings) (row : SchedRow)
+        → Calls old row (Err CallFault.OutOfMemory) new → old.fate ≡ Fate.Done → 0 < old.spare → ⊥ }
 {}

@@ -2,27 +2,21 @@
 #![tactic(auto)]
 
 mod call;
-#[cfg(test)]
-mod counting;
 mod fate;
 mod fault;
 mod laws;
 mod ledger;
-#[cfg(test)]
-mod ledger_tests;
 mod name;
 mod row;
 mod scheduler;
-#[cfg(test)]
-mod tests;
 
 pub use call::call_by_name;
 pub use fate::Fate;
 pub use fault::CallFault;
 pub use laws::{
-    a_look_has_one_answer, answers_stay, calls_go_by_their_fates, held_rows_stay, late_rows_stay,
-    ledgers_always_answer, ledgers_answer_alike, names_differ_in_their_texts,
-    rows_named_once_are_first,
+    a_look_has_one_answer, answers_stay, calls_go_by_their_fates, calls_leave_their_room,
+    held_rows_stay, late_rows_stay, ledgers_always_answer, ledgers_answer_alike,
+    memory_is_wanted_for_new_names, names_differ_in_their_texts, rows_named_once_are_first,
 };
 pub use ledger::Ledger;
 pub use name::{is_name_in, read_name, write_name};

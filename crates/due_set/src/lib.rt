@@ -2,17 +2,11 @@
 #![tactic(auto)]
 
 mod anacron;
-#[cfg(test)]
-mod anacron_tests;
 mod call;
-#[cfg(test)]
-mod change_tests;
 mod due;
 mod job;
 mod laws;
 mod matching;
-#[cfg(test)]
-mod row_tests;
 mod scan;
 mod sound;
 mod table;
@@ -28,6 +22,3 @@ pub use sound::{
     launches_come_at_their_instants, periods_are_over_since_each_launch,
 };
 pub use table::JobTable;
-
-#[cfg(test)]
-mod tests;

@@ -19,7 +19,7 @@ use Rattle.launch_law.proofs.CoverLemmas.{due_never_opens}
 use Rattle.launch_law.proofs.EffectLemmas.{effective_each}
 use Rattle.launch_law.proofs.FitLemmas.{end_started}
 use Rattle.launch_law.proofs.PeriodLemmas.{IsDated, IsLaunchedBy, IsStartedBy, clerk_dates, started_once}
-use Rattle.launch_clerk.specs.Walk.{Agrees, IsOpenNow}
+use Rattle.launch_clerk.specs.Walk.{AgreesWithHeld, IsOpenNow}
 use Rattle.launch_clerk.proofs.RowLemmas.{both_ways}
 
 -- at an instant a job opens on one date, whatever was launched before
@@ -29,7 +29,7 @@ one_date table job last cursor later after now a b p q =
     p.is_date ∙ ap day_number (same_local table job p.job q.job p.zone q.zone now p.is_in q.is_in) ∙ sym q.is_date
 
 -- what was called at an instant was started then
-pub called_started : (table : Table) (log : List Entry) (rows : List JobRow) (held : List SchedRow) (job : ℕ) (at : ℤ) (kind : Kind) (now : ℤ) → Agrees table log rows held
+pub called_started : (table : Table) (log : List Entry) (rows : List JobRow) (held : List SchedRow) (job : ℕ) (at : ℤ) (kind : Kind) (now : ℤ) → AgreesWithHeld table log rows held
     → IsCalledAt held job at kind now → IsEffective table log (Start job at now)
 called_started table log rows held job at kind now agrees called =
     let row = called.row in
@@ -41,7 +41,7 @@ called_started table log rows held job at kind now agrees called =
     let same : Start row.name.job row.name.at row.now.0 ≡ Start job at now = cc in
     subst (IsEffective table log) same (effective_each table log (Start row.name.job row.name.at row.now.0) agrees.effective among)
 
-module _ (table : Table) (log : List Entry) (rows : List JobRow) (held : List SchedRow) (agrees : Agrees table log rows held) (job : ℕ) (row : JobRow)
+module _ (table : Table) (log : List Entry) (rows : List JobRow) (held : List SchedRow) (agrees : AgreesWithHeld table log rows held) (job : ℕ) (row : JobRow)
     (is_row : slice_get rows job ≡ Some row) where
   dated : IsDated table log job row.cursor row.open_now row.last
   dated = clerk_dates table log rows job agrees.clerk row is_row

@@ -28,7 +28,7 @@ use Rattle.launch_law.specs.Fits.{IsBacked, IsEffective}
 use Rattle.launch_law.specs.Launched.{IsCalledAt, IsWanted, OpensBy}
 use Rattle.launch_law.proofs.PeriodLemmas.{started_once}
 use Rattle.launch_clerk.specs.Book.{IsStarted}
-use Rattle.launch_clerk.specs.Walk.{Agrees, IsAtMinute, IsAtWork, IsOfMinute, IsOpenBy, IsOpenNow}
+use Rattle.launch_clerk.specs.Walk.{AgreesWithHeld, IsAtMinute, IsAtWork, IsOfMinute, IsOpenBy, IsOpenNow}
 use Rattle.launch_clerk.proofs.AgreeLemmas.{called_started, latest_now}
 use Rattle.launch_clerk.proofs.LatestLemmas.{IsCalledAt-more, IsHeld-more, IsLatest-more, IsWanted-more, OpensBy-less}
 
@@ -38,7 +38,7 @@ call_row job at kind now = record { name = record { job = job; at = at }; kind =
 
 -- what holds after a call
 pub record HasCalled (table : Table) (log : List Entry) (rows : List JobRow) (held : List SchedRow) (job : ℕ) (at minute : ℤ) (kind : Kind) : Type 0 where
-  pub agrees : Agrees table log rows held
+  pub agrees : AgreesWithHeld table log rows held
   pub here : IsAtMinute table log rows held minute
   pub called : IsCalledAt held job at Launch minute
   pub launch : kind ≡ Launch
@@ -86,7 +86,7 @@ call_started table log machine held job at kind now works may =
     (now.0, effective_among table log (Start job at now.0) (start_now table log machine.rows held job at now.0 works.here may))
 
 -- a row that a call adds
-module _ (table : Table) (log : List Entry) (rows : List JobRow) (held : List SchedRow) (job : ℕ) (at : ℤ) (now : Minute) (kind : Kind) (agrees : Agrees table log rows held)
+module _ (table : Table) (log : List Entry) (rows : List JobRow) (held : List SchedRow) (job : ℕ) (at : ℤ) (now : Minute) (kind : Kind) (agrees : AgreesWithHeld table log rows held)
     (here : IsAtMinute table log rows held now.0) (may : MayCall table rows job at now.0) (is_kind : IsCallKind table job at now.0 kind)
     (none : NoneUnder held (call_row job at kind now).name) where
   launch : kind ≡ Launch
@@ -193,7 +193,7 @@ module _ (table : Table) (log : List Entry) (rows : List JobRow) (held : List Sc
   }
 
 -- a launch that is held already was called at the minute of its start
-found_now : (table : Table) (log : List Entry) (rows : List JobRow) (held : List SchedRow) (job : ℕ) (at minute : ℤ) (first : SchedRow) → Agrees table log rows held
+found_now : (table : Table) (log : List Entry) (rows : List JobRow) (held : List SchedRow) (job : ℕ) (at minute : ℤ) (first : SchedRow) → AgreesWithHeld table log rows held
     → IsAtMinute table log rows held minute → MayCall table rows job at minute → Contains held first → first.name.job ≡ job → first.name.at ≡ at
     → IsCalledAt held job at Launch minute
 found_now table log rows held job at minute first agrees here may among jobs dates =
@@ -211,7 +211,7 @@ found_now table log rows held job at minute first agrees here may among jobs dat
 
 -- a call answers a launch that is held then, and what is held fits the log
 pub called : (table : Table) (log : List Entry) (rows : List JobRow) (held next : List SchedRow) (job : ℕ) (at : ℤ) (kind : Kind) (now : Minute) (first : SchedRow)
-    → Agrees table log rows held → IsAtMinute table log rows held now.0 → MayCall table rows job at now.0 → IsCallKind table job at now.0 kind
+    → AgreesWithHeld table log rows held → IsAtMinute table log rows held now.0 → MayCall table rows job at now.0 → IsCallKind table job at now.0 kind
     → Answers held (call_row job at kind now) first next → HasCalled table log rows next job at now.0 first.kind
 called table log rows held next job at kind now first agrees here may is_kind (inl (found, e)) =
     let among : Contains held first = first_among held (call_row job at kind now).name first found in

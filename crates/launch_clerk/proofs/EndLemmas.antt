@@ -24,7 +24,7 @@ use Rattle.launch_law.specs.Launched.{IsCalledAt, IsWanted, LaunchesEachDue, Ope
 use Rattle.launch_law.specs.Settled.{IsSettled}
 use Rattle.launch_law.proofs.OrderLemmas.{in_order}
 use Rattle.launch_law.proofs.PeriodLemmas.{started_apart}
-use Rattle.launch_clerk.specs.Walk.{Agrees, AreIdle, IsAtMinute, IsCounted, IsOfMinute, IsOpenNow}
+use Rattle.launch_clerk.specs.Walk.{AgreesWithHeld, AreIdle, IsAtMinute, IsCountedTo, IsOfMinute, IsOpenNow}
 use Rattle.launch_clerk.proofs.DayLemmas.{IsInReach, day_in_reach, instant_in_reach}
 
 -- a launch of the minute may be called then
@@ -68,7 +68,7 @@ all_idle table log rows held minute here none job row is_row = by_open row.open_
         absurd (none job known.at (calls table rows job row is_row known.at minute known.since known.cursor row.last known.of_minute))
 
 -- the counts of an open row can rise
-pub has_room : (table : Table) (log : List Entry) (rows : List JobRow) (held : List SchedRow) (job : ℕ) (at minute : ℤ) → Agrees table log rows held
+pub has_room : (table : Table) (log : List Entry) (rows : List JobRow) (held : List SchedRow) (job : ℕ) (at minute : ℤ) → AgreesWithHeld table log rows held
     → IsAtMinute table log rows held minute → TakesEnd rows job at → HasRoom rows job
 has_room table log rows held job at minute agrees here takes = in_room (slice_get rows job) takes.is_row
   where
@@ -81,10 +81,10 @@ has_room table log rows held job at minute agrees here takes = in_room (slice_ge
 
     few : takes.row.launched + takes.row.voided < 120_968_640
     few =
-        let old : IsCounted (takes.row.launched + takes.row.voided) takes.row.cursor takes.row.open_now = agrees.counted job takes.row takes.is_row in
-        let at_cursor : IsCounted (takes.row.launched + takes.row.voided) (Some opening.at) takes.row.open_now =
-        subst (λ (o : Option ℤ). IsCounted (takes.row.launched + takes.row.voided) o takes.row.open_now) opening.cursor old in
-        let below : pos (takes.row.launched + takes.row.voided) ≤ℤ opening.at = subst (IsCounted (takes.row.launched + takes.row.voided) (Some opening.at)) takes.is_open at_cursor in
+        let old : IsCountedTo (takes.row.launched + takes.row.voided) takes.row.cursor takes.row.open_now = agrees.counted job takes.row takes.is_row in
+        let at_cursor : IsCountedTo (takes.row.launched + takes.row.voided) (Some opening.at) takes.row.open_now =
+        subst (λ (o : Option ℤ). IsCountedTo (takes.row.launched + takes.row.voided) o takes.row.open_now) opening.cursor old in
+        let below : pos (takes.row.launched + takes.row.voided) ≤ℤ opening.at = subst (IsCountedTo (takes.row.launched + takes.row.voided) (Some opening.at)) takes.is_open at_cursor in
         let reach = of_reach opening.of_minute in
         let before : opening.at <ℤ table.window.until.0 = reach.before in
         let until : table.window.until.0 ≤ℤ pos 120_968_640 = agrees.limits.until in
@@ -99,7 +99,7 @@ has_room table log rows held job at minute agrees here takes = in_room (slice_ge
         let most : takes.row.launched + takes.row.voided < 120_968_640 = few in
         (omega arith, omega arith)
 
-pub fits : (table : Table) (log : List Entry) (rows : List JobRow) (held : List SchedRow) → Agrees table log rows held → Fits table log held
+pub fits : (table : Table) (log : List Entry) (rows : List JobRow) (held : List SchedRow) → AgreesWithHeld table log rows held → Fits table log held
 fits table log rows held agrees = record {
   once = agrees.once;
   backed = agrees.backed;
@@ -125,7 +125,7 @@ none_after table rows job row idle none is_row at due after =
     none job found.0 found.0 (record { row = row; is_row = is_row; idle = idle job row is_row; may = inl (found.1, omega (arith, ints)) })
 
 -- each due instant is launched, and each date on which a job may open
-pub launched : (table : Table) (log : List Entry) (machine : Launches) (held : List SchedRow) → Agrees table log machine.rows held → StandsFor table machine
+pub launched : (table : Table) (log : List Entry) (machine : Launches) (held : List SchedRow) → AgreesWithHeld table log machine.rows held → StandsFor table machine
     → AreIdle machine.rows → StartsNoMore table machine.rows → LaunchesEachDue table held
 launched table log machine held agrees stands idle none = record {
   each = λ job at due. each_due job at due;

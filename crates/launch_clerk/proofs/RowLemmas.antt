@@ -18,7 +18,7 @@ use Rattle.launch_machine.specs.Clerk.{Applies, TakesStart, TakesEnd, first_rows
 use Rattle.launch_machine.proofs.MachineLemmas.{is_some_below, same_or_not, set_there}
 use Rattle.launch_machine.proofs.StartLemmas.{changed}
 use Rattle.launch_clerk.proofs.DayLemmas.{IsInReach}
-use Rattle.launch_clerk.specs.Walk.{AreIdle, IsCounted, IsOpenBy, minutes_left, steps_open, steps_of, steps_left}
+use Rattle.launch_clerk.specs.Walk.{AreIdle, IsCountedTo, IsOpenBy, minutes_left, steps_open, steps_of_row, steps_left}
 
 -- a row after a change of one of them: the changed one, or as it was
 pub row_after : (change : JobRow → JobRow) (rows : List JobRow) (job k : ℕ) (old new : JobRow) → slice_get rows job ≡ Some old
@@ -93,37 +93,37 @@ both_ways a b le ge = omega (arith, ints)
 pub not_after : (a b : ℤ) → (a <ℤ b → ⊥) → b ≤ℤ a
 not_after a b not = elim (cases_ltℤ a b) [ inl lt ↦ absurd (not lt) | inr le ↦ le ]
 
-pub counted_start : (at since : ℤ) (ended : ℕ) (cursor : Option ℤ) → pos 0 ≤ℤ at → IsAfter cursor at → IsCounted ended cursor None
-    → IsCounted ended (Some at) (Some since)
+pub counted_start : (at since : ℤ) (ended : ℕ) (cursor : Option ℤ) → pos 0 ≤ℤ at → IsAfter cursor at → IsCountedTo ended cursor None
+    → IsCountedTo ended (Some at) (Some since)
 counted_start at since ended None inside after known = let none : ended ≡ 0 = known in omega (arith, ints)
 counted_start at since ended (Some before) inside after known =
     let later : before <ℤ at = after in
     let few : pos ended ≤ℤ (before +ℤ pos 1) = known in
     omega (arith, ints)
 
-pub counted_end : (at since : ℤ) (ended : ℕ) → IsCounted ended (Some at) (Some since) → IsCounted (ended + 1) (Some at) None
+pub counted_end : (at since : ℤ) (ended : ℕ) → IsCountedTo ended (Some at) (Some since) → IsCountedTo (ended + 1) (Some at) None
 counted_end at since ended known =
     let few : pos ended ≤ℤ at = known in
     omega (arith, ints)
 
 -- a row of which fewer steps are left leaves fewer to all
-steps_set : (window : Window) (rows : List JobRow) (job : ℕ) (old new : JobRow) → slice_get rows job ≡ Some old → steps_of window new < steps_of window old
+steps_set : (window : Window) (rows : List JobRow) (job : ℕ) (old new : JobRow) → slice_get rows job ≡ Some old → steps_of_row window new < steps_of_row window old
     → steps_left window (slice_set rows job new) < steps_left window rows
 steps_set window [] job old new e lt = absurd cc
 steps_set window (row ∷ rows) zero old new e lt =
     let same : row ≡ old = cc in
-    let steps : steps_of window row ≡ steps_of window old = ap (steps_of window) same in
+    let steps : steps_of_row window row ≡ steps_of_row window old = ap (steps_of_row window) same in
     omega arith
 steps_set window (row ∷ rows) (suc job) old new e lt =
     let more : steps_left window (slice_set rows job new) < steps_left window rows = steps_set window rows job old new e lt in
     omega arith
 
 pub steps_changed : (window : Window) (change : JobRow → JobRow) (rows : List JobRow) (job : ℕ) (old : JobRow) → slice_get rows job ≡ Some old
-    → steps_of window (change old) < steps_of window old → steps_left window (with_row change rows job) < steps_left window rows
+    → steps_of_row window (change old) < steps_of_row window old → steps_left window (with_row change rows job) < steps_left window rows
 steps_changed window change rows job old is_old lt =
     let fresh : get_or rows job (fresh_row job) ≡ old = get_or_from_slice_get rows job old (fresh_row job) is_old in
     steps_set window rows job old (change (get_or rows job (fresh_row job))) is_old
-    (subst (λ (r : JobRow). steps_of window (change r) < steps_of window old) (sym fresh) lt)
+    (subst (λ (r : JobRow). steps_of_row window (change r) < steps_of_row window old) (sym fresh) lt)
 
 abs_most : (a b : ℤ) → pos 0 ≤ℤ a → a ≤ℤ b → unsigned_abs a ≤ unsigned_abs b
 abs_most (pos a) (pos b) nonneg le = omega (arith, ints)
@@ -143,19 +143,19 @@ minutes_fall window (Some c) at inside after =
     abs_below (window.until.0 -ℤ at) (window.until.0 -ℤ c) (omega (arith, ints)) (omega (arith, ints))
 
 -- a start leaves fewer steps
-pub steps_start : (window : Window) (row : JobRow) (at now : ℤ) → IsInReach window at → IsAfter row.cursor at → steps_of window (opened_row at now row) < steps_of window row
+pub steps_start : (window : Window) (row : JobRow) (at now : ℤ) → IsInReach window at → IsAfter row.cursor at → steps_of_row window (opened_row at now row) < steps_of_row window row
 steps_start window row at now inside after =
     let fewer : minutes_left window (Some at) < minutes_left window row.cursor = minutes_fall window row.cursor at inside after in
-    let one : steps_of window (opened_row at now row) ≡ 2 * minutes_left window (Some at) + 1 = refl in
+    let one : steps_of_row window (opened_row at now row) ≡ 2 * minutes_left window (Some at) + 1 = refl in
     omega arith
 
 -- and so does an end
-pub steps_end : (window : Window) (row : JobRow) (at since : ℤ) (kind : Kind) → row.open_now ≡ Some since → steps_of window (closed_row at kind row) < steps_of window row
+pub steps_end : (window : Window) (row : JobRow) (at since : ℤ) (kind : Kind) → row.open_now ≡ Some since → steps_of_row window (closed_row at kind row) < steps_of_row window row
 steps_end window row at since Launch is_open =
     let one : steps_open row.open_now ≡ 1 = ap steps_open is_open in
-    let none : steps_of window (closed_row at Launch row) ≡ 2 * minutes_left window row.cursor + 0 = refl in
+    let none : steps_of_row window (closed_row at Launch row) ≡ 2 * minutes_left window row.cursor + 0 = refl in
     omega arith
 steps_end window row at since Void is_open =
     let one : steps_open row.open_now ≡ 1 = ap steps_open is_open in
-    let none : steps_of window (closed_row at Void row) ≡ 2 * minutes_left window row.cursor + 0 = refl in
+    let none : steps_of_row window (closed_row at Void row) ≡ 2 * minutes_left window row.cursor + 0 = refl in
     omega arith

@@ -20,7 +20,7 @@ use Rattle.launch_machine.specs.Machine.{HasRoom, Launches, StandsFor}
 use Rattle.launch_machine.specs.Next.{IsNextStart}
 use Rattle.launch_machine.proofs.StartLemmas.{may_start_later}
 use Rattle.launch_law.specs.Launched.{IsCalledAt}
-use Rattle.launch_clerk.specs.Walk.{Agrees, AreIdle, IsAtMinute, IsAtWork, IsResting, steps_left}
+use Rattle.launch_clerk.specs.Walk.{AgreesWithHeld, AreIdle, IsAtMinute, IsAtWork, IsResting, steps_left}
 use Rattle.launch_clerk.proofs.CallLemmas.{HasCalled, call_row, called}
 use Rattle.launch_clerk.proofs.DayLemmas.{start_in_reach}
 use Rattle.launch_clerk.proofs.EndLemmas.{all_idle, has_room}
@@ -40,14 +40,14 @@ begun_rests table machine log held limits rows stands log_is held_is = record {
   past = λ row job at now among takes. absurd (Contains-none row (subst (λ (h : List SchedRow). Contains h row) held_is among));
 }
   where
-    agrees_log : Agrees table log (first_rows table) []
-    agrees_log = subst (λ (l : List Entry). Agrees table l (first_rows table) []) (sym log_is) (begun table limits)
+    agrees_log : AgreesWithHeld table log (first_rows table) []
+    agrees_log = subst (λ (l : List Entry). AgreesWithHeld table l (first_rows table) []) (sym log_is) (begun table limits)
 
-    agrees_held : Agrees table log (first_rows table) held
-    agrees_held = subst (Agrees table log (first_rows table)) (sym held_is) agrees_log
+    agrees_held : AgreesWithHeld table log (first_rows table) held
+    agrees_held = subst (AgreesWithHeld table log (first_rows table)) (sym held_is) agrees_log
 
-    agrees_rows : Agrees table log machine.rows held
-    agrees_rows = subst (λ (r : List JobRow). Agrees table log r held) (sym rows) agrees_held
+    agrees_rows : AgreesWithHeld table log machine.rows held
+    agrees_rows = subst (λ (r : List JobRow). AgreesWithHeld table log r held) (sym rows) agrees_held
 
 -- after a step: the clerk is at work, with less left to do
 pub record HasStepped (table : Table) (log : List Entry) (old machine : Launches) (held : List SchedRow) (minute : ℤ) : Type 0 where
@@ -86,7 +86,7 @@ pub call_room : (table : Table) (log : List Entry) (machine : Launches) (held : 
     → MayCall table machine.rows job at minute → HasRoom machine.rows job
 call_room table log machine held job at minute works may = has_room table log machine.rows held job at minute works.agrees works.here (call_ends table machine.rows job at minute may)
 
-end_step : (table : Table) (log : List Entry) (old machine : Launches) (held : List SchedRow) (job : ℕ) (at minute : ℤ) → Agrees table log old.rows held
+end_step : (table : Table) (log : List Entry) (old machine : Launches) (held : List SchedRow) (job : ℕ) (at minute : ℤ) → AgreesWithHeld table log old.rows held
     → IsAtMinute table log old.rows held minute → TakesEnd old.rows job at → IsCalledAt held job at Launch minute → Applies table old.rows (End job at Launch) machine.rows
     → StandsFor table machine → HasStepped table (log ++ End job at Launch ∷ []) old machine held minute
 end_step table log old machine held job at minute agrees here takes is_called applies stands =

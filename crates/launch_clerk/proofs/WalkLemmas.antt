@@ -23,7 +23,7 @@ use Rattle.launch_law.specs.Launched.{IsCalledAt, IsLatest, OpensBy}
 use Rattle.launch_law.proofs.CoverLemmas.{due_never_opens}
 use Rattle.launch_law.proofs.EffectLemmas.{AreAllEffective-push, IsBacked-more, IsEffective-cases, IsEffective-last, IsEffective-more, none_effective, nothing_effective}
 use Rattle.launch_law.proofs.VoidLemmas.{fresh_in}
-use Rattle.launch_clerk.specs.Walk.{Agrees, AreIdle, IsAtMinute, IsCounted, IsOfMinute, IsOpenAt, IsOpenBy, IsOpenNow}
+use Rattle.launch_clerk.specs.Walk.{AgreesWithHeld, AreIdle, IsAtMinute, IsCountedTo, IsOfMinute, IsOpenAt, IsOpenBy, IsOpenNow}
 use Rattle.launch_clerk.proofs.AgreeLemmas.{called_at_most, last_is_cursor}
 use Rattle.launch_clerk.proofs.DayLemmas.{start_in_reach}
 use Rattle.launch_clerk.proofs.LatestLemmas.{called_held, latest_is, opens_sooner}
@@ -43,7 +43,7 @@ opened_first table job now date by = by_last by.last by.latest by.opens
     by_last (Some last) known opens = absurd (Contains-none known.called.row known.called.among)
 
 -- an empty log agrees with an empty scheduler
-pub begun : (table : Table) → IsWithinLimits table.window → Agrees table [] (first_rows table) []
+pub begun : (table : Table) → IsWithinLimits table.window → AgreesWithHeld table [] (first_rows table) []
 begun table limits = record {
   limits = limits;
   clerk = refl;
@@ -58,7 +58,7 @@ begun table limits = record {
     starts = λ job at now other among. absurd (Contains-none (Start job at now) among);
     calls = All-nil (λ (row : SchedRow). Contains [] (Start row.name.job row.name.at row.now.0) × (row.by ≡ 0));
   };
-  counted = λ job row is_row. subst (λ (r : JobRow). IsCounted (r.launched + r.voided) r.cursor r.open_now) (sym (fresh_at table job row is_row)) refl;
+  counted = λ job row is_row. subst (λ (r : JobRow). IsCountedTo (r.launched + r.voided) r.cursor r.open_now) (sym (fresh_at table job row is_row)) refl;
 }
 
 -- at a minute before which no start takes effect, and with nothing open
@@ -73,7 +73,7 @@ arrived table log rows held minute idle waits past = record {
 
 -- what holds after a step
 pub record HasWalked (table : Table) (log : List Entry) (rows : List JobRow) (held : List SchedRow) (minute : ℤ) : Type 0 where
-  pub agrees : Agrees table log rows held
+  pub agrees : AgreesWithHeld table log rows held
   pub here : IsAtMinute table log rows held minute
 
 -- a launch that is open stays so
@@ -95,7 +95,7 @@ calls_more log more row (among, by) = (Contains-append_left log more (Start row.
 
 -- ---- a start is appended
 
-module _ (table : Table) (log : List Entry) (rows next : List JobRow) (held : List SchedRow) (job : ℕ) (at minute : ℤ) (agrees : Agrees table log rows held)
+module _ (table : Table) (log : List Entry) (rows next : List JobRow) (held : List SchedRow) (job : ℕ) (at minute : ℤ) (agrees : AgreesWithHeld table log rows held)
     (here : IsAtMinute table log rows held minute) (takes : TakesStart table rows job at minute) (applies : Applies table rows (Start job at minute) next) where
   started_is : next ≡ with_row (opened_row at minute) rows job
   started_is = rows_started table rows job at minute next takes applies
@@ -197,12 +197,12 @@ module _ (table : Table) (log : List Entry) (rows next : List JobRow) (held : Li
         | inr opens ↦ absurd (not (subst (IsRunByPeriod table) jobs (opens_by_period table job takes.row.last takes.row.last minute at opens)))
       ]
 
-  counted_open : (new : JobRow) → new ≡ opened_row at minute takes.row → IsCounted (new.launched + new.voided) new.cursor new.open_now
+  counted_open : (new : JobRow) → new ≡ opened_row at minute takes.row → IsCountedTo (new.launched + new.voided) new.cursor new.open_now
   counted_open new is =
-      subst (λ (r : JobRow). IsCounted (r.launched + r.voided) r.cursor r.open_now) (sym is)
+      subst (λ (r : JobRow). IsCountedTo (r.launched + r.voided) r.cursor r.open_now) (sym is)
       (counted_start at minute (takes.row.launched + takes.row.voided) takes.row.cursor (start_in_reach table job takes.row at minute agrees.limits takes.may).since
       (may_start_later table job takes.row at minute takes.may)
-      (subst (IsCounted (takes.row.launched + takes.row.voided) takes.row.cursor) takes.idle (agrees.counted job takes.row takes.is_row)))
+      (subst (IsCountedTo (takes.row.launched + takes.row.voided) takes.row.cursor) takes.idle (agrees.counted job takes.row takes.is_row)))
 
   pub started : HasWalked table (log ++ Start job at minute ∷ []) next held minute
   started = record {
@@ -254,7 +254,7 @@ module _ (table : Table) (log : List Entry) (rows next : List JobRow) (held : Li
 
 -- ---- an end is appended, of a launch that is held
 
-module _ (table : Table) (log : List Entry) (rows next : List JobRow) (held : List SchedRow) (job : ℕ) (at minute : ℤ) (agrees : Agrees table log rows held)
+module _ (table : Table) (log : List Entry) (rows next : List JobRow) (held : List SchedRow) (job : ℕ) (at minute : ℤ) (agrees : AgreesWithHeld table log rows held)
     (here : IsAtMinute table log rows held minute) (takes : TakesEnd rows job at) (called : IsCalledAt held job at Launch minute)
     (applies : Applies table rows (End job at Launch) next) where
   ended_is : next ≡ with_row (closed_row at Launch) rows job
@@ -357,21 +357,21 @@ module _ (table : Table) (log : List Entry) (rows next : List JobRow) (held : Li
       let after : IsAfter takes.row.last at = subst (IsAfter takes.row.last) open_at open_then.after in
       open_then.first now t (opens_sooner table job takes.row.last at now t after from)
 
-  counted_closed : (new : JobRow) → new ≡ closed_row at Launch takes.row → IsCounted (new.launched + new.voided) new.cursor new.open_now
+  counted_closed : (new : JobRow) → new ≡ closed_row at Launch takes.row → IsCountedTo (new.launched + new.voided) new.cursor new.open_now
   counted_closed new is =
-      let old : IsCounted (takes.row.launched + takes.row.voided) takes.row.cursor takes.row.open_now = agrees.counted job takes.row takes.is_row in
-      let at_cursor : IsCounted (takes.row.launched + takes.row.voided) (Some at) takes.row.open_now =
-      subst (λ (o : Option ℤ). IsCounted (takes.row.launched + takes.row.voided) o takes.row.open_now) takes.cursor old in
-      let at_open : IsCounted (takes.row.launched + takes.row.voided) (Some at) (Some takes.since) =
-      subst (IsCounted (takes.row.launched + takes.row.voided) (Some at)) takes.is_open at_cursor in
-      let closed : IsCounted (takes.row.launched + takes.row.voided + 1) (Some at) None = counted_end at takes.since (takes.row.launched + takes.row.voided) at_open in
+      let old : IsCountedTo (takes.row.launched + takes.row.voided) takes.row.cursor takes.row.open_now = agrees.counted job takes.row takes.is_row in
+      let at_cursor : IsCountedTo (takes.row.launched + takes.row.voided) (Some at) takes.row.open_now =
+      subst (λ (o : Option ℤ). IsCountedTo (takes.row.launched + takes.row.voided) o takes.row.open_now) takes.cursor old in
+      let at_open : IsCountedTo (takes.row.launched + takes.row.voided) (Some at) (Some takes.since) =
+      subst (IsCountedTo (takes.row.launched + takes.row.voided) (Some at)) takes.is_open at_cursor in
+      let closed : IsCountedTo (takes.row.launched + takes.row.voided + 1) (Some at) None = counted_end at takes.since (takes.row.launched + takes.row.voided) at_open in
       let cursor : Some at ≡ new.cursor = sym (ap (λ (r : JobRow). r.cursor) is ∙ takes.cursor) in
       let idle : None ≡ new.open_now = sym (ap (λ (r : JobRow). r.open_now) is) in
       let counts : new.launched + new.voided ≡ takes.row.launched + 1 + takes.row.voided = ap (λ (r : JobRow). r.launched + r.voided) is in
       let count : takes.row.launched + takes.row.voided + 1 ≡ new.launched + new.voided = omega arith in
-      let a = subst (λ (n : ℕ). IsCounted n (Some at) None) count closed in
-      let b = subst (λ (o : Option ℤ). IsCounted (new.launched + new.voided) o None) cursor a in
-      subst (IsCounted (new.launched + new.voided) new.cursor) idle b
+      let a = subst (λ (n : ℕ). IsCountedTo n (Some at) None) count closed in
+      let b = subst (λ (o : Option ℤ). IsCountedTo (new.launched + new.voided) o None) cursor a in
+      subst (IsCountedTo (new.launched + new.voided) new.cursor) idle b
 
   pub ended : HasWalked table (log ++ End job at Launch ∷ []) next held minute
   ended = record {

@@ -28,10 +28,10 @@ abbrev pub AreIdle : List JobRow → Type 0
 AreIdle rows = (job : ℕ) (row : JobRow) → slice_get rows job ≡ Some row → row.open_now ≡ None
 
 -- the launches that ended are no more than the numbers from 0 up to the cursor, and the cursor's is no part of them while it is open
-abbrev pub IsCounted : ℕ → Option ℤ → Option ℤ → Type 0
-IsCounted ended None any = ended ≡ 0
-IsCounted ended (Some at) None = pos ended ≤ℤ (at +ℤ pos 1)
-IsCounted ended (Some at) (Some since) = pos ended ≤ℤ at
+abbrev pub IsCountedTo : ℕ → Option ℤ → Option ℤ → Type 0
+IsCountedTo ended None any = ended ≡ 0
+IsCountedTo ended (Some at) None = pos ended ≤ℤ (at +ℤ pos 1)
+IsCountedTo ended (Some at) (Some since) = pos ended ≤ℤ at
 
 -- the job's launch is open since the instant or sooner; since the instant itself, it is the date's
 pub record IsOpenBy (rows : List JobRow) (job : ℕ) (now date : ℤ) : Type 0 where
@@ -45,7 +45,7 @@ pub record IsOpenBy (rows : List JobRow) (job : ℕ) (now date : ℤ) : Type 0 w
 -- The log, its launch table and what is held agree: up to each row's cursor no due instant is without its launch, but for
 -- one that is open; and where a job may open by what was called before, its launch was called then, another is open, or it can
 -- still be started.
-pub record Agrees (table : Table) (log : List Entry) (rows : List JobRow) (held : List SchedRow) : Type 0 where
+pub record AgreesWithHeld (table : Table) (log : List Entry) (rows : List JobRow) (held : List SchedRow) : Type 0 where
   pub limits : IsWithinLimits table.window
   pub clerk : IsClerkOf table log rows
   pub effective : AreAllEffective table log
@@ -59,7 +59,7 @@ pub record Agrees (table : Table) (log : List Entry) (rows : List JobRow) (held 
       → IsCalledAt held job date Launch now ⊎ (IsOpenBy rows job now date ⊎ TakesStart table rows job date now)
   pub in_time : AreInTheirMinutes table log held
   pub counted : (job : ℕ) (row : JobRow) → slice_get rows job ≡ Some row
-      → IsCounted (row.launched + row.voided) row.cursor row.open_now
+      → IsCountedTo (row.launched + row.voided) row.cursor row.open_now
 
 -- the launch is due at the minute, or the job may open then on its date, after the last launch
 abbrev pub IsOfMinute : Table → ℕ → Option ℤ → ℤ → ℤ → Type 0
@@ -93,23 +93,23 @@ steps_open None = 0
 steps_open (Some since) = 1
 
 -- no more steps than so many are left to the job of a row: a start and an end for each number
-abbrev pub steps_of : Window → JobRow → ℕ
-steps_of window row = 2 * minutes_left window row.cursor + steps_open row.open_now
+abbrev pub steps_of_row : Window → JobRow → ℕ
+steps_of_row window row = 2 * minutes_left window row.cursor + steps_open row.open_now
 
 -- no more steps than so many are left to all jobs
 abbrev pub steps_left : Window → List JobRow → ℕ
 steps_left window [] = 0
-steps_left window (row ∷ rows) = steps_of window row + steps_left window rows
+steps_left window (row ∷ rows) = steps_of_row window row + steps_left window rows
 
 -- between two minutes: the clerk has nothing open, and nothing was called after an instant at which a start takes effect
 pub record IsResting (table : Table) (log : List Entry) (machine : Launches) (held : List SchedRow) : Type 0 where
   pub stands : StandsFor table machine
-  pub agrees : Agrees table log machine.rows held
+  pub agrees : AgreesWithHeld table log machine.rows held
   pub idle : AreIdle machine.rows
   pub past : (row : SchedRow) (job : ℕ) (at now : ℤ) → Contains held row → TakesStart table machine.rows job at now → row.now.0 ≤ℤ now
 
 -- at a minute: the clerk may have launches open
 pub record IsAtWork (table : Table) (log : List Entry) (machine : Launches) (held : List SchedRow) (minute : ℤ) : Type 0 where
   pub stands : StandsFor table machine
-  pub agrees : Agrees table log machine.rows held
+  pub agrees : AgreesWithHeld table log machine.rows held
   pub here : IsAtMinute table log machine.rows held minute

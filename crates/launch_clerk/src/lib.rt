@@ -4,8 +4,6 @@
 mod book;
 mod clerk;
 mod run;
-#[cfg(test)]
-mod tests;
 
 pub use book::LaunchBook;
 pub use run::run_clerk;

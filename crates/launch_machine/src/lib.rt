@@ -2,14 +2,10 @@
 #![tactic(auto)]
 
 mod choice;
-#[cfg(test)]
-mod date_tests;
 mod laws;
 mod machine;
 mod next;
 mod row;
-#[cfg(test)]
-mod tests;
 
 pub use laws::{
     a_job_has_one_count_of_ends, a_job_has_one_list_of_starts, cursors_rise, ends_are_counted,

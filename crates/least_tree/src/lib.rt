@@ -7,6 +7,3 @@ mod nodes;
 mod tree;
 
 pub use tree::LeastTree;
-
-#[cfg(test)]
-mod tests;

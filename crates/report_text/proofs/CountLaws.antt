@@ -13,7 +13,7 @@ use Rattle.cluster_sched.specs.Held.{AreNamedOnce}
 use Rattle.cluster_sched.specs.declared.row.SchedRow.{SchedRow}
 use Rattle.launch_law.specs.Launched.{IsWanted, LaunchesEachDue}
 use Rattle.report_text.specs.Listing.{instants_of, rows_of}
-use Rattle.report_text.specs.Report.{IsInOrder, count_of, is_same_kind}
+use Rattle.report_text.specs.Report.{IsInOrder, count_of_kind, is_same_kind}
 use Rattle.report_text.proofs.ListingLemmas.{each_due_listed}
 use Rattle.report_text.proofs.OrderLemmas.{some_order}
 
@@ -27,7 +27,7 @@ abbrev one_if : (SchedRow → Bool) → SchedRow → ℕ
 one_if p row = cond (p row) 1 0
 
 -- a count is how many rows of the job and the kind are listed
-pub counts_listed : (held rows : List SchedRow) (job : ℕ) (kind : Kind) → IsInOrder held rows → count_of held job kind ≡ length (rows_of rows job kind)
+pub counts_listed : (held rows : List SchedRow) (job : ℕ) (kind : Kind) → IsInOrder held rows → count_of_kind held job kind ≡ length (rows_of rows job kind)
 counts_listed held rows job kind x =
     sym (sum_by-IsPermutation (one_if (is_counted job kind)) held rows x.same) ∙ sym (length-filter (is_counted job kind) rows)
 
@@ -43,22 +43,22 @@ launch_is_no_void true kind e = ap (λ (k : Kind). is_same_kind k Void) e
 launch_is_no_void false kind e = refl
 
 -- where all rows are launches, each of the job's counts as one
-all_counted : (rows : List SchedRow) (job : ℕ) → AreLaunches rows → count_of rows job Launch ≡ count_by (is_of job) rows
+all_counted : (rows : List SchedRow) (job : ℕ) → AreLaunches rows → count_of_kind rows job Launch ≡ count_by (is_of job) rows
 all_counted [] job all = refl
 all_counted (row ∷ rows) job all =
     let first : is_counted job Launch row ≡ is_of job row = launch_counts (is_of job row) row.kind (All-head (λ r. r.kind ≡ Launch) row rows all) in
     sum_by-cons (one_if (is_counted job Launch)) row rows
-    ∙ ap (λ (b : Bool). cond b 1 0 + count_of rows job Launch) first
+    ∙ ap (λ (b : Bool). cond b 1 0 + count_of_kind rows job Launch) first
     ∙ ap (λ (n : ℕ). cond (is_of job row) 1 0 + n) (all_counted rows job (All-tail (λ r. r.kind ≡ Launch) row rows all))
     ∙ sym (sum_by-cons (one_if (is_of job)) row rows)
 
 -- and none counts as a void
-none_voided : (rows : List SchedRow) (job : ℕ) → AreLaunches rows → count_of rows job Void ≡ 0
+none_voided : (rows : List SchedRow) (job : ℕ) → AreLaunches rows → count_of_kind rows job Void ≡ 0
 none_voided [] job all = refl
 none_voided (row ∷ rows) job all =
     let first : is_counted job Void row ≡ false = launch_is_no_void (is_of job row) row.kind (All-head (λ r. r.kind ≡ Launch) row rows all) in
     sum_by-cons (one_if (is_counted job Void)) row rows
-    ∙ ap (λ (b : Bool). cond b 1 0 + count_of rows job Void) first
+    ∙ ap (λ (b : Bool). cond b 1 0 + count_of_kind rows job Void) first
     ∙ ap (λ (n : ℕ). 0 + n) (none_voided rows job (All-tail (λ r. r.kind ≡ Launch) row rows all))
 
 all_launches : (table : Table) (held : List SchedRow) → LaunchesEachDue table held → AreLaunches held
@@ -66,7 +66,7 @@ all_launches table held launches =
     All-weaker (λ (row : SchedRow). IsWanted table held row × (row.kind ≡ Launch)) (λ row. row.kind ≡ Launch) (λ row both. both.1) held launches.no_other
 
 pub launches_counted : (table : Table) (held : List SchedRow) (job : ℕ) (dues : List ℤ) → AreNamedOnce held → LaunchesEachDue table held
-    → (IsRunByPeriod table job → ⊥) → IsJobDueList table job dues → count_of held job Launch ≡ length dues
+    → (IsRunByPeriod table job → ⊥) → IsJobDueList table job dues → count_of_kind held job Launch ≡ length dues
 launches_counted table held job dues once launches other list =
     let order = some_order held in
     let rows = order.0 in
@@ -78,5 +78,5 @@ launches_counted table held job dues once launches other list =
     ∙ sym (length-map (filter (is_of job) rows) at_of)
     ∙ ap length (IsJobDueList-same table job (instants_of rows job) dues listed list)
 
-pub no_void_counted : (table : Table) (held : List SchedRow) (job : ℕ) → LaunchesEachDue table held → count_of held job Void ≡ 0
+pub no_void_counted : (table : Table) (held : List SchedRow) (job : ℕ) → LaunchesEachDue table held → count_of_kind held job Void ≡ 0
 no_void_counted table held job launches = none_voided held job (all_launches table held launches)

@@ -6,7 +6,7 @@ use Rattle.std.proofs.lemmas.Grind.{flat_map-append}
 use Rattle.cron_io.specs.Views.{SinkView}
 use Rattle.due_set.specs.Table.{Table}
 use Rattle.cluster_sched.specs.declared.row.SchedRow.{SchedRow}
-use Rattle.report_text.specs.Counts.{counts_of}
+use Rattle.report_text.specs.Counts.{counts_of_job}
 use Rattle.report_text.specs.Lines.{text_of_lines}
 use Rattle.report_text.specs.Report.{head_lines, count_line, row_line, report_lines, IsInOrder, IsReport}
 use Rattle.report_text.specs.Writes.{Writes}
@@ -46,6 +46,6 @@ report_of_none table members held a result is =
     report_of table members held order.0 a a result order.1 (writes_no_memory a result _ is)
 
 -- the counts are those of each job of the table
-pub counts_of_table : (table : Table) (held : List SchedRow) (lent counts : List Counts) (jobs : ℕ) → lent ≡ counts → counts ≡ map (counts_of held) (range_with_len 0 jobs) → jobs ≡ length table.jobs
-    → lent ≡ map (counts_of held) (range_with_len 0 (length table.jobs))
-counts_of_table table held lent counts jobs same known size = same ∙ known ∙ ap (λ (n : ℕ). map (counts_of held) (range_with_len 0 n)) size
+pub counts_of_table : (table : Table) (held : List SchedRow) (lent counts : List Counts) (jobs : ℕ) → lent ≡ counts → counts ≡ map (counts_of_job held) (range_with_len 0 jobs) → jobs ≡ length table.jobs
+    → lent ≡ map (counts_of_job held) (range_with_len 0 (length table.jobs))
+counts_of_table table held lent counts jobs same known size = same ∙ known ∙ ap (λ (n : ℕ). map (counts_of_job held) (range_with_len 0 n)) size

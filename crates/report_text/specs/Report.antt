@@ -23,8 +23,8 @@ is_same_kind Void Void = true
 is_same_kind a b = false
 
 -- how many of the rows are of the job and the kind
-abbrev pub count_of : List SchedRow → ℕ → Kind → ℕ
-count_of rows job kind = count_by (λ row. (row.name.job == job) && is_same_kind row.kind kind) rows
+abbrev pub count_of_kind : List SchedRow → ℕ → Kind → ℕ
+count_of_kind rows job kind = count_by (λ row. (row.name.job == job) && is_same_kind row.kind kind) rows
 
 -- job NAME launched A void B
 abbrev pub job_line : List ℕ → ℕ → ℕ → List ℕ
@@ -33,7 +33,7 @@ job_line name launched voided =
 
 -- how often the job was launched, and how many of its launches were given up
 abbrev pub count_line : Table → List SchedRow → ℕ → List ℕ
-count_line table held job = job_line (job_name table job) (count_of held job Launch) (count_of held job Void)
+count_line table held job = job_line (job_name table job) (count_of_kind held job Launch) (count_of_kind held job Void)
 
 -- the word before a row's name
 abbrev pub kind_word : Kind → List ℕ

@@ -1,6 +1,6 @@
 ghost use Rattle.std.specs.Prelude.{◌≡◌, ◌+◌, ◌<◌, ◌^◌, map, All, IfOk};
 ghost use Rattle.std.specs.List.{range_with_len};
-ghost use Rattle.report_text.specs.Counts.{counted, counts_of};
+ghost use Rattle.report_text.specs.Counts.{counted, counts_of_job};
 
 use cluster_sched::SchedRow;
 use paxos_base::Kind;
@@ -34,7 +34,7 @@ fn with_one_more(counts: Counts, kind: Kind) -> Counts
 /// The counts of so many jobs, in one pass over the rows.
 pub fn counts_by_job(alloc: Global, jobs: u32, held: &[SchedRow]) -> Result<Vec<Counts>, AllocError>
     requires { All (λ row. row.name.job < jobs) held.now }
-    ensures { IfOk result (λ counts. counts.items ≡ map (counts_of held.now) (range_with_len 0 jobs)) }
+    ensures { IfOk result (λ counts. counts.items ≡ map (counts_of_job held.now) (range_with_len 0 jobs)) }
 {
     let none = Counts {
         launched: 0,

@@ -8,7 +8,7 @@ ghost use Rattle.launch_law.specs.Launched.{LaunchesEachDue, OpensBy};
 ghost use Rattle.paxos_base.specs.declared.entry.Kind.{Kind};
 ghost use Rattle.paxos_base.specs.declared.entry.Kind.TheVariants.{Launch, Void};
 ghost use Rattle.report_text.specs.Listing.{instants_of, rows_of};
-ghost use Rattle.report_text.specs.Report.{IsInOrder, IsReport, count_of};
+ghost use Rattle.report_text.specs.Report.{IsInOrder, IsReport, count_of_kind};
 
 /// Where no two rows have one name, a run has one report.
 pub fn a_report_says_one_text()
@@ -36,8 +36,8 @@ pub fn a_report_lists_each_date()
 /// and nothing else is held, there are as many launches as due instants, of a job that doesn't run by its period, and no void.
 pub fn a_report_counts_what_it_lists()
     ensures listed { (held rows : List SchedRow) (job : ℕ) (kind : Kind) → IsInOrder held rows
-        → count_of held job kind ≡ length (rows_of rows job kind) }
+        → count_of_kind held job kind ≡ length (rows_of rows job kind) }
     ensures launched { (table : Table) (held : List SchedRow) (job : ℕ) (dues : List ℤ) → AreNamedOnce held → LaunchesEachDue table held
-        → (IsRunByPeriod table job → ⊥) → IsJobDueList table job dues → count_of held job Launch ≡ length dues }
-    ensures void { (table : Table) (held : List SchedRow) (job : ℕ) → LaunchesEachDue table held → count_of held job Void ≡ 0 }
+        → (IsRunByPeriod table job → ⊥) → IsJobDueList table job dues → count_of_kind held job Launch ≡ length dues }
+    ensures void { (table : Table) (held : List SchedRow) (job : ℕ) → LaunchesEachDue table held → count_of_kind held job Void ≡ 0 }
 {}

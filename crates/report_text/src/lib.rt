@@ -14,6 +14,3 @@ pub use laws::{
     a_report_says_one_text,
 };
 pub use report::write_report;
-
-#[cfg(test)]
-mod tests;

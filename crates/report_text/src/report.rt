@@ -2,7 +2,7 @@ ghost use Rattle.std.specs.Prelude.{◌≡◌, ℕ, List, length, map, All};
 ghost use Rattle.std.specs.List.{range_with_len};
 ghost use Rattle.cluster_sched.specs.Names.{IsNameIn};
 ghost use Rattle.cluster_sched.specs.declared.row.SchedRow.{SchedRow};
-ghost use Rattle.report_text.specs.Counts.{counts_of};
+ghost use Rattle.report_text.specs.Counts.{counts_of_job};
 ghost use Rattle.report_text.specs.Lines.{text_of_lines};
 ghost use Rattle.report_text.specs.Report.{IsReport, count_line, head_lines, row_line};
 ghost use Rattle.report_text.specs.Writes.{Writes};
@@ -39,7 +39,7 @@ fn write_counts<K: Sink>(
     counts: &[Counts],
 ) -> Result<(), ReportFault>
     requires { length counts.now ≡ length table.now.jobs }
-    ensures { (held : List SchedRow) → counts.now ≡ map (counts_of held) (range_with_len 0 (length table.now.jobs))
+    ensures { (held : List SchedRow) → counts.now ≡ map (counts_of_job held) (range_with_len 0 (length table.now.jobs))
         → Writes (K.seen sink.old) (K.seen sink.new) result
         (text_of_lines (map (count_line table.now held) (range_with_len 0 (length table.now.jobs)))) }
 {

@@ -5,3 +5,4 @@ pub mod SameZone
 pub mod StampLemmas
 pub mod VerdictLemmas
 pub mod ZoneLemmas
+pub mod SteadyLemmas

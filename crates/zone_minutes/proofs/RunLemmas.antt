@@ -10,6 +10,7 @@ use Rattle.jiff_core.proofs.SignedLemmas.{signed_arith}
 use borrow.Author.Differences.{le-true, le-false}
 use Rattle.std.specs.List.Sorted.{IsPartitionedBy, IsPartitionPoint}
 use Rattle.zone_minutes.specs.Run.{AreJoined, AreRuns, AreRunsOver, IsChange, IsRun, IsRunAt, first_known}
+use Rattle.zone_minutes.specs.Steady.{IsSteady}
 use Rattle.zone_minutes.specs.Zone.{Source, Zone, FixedOffset, IsLocal, IsMinutesAhead, IsOffsetMinutes, IsReadable, IsReadAs, local_of, minute_nanos, zone_over}
 use Rattle.zone_minutes.specs.declared.minute.Window.{Window}
 use Rattle.zone_minutes.proofs.ZoneLemmas.{IsReadable-fixed, local_of-fixed, local_of-same}
@@ -42,29 +43,36 @@ pub record IsListed (zone : TimeZone) (start end : ℤ) (since now : ℤ) (ahead
   pub some : since <ℤ now
   pub small : IsMinutesAhead ahead
 
--- the first instant begins a run
-pub IsListed-first : (zone : TimeZone) (start end ahead : ℤ) → IsMinutesAhead ahead → local_of zone start ≡ start +ℤ ahead → IsListed zone start end start (start +ℤ pos 1) ahead []
-IsListed-first zone start end ahead small local =
+-- over steady instants the clocks are as far ahead as at the first of them
+pub local_of-steady : (zone : TimeZone) (from until ahead : ℤ) → IsSteady zone from until → local_of zone from ≡ from +ℤ ahead
+    → (t : ℤ) → from ≤ℤ t → t <ℤ until → local_of zone t ≡ t +ℤ ahead
+unfolding local_of
+local_of-steady zone from until ahead steady local t at before =
+    let offset = offset_at zone (minute_nanos from) in
+    let first = whole_minutes_ahead from offset in
+    rw (steady t at before) (let then_ahead = whole_minutes_ahead t offset in omega (arith, signed_arith))
+
+-- the first instants begin a run
+pub IsListed-first : (zone : TimeZone) (start end now ahead : ℤ) → IsMinutesAhead ahead → local_of zone start ≡ start +ℤ ahead → start <ℤ now → IsSteady zone start now
+    → IsListed zone start end start now ahead []
+IsListed-first zone start end now ahead small local some steady =
     record {
       joined = refl;
       each = λ k d lt. absurd (omega arith);
-      local = λ t since before. let same : t ≡ start = omega (arith, signed_arith) in
-          ap (local_of zone) same ∙ local ∙ ap (λ (u : ℤ). u +ℤ ahead) (sym same);
+      local = local_of-steady zone start now ahead steady local;
       first = inl refl;
-      some = omega (arith, signed_arith);
+      some = some;
       small = small;
     }
 
--- an instant at which the clocks are as far ahead goes on with the run
-pub IsListed-same : (zone : TimeZone) (start end since now ahead : ℤ) (runs : List Run) → IsListed zone start end since now ahead runs
-    → local_of zone now ≡ now +ℤ ahead → IsListed zone start end since (now +ℤ pos 1) ahead runs
-IsListed-same zone start end since now ahead runs listed local =
+-- instants at which the clocks are as far ahead go on with the run
+pub IsListed-same : (zone : TimeZone) (start end since now later ahead : ℤ) (runs : List Run) → IsListed zone start end since now ahead runs
+    → local_of zone now ≡ now +ℤ ahead → now <ℤ later → IsSteady zone now later → IsListed zone start end since later ahead runs
+IsListed-same zone start end since now later ahead runs listed local more steady =
     record {
       joined = listed.joined;
       each = listed.each;
-      local = λ t from before. by_lt_z t now (λ lt. listed.local t from lt)
-          (λ le. let same : t ≡ now = omega (arith, signed_arith) in
-          ap (local_of zone) same ∙ local ∙ ap (λ (u : ℤ). u +ℤ ahead) (sym same));
+      local = λ t from before. by_lt_z t now (λ lt. listed.local t from lt) (λ le. local_of-steady zone now later ahead steady local t le before);
       first = listed.first;
       some = omega (arith, signed_arith, listed.some);
       small = listed.small;
@@ -86,11 +94,11 @@ IsRun-ended zone start end since now ahead runs run listed from until same last 
       last = last;
     }
 
--- an instant at which they are not ends the run and begins another
-pub IsListed-change : (zone : TimeZone) (start end since now ahead next : ℤ) (runs : List Run) (run : Run) → IsListed zone start end since now ahead runs
+-- instants at which they are not end the run and begin another
+pub IsListed-change : (zone : TimeZone) (start end since now later ahead next : ℤ) (runs : List Run) (run : Run) → IsListed zone start end since now ahead runs
     → run.from.0 ≡ since → run.until.0 ≡ now → run.ahead ≡ ahead → local_of zone now ≡ now +ℤ next → IsMinutesAhead next → next ≢ ahead
-    → IsListed zone start end now (now +ℤ pos 1) next (runs ++ run ∷ [])
-IsListed-change zone start end since now ahead next runs run listed from until same local small other =
+    → now <ℤ later → IsSteady zone now later → IsListed zone start end now later next (runs ++ run ∷ [])
+IsListed-change zone start end since now later ahead next runs run listed from until same local small other more steady =
     let before : local_of zone (now -ℤ pos 1) ≡ now -ℤ pos 1 +ℤ ahead =
     listed.local (now -ℤ pos 1) (omega (arith, signed_arith, listed.some)) (omega (arith, signed_arith)) in
     let change : IsChange zone now = IsChange-ahead zone now ahead next before local other in
@@ -99,10 +107,9 @@ IsListed-change zone start end since now ahead next runs run listed from until s
       joined = subst (λ (u : ℤ). AreJoined start u (runs ++ run ∷ [])) until
           (AreJoined-push start since runs run listed.joined from (subst (λ (u : ℤ). since <ℤ u) (sym until) listed.some));
       each = All-push (IsRun zone start end) runs run listed.each ended;
-      local = λ t at lt. let is : t ≡ now = omega (arith, signed_arith) in
-          ap (local_of zone) is ∙ local ∙ ap (λ (u : ℤ). u +ℤ next) (sym is);
+      local = local_of-steady zone now later next steady local;
       first = inr change;
-      some = omega (arith, signed_arith);
+      some = more;
       small = small;
     }
 

@@ -4,3 +4,4 @@ pub mod Run
 pub mod Stamp
 pub mod Window
 pub mod Zone
+pub mod Steady

@@ -91,6 +91,12 @@ IsRefused (FixedOffset minutes) = ⊥
 IsRefused (PosixRule text) = IsNone (read_whole text)
 IsRefused (TzifFile bytes) = ((fault : TzifFault) × (read_tzif bytes ≡ Err fault)) ⊎ HasBadRule (read_tzif bytes)
 
+-- `jiff` doesn't get through the source as it reads it, before it wants memory
+abbrev pub IsUnread : Source → Type 0
+IsUnread (FixedOffset minutes) = ⊥
+IsUnread (PosixRule text) = IsNone (read_whole text)
+IsUnread (TzifFile bytes) = (fault : TzifFault) × (read_tzif bytes ≡ Err fault)
+
 -- what a fault says
 abbrev pub fault_text : ZoneFault → List ℕ
 fault_text BadZone = codes "not a time zone"

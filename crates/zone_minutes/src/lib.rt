@@ -7,11 +7,7 @@ mod minute;
 mod run;
 mod source;
 mod stamp;
-#[cfg(test)]
-mod tests;
 mod zone;
-#[cfg(test)]
-mod zone_tests;
 
 pub use civil::{
     Civil, a_later_month_begins_later, civil_of, day_of, first_of_month, first_of_year, number_of,

@@ -2,7 +2,7 @@
 ghost use Rattle.std.specs.Prelude.{◌≡◌, ◌↔◌, IsTrue, IsNone, IsErrOf, IfOk, Some};
 ghost use Rattle.jiff.specs.Placed.{IsPosixZone};
 ghost use Rattle.jiff.specs.Words.{plain_zone, read_whole};
-ghost use Rattle.zone_minutes.specs.Zone.{TzifFile, source_of, kept_source, fault_text, IsOffsetInRange, IsRefused, IsTable};
+ghost use Rattle.zone_minutes.specs.Zone.{PosixRule, TzifFile, source_of, kept_source, fault_text, IsOffsetInRange, IsRefused, IsTable, IsUnread};
 
 use jiff::Error as JiffError;
 use jiff::tz::{TimeZone, Tzif};
@@ -105,6 +105,7 @@ impl KeptSource {
 pub(crate) fn read_rule(text: &str) -> Result<TimeZone<'static>, ZoneFault>
     ensures zone { IfOk result (λ zone. IsPosixZone text.now (plain_zone zone)) }
     ensures refused { IsErrOf result ZoneFault.BadZone → IsNone (read_whole text.now) }
+    ensures unread { IsUnread (PosixRule text.now) → IsErrOf result ZoneFault.BadZone }
 {
     match TimeZone::posix(text) {
         Ok(zone) => Ok(zone),
@@ -116,6 +117,7 @@ pub(crate) fn read_rule(text: &str) -> Result<TimeZone<'static>, ZoneFault>
 pub(crate) fn read_table(alloc: Global, bytes: &[u8]) -> Result<Tzif, ZoneFault>
     ensures table { IfOk result (IsTable bytes.now) }
     ensures refused { IsErrOf result ZoneFault.BadZone → IsRefused (TzifFile bytes.now) }
+    ensures unread { IsUnread (TzifFile bytes.now) → IsErrOf result ZoneFault.BadZone }
 {
     match Tzif::parse(alloc, None, bytes) {
         Ok(table) => Ok(table),

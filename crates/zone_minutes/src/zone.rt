@@ -3,7 +3,7 @@ ghost use Rattle.jiff.specs.Types.{TimeZone, UTC};
 ghost use Rattle.zone_minutes.specs.Civil.{IsCalendarMinute};
 ghost use Rattle.zone_minutes.specs.Run.{AreRunsOver, IsRunAt, first_known};
 ghost use Rattle.zone_minutes.specs.Window.{IsWithinLimits};
-ghost use Rattle.zone_minutes.specs.Zone.{Source, FixedOffset, source_of, local_of, IsLocal, IsReadable, IsReadAs, IsOffsetInRange, IsRefused};
+ghost use Rattle.zone_minutes.specs.Zone.{Source, FixedOffset, source_of, local_of, IsLocal, IsReadable, IsReadAs, IsOffsetInRange, IsRefused, IsUnread};
 
 use crate::listing::{list_runs, make_run};
 use crate::minute::{Minute, Window};
@@ -38,6 +38,12 @@ impl Model for ZoneRuns {
 
 impl ZoneRuns {
     /// The zone's offsets over the window.
+    ///
+    /// # Errors
+    ///
+    /// `BadZone` where `jiff` refuses the rule or the file, and `OutOfMemory`. A rule or a file that `jiff` can't read is told
+    /// as `BadZone` whatever memory there is; a file that it reads, and whose rule disagrees with its table, may be told as
+    /// either.
     pub fn build(
         alloc: Global,
         zone: &ZoneSource<'_>,
@@ -49,9 +55,11 @@ impl ZoneRuns {
         ensures built { IfOk result (λ runs. runs
             ≡ record { source = source_of zone.now; from = window.from.0; until = window.until.0 }) }
         ensures refused { IsErrOf result ZoneFault.BadZone → IsRefused (source_of zone.now) }
+        ensures unread { IsUnread (source_of zone.now) → IsErrOf result ZoneFault.BadZone }
     {
-        let source = KeptSource::new(alloc, zone)?;
+        // It is read before memory is wanted.
         let runs = runs_over(alloc, zone, window)?;
+        let source = KeptSource::new(alloc, zone)?;
         Ok(ZoneRuns {
             source,
             window,
@@ -93,6 +101,7 @@ fn runs_over(alloc: Global, zone: &ZoneSource<'_>, window: Window) -> Result<Vec
     requires offset { IsOffsetInRange zone.now }
     ensures built { IfOk result (λ runs. AreRunsOver (source_of zone.now) window runs.items) }
     ensures refused { IsErrOf result ZoneFault.BadZone → IsRefused (source_of zone.now) }
+    ensures unread { IsUnread (source_of zone.now) → IsErrOf result ZoneFault.BadZone }
 {
     let from = first_known(window);
     let until = end_of(window);

@@ -3,7 +3,7 @@ use Rattle.std.proofs.lemmas.List.FromFn.{length-map-range_with_len}
 use Rattle.std.proofs.lemmas.List.Sorted.{All-permutation}
 use Rattle.cluster_sched.specs.Names.{IsNameIn}
 use Rattle.cluster_sched.specs.declared.row.SchedRow.{SchedRow}
-use Rattle.report_text.specs.Counts.{counts_of}
+use Rattle.report_text.specs.Counts.{counts_of_job}
 use Rattle.report_text.proofs.ReportLemmas.{report_of, report_of_none, counts_of_table}
 use Rattle.report_text.proofs.WritingLemmas.{writes_on, writes_exit}
 use Rattle.report_text.proofs.report.write_report.Goals as goal
@@ -22,7 +22,7 @@ returns-in_err-write_head g c =
 pub write_counts-requires : goal.write_counts-requires
 write_counts-requires g c =
     ap length (counts_of_table c.args.table.now c.args.held.now _ _ _ c.deref.ensures.value c.in_ok-counts.ensures c.jobs.ensures.count)
-    ∙ length-map-range_with_len (counts_of c.args.held.now) 0 (length c.args.table.now.jobs)
+    ∙ length-map-range_with_len (counts_of_job c.args.held.now) 0 (length c.args.table.now.jobs)
 
 pub returns-in_err-write_counts : goal.returns-in_err-write_counts
 returns-in_err-write_counts g c =

@@ -1,0 +1,15 @@
+//! Tests of the calendar: stamps, zones, due instants and dates, against what other programs say.
+#![tactic(auto)]
+
+#[cfg(test)]
+mod build;
+#[cfg(test)]
+mod changes;
+#[cfg(test)]
+mod dates;
+#[cfg(test)]
+mod due;
+#[cfg(test)]
+mod stamps;
+#[cfg(test)]
+mod zones;

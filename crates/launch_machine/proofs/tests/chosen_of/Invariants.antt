@@ -1,5 +1,0 @@
-use Rattle.paxos_base.specs.Rows.{OpenHaveCursors}
-use Rattle.launch_machine.proofs.tests.chosen_of.Given as goal
-
-abbrev pub invariant-loop-row : goal.invariant-loop-row
-invariant-loop-row l = OpenHaveCursors l.items.items

@@ -1,5 +1,0 @@
-use Rattle.launch_machine.specs.Machine.{StandsFor}
-use Rattle.launch_machine.proofs.tests.first_difference.Given as goal
-
-abbrev pub invariant-loop-place : goal.invariant-loop-place
-invariant-loop-place l = StandsFor l.table l.machine

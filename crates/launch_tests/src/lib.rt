@@ -1,0 +1,21 @@
+//! Tests of launches: the launch table, the scheduler that is called by names, the clerk, and the report.
+#![tactic(auto)]
+
+#[cfg(test)]
+mod build;
+#[cfg(test)]
+mod clerk;
+#[cfg(test)]
+mod dates;
+#[cfg(test)]
+mod ledger;
+#[cfg(test)]
+mod limits;
+#[cfg(test)]
+mod machine;
+#[cfg(test)]
+mod names;
+#[cfg(test)]
+mod report;
+#[cfg(test)]
+mod tree;
