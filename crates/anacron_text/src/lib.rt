@@ -20,6 +20,3 @@ pub use law::{
 };
 pub use number::read_number;
 pub use reader::AnaLines;
-
-#[cfg(test)]
-mod tests;

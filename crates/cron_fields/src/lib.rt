@@ -17,8 +17,3 @@ pub use law::{
     a_field_has_values_of_its_kind,
 };
 pub use read::read_field;
-
-#[cfg(test)]
-mod read_tests;
-#[cfg(test)]
-mod tests;

@@ -24,6 +24,3 @@ pub use law::{
 pub use percent::{Piece, Pieces, split_percent};
 pub use reader::Lines;
 pub use tail::{Word, check_command};
-
-#[cfg(test)]
-mod tests;
