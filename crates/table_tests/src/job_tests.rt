@@ -204,3 +204,21 @@ fn jobs_of_400_days(rt: HostRuntime) -> Result<(), Fail> {
     );
     Ok(())
 }
+
+// So many zones, each by the rule of Paris.
+fn zones(alloc: Global, count: u32) -> Result<String, Fail> {
+    let mut text = String::new(alloc);
+    for number in 0..count {
+        write!(text, "zone Z{number} posix CET-1CEST,M3.5.0,M10.5.0/3\n")?;
+    }
+    Ok(text)
+}
+
+#[test]
+fn as_many_zones_and_days_as_there_can_be(rt: HostRuntime) -> Result<(), Fail> {
+    let most = zones(rt.alloc(), 32)?;
+    assert_eq!(rt; table_of(rt.alloc(), HOUR, &most)?.jobs(), 0);
+    let one = zones(rt.alloc(), 1)?;
+    assert_eq!(rt; table_of(rt.alloc(), DAYS, &one)?.jobs(), 0);
+    Ok(())
+}

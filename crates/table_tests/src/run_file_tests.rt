@@ -116,3 +116,12 @@ fn thirty_two_zones(rt: HostRuntime) -> Result<(), Fail> {
     assert!(rt; matches!(read_run(rt.alloc(), text), Err(RunFault::Refused(_))));
     Ok(())
 }
+
+#[test]
+fn a_section_of_65_535_lines(rt: HostRuntime) -> Result<(), Fail> {
+    let lines = "#\n".repeat(rt.alloc(), 65_535)?;
+    let text = format!(in rt.alloc(); "{HEAD}crontab a UTC 65535\n{lines}script\nend\n")?;
+    let run = run_of(rt.alloc(), &text)?;
+    assert_eq!(rt; run.sections.len(), 1);
+    Ok(())
+}

@@ -11,7 +11,7 @@ use Rattle.cron_serve.specs.Ends.{Ends}
 use Rattle.run_text.specs.Run.{Run}
 use Rattle.run_text.specs.declared.refusal.Refusal.{Refusal}
 use Rattle.cron_serve.specs.Input.{IsTaken}
-use Rattle.cron_serve.specs.OverMemory.{IsReportOfJobs, FitsRoom, IsBeyondRoom}
+use Rattle.service_tests.specs.OverMemory.{IsReportOfJobs, FitsRoom, IsBeyondRoom}
 use Rattle.cron_serve.specs.Serve.{IsRefused, IsReportOfInput, IsWholeRun}
 use Rattle.cron_serve.specs.declared.run_end.RunEnd.{RunEnd}
 use Rattle.cron_serve.proofs.CompleteLemmas.{not_refused, read_whole}

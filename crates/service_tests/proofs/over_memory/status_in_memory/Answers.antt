@@ -1,8 +1,8 @@
 use Rattle.std.proofs.Common.{ap, ◌∙◌, arith, Some}
 use Rattle.cron_io.specs.Memory.{room_unless}
 use Rattle.cron_serve.specs.Input.{IsRefusedInput}
-use Rattle.cron_serve.proofs.OverMemoryLemmas.{EndsOverMemory, ends_whole, ends_cut, ends_refused, not_risen}
-use Rattle.cron_serve.proofs.over_memory.status_in_memory.Goals as goal
+use Rattle.service_tests.proofs.OverMemoryLemmas.{EndsOverMemory, ends_whole, ends_cut, ends_refused, not_risen}
+use Rattle.service_tests.proofs.over_memory.status_in_memory.Goals as goal
 
 pub returns : goal.returns
 returns c =

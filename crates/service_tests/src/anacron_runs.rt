@@ -1,9 +1,7 @@
-//! Whole runs of anacrontabs.
-use crate::tests::{NO_FAULTS, run};
-use std::test::Fail;
+//! Run files of anacrontabs, and their reports.
 
 // The anacrontab of cronie, over forty days.
-const CRONIE: &str = "cronrun 1
+pub const CRONIE: &str = "cronrun 1
 replicas 1
 window 2024-03-01T00:00Z 2024-04-10T00:00Z
 grace 0
@@ -18,7 +16,7 @@ script
 end
 ";
 
-const CRONIE_REPORT: &str = "cron report 1
+pub const CRONIE_REPORT: &str = "cron report 1
 window 2024-03-01T00:00Z 2024-04-10T00:00Z
 replicas 1
 jobs 3
@@ -76,7 +74,7 @@ launch anacron/cron.monthly@2024-04-01
 end
 ";
 
-const SLASH: &str = "cronrun 1
+pub const SLASH: &str = "cronrun 1
 replicas 1
 window 2024-03-01T00:00Z 2024-04-10T00:00Z
 grace 0
@@ -87,7 +85,7 @@ script
 end
 ";
 
-const HOURS: &str = "cronrun 1
+pub const HOURS: &str = "cronrun 1
 replicas 1
 window 2024-03-01T00:00Z 2024-04-10T00:00Z
 grace 0
@@ -99,7 +97,7 @@ end
 ";
 
 // A job whose first minute is 03:43, in a window up to that minute and one that has it.
-const UP_TO_THE_FIRST_MINUTE: &str = "cronrun 1
+pub const UP_TO_THE_FIRST_MINUTE: &str = "cronrun 1
 replicas 1
 window 2024-03-01T00:00Z 2024-03-01T03:43Z
 grace 0
@@ -112,14 +110,14 @@ script
 end
 ";
 
-const UP_TO_THE_FIRST_MINUTE_JOBS: &str = "jobs 2
+pub const UP_TO_THE_FIRST_MINUTE_JOBS: &str = "jobs 2
 job l/a launched 0 void 0
 job l/foobar launched 1 void 0
 launch l/foobar@2024-03-01
 end
 ";
 
-const WITH_THE_FIRST_MINUTE: &str = "cronrun 1
+pub const WITH_THE_FIRST_MINUTE: &str = "cronrun 1
 replicas 1
 window 2024-03-01T00:00Z 2024-03-01T03:44Z
 grace 0
@@ -132,40 +130,10 @@ script
 end
 ";
 
-const WITH_THE_FIRST_MINUTE_JOBS: &str = "jobs 2
+pub const WITH_THE_FIRST_MINUTE_JOBS: &str = "jobs 2
 job l/a launched 1 void 0
 job l/foobar launched 1 void 0
 launch l/a@2024-03-01
 launch l/foobar@2024-03-01
 end
 ";
-
-#[test]
-fn anacrontabs_have_their_reports(rt: HostRuntime) -> Result<(), Fail> {
-    for (input, report) in [
-        (CRONIE, CRONIE_REPORT),
-        (UP_TO_THE_FIRST_MINUTE, UP_TO_THE_FIRST_MINUTE_JOBS),
-        (WITH_THE_FIRST_MINUTE, WITH_THE_FIRST_MINUTE_JOBS),
-    ] {
-        let left = run(rt.alloc(), input.as_bytes(), &[], &NO_FAULTS)?;
-        assert_eq!(rt; left.end.status, 0, "of {input}");
-        let text = std::str::from_utf8(left.report.bytes())?;
-        assert!(rt; text.ends_with(report), "of {input}");
-        assert!(rt; left.notes.bytes().is_empty(), "of {input}");
-    }
-    Ok(())
-}
-
-#[test]
-fn anacrontabs_at_fault_are_refused(rt: HostRuntime) -> Result<(), Fail> {
-    for (input, note) in [
-        (SLASH, "cron_cluster: line 7: cause 18 at 4\n"),
-        (HOURS, "cron_cluster: line 6: cause 19 at 18\n"),
-    ] {
-        let left = run(rt.alloc(), input.as_bytes(), &[], &NO_FAULTS)?;
-        assert_eq!(rt; left.end.status, 2, "of {input}");
-        assert_eq!(rt; left.notes.bytes(), note.as_bytes(), "of {input}");
-        assert!(rt; left.report.bytes().is_empty(), "of {input}");
-    }
-    Ok(())
-}
