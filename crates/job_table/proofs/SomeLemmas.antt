@@ -1,26 +1,24 @@
 -- Each run of a text has a table or a refusal.
 use Rattle.std.proofs.Common.{◌≡◌, ◌⊎◌, inl, inr, ℕ, ◌+◌, ◌<◌, ◌≤◌, Bool, true, false, List, [], ◌∷◌, ◌++◌, length, map, refl, ap, ◌∙◌, sym, subst, arith, append_assoc, codes, pos, true≢false}
-use Rattle.std.specs.Prelude.{All, AllPairs}
-use Rattle.std.specs.List.{AllByRecursion}
+use Rattle.std.specs.Prelude.{All}
 use Rattle.std.proofs.lemmas.List.{append-nil}
 use Rattle.std.proofs.lemmas.List.Elements.{All-nil, All-cons, All-head, All-tail}
 use Rattle.std.proofs.lemmas.Slice.Eq.{bytes_eq-Decides}
 use Rattle.std.proofs.lemmas.Bool.Decides.{nat_tests}
 use Rattle.std.specs.Prelude.{bytes_eq, nat_lt}
 use Rattle.crontab_text.specs.Lines.{lines_of}
-use Rattle.due_set.specs.Table.{Job, Table, AreNamesDistinct, AreZonesBelow, IsBuiltFor, IsSound, utc_over}
-use Rattle.due_set.specs.declared.job.JobKind.{JobKind}
+use Rattle.due_set.specs.Table.{Job, Table, AreNamesDistinct, AreZonesBelow, IsBuiltFor, utc_over}
 use Rattle.run_text.specs.Reading.{IsRunText}
-use Rattle.run_text.specs.Run.{NamedZone, Section, Run}
+use Rattle.run_text.specs.Run.{NamedZone, Run}
 use Rattle.run_text.specs.declared.refusal.Refusal.{Refusal}
 use Rattle.run_text.proofs.SoundLemmas.{sound_run}
-use Rattle.zone_minutes.specs.Zone.{Zone, FixedOffset, IsReadable, IsRefused, zone_over}
+use Rattle.zone_minutes.specs.Zone.{IsReadable, zone_over}
 use Rattle.zone_minutes.specs.declared.minute.Window.{Window}
 use Rattle.zone_minutes.proofs.ZoneLemmas.{IsReadable-fixed}
 use Rattle.cron_fields.specs.declared.cause.Cause.TheVariants.{UnknownZone, DuplicateJob, TooManyJobs, TooManyDue, BadZone}
 use Rattle.job_table.specs.Collect.{Collected}
 use Rattle.job_table.specs.Jobs.{named_job, HasJob}
-use Rattle.job_table.specs.Marks.{Mark, MarksZone, MarksJob, AreMarks, AreSound}
+use Rattle.job_table.specs.Marks.{Mark, MarksZone, MarksJob, AreMarks}
 use Rattle.job_table.specs.Table.{IsDueCount, IsTableOf, IsRefusedRun, HasBadZone, HasLineAtFault, at_line, jobs_of, table_of, whole_run, AreDecided}
 use Rattle.job_table.specs.Zones.{AreReadable, HasZone, NamesZone, zones_over}
 use Rattle.job_table.proofs.DueCountLemmas.{due_count}

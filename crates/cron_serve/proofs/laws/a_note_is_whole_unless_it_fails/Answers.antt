@@ -1,4 +1,4 @@
-use Rattle.std.proofs.Common.{◌⊎◌, inl, inr, ℕ, List, [], ◌++◌, sym}
+use Rattle.std.proofs.Common.{◌⊎◌, inl, inr, ℕ, List, [], sym}
 use Rattle.std.proofs.lemmas.List.{append-nil}
 use Rattle.cron_io.specs.Faults.{Rose}
 use Rattle.cron_io.specs.Views.{SinkView}

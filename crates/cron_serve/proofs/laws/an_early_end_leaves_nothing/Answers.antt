@@ -1,4 +1,4 @@
-use Rattle.std.proofs.Common.{◌≡◌, ◌⊎◌, ◌≤◌, ◌≢◌, inl, inr, ℕ, arith}
+use Rattle.std.proofs.Common.{◌≡◌, ◌⊎◌, ◌≤◌, ◌≢◌, ℕ, arith}
 use Rattle.cron_serve.proofs.laws.an_early_end_leaves_nothing.Goals as goal
 
 few : (status : ℕ) → (status ≡ 1) ⊎ (status ≡ 2) ⊎ (status ≡ 3) → (1 ≤ status) × (status ≤ 3)
