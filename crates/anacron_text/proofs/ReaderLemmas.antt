@@ -1,9 +1,10 @@
 -- A reader that goes on by a logical line.
-use Rattle.std.proofs.Common.{◌≡◌, ℕ, ◌+◌, ◌-◌, ◌<◌, List, [], ◌∷◌, ◌++◌, length, drop, refl, ap, ◌∙◌, sym, subst, inl, inr, arith, length-append, append_assoc, Result, Ok, Err, IfOk, IfErr}
+use Rattle.std.proofs.Common.{◌≡◌, ℕ, ◌+◌, ◌-◌, ◌<◌, List, [], ◌∷◌, ◌++◌, length, take, drop, refl, ap, ◌∙◌, sym, subst, inl, inr, arith, length-append, append_assoc, Result, Ok, Err, IfOk, IfErr}
+use Rattle.std.specs.List.{slice_range}
 use Rattle.std.proofs.lemmas.List.{append-nil, drop-drop, drop_at}
 use Rattle.crontab_text.specs.declared.answer.LineFault.{LineFault}
 use Rattle.crontab_text.specs.declared.fault.Fault.{Fault}
-use Rattle.crontab_text.proofs.ReaderLemmas.{IsLeft}
+use Rattle.crontab_text.proofs.ReaderLemmas.{IsLeft, split_taken}
 use Rattle.anacron_text.specs.Answers.{LineAnswer, IsLineOf, IsLineBreak, SetsBy, AreAnswersBelow}
 use Rattle.anacron_text.specs.LineBody.{body_of}
 use Rattle.anacron_text.specs.LogicalLines.{logical_lines, line_count, BeginsWithLogicalLine}
@@ -90,3 +91,13 @@ answers_before old new handed answers reads are =
 -- and at the end of the text there is none
 pub no_answers : (settings : Settings) → AreAnswersBelow (logical_lines []) settings []
 no_answers settings = rw logical-none tt
+
+-- the bytes of a line's span are the line
+pub span_holds : (old new : TableReader) (handed : AnaLine) → ReadsLine old new (Ok handed) → BeginsWithLogicalLine (rest_of old) (slice_range old.text handed.span.from handed.span.until) (rest_of new)
+span_holds old new handed is =
+    let from_is = is.span.from_is in
+    let until_is = is.span.until_is in
+    let size : handed.span.until - handed.span.from ≡ length is.line = omega arith in
+    let slice : slice_range old.text handed.span.from handed.span.until ≡ is.line =
+    ap (λ n. take n (drop handed.span.from old.text)) size ∙ (ap (λ n. take (length is.line) (drop n old.text)) from_is ∙ split_taken (rest_of old) is.line (rest_of new) is.goes_on.begins.split) in
+    subst (λ l. BeginsWithLogicalLine (rest_of old) l (rest_of new)) (sym slice) is.goes_on.begins

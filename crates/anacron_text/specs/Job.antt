@@ -10,6 +10,8 @@ use Rattle.anacron_text.specs.Spaced.{spaced, StandsIn}
 use Rattle.anacron_text.specs.declared.answer.PeriodWord.{PeriodWord}
 use Rattle.anacron_text.specs.declared.answer.PeriodWord.TheVariants.{Days, Monthly, Yearly}
 use Rattle.anacron_text.specs.declared.settings.Settings.{Settings}
+use Rattle.cron_fields.specs.Cause.{cause_number}
+use Rattle.cron_fields.specs.declared.cause.Cause.TheVariants.{TooFewFields, BadPeriod, BadDelay, BadIdentifier}
 
 -- a period: 1 to 9,999 days, or the name of one
 abbrev pub IsPeriod : List ℕ → PeriodWord → Type 0
@@ -69,19 +71,19 @@ IsJobBody settings text body = ⊥
 -- A word is missing (cause 10, at the line's end), or breaks its own rule. From its first byte on the line has `here` bytes.
 abbrev pub IsBadWord : (word : List ℕ) (here rule cause left : ℕ) → Type 0
 IsBadWord word here rule cause left =
-    ((word ≡ []) × (cause ≡ 10) × (left ≡ 0)) ⊎ ((0 < length word) × (cause ≡ rule) × (left ≡ here))
+    ((word ≡ []) × (cause ≡ cause_number TooFewFields) × (left ≡ 0)) ⊎ ((0 < length word) × (cause ≡ rule) × (left ≡ here))
 
 -- the first word is no period (cause 16)
 pub record IsPeriodFault (words : JobWords) (cause left : ℕ) : Type 0 where
   pub bad : (period : PeriodWord) → IsPeriod words.period period → ⊥
-  pub is : IsBadWord words.period (length words.period + length words.behind_period) 16 cause left
+  pub is : IsBadWord words.period (length words.period + length words.behind_period) (cause_number BadPeriod) cause left
 
 -- the second is no delay (17), behind a period
 pub record IsDelayFault (words : JobWords) (cause left : ℕ) : Type 0 where
   pub period : PeriodWord
   pub is_period : IsPeriod words.period period
   pub bad : (delay : ℕ) → IsDelay words.delay delay → ⊥
-  pub is : IsBadWord words.delay (length words.delay + length words.behind_delay) 17 cause left
+  pub is : IsBadWord words.delay (length words.delay + length words.behind_delay) (cause_number BadDelay) cause left
 
 -- the third is no identifier (18), behind a period and a delay
 pub record IsIdentifierFault (words : JobWords) (cause left : ℕ) : Type 0 where
@@ -90,7 +92,7 @@ pub record IsIdentifierFault (words : JobWords) (cause left : ℕ) : Type 0 wher
   pub is_period : IsPeriod words.period period
   pub is_delay : IsDelay words.delay delay
   pub bad : IsIdentifier words.identifier → ⊥
-  pub is : IsBadWord words.identifier (length words.identifier + length words.tail) 18 cause left
+  pub is : IsBadWord words.identifier (length words.identifier + length words.tail) (cause_number BadIdentifier) cause left
 
 -- what is behind the three is no command
 pub record IsLateFault (words : JobWords) (cause left : ℕ) : Type 0 where

@@ -2,6 +2,8 @@
 -- START_HOURS_RANGE.
 use Rattle.std.specs.Prelude.{◌≡◌, ◌≢◌, ◌⊎◌, ℕ, ◌<◌, ◌≤◌, List, ◌∷◌, ◌++◌, codes, decimal}
 use Rattle.anacron_text.specs.declared.settings.Settings.{Settings}
+use Rattle.cron_fields.specs.Cause.{cause_number}
+use Rattle.cron_fields.specs.declared.cause.Cause.TheVariants.{BadHours, BadRandomDelay}
 
 -- a number in decimal digits without a sign or a leading zero
 pub record IsNumberWithin (least most : ℕ) (text : List ℕ) (number : ℕ) : Type 0 where
@@ -60,5 +62,5 @@ Sets old name value new = SetsDelay old name value new ⊎ (SetsHours old name v
 -- what is wrong with a value: no hours (cause 19), or no number of minutes (20)
 abbrev pub IsBadValue : (name value : List ℕ) (cause : ℕ) → Type 0
 IsBadValue name value cause =
-    ((name ≡ start_hours_range) × ((first last : ℕ) → IsHours value first last → ⊥) × (cause ≡ 19))
-    ⊎ ((name ≡ random_delay) × ((number : ℕ) → IsNumberWithin 0 9999 value number → ⊥) × (cause ≡ 20))
+    ((name ≡ start_hours_range) × ((first last : ℕ) → IsHours value first last → ⊥) × (cause ≡ cause_number BadHours))
+    ⊎ ((name ≡ random_delay) × ((number : ℕ) → IsNumberWithin 0 9999 value number → ⊥) × (cause ≡ cause_number BadRandomDelay))

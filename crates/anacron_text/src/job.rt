@@ -1,4 +1,5 @@
 ghost use Rattle.std.specs.Prelude.{◌≡◌, ◌↔◌, ◌≤◌, ◌<◌, ℕ, Some, IsTrue, IsNone, IfSome, IfNone, IfOk, IfErr};
+ghost use Rattle.cron_fields.specs.Cause.{cause_number};
 ghost use Rattle.anacron_text.specs.Job.{IsJobBody, IsJobFault, IsPeriod, IsIdentifier, IsBadWord, added_minutes};
 ghost use Rattle.anacron_text.specs.Limits.{IsBodyWithin};
 ghost use Rattle.anacron_text.specs.LineBody.{body_of};
@@ -7,11 +8,10 @@ ghost use Rattle.anacron_text.specs.declared.answer.PeriodWord.{PeriodWord};
 
 use crate::answer::{AnaBody, PeriodWord};
 use crate::blank::{skip_blanks, take_word};
-use crate::fault::{BAD_DELAY, BAD_IDENTIFIER, BAD_PERIOD};
 use crate::number::read_number;
 use crate::settings::{Settings, read_minutes};
-use cron_fields::{FNV_START, fnv};
-use crontab_text::{Fault, TOO_FEW_FIELDS, Word, check_command};
+use cron_fields::{Cause, FNV_START, fnv};
+use crontab_text::{Fault, Word, check_command};
 
 /// The most days of a period.
 const MAX_DAYS: u32 = 9999;
@@ -29,9 +29,13 @@ pub fn read_job(settings: Settings, text: &str) -> Result<AnaBody<'_>, Fault>
     let (period, rest) = take_word(text);
     let (delay, rest) = take_word(rest);
     let (identifier, rest) = take_word(rest);
-    let period = accept(period, read_period(period.text), BAD_PERIOD)?;
-    let delay = accept(delay, read_minutes(delay.text), BAD_DELAY)?;
-    let identifier = accept(identifier, read_identifier(identifier.text), BAD_IDENTIFIER)?;
+    let period = accept(period, read_period(period.text), Cause::BadPeriod)?;
+    let delay = accept(delay, read_minutes(delay.text), Cause::BadDelay)?;
+    let identifier = accept(
+        identifier,
+        read_identifier(identifier.text),
+        Cause::BadIdentifier,
+    )?;
     let command = skip_blanks(rest);
     check_command(command)?;
     Ok(AnaBody::Job {
@@ -46,21 +50,15 @@ pub fn read_job(settings: Settings, text: &str) -> Result<AnaBody<'_>, Fault>
 }
 
 // What a word was read as, or why it says nothing: the line lacks it, or it breaks its own rule.
-fn accept<T: Copy>(word: Word<'_>, read: Option<T>, rule: u8) -> Result<T, Fault>
+fn accept<T: Copy>(word: Word<'_>, read: Option<T>, rule: Cause) -> Result<T, Fault>
     ensures read { IfOk result (λ value. read ≡ Some value) }
     ensures none { IfErr result (λ fault. IsNone read) }
-    ensures fault { IfErr result (λ fault. IsBadWord word.entry.text.now word.entry.left rule fault.cause fault.left) }
+    ensures fault { IfErr result (λ fault. IsBadWord word.entry.text.now word.entry.left (cause_number rule) fault.cause fault.left) }
 {
     match read {
         Some(value) => Ok(value),
-        None if word.text.is_empty() => Err(Fault {
-            cause: TOO_FEW_FIELDS,
-            left: 0,
-        }),
-        None => Err(Fault {
-            cause: rule,
-            left: word.left,
-        }),
+        None if word.text.is_empty() => Err(Fault::new(Cause::TooFewFields, 0)),
+        None => Err(Fault::new(rule, word.left)),
     }
 }
 

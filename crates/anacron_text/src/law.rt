@@ -1,12 +1,14 @@
-ghost use Rattle.std.specs.Prelude.{◌≡◌, ◌<◌, ◌∷◌, [], ℕ, List, Result, false, length};
-ghost use Rattle.std.specs.List.{AllByRecursion};
+ghost use Rattle.std.specs.Prelude.{◌≡◌, ◌<◌, ◌≤◌, ◌+◌, ◌*◌, ◌∷◌, [], ℕ, List, Result, false, length, Ok};
+ghost use Rattle.std.specs.List.{AllByRecursion, slice_range};
 ghost use Rattle.crontab_text.specs.Lines.{lines_of};
 ghost use Rattle.crontab_text.specs.declared.answer.LineFault.{LineFault};
 ghost use Rattle.anacron_text.specs.Answers.{AreAnswers, AreAnswersBelow, IsAnswer, LineAnswer};
+ghost use Rattle.anacron_text.specs.Limits.{IsJobWithin};
 ghost use Rattle.anacron_text.specs.LogicalLines.{BeginsWithLogicalLine, is_continued, logical_lines};
 ghost use Rattle.anacron_text.specs.Reader.{ReadsLine, answer_of};
 ghost use Rattle.anacron_text.specs.TableReader.{TableReader, rest_of};
 ghost use Rattle.anacron_text.specs.declared.answer.AnaLine.{AnaLine};
+ghost use Rattle.anacron_text.specs.declared.answer.PeriodWord.{PeriodWord};
 ghost use Rattle.anacron_text.specs.declared.settings.Settings.{Settings};
 
 /// A law: each line says one thing, or breaks one rule first at one place, and never both.
@@ -43,4 +45,20 @@ pub fn answers_come_in_order()
         → AreAnswersBelow (logical_lines (rest_of new)) new.settings answers
         → AreAnswersBelow (logical_lines (rest_of old)) old.settings (answer_of handed ∷ answers) }
     ensures end { (settings : Settings) → AreAnswersBelow (logical_lines []) settings [] }
+{}
+
+/// A law: what stands in the text from the first byte of a line's span up to its last is the line that was read, without its newline.
+pub fn a_span_is_that_of_its_line()
+    ensures { (old new : TableReader) (line : AnaLine) → ReadsLine old new (Ok line)
+        → BeginsWithLogicalLine (rest_of old) (slice_range old.text line.span.from line.span.until) (rest_of new) }
+{}
+
+/// A law: the hours of a job within the limits are those of one day, and at most 19,998 minutes are counted from the first of them.
+pub fn a_jobs_hours_are_of_one_day()
+    ensures rise { (period : PeriodWord) (delay added first last : ℕ) → IsJobWithin period delay added first last
+        → 60 * first < 60 * last }
+    ensures day { (period : PeriodWord) (delay added first last : ℕ) → IsJobWithin period delay added first last
+        → 60 * last ≤ 24 * 60 }
+    ensures delay { (period : PeriodWord) (delay added first last : ℕ) → IsJobWithin period delay added first last
+        → delay + added ≤ 19_998 }
 {}

@@ -4,7 +4,6 @@
 
 mod answer;
 mod blank;
-mod fault;
 mod job;
 mod law;
 mod logical;
@@ -15,11 +14,8 @@ mod settings;
 
 pub use answer::{AnaBody, AnaLine, PeriodWord};
 pub use law::{
-    a_line_has_one_reading, a_table_has_one_list_of_answers, a_text_is_its_logical_lines,
-    answers_come_in_order,
+    a_jobs_hours_are_of_one_day, a_line_has_one_reading, a_span_is_that_of_its_line,
+    a_table_has_one_list_of_answers, a_text_is_its_logical_lines, answers_come_in_order,
 };
 pub use number::read_number;
 pub use reader::AnaLines;
-
-#[cfg(test)]
-mod tests;

@@ -1,9 +1,9 @@
 ghost use Rattle.std.specs.Prelude.{◌≡◌, ℕ, IfSome, IfNone, IfOk, IfErr};
 ghost use Rattle.anacron_text.specs.Settings.{AreSettings, IsHours, IsNumberWithin, IsBadValue, Sets, no_settings};
 
-use crate::fault::{BAD_HOURS, BAD_RANDOM};
 use crate::number::read_number;
 use crate::setting::Setting;
+use cron_fields::Cause;
 use crontab_text::Fault;
 
 /// The most minutes of a delay, and the most that are added to one.
@@ -45,10 +45,7 @@ impl Settings {
         match setting.name {
             "RANDOM_DELAY" => match read_minutes(value.text) {
                 Some(most_added) => Ok(Settings { most_added, ..self }),
-                None => Err(Fault {
-                    cause: BAD_RANDOM,
-                    left: value.left,
-                }),
+                None => Err(Fault::new(Cause::BadRandomDelay, value.left)),
             },
             "START_HOURS_RANGE" => match read_hours(value.text) {
                 Some((first_hour, last_hour)) => Ok(Settings {
@@ -56,10 +53,7 @@ impl Settings {
                     last_hour,
                     ..self
                 }),
-                None => Err(Fault {
-                    cause: BAD_HOURS,
-                    left: value.left,
-                }),
+                None => Err(Fault::new(Cause::BadHours, value.left)),
             },
             _ => Ok(self),
         }

@@ -10,7 +10,7 @@ use Rattle.std.proofs.lemmas.List.{get_or-map, length-map}
 use Rattle.std.proofs.lemmas.List.Sums.{AllPass-from_list_all}
 use Rattle.std.proofs.lemmas.Str.Parse.{digit_at}
 use Rattle.cron_fields.specs.FieldSet.{least_of, greatest_of}
-use Rattle.cron_fields.specs.Atom.{AllLetters, IsNumber, IsName, IsAtom, IsAtomFault, empty_atom, long_number, unknown_name, no_atom, Takes, names_of}
+use Rattle.cron_fields.specs.Atom.{AllLetters, IsNumber, IsName, IsAtom, IsAtomFault, empty_atom, long_number, unknown_name, no_atom, TakesNumber, names_of}
 use Rattle.cron_fields.specs.declared.field.FieldKind.{FieldKind}
 use Rattle.cron_fields.specs.declared.field.FieldKind.TheVariants.{Minute, Hour, MonthDay, Month, WeekDay}
 use Rattle.cron_fields.proofs.AtomLemmas.{long_digits}
@@ -22,7 +22,7 @@ ReadsAtom kind text (Ok value) = IsAtom kind text value
 ReadsAtom kind text (Err cause) = IsAtomFault kind text cause
 
 -- the kind takes the number or not
-pub takes_or_not : (kind : FieldKind) (number : ℕ) → Decided (Takes kind number)
+pub takes_or_not : (kind : FieldKind) (number : ℕ) → Decided (TakesNumber kind number)
 takes_or_not kind number = ⊎_elim
     (λ below. inr (λ taken. let least = taken.least in omega arith))
     (λ least. ⊎_elim

@@ -9,7 +9,7 @@ use Rattle.cron_fields.specs.Base.{Joins}
 use Rattle.cron_fields.specs.Hash.{hashed_value}
 use Rattle.cron_fields.specs.Item.{Steps, IsItem}
 use Rattle.cron_fields.specs.ItemFault.{bad_atom, bad_single, IsItemFault, bad_item}
-use Rattle.cron_fields.specs.Field.{AnyStepsTo, IsList, IsField, IsSound, IsListFault, IsFieldFault}
+use Rattle.cron_fields.specs.Field.{AnyStepsTo, IsList, IsField, IsItemText, IsListFault, IsFieldFault}
 use Rattle.cron_fields.specs.declared.field.FieldKind.{FieldKind}
 use Rattle.cron_fields.specs.declared.field.FieldKind.TheVariants.{Minute, Hour, MonthDay, Month, WeekDay}
 use Rattle.cron_fields.specs.declared.field.FieldSet.{FieldSet}
@@ -90,10 +90,10 @@ field_or_fault kind text seed set cause place (inr list) (inr (none, no_mark, fa
     let items : list.items ≡ fault.before ++ (fault.item ∷ fault.after) = sym (items_are_pieces text list.items list.split) ∙ items_are_pieces text (fault.before ++ (fault.item ∷ fault.after)) fault.split in
     each_or_fault kind fault.before fault.item fault.after list.parts cause fault.offset (rw items at list.each) fault.fault
 
-sound_or_fault : (kind : FieldKind) (item : List ℕ) (cause place : ℕ) → IsSound kind item → IsItemFault kind item cause place → ⊥
+sound_or_fault : (kind : FieldKind) (item : List ℕ) (cause place : ℕ) → IsItemText kind item → IsItemFault kind item cause place → ⊥
 sound_or_fault kind item cause place sound fault = item_or_fault kind item sound.0 cause place sound.1 fault
 
-first_same : (kind : FieldKind) (a : List (List ℕ)) (x : List ℕ) (b c : List (List ℕ)) (y : List ℕ) (d : List (List ℕ)) (e f g h : ℕ) → AllByRecursion (IsSound kind) a → IsItemFault kind x e f → AllByRecursion (IsSound kind) c → IsItemFault kind y g h → a ++ (x ∷ b) ≡ c ++ (y ∷ d) → (a ≡ c) × (x ≡ y)
+first_same : (kind : FieldKind) (a : List (List ℕ)) (x : List ℕ) (b c : List (List ℕ)) (y : List ℕ) (d : List (List ℕ)) (e f g h : ℕ) → AllByRecursion (IsItemText kind) a → IsItemFault kind x e f → AllByRecursion (IsItemText kind) c → IsItemFault kind y g h → a ++ (x ∷ b) ≡ c ++ (y ∷ d) → (a ≡ c) × (x ≡ y)
 first_same kind [] x b [] y d e f g h p q r s is = (refl, cc)
 first_same kind [] x b (z ∷ c) y d e f g h p q r s is =
     let head : x ≡ z = cc in absurd (sound_or_fault kind z e f r.0 (rw head at q))
@@ -180,7 +180,7 @@ pub record FirstFault (kind : FieldKind) (items : List (List ℕ)) : Type 0 wher
   pub item : List ℕ
   pub after : List (List ℕ)
   pub items_are : items ≡ before ++ (item ∷ after)
-  pub sound : AllByRecursion (IsSound kind) before
+  pub sound : AllByRecursion (IsItemText kind) before
   pub cause : ℕ
   pub place : ℕ
   pub fault : IsItemFault kind item cause place
@@ -189,10 +189,10 @@ pub record AllRead (kind : FieldKind) (items : List (List ℕ)) : Type 0 where
   pub parts : List Steps
   pub each : AllZip (IsItem kind) items parts
 
-item_first : (kind : FieldKind) (item : List ℕ) → IsSound kind item ⊎ ((cause : ℕ) × (place : ℕ) × IsItemFault kind item cause place)
+item_first : (kind : FieldKind) (item : List ℕ) → IsItemText kind item ⊎ ((cause : ℕ) × (place : ℕ) × IsItemFault kind item cause place)
 item_first kind item = let found = item_exists kind item in by found.0 found.1
   where
-    by : (out : Result Steps At) → ReadsItem kind item out → IsSound kind item ⊎ ((cause : ℕ) × (place : ℕ) × IsItemFault kind item cause place)
+    by : (out : Result Steps At) → ReadsItem kind item out → IsItemText kind item ⊎ ((cause : ℕ) × (place : ℕ) × IsItemFault kind item cause place)
     by (Ok steps) read = inl (steps, read)
     by (Err (cause, place)) fault = inr (cause, place, fault)
 

@@ -3,7 +3,7 @@ use Rattle.std.proofs.Common.{◌≡◌, ◌≢◌, ℕ, zero, suc, ◌+◌, ◌
 use Rattle.std.proofs.lemmas.Bool.{cases_lt}
 use Rattle.std.proofs.lemmas.Str.Parse.{digit_at}
 use Rattle.cron_fields.specs.FieldSet.{least_of}
-use Rattle.cron_fields.specs.Atom.{HasNo, IsSplitAt, IsNumber, IsAtom, Takes}
+use Rattle.cron_fields.specs.Atom.{HasNo, IsSplitAt, IsNumber, IsAtom, TakesNumber}
 use Rattle.cron_fields.specs.Item.{last_of, Steps, IsSingle, IsRange, IsWide, star, range, IsItem, single, wide, stepped}
 use Rattle.cron_fields.specs.ItemFault.{bad_atom, bad_number, IsRangeFault, bad_low_atom, bad_high_atom, bad_low_number, bad_high_number, bad_order, IsBaseFault, bad_single, bad_range, IsStepFault, empty_step, no_number, zero_step, IsItemFault, bad_item, bad_base, step_after_atom, bad_step}
 use Rattle.cron_fields.specs.declared.field.FieldKind.{FieldKind}
@@ -31,24 +31,24 @@ high_verdict kind low a b = choose (takes_or_not kind b) (order_verdict a b) (Er
 ends_verdict : FieldKind → List ℕ → ℕ → ℕ → Result (ℕ × ℕ) At
 ends_verdict kind low a b = choose (takes_or_not kind a) (high_verdict kind low a b) (Err (3, 0))
 
-ends_low : (kind : FieldKind) (low : List ℕ) (a b : ℕ) → (Takes kind a → ⊥) → ends_verdict kind low a b ≡ Err (3, 0)
+ends_low : (kind : FieldKind) (low : List ℕ) (a b : ℕ) → (TakesNumber kind a → ⊥) → ends_verdict kind low a b ≡ Err (3, 0)
 unfolding ends_verdict
 ends_low kind low a b fails = choose-no (takes_or_not kind a) (high_verdict kind low a b) (Err (3, 0)) fails
 
-ends_high : (kind : FieldKind) (low : List ℕ) (a b : ℕ) → Takes kind a → (Takes kind b → ⊥) → ends_verdict kind low a b ≡ Err (3, length low + 1)
+ends_high : (kind : FieldKind) (low : List ℕ) (a b : ℕ) → TakesNumber kind a → (TakesNumber kind b → ⊥) → ends_verdict kind low a b ≡ Err (3, length low + 1)
 unfolding ends_verdict high_verdict
 ends_high kind low a b taken fails =
     choose-yes (takes_or_not kind a) (high_verdict kind low a b) (Err (3, 0)) taken
     ∙ choose-no (takes_or_not kind b) (order_verdict a b) (Err (3, length low + 1)) fails
 
-ends_order : (kind : FieldKind) (low : List ℕ) (a b : ℕ) → Takes kind a → Takes kind b → b < a → ends_verdict kind low a b ≡ Err (5, 0)
+ends_order : (kind : FieldKind) (low : List ℕ) (a b : ℕ) → TakesNumber kind a → TakesNumber kind b → b < a → ends_verdict kind low a b ≡ Err (5, 0)
 unfolding ends_verdict high_verdict order_verdict
 ends_order kind low a b p q less =
     let fails : a ≤ b → ⊥ = λ ordered. omega arith in
     choose-yes (takes_or_not kind a) (high_verdict kind low a b) (Err (3, 0)) p
     ∙ (choose-yes (takes_or_not kind b) (order_verdict a b) (Err (3, length low + 1)) q ∙ choose-no (order_or_not a b) (Ok (a, b)) (Err (5, 0)) fails)
 
-ends_ok : (kind : FieldKind) (low : List ℕ) (a b : ℕ) → Takes kind a → Takes kind b → a ≤ b → ends_verdict kind low a b ≡ Ok (a, b)
+ends_ok : (kind : FieldKind) (low : List ℕ) (a b : ℕ) → TakesNumber kind a → TakesNumber kind b → a ≤ b → ends_verdict kind low a b ≡ Ok (a, b)
 unfolding ends_verdict high_verdict order_verdict
 ends_ok kind low a b p q ordered =
     choose-yes (takes_or_not kind a) (high_verdict kind low a b) (Err (3, 0)) p

@@ -8,7 +8,7 @@ use Rattle.std.proofs.lemmas.Bool.{cases_eq}
 use Rattle.cron_fields.specs.Atom.{HasNo}
 use Rattle.cron_fields.specs.Base.{Joins}
 use Rattle.cron_fields.specs.Item.{Steps, StepsTo, IsItem}
-use Rattle.cron_fields.specs.Field.{AreItems, AnyStepsTo, IsSound}
+use Rattle.cron_fields.specs.Field.{AreItems, AnyStepsTo, IsItemText}
 use Rattle.cron_fields.specs.declared.field.FieldKind.{FieldKind}
 use Rattle.cron_fields.proofs.Choice.{HasNo-cons, HasNo-nil}
 use Rattle.cron_fields.proofs.BitLemmas.{IsBitSet-zero}
@@ -103,7 +103,7 @@ Reading-push kind items bits place item part after read joins so_far = record {
 }
 
 -- the items that were read are sound
-pub sound_from_each : (kind : FieldKind) (items : List (List ℕ)) (parts : List Steps) → AllZip (IsItem kind) items parts → AllByRecursion (IsSound kind) items
+pub sound_from_each : (kind : FieldKind) (items : List (List ℕ)) (parts : List Steps) → AllZip (IsItem kind) items parts → AllByRecursion (IsItemText kind) items
 sound_from_each kind [] [] each = tt
 sound_from_each kind [] (p ∷ parts) each = absurd each
 sound_from_each kind (i ∷ items) [] each = absurd each

@@ -5,6 +5,8 @@ use Rattle.std.specs.Str.Parse.{AllDigits, digits_value}
 use Rattle.cron_fields.specs.FieldSet.{least_of, greatest_of}
 use Rattle.cron_fields.specs.declared.field.FieldKind.{FieldKind}
 use Rattle.cron_fields.specs.declared.field.FieldKind.TheVariants.{Minute, Hour, MonthDay, Month, WeekDay}
+use Rattle.cron_fields.specs.Cause.{cause_number}
+use Rattle.cron_fields.specs.declared.cause.Cause.TheVariants.{Empty, BadNumber, UnknownName, NoAtom}
 
 -- the text has no such byte
 abbrev pub HasNo : ℕ → List ℕ → Type 0
@@ -50,12 +52,12 @@ IsAtom kind text value = IsNumber text value ⊎ IsName kind text value
 -- what is wrong with an atom: it is empty, a number of too many digits, a name that is none of the kind's, or neither
 -- number nor name
 pub data IsAtomFault (kind : FieldKind) (text : List ℕ) (cause : ℕ) : Type 0 where
-  empty_atom : text ≡ [] → cause ≡ 1 → IsAtomFault kind text cause
-  long_number : AllDigits 10 text → 9 < length text → cause ≡ 2 → IsAtomFault kind text cause
-  unknown_name : 0 < length text → AllLetters text → ((value : ℕ) → IsName kind text value → ⊥) → cause ≡ 4 → IsAtomFault kind text cause
-  no_atom : 0 < length text → (AllDigits 10 text → ⊥) → (AllLetters text → ⊥) → cause ≡ 9 → IsAtomFault kind text cause
+  empty_atom : text ≡ [] → cause ≡ cause_number Empty → IsAtomFault kind text cause
+  long_number : AllDigits 10 text → 9 < length text → cause ≡ cause_number BadNumber → IsAtomFault kind text cause
+  unknown_name : 0 < length text → AllLetters text → ((value : ℕ) → IsName kind text value → ⊥) → cause ≡ cause_number UnknownName → IsAtomFault kind text cause
+  no_atom : 0 < length text → (AllDigits 10 text → ⊥) → (AllLetters text → ⊥) → cause ≡ cause_number NoAtom → IsAtomFault kind text cause
 
 -- the kind takes the number: it is not below the least and not above the greatest
-pub record Takes (kind : FieldKind) (number : ℕ) : Type 0 where
+pub record TakesNumber (kind : FieldKind) (number : ℕ) : Type 0 where
   pub least : least_of kind ≤ number
   pub greatest : number ≤ greatest_of kind

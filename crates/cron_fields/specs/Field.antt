@@ -10,6 +10,8 @@ use Rattle.cron_fields.specs.Item.{Steps, StepsTo, IsItem}
 use Rattle.cron_fields.specs.ItemFault.{IsItemFault}
 use Rattle.cron_fields.specs.declared.field.FieldKind.{FieldKind}
 use Rattle.cron_fields.specs.declared.field.FieldSet.{FieldSet}
+use Rattle.cron_fields.specs.Cause.{cause_number}
+use Rattle.cron_fields.specs.declared.cause.Cause.TheVariants.{Tilde}
 
 -- the items of a text: what stands between its commas
 pub record AreItems (text : List ℕ) (items : List (List ℕ)) : Type 0 where
@@ -48,12 +50,12 @@ pub record IsTilde (text : List ℕ) (cause place : ℕ) : Type 0 where
   pub before : List ℕ
   pub after : List ℕ
   pub split : IsSplitAt 126 text before after
-  pub cause_is : cause ≡ 8
+  pub cause_is : cause ≡ cause_number Tilde
   pub place_is : place ≡ length before
 
 -- the text has an item
-abbrev pub IsSound : FieldKind → List ℕ → Type 0
-IsSound kind item = (steps : Steps) × IsItem kind item steps
+abbrev pub IsItemText : FieldKind → List ℕ → Type 0
+IsItemText kind item = (steps : Steps) × IsItem kind item steps
 
 -- the first item that is none, and what is wrong with it
 pub record IsListFault (kind : FieldKind) (text : List ℕ) (cause place : ℕ) : Type 0 where
@@ -61,7 +63,7 @@ pub record IsListFault (kind : FieldKind) (text : List ℕ) (cause place : ℕ) 
   pub item : List ℕ
   pub after : List (List ℕ)
   pub split : AreItems text (before ++ (item ∷ after))
-  pub sound : AllByRecursion (IsSound kind) before
+  pub sound : AllByRecursion (IsItemText kind) before
   pub offset : ℕ
   pub fault : IsItemFault kind item cause offset
   pub place_is : place ≡ sum_by (λ one. length one + 1) before + offset

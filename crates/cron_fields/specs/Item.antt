@@ -1,7 +1,7 @@
 -- An item of a field (crontab(5)): `*`, an atom or a range `a-b`, and after `*` or a range perhaps a step `/n`.
 use Rattle.std.specs.Prelude.{◌≡◌, ℕ, ◌+◌, ◌*◌, ◌<◌, ◌≤◌, List, codes}
 use Rattle.cron_fields.specs.FieldSet.{least_of, value_of}
-use Rattle.cron_fields.specs.Atom.{HasNo, IsSplitAt, IsNumber, IsAtom, Takes}
+use Rattle.cron_fields.specs.Atom.{HasNo, IsSplitAt, IsNumber, IsAtom, TakesNumber}
 use Rattle.cron_fields.specs.declared.field.FieldKind.{FieldKind}
 use Rattle.cron_fields.specs.declared.field.FieldKind.TheVariants.{Minute, Hour, MonthDay, Month, WeekDay}
 
@@ -29,14 +29,14 @@ pub record StepsTo (kind : FieldKind) (steps : Steps) (value : ℕ) : Type 0 whe
 pub record IsSingle (kind : FieldKind) (base : List ℕ) (value : ℕ) : Type 0 where
   pub alone : HasNo 45 base
   pub atom : IsAtom kind base value
-  pub taken : Takes kind value
+  pub taken : TakesNumber kind value
 
 -- a range between two atoms
 pub record IsRange (kind : FieldKind) (low_text high_text : List ℕ) (low high : ℕ) : Type 0 where
   pub low_atom : IsAtom kind low_text low
   pub high_atom : IsAtom kind high_text high
-  pub low_taken : Takes kind low
-  pub high_taken : Takes kind high
+  pub low_taken : TakesNumber kind low
+  pub high_taken : TakesNumber kind high
   pub ordered : low ≤ high
 
 -- a base that a step may follow: `*`, or a range round the first `-`

@@ -1,10 +1,11 @@
 ghost use Rattle.std.specs.Prelude.{◌≡◌, ◌↔◌, ℕ, IsTrue, IfSome, IfNone, IfOk, IfErr};
 ghost use Rattle.std.specs.Str.Parse.{AllDigits};
-ghost use Rattle.cron_fields.specs.Atom.{AllLetters, IsAtom, IsAtomFault, IsName, IsNumber, Takes};
+ghost use Rattle.cron_fields.specs.Atom.{AllLetters, IsAtom, IsAtomFault, IsName, IsNumber, TakesNumber};
 ghost use Rattle.cron_fields.specs.Base.{StandsAt};
-ghost use Rattle.cron_fields.specs.Cause.{number_of};
+ghost use Rattle.cron_fields.specs.Cause.{cause_number};
 
-use crate::fault::{Cause, Fault};
+use crate::cause::Cause;
+use crate::fault::Fault;
 use crate::field::FieldKind;
 
 const MONTHS: [[u8; 3]; 12] = [
@@ -19,7 +20,7 @@ const WEEK_DAYS: [[u8; 3]; 7] = [
 // The number of an atom that stands at a place, or what is wrong with it there.
 pub(crate) fn read_atom(kind: FieldKind, atom: &str, place: usize) -> Result<u32, Fault>
     ensures read { IfOk result (IsAtom kind atom.now) }
-    ensures fault { IfErr result (λ fault. IsAtomFault kind atom.now (number_of fault.cause)) }
+    ensures fault { IfErr result (λ fault. IsAtomFault kind atom.now (cause_number fault.cause)) }
     ensures place { IfErr result (λ fault. fault.place ≡ place) }
 {
     if let Some(number) = read_number(atom) {
@@ -100,8 +101,8 @@ fn are_letters(bytes: &[u8]) -> bool
 
 // A number that the kind takes, of the atom at a place.
 pub(crate) fn take(kind: FieldKind, number: u32, place: usize) -> Result<u8, Fault>
-    ensures taken { IfOk result (λ value. Takes kind number × (value ≡ number)) }
-    ensures fault { IfErr result (λ fault. (Takes kind number → ⊥) × (number_of fault.cause ≡ 3)) }
+    ensures taken { IfOk result (λ value. TakesNumber kind number × (value ≡ number)) }
+    ensures fault { IfErr result (λ fault. (TakesNumber kind number → ⊥) × (cause_number fault.cause ≡ cause_number Cause.OutOfRange)) }
     ensures place { IfErr result (λ fault. fault.place ≡ place) }
 {
     let (least, greatest) = match kind {

@@ -1,37 +1,14 @@
 ghost use Rattle.std.specs.Prelude.{◌≡◌, ◌+◌, ◌<◌, ◌^◌};
-ghost use Rattle.cron_fields.specs.Cause.{number_of};
+ghost use Rattle.cron_fields.specs.Cause.{cause_number};
 
-/// Why a text is no field: the rule that it breaks first, and the place of the byte, counted from 0.
-///
-/// | Cause | Rule |
-/// |---|---|
-/// | 1 | an item, an atom or a step is empty |
-/// | 2 | a number has more than 9 digits, or a step is no number |
-/// | 3 | a number is outside the field's range |
-/// | 4 | a name is none of the field's |
-/// | 5 | the low end of a range is above its high end |
-/// | 6 | a step is 0 |
-/// | 7 | a step follows a single number or name |
-/// | 8 | the field has a `~` |
-/// | 9 | an atom is neither a number nor a name |
+use crate::cause::Cause;
+
+/// Why a text is no field: the rule that it breaks first, by the number of its `Cause` from 1 to 9, and the place of the byte,
+/// counted from 0.
 #[derive(Clone, Copy, Debug, PartialEq, Eq)]
 pub struct FieldFault {
     pub cause: u8,
     pub place: u32,
-}
-
-// The rules of a field, with their numbers.
-#[derive(Clone, Copy, Debug, PartialEq, Eq)]
-pub(crate) enum Cause {
-    Empty = 1,
-    BadNumber = 2,
-    OutOfRange = 3,
-    UnknownName = 4,
-    BadOrder = 5,
-    ZeroStep = 6,
-    StepAfterAtom = 7,
-    Tilde = 8,
-    NoAtom = 9,
 }
 
 // A rule that is broken, and the place of the byte in the text that was read.
@@ -57,11 +34,11 @@ impl Fault {
     // The fault as the field's reader tells it.
     pub(crate) fn told(self) -> FieldFault
         requires { self.place < 2 ^ 32 }
-        ensures cause { result.cause ≡ number_of self.cause }
+        ensures cause { result.cause ≡ cause_number self.cause }
         ensures place { result.place ≡ self.place }
     {
         FieldFault {
-            cause: self.cause as u8,
+            cause: self.cause.number(),
             place: self.place as u32,
         }
     }

@@ -1,13 +1,14 @@
 ghost use Rattle.std.specs.Prelude.{◌≡◌, ◌<◌, ◌≤◌, IfOk, IfErr, codes};
 ghost use Rattle.cron_fields.specs.Atom.{IsNumber};
 ghost use Rattle.cron_fields.specs.Base.{IsBase, Joins, steps_of};
-ghost use Rattle.cron_fields.specs.Cause.{number_of};
+ghost use Rattle.cron_fields.specs.Cause.{cause_number};
 ghost use Rattle.cron_fields.specs.FieldSet.{value_of};
 ghost use Rattle.cron_fields.specs.Item.{IsItem, IsRange};
 ghost use Rattle.cron_fields.specs.ItemFault.{IsBaseFault, IsItemFault, IsRangeFault, IsStepFault};
 
 use crate::atom::{read_atom, read_number, take};
-use crate::fault::{Cause, Fault};
+use crate::cause::Cause;
+use crate::fault::Fault;
 use crate::field::FieldKind;
 
 // The base of an item: an atom alone, or what a step may follow.
@@ -34,7 +35,7 @@ pub(crate) struct Progression {
 // A step follows `*` or a range alone.
 pub(crate) fn read_item(kind: FieldKind, item: &str) -> Result<Progression, Fault>
     ensures read { IfOk result (λ p. IsItem kind item.now (steps_of p)) }
-    ensures fault { IfErr result (λ fault. IsItemFault kind item.now (number_of fault.cause) fault.place) }
+    ensures fault { IfErr result (λ fault. IsItemFault kind item.now (cause_number fault.cause) fault.place) }
 {
     let Some((base, step)) = item.split_once('/') else {
         return match read_base(kind, item)? {
@@ -62,7 +63,7 @@ pub(crate) fn read_item(kind: FieldKind, item: &str) -> Result<Progression, Faul
 // `*`, an atom or a range.
 fn read_base(kind: FieldKind, base: &str) -> Result<Base, Fault>
     ensures read { IfOk result (IsBase kind base.now) }
-    ensures fault { IfErr result (λ fault. IsBaseFault kind base.now (number_of fault.cause) fault.place) }
+    ensures fault { IfErr result (λ fault. IsBaseFault kind base.now (cause_number fault.cause) fault.place) }
 {
     if base == "*" {
         return Ok(every(kind));
@@ -92,7 +93,7 @@ fn every(kind: FieldKind) -> Base
 // A range between two atoms.
 fn read_range(kind: FieldKind, low: &str, high: &str) -> Result<(u8, u8), Fault>
     ensures read { IfOk result (λ ends. IsRange kind low.now high.now ends.0 ends.1) }
-    ensures fault { IfErr result (λ fault. IsRangeFault kind low.now high.now (number_of fault.cause) fault.place) }
+    ensures fault { IfErr result (λ fault. IsRangeFault kind low.now high.now (cause_number fault.cause) fault.place) }
 {
     let high_place = low.len() + 1;
     let low = read_atom(kind, low, 0)?;
@@ -109,7 +110,7 @@ fn read_range(kind: FieldKind, low: &str, high: &str) -> Result<(u8, u8), Fault>
 // A step: a number in one to nine digits that isn't 0.
 fn read_step(step: &str, place: usize) -> Result<u32, Fault>
     ensures read { IfOk result (λ by. IsNumber step.now by × (0 < by)) }
-    ensures fault { IfErr result (λ fault. IsStepFault step.now (number_of fault.cause)) }
+    ensures fault { IfErr result (λ fault. IsStepFault step.now (cause_number fault.cause)) }
     ensures place { IfErr result (λ fault. fault.place ≡ place) }
 {
     let cause = match read_number(step) {

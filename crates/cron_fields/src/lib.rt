@@ -2,6 +2,7 @@
 #![tactic(auto)]
 
 mod atom;
+mod cause;
 mod fault;
 mod field;
 mod hash;
@@ -9,6 +10,7 @@ mod item;
 mod law;
 mod read;
 
+pub use cause::Cause;
 pub use fault::FieldFault;
 pub use field::{FieldKind, FieldSet, Fields};
 pub use hash::{FNV_START, HashSeed, fnv, pick};
@@ -17,8 +19,3 @@ pub use law::{
     a_field_has_values_of_its_kind,
 };
 pub use read::read_field;
-
-#[cfg(test)]
-mod read_tests;
-#[cfg(test)]
-mod tests;

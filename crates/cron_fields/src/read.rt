@@ -2,9 +2,10 @@ ghost use Rattle.std.specs.Prelude.{◌≡◌, ◌^◌, ◌<◌, length, codes, 
 ghost use Rattle.cron_fields.specs.Hash.{digit_of};
 ghost use Rattle.cron_fields.specs.Field.{IsField, IsFieldFault, IsHashed, IsList, IsListFault};
 ghost use Rattle.cron_fields.specs.Seed.{seed_of};
-ghost use Rattle.cron_fields.specs.Cause.{number_of};
+ghost use Rattle.cron_fields.specs.Cause.{cause_number};
 
-use crate::fault::{Cause, Fault, FieldFault};
+use crate::cause::Cause;
+use crate::fault::{Fault, FieldFault};
 use crate::field::{FieldKind, FieldSet};
 use crate::hash::{FNV_START, HashSeed, fnv, pick};
 use crate::item::read_item;
@@ -13,8 +14,22 @@ use crate::item::read_item;
 /// range, and after `*` or a range perhaps a step (crontab(5)). A name is the first three letters of an English month
 /// or day of the week, in any case. The one value of `?` is picked by a hash of the seed.
 ///
-/// The fault is the first rule that the text breaks. A `~` comes before all others. Then the first item decides that
-/// is wrong, and of an item its atoms, then their numbers, then its step.
+/// # Errors
+///
+/// The first rule that the text breaks. A `~` comes before all others. Then the first item decides that is wrong, and of an item
+/// its atoms, then their numbers, then its step.
+///
+/// | Cause | Rule |
+/// |---|---|
+/// | 1 | an item, an atom or a step is empty |
+/// | 2 | a number has more than 9 digits, or a step is no number |
+/// | 3 | a number is outside the field's range |
+/// | 4 | a name is none of the field's |
+/// | 5 | the low end of a range is above its high end |
+/// | 6 | a step is 0 |
+/// | 7 | a step follows a single number or name |
+/// | 8 | the field has a `~` |
+/// | 9 | an atom is neither a number nor a name |
 pub fn read_field(kind: FieldKind, text: &str, seed: HashSeed<'_>) -> Result<FieldSet, FieldFault>
     requires { length text.now < 2 ^ 32 }
     ensures read { IfOk result (IsField kind text.now (seed_of seed.entry)) }
@@ -66,7 +81,7 @@ fn digit_of(kind: FieldKind) -> u8
 fn read_list(kind: FieldKind, text: &str) -> Result<FieldSet, Fault>
     requires { length text.now < 2 ^ 32 }
     ensures read { IfOk result (IsList kind text.now) }
-    ensures fault { IfErr result (λ fault. IsListFault kind text.now (number_of fault.cause) fault.place) }
+    ensures fault { IfErr result (λ fault. IsListFault kind text.now (cause_number fault.cause) fault.place) }
 {
     let mut bits = 0;
     let mut place = 0;

@@ -1,6 +1,5 @@
 pub mod CompleteLemmas
 pub mod DateLemmas
-pub mod OverMemoryLemmas
 pub mod ServeLemmas
 pub mod TextLemmas
 pub mod VariantLemmas

@@ -23,7 +23,7 @@ use Rattle.report_text.specs.declared.fault.ReportFault.TheVariants as report
 use Rattle.cron_serve.specs.Ends.{Ends}
 use Rattle.cron_serve.specs.Serve.{IsRefused, IsRunOfInput, IsReportOfInput, LeavesNoRun}
 use Rattle.cron_serve.specs.Input.{IsRefusedBytes}
-use Rattle.cron_serve.specs.Stop.{StopsFor, refusal_of, status_of, stop_of_run}
+use Rattle.cron_serve.specs.Stop.{StopsAtOnce, StopsFor, refusal_of, status_of, stop_of_run}
 use Rattle.cron_serve.specs.Written.{WritesAtStatus}
 use Rattle.run_text.specs.Steps.{IfRefused}
 use Rattle.run_text.specs.declared.refusal.Refusal.{Refusal}
@@ -207,7 +207,17 @@ ends_stopped source source' sink stop end e read_on why =
     ends_by source source' sink stop end e read_on (refused_by source source' stop end.refusal e.refusal why) (rose_by source source' stop why)
 
 -- a faulty command line: nothing was read
+at_once : (stop : Stop) → StopsAtOnce stop → (status_of stop ≢ 2) × (status_of stop ≢ 3)
+at_once Usage is = (λ two. omega arith, λ three. omega arith)
+at_once (Refused refusal) is = absurd is
+at_once ReadFault is = absurd is
+at_once OutOfMemory is = (λ two. omega arith, λ three. omega arith)
+
+-- a program that stops at once reads nothing
+pub ends_at_once : (source : SourceView) (sink : SinkView) (stop : Stop) (end : RunEnd) → StopsAtOnce stop → EndsStopped stop end → Ends source source sink sink end
+ends_at_once source sink stop end is e =
+    ends_by source source sink stop end e (record { taken = ([], Consumes-nil source.left); later = omega arith })
+    (λ two. absurd ((at_once stop is).0 two)) (λ three. absurd ((at_once stop is).1 three))
+
 pub ends_unread : (source : SourceView) (sink : SinkView) (end : RunEnd) → EndsStopped Usage end → Ends source source sink sink end
-ends_unread source sink end e =
-    ends_by source source sink Usage end e (record { taken = ([], Consumes-nil source.left); later = omega arith })
-    (λ two. absurd (omega arith)) (λ three. absurd (omega arith))
+ends_unread source sink end e = ends_at_once source sink Usage end tt e

@@ -12,6 +12,7 @@ use Rattle.crontab_text.specs.Lines.{lines_of}
 use Rattle.crontab_text.proofs.LineLemmas.{lines_of-newline, lines_of-last}
 use Rattle.job_table.specs.Table.{at_line}
 use Rattle.cron_serve.specs.Text.{IsText, AreTexts, IsNotText, PassesText, BeginsWithNoText}
+use Rattle.cron_fields.specs.declared.cause.Cause.TheVariants.{NotText}
 
 -- the byte stands nowhere in the text
 abbrev Lacks : ℕ → List ℕ → Type 0
@@ -140,7 +141,7 @@ pub one_fault : (bytes : List ℕ) (a b : Refusal) → IsNotText bytes a → IsN
 one_fault bytes a b first second =
     let same : length first.above ≡ length second.above =
     same_first first.above second.above first.line second.line first.below second.below (sym first.lines ∙ second.lines) first.texts second.texts first.no_text second.no_text in
-    first.is ∙ ap (λ (n : ℕ). at_line (n + 1) 15) same ∙ sym second.is
+    first.is ∙ ap (λ (n : ℕ). at_line (n + 1) NotText) same ∙ sym second.is
 
 -- what was passed line by line: so many lines, each of which is text
 pub record Passed (bytes rest : List ℕ) (number : ℕ) : Type 0 where
@@ -162,7 +163,7 @@ passed_more bytes rest after number passed next = record {
 
 -- the line behind those that were passed is the first at fault, where some line is
 pub first_at_fault : (bytes rest : List ℕ) (number : ℕ) → Passed bytes rest number → (rest ≡ []) ⊎ BeginsWithNoText rest
-    → (AreTexts (lines_of bytes) → ⊥) → IsNotText bytes (at_line number 15)
+    → (AreTexts (lines_of bytes) → ⊥) → IsNotText bytes (at_line number NotText)
 unfolding lines_of
 first_at_fault bytes rest number passed (inl none) fault =
     let all : lines_of bytes ≡ passed.above = passed.lines ∙ ap (λ r. passed.above ++ lines_of r) none ∙ append-nil passed.above in
@@ -174,7 +175,7 @@ first_at_fault bytes rest number passed (inr begins) fault = record {
   lines = passed.lines ∙ ap (λ l. passed.above ++ l) begins.lines;
   texts = passed.texts;
   no_text = begins.no_text;
-  is = ap (λ (n : ℕ). at_line n 15) (sym passed.count);
+  is = ap (λ (n : ℕ). at_line n NotText) (sym passed.count);
 }
 
 -- the first line of bytes, by its newline

@@ -24,6 +24,13 @@ pub record Completes (source source' : SourceView) (sink sink' : SinkView) (end 
   pub others : (bytes : List ℕ) → source.left ≡ Some bytes → TakesNone bytes → ¬ Rose source.faults source'.faults
       → IsSomeAnd end.refusal (IsRefusedInput bytes) ⊎ (end.status ≡ 5)
 
+-- the source told these bytes, no read and no write failed, and the end is the one that they decide
+pub record AreDecided (source source' : SourceView) (sink sink' : SinkView) (end : RunEnd) (bytes : List ℕ) : Type 0 where
+  pub completes : Completes source source' sink sink' end
+  pub told : source.left ≡ Some bytes
+  pub read : ¬ Rose source.faults source'.faults
+  pub written : ¬ Rose sink.faults sink'.faults
+
 -- the report of the input was written, and found room in the sink
 pub record HasRoomForReport (source source' : SourceView) (sink sink' : SinkView) (log : List Entry) (held : List SchedRow) (room : ℕ) : Type 0 where
   pub text : List ℕ

@@ -7,6 +7,7 @@ use Rattle.run_text.specs.Run.{Run}
 use Rattle.run_text.specs.declared.refusal.Refusal.{Refusal}
 use Rattle.job_table.specs.Table.{IsTableOf, IsRefusedRun, whole_run}
 use Rattle.cron_serve.specs.Text.{AreTexts, IsNotText}
+use Rattle.cron_fields.specs.declared.cause.Cause.TheVariants.{TooLarge}
 
 -- the input is the text of this run, whose jobs have this table
 pub record IsTaken (bytes : List ℕ) (run : Run) (table : Table) : Type 0 where
@@ -35,5 +36,5 @@ IsRefusedBytes bytes refusal = IsNotText bytes refusal ⊎ IsRefusedRunFile byte
 -- the input is refused: it has more than 1,048,576 bytes, or else it is refused for what it says
 abbrev pub IsRefusedInput : List ℕ → Refusal → Type 0
 IsRefusedInput bytes refusal =
-    ((1_048_576 < length bytes) × (refusal ≡ whole_run 33))
+    ((1_048_576 < length bytes) × (refusal ≡ whole_run TooLarge))
     ⊎ ((length bytes ≤ 1_048_576) × IsRefusedBytes bytes refusal)

@@ -5,4 +5,4 @@ pub mod Stop
 pub mod Written
 pub mod Complete
 pub mod Ends
-pub mod OverMemory
+pub mod Program

@@ -16,11 +16,12 @@ use Rattle.run_text.specs.Run.{Run}
 use Rattle.run_text.specs.declared.refusal.Refusal.{Refusal}
 use Rattle.job_table.specs.Table.{whole_run}
 use Rattle.cron_serve.specs.Input.{IsTaken, IsRefusedBytes}
+use Rattle.cron_fields.specs.declared.cause.Cause.TheVariants.{TooLarge}
 
 -- more than 1,048,576 bytes came
 pub record IsTooLarge (old new : SourceView) (refusal : Refusal) : Type 0 where
   pub taken : HasTakenCount old new 1_048_577
-  pub is : refusal ≡ whole_run 33
+  pub is : refusal ≡ whole_run TooLarge
 
 -- the input was read to its end, isn't too large, and is refused for what it says
 pub record IsReadAndRefused (old new : SourceView) (refusal : Refusal) : Type 0 where

@@ -11,10 +11,11 @@ use Rattle.job_table.specs.Table.{whole_run}
 use Rattle.cron_serve.specs.Serve.{IsRefused}
 use Rattle.cron_serve.specs.declared.stop.Stop.{Stop}
 use Rattle.cron_serve.specs.declared.stop.Stop.TheVariants.{Usage, Refused, ReadFault, OutOfMemory}
+use Rattle.cron_fields.specs.declared.cause.Cause.TheVariants.{TooLarge}
 
 abbrev pub stop_of_read : ReadAllFault → Stop
 stop_of_read reading.ReadFault = ReadFault
-stop_of_read reading.TooLong = Refused (whole_run 33)
+stop_of_read reading.TooLong = Refused (whole_run TooLarge)
 stop_of_read reading.OutOfMemory = OutOfMemory
 
 abbrev pub stop_of_run : RunFault → Stop
@@ -34,6 +35,13 @@ refusal_of Usage = None
 refusal_of (Refused refusal) = Some refusal
 refusal_of ReadFault = None
 refusal_of OutOfMemory = None
+
+-- the stop needs nothing of the input: a faulty command line, or want of memory
+abbrev pub StopsAtOnce : Stop → Type 0
+StopsAtOnce Usage = ⊤
+StopsAtOnce (Refused refusal) = ⊥
+StopsAtOnce ReadFault = ⊥
+StopsAtOnce OutOfMemory = ⊤
 
 -- why a run stopped: the input was refused, a read failed, or memory ran out
 abbrev pub StopsFor : (source source' : SourceView) → Stop → Type 0

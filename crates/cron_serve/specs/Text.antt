@@ -4,6 +4,7 @@ use Rattle.std.specs.List.{AllByRecursion}
 use Rattle.crontab_text.specs.Lines.{lines_of}
 use Rattle.run_text.specs.declared.refusal.Refusal.{Refusal}
 use Rattle.job_table.specs.Table.{at_line}
+use Rattle.cron_fields.specs.declared.cause.Cause.TheVariants.{NotText}
 
 -- the line is text: UTF-8 (RFC 3629) without a 0 byte
 pub record IsText (line : List ℕ) : Type 0 where
@@ -22,7 +23,7 @@ pub record IsNotText (bytes : List ℕ) (refusal : Refusal) : Type 0 where
   pub lines : lines_of bytes ≡ above ++ line ∷ below
   pub texts : AreTexts above
   pub no_text : IsText line → ⊥
-  pub is : refusal ≡ at_line (length above + 1) 15
+  pub is : refusal ≡ at_line (length above + 1) NotText
 
 -- the bytes begin with a line of text, and that much is behind it
 pub record PassesText (bytes after : List ℕ) : Type 0 where

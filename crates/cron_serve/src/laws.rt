@@ -1,6 +1,9 @@
 //! Laws of the program's ends. Each is the contract of a function that does nothing.
-ghost use Rattle.std.specs.Prelude.{◌≡◌, ℕ, ℤ, ◌<ℤ◌, List, Some, Contains, slice_get};
-ghost use Rattle.cron_io.specs.Views.{SourceView};
+ghost use Rattle.std.specs.Prelude.{◌≡◌, ◌⊎◌, ◌≤◌, [], ℕ, ℤ, ◌<ℤ◌, List, Some, IsSomeAnd, Contains, slice_get};
+ghost use Rattle.cron_io.specs.Faults.{Rose};
+ghost use Rattle.cron_io.specs.Reading.{HasTaken};
+ghost use Rattle.cron_io.specs.Views.{SourceView, SinkView};
+ghost use Rattle.cron_io.specs.Writing.{HasGained, HasGainedPrefix};
 ghost use Rattle.paxos_base.specs.declared.entry.Entry.{Entry};
 ghost use Rattle.paxos_base.specs.declared.entry.Entry.TheVariants.{Start};
 ghost use Rattle.paxos_base.specs.declared.entry.Kind.TheVariants.{Launch};
@@ -15,8 +18,11 @@ ghost use Rattle.launch_law.specs.Launched.{IsCalledAt, OpensBy};
 ghost use Rattle.launch_machine.specs.Starts.{StartsOf};
 ghost use Rattle.run_text.specs.Run.{Run};
 ghost use Rattle.run_text.specs.declared.refusal.Refusal.{Refusal};
-ghost use Rattle.cron_serve.specs.Input.{IsTaken, IsRefusedInput};
-ghost use Rattle.cron_serve.specs.Serve.{IsRefused, IsWholeRun};
+ghost use Rattle.cron_serve.specs.Complete.{AreDecided};
+ghost use Rattle.cron_serve.specs.Ends.{Ends};
+ghost use Rattle.cron_serve.specs.Input.{IsTaken, IsRefusedInput, TakesNone};
+ghost use Rattle.cron_serve.specs.Serve.{IsNoted, IsRefused, IsReportOfInput, IsWholeRun};
+ghost use Rattle.cron_serve.specs.declared.run_end.RunEnd.{RunEnd};
 
 /// An input is taken as one run with one table at most, or is refused for one thing at most, and never both.
 pub fn an_input_has_one_verdict()
@@ -60,4 +66,45 @@ pub fn a_whole_run_makes_each_date()
         → IsWholeRun table log held → Contains held a → Contains held b → a.name.job ≡ b.name.job → a.name.at <ℤ b.name.at
         → slice_get table.jobs a.name.job ≡ Some job → job.kind ≡ Anacron period first last
         → IsPeriodOver period a.name.at b.name.at }
+{}
+
+/// At status 1, 2 and 3 nothing is written, and no run is left. At 5 no run is left either.
+pub fn an_early_end_leaves_nothing()
+    ensures nothing { (source source' : SourceView) (sink sink' : SinkView) (end : RunEnd) → Ends source source' sink sink' end
+        → (end.status ≡ 1) ⊎ (end.status ≡ 2) ⊎ (end.status ≡ 3) → sink' ≡ sink }
+    ensures no_run { (source source' : SourceView) (sink sink' : SinkView) (end : RunEnd) → Ends source source' sink sink' end
+        → (end.status ≡ 1) ⊎ (end.status ≡ 2) ⊎ (end.status ≡ 3) ⊎ (end.status ≡ 5) → (end.log ≡ []) × (end.ledger.held ≡ []) }
+{}
+
+/// At status 4 and 5 a front of the report of the input's run was written at most, and nothing else.
+pub fn a_late_end_leaves_a_front()
+    ensures { (source source' : SourceView) (sink sink' : SinkView) (end : RunEnd) → Ends source source' sink sink' end
+        → (end.status ≡ 4) ⊎ (end.status ≡ 5) → (sink' ≡ sink) ⊎ ((log : List Entry) × (held : List SchedRow) × (text : List ℕ)
+        × IsReportOfInput source source' log held text × HasGainedPrefix sink sink' text) }
+{}
+
+/// At each end what is left of the source is a back part of what was, and no count of faults falls.
+pub fn no_end_takes_back()
+    ensures taken { (source source' : SourceView) (sink sink' : SinkView) (end : RunEnd) → Ends source source' sink sink' end
+        → HasTaken source source' }
+    ensures faults { (source source' : SourceView) (sink sink' : SinkView) (end : RunEnd) → Ends source source' sink sink' end
+        → (source.faults ≤ source'.faults) × (sink.faults ≤ sink'.faults) }
+{}
+
+/// A note is whole unless a write of the notes failed.
+pub fn a_note_is_whole_unless_it_fails()
+    ensures whole { (old new : SinkView) (text : List ℕ) → IsNoted old new text → ¬ Rose old.faults new.faults → HasGained old new text }
+    ensures front { (old new : SinkView) (text : List ℕ) → IsNoted old new text → HasGainedPrefix old new text }
+    ensures faults { (old new : SinkView) (text : List ℕ) → IsNoted old new text → old.faults ≤ new.faults }
+{}
+
+/// Where the source told its bytes, and no read and no write failed, they decide the end, unless memory ran out: a run that is taken
+/// ends with its report, and any other input is refused, for the one thing that it is refused for.
+pub fn the_bytes_decide_the_end()
+    ensures report { (source source' : SourceView) (sink sink' : SinkView) (end : RunEnd) (bytes : List ℕ) (run : Run) (table : Table)
+        → AreDecided source source' sink sink' end bytes → IsTaken bytes run table → (end.status ≡ 0) ⊎ (end.status ≡ 5) }
+    ensures refusal { (source source' : SourceView) (sink sink' : SinkView) (end : RunEnd) (bytes : List ℕ) (refusal : Refusal)
+        → AreDecided source source' sink sink' end bytes → IsRefusedInput bytes refusal → (end.refusal ≡ Some refusal) ⊎ (end.status ≡ 5) }
+    ensures others { (source source' : SourceView) (sink sink' : SinkView) (end : RunEnd) (bytes : List ℕ)
+        → AreDecided source source' sink sink' end bytes → TakesNone bytes → IsSomeAnd end.refusal (IsRefusedInput bytes) ⊎ (end.status ≡ 5) }
 {}

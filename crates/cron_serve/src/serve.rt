@@ -1,4 +1,5 @@
 ghost use Rattle.std.specs.Prelude.{◌≡◌, ◌⊎◌, ◌↔◌, ◌≢◌, ◌<◌, List, ℕ, length, None, IfOk, IfErr, IsErrOf, All};
+ghost use Rattle.std.specs.Vec.Iter.{into_iter_len};
 ghost use Rattle.cron_io.specs.Reading.{HasReadOn, StaysReliable};
 ghost use Rattle.cluster_sched.specs.Names.{IsNameIn};
 ghost use Rattle.report_text.specs.Report.{IsReport};
@@ -17,6 +18,7 @@ use due_set::JobTable;
 use launch_clerk::{LaunchBook, run_clerk};
 use report_text::{ReportFault, write_report};
 use std::alloc::Global;
+use std::env::Args;
 
 /// The most bytes of an input.
 const MAX_INPUT: u32 = 1_048_576;
@@ -93,7 +95,7 @@ fn serve<S: Source, K: Sink>(alloc: Global, source: &mut S, sink: &mut K) -> Run
 /// goes to `notes`.
 pub fn cron_cluster<S: Source, K: Sink, E: Sink>(
     alloc: Global,
-    words: &[String],
+    words: Args,
     source: &mut S,
     sink: &mut K,
     notes: &mut E,
@@ -102,11 +104,11 @@ pub fn cron_cluster<S: Source, K: Sink, E: Sink>(
     ensures ends { Ends (S.seen source.old) (S.seen source.new) (K.seen sink.old) (K.seen sink.new) result }
 
     // Status 1: there is a word. Then nothing is read.
-    ensures usage { (result.status ≡ 1) ↔ (0 < length words.now) }
+    ensures usage { (result.status ≡ 1) ↔ (0 < into_iter_len words) }
     ensures unread { result.status ≡ 1 → S.seen source.new ≡ S.seen source.old }
 
     // A run that is taken ends with its report, and any other input is refused, where no call failed and memory lasts.
-    ensures complete { length words.now ≡ 0 →
+    ensures complete { into_iter_len words ≡ 0 →
         Completes (S.seen source.old) (S.seen source.new) (K.seen sink.old) (K.seen sink.new) result }
 
     // Over a source that is reliable there is no status 3, and it stays reliable.
@@ -116,7 +118,7 @@ pub fn cron_cluster<S: Source, K: Sink, E: Sink>(
 
     ensures note { IsNoted (E.seen notes.old) (E.seen notes.new) (note_text result.status result.refusal) }
 {
-    let end = if words.is_empty() {
+    let end = if words.len() == 0 {
         serve(alloc, source, sink)
     } else {
         RunEnd::stopped(alloc, Stop::Usage)

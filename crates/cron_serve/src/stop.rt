@@ -1,5 +1,6 @@
 ghost use Rattle.std.specs.Prelude.{◌≡◌};
 
+use cron_fields::Cause;
 use cron_io::ReadAllFault;
 use run_text::{Refusal, RunFault};
 
@@ -16,13 +17,6 @@ pub enum Stop {
     OutOfMemory,
 }
 
-// No line is to blame: the input is too large.
-const TOO_LARGE: Refusal = Refusal {
-    line: 0,
-    cause: 33,
-    place: 0,
-};
-
 impl From<ReadAllFault> for Stop {
     ghost use Rattle.cron_serve.specs.Stop.{stop_of_read};
 
@@ -31,7 +25,10 @@ impl From<ReadAllFault> for Stop {
     fn from(fault: ReadAllFault) -> Self {
         match fault {
             ReadAllFault::ReadFault => Stop::ReadFault,
-            ReadAllFault::TooLong => Stop::Refused(TOO_LARGE),
+            ReadAllFault::TooLong => {
+                // No line is to blame.
+                Stop::Refused(Refusal::of_line(0, Cause::TooLarge))
+            },
             ReadAllFault::OutOfMemory => Stop::OutOfMemory,
         }
     }

@@ -5,6 +5,7 @@ ghost use Rattle.crontab_text.specs.Lines.{lines_of};
 ghost use Rattle.job_table.specs.Table.{at_line};
 ghost use Rattle.cron_serve.specs.Text.{IsText, AreTexts, IsNotText, PassesText, BeginsWithNoText};
 
+use cron_fields::Cause;
 use run_text::Refusal;
 
 /// The text of an input.
@@ -20,7 +21,7 @@ pub fn as_text(bytes: &[u8]) -> Result<&str, Refusal>
 {
     match one_text(bytes) {
         Some(text) => Ok(text),
-        None => Err(Refusal::of_line(line_at_fault(bytes), 15)),
+        None => Err(Refusal::of_line(line_at_fault(bytes), Cause::NotText)),
     }
 }
 
@@ -40,7 +41,7 @@ fn one_text(bytes: &[u8]) -> Option<&str>
 fn line_at_fault(bytes: &[u8]) -> u32
     requires short { length bytes.now + 1 < 2 ^ 32 }
     requires at_fault { AreTexts (lines_of bytes.now) → ⊥ }
-    ensures { IsNotText bytes.now (at_line result 15) }
+    ensures { IsNotText bytes.now (at_line result Cause.NotText) }
 {
     let mut number = 1;
     let mut rest = bytes;

@@ -4,7 +4,7 @@ use Rattle.std.specs.List.{AllByRecursion}
 use Rattle.std.proofs.lemmas.List.{drop_more, length-take-le, get_or-take}
 use Rattle.std.proofs.lemmas.Bool.Decides.{nat_tests}
 use Rattle.crontab_text.specs.Blanks.{LacksAny, MayBeginWith, IsFirstIndex}
-use Rattle.crontab_text.specs.Percent.{CommandPiece, TextPiece, NewLinePiece, IsPercent, spelled, IsPiece, MayFollow, AreInOrder, ArePieces, BeginsWithPercent, BeginsWithEscape, SkipsEscape, MayEndBefore, BeginsWithPiece}
+use Rattle.crontab_text.specs.Percent.{CommandPiece, TextPiece, NewLinePiece, IsPercent, spelled, IsPiece, MayFollowPiece, AreInOrder, ArePieces, BeginsWithPercent, BeginsWithEscape, SkipsEscape, MayEndBefore, BeginsWithPiece}
 use Rattle.crontab_text.proofs.ListLemmas.{lacks_before, MayEndWith-at_last, eq_dec}
 
 -- how a text is written that doesn't begin with a percent sign
@@ -44,7 +44,7 @@ no_escape d (x ∷ ds) pieces is lacks each in_order begins = lacks.0 begins
 no_escape d [] [] is lacks each in_order begins = begins
 no_escape d [] (piece ∷ pieces) is lacks each in_order begins =
     let bare = bare_piece piece (flat_map spelled pieces) each.0 begins in
-    subst (λ p. MayFollow (TextPiece (d ∷ [])) p) bare in_order.0 is
+    subst (λ p. MayFollowPiece (TextPiece (d ∷ [])) p) bare in_order.0 is
 
 -- a text that a command begins with, where it begins with another byte than a percent sign
 not_percent : (c d : ℕ) (rest ds : List ℕ) (pieces : List CommandPiece) → c ∷ rest ≡ d ∷ (ds ++ flat_map spelled pieces) → d ≢ 37 → LacksAny IsPercent ds → AllByRecursion IsPiece pieces → AreInOrder (TextPiece (d ∷ ds) ∷ pieces) → (text : List ℕ) → MayEndBefore text (c ∷ rest) → ⊥
@@ -56,7 +56,7 @@ not_percent c d rest ds pieces e other lacks each in_order text (inr bare) =
     let head : d ≡ c = cc in other (head ∙ bare.0)
 
 -- what may stand behind a text that may end there
-pub follows_text : (text rest : List ℕ) → MayEndBefore text rest → (piece : CommandPiece) (pieces : List CommandPiece) → ArePieces rest (piece ∷ pieces) → MayFollow (TextPiece text) piece
+pub follows_text : (text rest : List ℕ) → MayEndBefore text rest → (piece : CommandPiece) (pieces : List CommandPiece) → ArePieces rest (piece ∷ pieces) → MayFollowPiece (TextPiece text) piece
 follows_text text [] ends piece pieces are = absurd (spelled_some piece (flat_map spelled pieces) are.each.0 (sym are.command_is))
 follows_text text (c ∷ rest) (inl escape) NewLinePiece pieces are = absurd (not_newline c rest escape.0 are.command_is)
   where
@@ -73,7 +73,7 @@ follows_text text (c ∷ rest) ends (TextPiece (d ∷ ds)) pieces are =
     ]
 
 -- a piece before others
-pieces_behind : (piece : CommandPiece) (pieces : List CommandPiece) → AreInOrder pieces → ((next : CommandPiece) (more : List CommandPiece) → pieces ≡ next ∷ more → MayFollow piece next) → AreInOrder (piece ∷ pieces)
+pieces_behind : (piece : CommandPiece) (pieces : List CommandPiece) → AreInOrder pieces → ((next : CommandPiece) (more : List CommandPiece) → pieces ≡ next ∷ more → MayFollowPiece piece next) → AreInOrder (piece ∷ pieces)
 pieces_behind piece [] in_order follows = tt
 pieces_behind piece (next ∷ pieces) in_order follows = (follows next pieces refl, in_order)
 

@@ -1,5 +1,7 @@
 -- A reader that goes on by a line.
-use Rattle.std.proofs.Common.{◌≡◌, ℕ, ◌+◌, ◌-◌, ◌<◌, ◌≤◌, List, [], ◌∷◌, length, drop, refl, ap, ◌∙◌, sym, subst, arith, length-append, Result, Ok, Err, IfOk, IfErr}
+use Rattle.std.proofs.Common.{◌≡◌, ℕ, ◌+◌, ◌-◌, ◌<◌, ◌≤◌, ◌⊎◌, inl, inr, List, [], ◌∷◌, ◌++◌, length, take, drop, refl, ap, ◌∙◌, sym, subst, arith, length-append, Result, Ok, Err, IfOk, IfErr}
+use Rattle.std.specs.List.{slice_range}
+use Rattle.std.proofs.Math.Seq.{take-append_seam, take-length}
 use Rattle.std.proofs.lemmas.List.{drop-drop, drop_at}
 use Rattle.crontab_text.specs.Answers.{LineAnswer, IsLineOf, AreAnswers}
 use Rattle.crontab_text.specs.LineBody.{body_of}
@@ -84,3 +86,18 @@ answers_before old new handed answers reads are =
 -- and at the end of the text there is none
 pub no_answers : (style : Style) (owner : List ℕ) → AreAnswers style owner [] []
 no_answers style owner = rw lines_of-none tt
+
+-- the front of a text that is its first line
+pub split_taken : (rest line after : List ℕ) → (rest ≡ line ++ 10 ∷ after) ⊎ ((rest ≡ line) × (0 < length line) × (after ≡ [])) → take (length line) rest ≡ line
+split_taken rest line after (inl more) = ap (λ t. take (length line) t) more ∙ take-append_seam line (10 ∷ after)
+split_taken rest line after (inr last) = ap (λ t. take (length line) t) last.0 ∙ take-length line
+
+-- the bytes of a line's span are the line
+pub span_holds : (old new : TableReader) (handed : Line) → ReadsLine old new (Ok handed) → BeginsWithLine (rest_of old) (slice_range old.text handed.span.from handed.span.until) (rest_of new)
+span_holds old new handed is =
+    let from_is = is.span.from_is in
+    let until_is = is.span.until_is in
+    let size : handed.span.until - handed.span.from ≡ length is.line = omega arith in
+    let slice : slice_range old.text handed.span.from handed.span.until ≡ is.line =
+    ap (λ n. take n (drop handed.span.from old.text)) size ∙ (ap (λ n. take (length is.line) (drop n old.text)) from_is ∙ split_taken (rest_of old) is.line (rest_of new) is.goes_on.begins.split) in
+    subst (λ l. BeginsWithLine (rest_of old) l (rest_of new)) (sym slice) is.goes_on.begins

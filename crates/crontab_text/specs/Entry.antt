@@ -10,6 +10,8 @@ use Rattle.crontab_text.specs.Blanks.{IsFirstWord}
 use Rattle.crontab_text.specs.Tail.{IsTail, IsTailFault}
 use Rattle.crontab_text.specs.declared.answer.Style.{Style}
 use Rattle.crontab_text.specs.declared.answer.Style.TheVariants.{User, System}
+use Rattle.cron_fields.specs.Cause.{cause_number}
+use Rattle.cron_fields.specs.declared.cause.Cause.TheVariants.{TooFewFields}
 
 -- the fields of an entry, in the order of the line
 abbrev pub five_kinds : List FieldKind
@@ -36,7 +38,7 @@ BeginsWithFields (kind ∷ kinds) seed text (set ∷ sets) after =
 -- From the word's first byte to the line's end there are `here` bytes.
 abbrev pub IsBadWord : FieldKind → (word : List ℕ) (here cause left : ℕ) → Type 0
 IsBadWord kind word here cause left =
-    ((word ≡ []) × (cause ≡ 10) × (left ≡ 0))
+    ((word ≡ []) × (cause ≡ cause_number TooFewFields) × (left ≡ 0))
     ⊎ ((place : ℕ) × (0 < length word) × IsFieldFault kind word cause place × (place + left ≡ here))
 
 -- one of the fields that a text has to begin with is at fault, and those before it are fields

@@ -6,6 +6,8 @@ use Rattle.crontab_text.specs.Blanks.{IsFirstWord}
 use Rattle.crontab_text.specs.Entry.{five_kinds, sets_of, BeginsWithFields}
 use Rattle.crontab_text.specs.Tail.{IsTail, IsTailFault}
 use Rattle.crontab_text.specs.declared.answer.Style.{Style}
+use Rattle.cron_fields.specs.Cause.{cause_number}
+use Rattle.cron_fields.specs.declared.cause.Cause.TheVariants.{BadNickname}
 
 -- The nicknames, and the five fields that each stands for. At `@reboot` no fields stand.
 abbrev pub nicknames : List (List ℕ × Option (List ℕ))
@@ -50,4 +52,4 @@ pub record IsNickFault (style : Style) (text : List ℕ) (cause left : ℕ) : Ty
   pub word : List ℕ
   pub tail : List ℕ
   pub cut : IsFirstWord text word tail
-  pub is : ((meaning_of word ≡ None) × (cause ≡ 13) × (left ≡ length word + length tail)) ⊎ (IsSome (meaning_of word) × IsTailFault style tail cause left)
+  pub is : ((meaning_of word ≡ None) × (cause ≡ cause_number BadNickname) × (left ≡ length word + length tail)) ⊎ (IsSome (meaning_of word) × IsTailFault style tail cause left)

@@ -33,16 +33,16 @@ IsPiece (TextPiece (c ∷ cs)) = LacksAny IsPercent cs
 
 -- The second may stand directly behind the first: of two texts the second begins with `%`, and a text before the end
 -- of a line doesn't end with a backslash, which would escape the `%` behind it.
-abbrev pub MayFollow : CommandPiece → CommandPiece → Type 0
-MayFollow NewLinePiece next = Unit {0}
-MayFollow (TextPiece text) NewLinePiece = MayEndWith (λ c. c ≢ 92) text
-MayFollow (TextPiece text) (TextPiece next) = MayBeginWith IsPercent next
+abbrev pub MayFollowPiece : CommandPiece → CommandPiece → Type 0
+MayFollowPiece NewLinePiece next = Unit {0}
+MayFollowPiece (TextPiece text) NewLinePiece = MayEndWith (λ c. c ≢ 92) text
+MayFollowPiece (TextPiece text) (TextPiece next) = MayBeginWith IsPercent next
 
 -- each piece may stand behind the one before it
 abbrev pub AreInOrder : List CommandPiece → Type 0
 AreInOrder [] = Unit {0}
 AreInOrder (piece ∷ []) = Unit {0}
-AreInOrder (piece ∷ next ∷ pieces) = MayFollow piece next × AreInOrder (next ∷ pieces)
+AreInOrder (piece ∷ next ∷ pieces) = MayFollowPiece piece next × AreInOrder (next ∷ pieces)
 
 -- these are the pieces of the command, in order
 pub record ArePieces (command : List ℕ) (pieces : List CommandPiece) : Type 0 where

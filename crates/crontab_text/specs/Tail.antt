@@ -6,6 +6,8 @@ use Rattle.crontab_text.specs.Assignment.{IsNameStart, IsNameByte}
 use Rattle.crontab_text.specs.Blanks.{SkipsBlanks, IsFirstWord}
 use Rattle.crontab_text.specs.declared.answer.Style.{Style}
 use Rattle.crontab_text.specs.declared.answer.Style.TheVariants.{User, System}
+use Rattle.cron_fields.specs.Cause.{cause_number}
+use Rattle.cron_fields.specs.declared.cause.Cause.TheVariants.{NoCommand, BadUser, LongCommand}
 
 -- a letter, a digit, `_`, `.` or `-`
 abbrev pub IsUserByte : ℕ → Type 0
@@ -41,7 +43,7 @@ IsTail System text user command = EndsWithUser text user command
 -- no command (cause 11, at the line's end), or one of more than 1,000 bytes (14)
 abbrev pub IsBadCommand : (command : List ℕ) (cause left : ℕ) → Type 0
 IsBadCommand command cause left =
-    ((command ≡ []) × (cause ≡ 11) × (left ≡ 0)) ⊎ ((1000 < length command) × (cause ≡ 14) × (left ≡ length command))
+    ((command ≡ []) × (cause ≡ cause_number NoCommand) × (left ≡ 0)) ⊎ ((1000 < length command) × (cause ≡ cause_number LongCommand) × (left ≡ length command))
 
 -- the text doesn't end with a command
 pub record IsCommandFault (text : List ℕ) (cause left : ℕ) : Type 0 where
@@ -54,7 +56,7 @@ pub record IsUserFault (text : List ℕ) (cause left : ℕ) : Type 0 where
   pub user : List ℕ
   pub after : List ℕ
   pub word : IsFirstWord text user after
-  pub is : ((IsUser user → ⊥) × (cause ≡ 12) × (left ≡ length user + length after)) ⊎ (IsUser user × IsCommandFault after cause left)
+  pub is : ((IsUser user → ⊥) × (cause ≡ cause_number BadUser) × (left ≡ length user + length after)) ⊎ (IsUser user × IsCommandFault after cause left)
 
 -- the first fault behind the fields
 abbrev pub IsTailFault : Style → (text : List ℕ) (cause left : ℕ) → Type 0

@@ -5,6 +5,8 @@ use Rattle.crontab_text.specs.Tail.{IsUser, IsCommand, IsBadCommand}
 use Rattle.crontab_text.specs.declared.answer.Style.{Style}
 use Rattle.crontab_text.specs.declared.answer.Style.TheVariants.{User, System}
 use Rattle.crontab_text.specs.declared.tail.Tail.{Tail}
+use Rattle.cron_fields.specs.Cause.{cause_number}
+use Rattle.cron_fields.specs.declared.cause.Cause.TheVariants.{BadUser}
 
 -- a user and what is behind the blanks after it
 pub record HasUser (text : List ℕ) (tail : Tail) : Type 0 where
@@ -27,5 +29,5 @@ IsGoodTail System tail = IsUser tail.user.text.now × IsCommand tail.command.now
 abbrev pub IsBadTail : Style → Tail → (cause left : ℕ) → Type 0
 IsBadTail User tail cause left = IsBadCommand tail.command.now cause left
 IsBadTail System tail cause left =
-    ((IsUser tail.user.text.now → ⊥) × (cause ≡ 12) × (left ≡ tail.user.left))
+    ((IsUser tail.user.text.now → ⊥) × (cause ≡ cause_number BadUser) × (left ≡ tail.user.left))
     ⊎ (IsUser tail.user.text.now × IsBadCommand tail.command.now cause left)

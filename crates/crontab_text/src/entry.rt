@@ -5,9 +5,9 @@ ghost use Rattle.crontab_text.specs.Entry.{IsBadWord, IsEntry, IsEntryFault, ent
 ghost use Rattle.crontab_text.specs.EntryBody.{IsEntryBody};
 
 use crate::answer::{Body, Style};
-use crate::fault::{Fault, TOO_FEW_FIELDS};
+use crate::fault::Fault;
 use crate::tail::{Tail, Word, check_tail, split_tail, take_word};
-use cron_fields::{FieldKind, FieldSet, Fields, HashSeed, read_field};
+use cron_fields::{Cause, FieldKind, FieldSet, Fields, HashSeed, read_field};
 
 /// Reads a text of five fields, in a system table a user, and a command.
 pub fn read_entry<'a>(style: Style, owner: &'a str, text: &'a str) -> Result<Body<'a>, Fault>
@@ -60,10 +60,7 @@ fn read_word(kind: FieldKind, word: Word<'_>, seed: HashSeed<'_>) -> Result<Fiel
         IsBadWord kind word.entry.text.now word.entry.left fault.cause fault.left) }
 {
     if word.text.is_empty() {
-        return Err(Fault {
-            cause: TOO_FEW_FIELDS,
-            left: 0,
-        });
+        return Err(Fault::new(Cause::TooFewFields, 0));
     }
     match read_field(kind, word.text, seed) {
         Ok(set) => Ok(set),

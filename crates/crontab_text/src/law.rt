@@ -1,4 +1,5 @@
-ghost use Rattle.std.specs.Prelude.{◌≡◌, ◌<◌, ◌∷◌, [], ℕ, List, Result, flat_map, length};
+ghost use Rattle.std.specs.Prelude.{◌≡◌, ◌<◌, ◌∷◌, [], ℕ, List, Result, flat_map, length, Ok};
+ghost use Rattle.std.specs.List.{slice_range};
 ghost use Rattle.crontab_text.specs.Answers.{AreAnswers, IsAnswer, LineAnswer};
 ghost use Rattle.crontab_text.specs.Lines.{BeginsWithLine, lines_of};
 ghost use Rattle.crontab_text.specs.Percent.{ArePieces, CommandPiece, bytes_said, said_by};
@@ -54,4 +55,10 @@ pub fn a_command_has_one_list_of_pieces()
 pub fn pieces_say_what_the_command_says()
     ensures { (command : List ℕ) (pieces : List CommandPiece)
         → ArePieces command pieces → flat_map bytes_said pieces ≡ said_by command }
+{}
+
+/// A law: what stands in the text from the first byte of a line's span up to its last is the line that was read, without its newline.
+pub fn a_span_is_that_of_its_line()
+    ensures { (old new : TableReader) (line : Line) → ReadsLine old new (Ok line)
+        → BeginsWithLine (rest_of old) (slice_range old.text line.span.from line.span.until) (rest_of new) }
 {}

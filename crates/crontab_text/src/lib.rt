@@ -16,14 +16,12 @@ mod tail;
 pub use answer::{Body, Line, LineFault, Span, Style};
 pub use assignment::{cut_behind_name, is_name, unquote};
 pub use blank::is_blank;
-pub use fault::{Fault, TOO_FEW_FIELDS};
+pub use fault::Fault;
 pub use law::{
-    a_command_has_one_list_of_pieces, a_line_has_one_reading, a_table_has_one_list_of_answers,
-    a_text_is_its_lines, answers_come_in_order, pieces_say_what_the_command_says,
+    a_command_has_one_list_of_pieces, a_line_has_one_reading, a_span_is_that_of_its_line,
+    a_table_has_one_list_of_answers, a_text_is_its_lines, answers_come_in_order,
+    pieces_say_what_the_command_says,
 };
 pub use percent::{Piece, Pieces, split_percent};
-pub use reader::Lines;
+pub use reader::{Lines, first_line};
 pub use tail::{Word, check_command};
-
-#[cfg(test)]
-mod tests;

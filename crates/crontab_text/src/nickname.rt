@@ -4,9 +4,9 @@ ghost use Rattle.crontab_text.specs.Nickname.{IsNickFault, Means, meaning_of};
 ghost use Rattle.crontab_text.specs.NicknameView.{meaning_of_nickname};
 
 use crate::answer::{Body, Style};
-use crate::fault::{BAD_NICK, Fault};
+use crate::fault::Fault;
 use crate::tail::{check_tail, split_tail, take_word};
-use cron_fields::{FieldSet, Fields};
+use cron_fields::{Cause, FieldSet, Fields};
 
 // The nicknames, where two names stand for the same fields.
 #[derive(Clone, Copy, Debug, PartialEq, Eq)]
@@ -68,10 +68,7 @@ pub fn read_nick(style: Style, text: &str) -> Result<Body<'_>, Fault>
 {
     let (word, rest) = take_word(text);
     let Some(nickname) = nickname_of(word.text) else {
-        return Err(Fault {
-            cause: BAD_NICK,
-            left: word.left,
-        });
+        return Err(Fault::new(Cause::BadNickname, word.left));
     };
     let tail = split_tail(style, rest);
     check_tail(style, &tail)?;

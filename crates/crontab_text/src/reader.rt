@@ -1,8 +1,8 @@
-ghost use Rattle.std.specs.Prelude.{◌≡◌, ◌↔◌, ◌<◌, ◌^◌, ◌≤◌, ◌+◌, ◌-◌, [], length, IsNone, IfSome, IfNone, IfOk, IfErr, Ok, Err};
+ghost use Rattle.std.specs.Prelude.{◌≡◌, ◌↔◌, ◌<◌, ◌^◌, ◌≤◌, ◌+◌, ◌-◌, ◌∷◌, ◌++◌, [], ℕ, List, length, IsNone, IfSome, IfNone, IfOk, IfErr, Ok, Err};
 ghost use Rattle.std.specs.Result.{ForErr};
 ghost use Rattle.crontab_text.specs.Answers.{IsLineOf};
 ghost use Rattle.crontab_text.specs.LineBody.{body_of};
-ghost use Rattle.crontab_text.specs.Lines.{BeginsWithLine};
+ghost use Rattle.crontab_text.specs.Lines.{BeginsWithLine, lines_of};
 ghost use Rattle.crontab_text.specs.LineBreak.{IsLineBreak};
 ghost use Rattle.crontab_text.specs.Reader.{ReadsLine};
 ghost use Rattle.crontab_text.specs.TableReader.{rest_of, table_reader};
@@ -77,7 +77,7 @@ impl<'a> Lines<'a> {
         ensures line { IfSome result (ReadsLine self.old self.new) }
         ensures rises { IfSome result (λ _. self.old.place < self.new.place) }
     {
-        let (line, rest) = next_line(self.rest)?;
+        let (line, rest) = first_line(self.rest)?;
         let from = (self.text.len() - self.rest.len()) as u32;
         self.rest = rest;
         self.passed += 1;
@@ -90,10 +90,14 @@ impl<'a> Lines<'a> {
     }
 }
 
-// The first line of a text, without its newline, and what is behind it; `None` at the end of the text.
-fn next_line(text: &str) -> Option<(&str, &str)>
+/// The first line of a text, without its newline, and what is behind it; `None` at the end of the text.
+pub fn first_line(text: &str) -> Option<(&str, &str)>
     ensures none { IsNone result ↔ (text.now ≡ []) }
     ensures line { IfSome result (λ parts. BeginsWithLine text.now parts.0.now parts.1.now) }
+    ensures lines { IfSome result (λ parts. lines_of text.now ≡ parts.0.now ∷ lines_of parts.1.now) }
+    ensures shorter { IfSome result (λ parts. length parts.1.now < length text.now) }
+    ensures within { IfSome result (λ parts. length parts.0.now + length parts.1.now ≤ length text.now) }
+    ensures back { IfSome result (λ parts. (front : List ℕ) × (text.now ≡ front ++ parts.1.now)) }
 {
     match text.split_once('\n') {
         Some(parts) => Some(parts),

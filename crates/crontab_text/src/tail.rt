@@ -7,7 +7,8 @@ ghost use Rattle.crontab_text.specs.TailParts.{IsSplitTail, IsGoodTail, IsBadTai
 use crate::answer::Style;
 use crate::assignment::{is_name_byte, is_name_start};
 use crate::blank::{first_word, skip_blanks};
-use crate::fault::{BAD_USER, Fault, NO_COMMAND, TOO_LONG};
+use crate::fault::Fault;
+use cron_fields::Cause;
 
 /// The most bytes of a command.
 const MAX_COMMAND: usize = 1000;
@@ -65,10 +66,9 @@ pub fn check_tail(style: Style, tail: &Tail<'_>) -> Result<(), Fault>
     ensures bad { IfErr result (λ fault. IsBadTail style tail.now fault.cause fault.left) }
 {
     match style {
-        Style::System if !is_user(tail.user.text) => Err(Fault {
-            cause: BAD_USER,
-            left: tail.user.left,
-        }),
+        Style::System if !is_user(tail.user.text) => {
+            Err(Fault::new(Cause::BadUser, tail.user.left))
+        }
         _ => check_command(tail.command),
     }
 }
@@ -79,16 +79,10 @@ pub fn check_command(command: &str) -> Result<(), Fault>
     ensures bad { IfErr result (λ fault. IsBadCommand command.now fault.cause fault.left) }
 {
     if command.is_empty() {
-        return Err(Fault {
-            cause: NO_COMMAND,
-            left: 0,
-        });
+        return Err(Fault::new(Cause::NoCommand, 0));
     }
     if command.len() > MAX_COMMAND {
-        return Err(Fault {
-            cause: TOO_LONG,
-            left: command.len(),
-        });
+        return Err(Fault::new(Cause::LongCommand, command.len()));
     }
     Ok(())
 }

@@ -5,6 +5,7 @@ mod JobLemmas
 mod MarkLemmas
 mod RunLemmas
 mod SectionLemmas
+mod SomeLemmas
 mod TableLemmas
 pub mod UniqueLemmas
 mod VariantLemmas

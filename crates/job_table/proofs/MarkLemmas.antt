@@ -10,6 +10,7 @@ use Rattle.job_table.specs.Marks.{Mark, MarksZone, MarksJob, BringsJob, IsMarkFa
 use Rattle.run_text.specs.Run.{NamedZone}
 use Rattle.job_table.specs.Zones.{NamesZone}
 use Rattle.job_table.specs.Table.{jobs_of, at_line, HasLineAtFault}
+use Rattle.cron_fields.specs.declared.cause.Cause.TheVariants.{UnknownZone, DuplicateJob}
 
 pub jobs_of-append : (xs ys : List Mark) → jobs_of (xs ++ ys) ≡ jobs_of xs ++ jobs_of ys
 jobs_of-append [] ys = refl
@@ -57,7 +58,7 @@ adds_job zones jobs at name zone kind none marks collected = record {
   are = ap (λ l. l ++ named_job name zone kind ∷ []) collected.are ∙ sym (jobs_of-append marks (MarksJob at name zone kind ∷ []));
 }
 
-at_fault : (zones : List NamedZone) (marks others : List Mark) (mark : Mark) (line cause : ℕ) (refusal : Refusal) → AreSound zones marks → IsMarkFault zones marks mark line cause → refusal ≡ at_line line cause
+at_fault : (zones : List NamedZone) (marks others : List Mark) (mark : Mark) (line cause : ℕ) (refusal : Refusal) → AreSound zones marks → IsMarkFault zones marks mark line cause → refusal ≡ record { line = line; cause = cause; place = 0 }
     → HasLineAtFault zones ((marks ++ mark ∷ []) ++ others) refusal
 at_fault zones marks others mark line cause refusal sound fault is =
     subst (HasLineAtFault zones ((marks ++ mark ∷ []) ++ others)) (sym is) (record {
@@ -66,12 +67,12 @@ at_fault zones marks others mark line cause refusal sound fault is =
     })
 
 -- a zone that the run hasn't
-pub refuses_zone : (zones : List NamedZone) (jobs : List Job) (at : ℕ) (name : List ℕ) (refusal : Refusal) → (NamesZone name zones → ⊥) → refusal ≡ at_line at 21
+pub refuses_zone : (zones : List NamedZone) (jobs : List Job) (at : ℕ) (name : List ℕ) (refusal : Refusal) → (NamesZone name zones → ⊥) → refusal ≡ at_line at UnknownZone
     → RefusesMarks zones jobs (MarksZone at name ∷ []) refusal
 refuses_zone zones jobs at name refusal other is marks others collected = at_fault zones marks others (MarksZone at name) at 21 refusal collected.sound (other, refl, refl) is
 
 -- a job whose name is there
-pub refuses_job : (zones : List NamedZone) (jobs : List Job) (at : ℕ) (name : List ℕ) (zone : ℕ) (kind : JobKind) (refusal : Refusal) → HasJob name jobs → refusal ≡ at_line at 22
+pub refuses_job : (zones : List NamedZone) (jobs : List Job) (at : ℕ) (name : List ℕ) (zone : ℕ) (kind : JobKind) (refusal : Refusal) → HasJob name jobs → refusal ≡ at_line at DuplicateJob
     → RefusesMarks zones jobs (MarksJob at name zone kind ∷ []) refusal
 refuses_job zones jobs at name zone kind refusal has is marks others collected =
     at_fault zones marks others (MarksJob at name zone kind) at 22 refusal collected.sound (brings name marks (subst (HasJob name) collected.are has), refl, refl) is

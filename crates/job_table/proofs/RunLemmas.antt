@@ -46,7 +46,7 @@ more_so_far zones sections section old new so_far adds = record {
 }
 
 -- sound sections have marks
-marks_exist : (zones : List NamedZone) (next : ℕ) (sections : List Section) → AllByRecursion (IsSoundSection next) sections → (marks : List Mark) × AreMarks zones sections marks
+pub marks_exist : (zones : List NamedZone) (next : ℕ) (sections : List Section) → AllByRecursion (IsSoundSection next) sections → (marks : List Mark) × AreMarks zones sections marks
 marks_exist zones next [] all = ([], refl)
 marks_exist zones next (section ∷ sections) all =
     let (first, here) = some_marks zones section all.0.said in

@@ -15,6 +15,7 @@ use Rattle.job_table.specs.Zones.{NamesZone, zone_number}
 use Rattle.job_table.proofs.AnacrontabLemmas.{what_is_said as what_an_anacrontab_says}
 use Rattle.job_table.proofs.CrontabLemmas.{what_is_said as what_a_crontab_says}
 use Rattle.job_table.proofs.MarkLemmas.{refuses_zone}
+use Rattle.cron_fields.specs.declared.cause.Cause.TheVariants.{UnknownZone}
 
 table_marks : (zones : List NamedZone) (style : Option Style) (section : Section) (zone : ℕ) → AreSaid style section.label section.lines → (lines : List Mark) × AreTableMarks zones style section zone lines
 table_marks zones (Some style) section zone said =
@@ -32,7 +33,7 @@ some_marks zones section said =
 
 -- the zone of the section isn't one of the run's
 pub zone_refused : (zones : List NamedZone) (section : Section) (old : List Job) (refusal : Refusal) → AreSaid (style_of section.kind) section.label section.lines
-    → (NamesZone section.zone zones → ⊥) → refusal ≡ at_line section.line 21 → RefusesSection zones old section refusal
+    → (NamesZone section.zone zones → ⊥) → refusal ≡ at_line section.line UnknownZone → RefusesSection zones old section refusal
 zone_refused zones section old refusal said other is =
     let (marks, are) = some_marks zones section said in
     let named = MarksZone section.line section.zone ∷ [] in

@@ -22,6 +22,7 @@ use Rattle.job_table.specs.Zones.{AreReadable, zone_number}
 use Rattle.zone_minutes.specs.Zone.{IsReadable, IsRefused}
 use Rattle.zone_minutes.proofs.VerdictLemmas.{not_refused as not_read_and_refused}
 use Rattle.job_table.proofs.DueCountLemmas.{CountsFirst, counts_at_least}
+use Rattle.cron_fields.specs.declared.cause.Cause.TheVariants.{BadZone}
 
 same_body : (style : Style) (owner line : List ℕ) (a b : LineBody) → IsLineOf style owner line a → IsLineOf style owner line b → a ≡ b
 same_body style owner line a b first second =
@@ -188,7 +189,7 @@ one_why run marks a b (inr (inr p)) (inr (inr q)) = p.is ∙ sym q.is
 
 one_bad_zone : (zones : List NamedZone) (a b : Refusal) → HasBadZone zones a → HasBadZone zones b → a ≡ b
 one_bad_zone zones a b first second =
-    first.is ∙ ap (λ (zone : NamedZone). at_line zone.line 32) (first_refused first.before second.before first.after second.after first.zone second.zone (sym first.parts ∙ second.parts) first.readable second.readable first.refused second.refused) ∙ sym second.is
+    first.is ∙ ap (λ (zone : NamedZone). at_line zone.line BadZone) (first_refused first.before second.before first.after second.after first.zone second.zone (sym first.parts ∙ second.parts) first.readable second.readable first.refused second.refused) ∙ sym second.is
 
 pub one_refused_run : (run : Run) (a b : Refusal) → IsRefusedRun run a → IsRefusedRun run b → a ≡ b
 one_refused_run run a b (inl first) (inl second) = one_bad_zone run.zones a b first second

@@ -19,6 +19,7 @@ use Rattle.zone_minutes.specs.Zone.{Zone, Source, FixedOffset, zone_over, IsRead
 use Rattle.zone_minutes.specs.declared.minute.Window.{Window}
 use Rattle.job_table.specs.Table.{at_line, HasBadZone}
 use Rattle.job_table.specs.Zones.{AreReadable, HasZone, NamesZone, place_of, zone_number, zones_over}
+use Rattle.cron_fields.specs.declared.cause.Cause.TheVariants.{BadZone}
 
 named_place : (name : List ℕ) (zones : List NamedZone) → (place_of name zones < length zones) ⊎ (HasZone name zones → ⊥)
 named_place name [] = inr (λ none. none)
@@ -148,7 +149,7 @@ built_next window lines items i d before after more same lt so_far is readable a
 
 -- the next zone of a run is refused
 pub bad_zone : (window : Window) (lines items : List ZoneLine) (i : ℕ) (d : ZoneLine) (before : List Zone) → items ≡ lines → i < length items
-    → BuiltSoFar window (take i (map zone_of lines)) before → (refusal : Refusal) → IsRefused (zone_of (get_or items i d)).source × (refusal ≡ at_line (zone_of (get_or items i d)).line 32)
+    → BuiltSoFar window (take i (map zone_of lines)) before → (refusal : Refusal) → IsRefused (zone_of (get_or items i d)).source × (refusal ≡ at_line (zone_of (get_or items i d)).line BadZone)
     → HasBadZone (map zone_of lines) refusal
 bad_zone window lines items i d before same lt so_far refusal (refused, is) =
     let here = subst (λ l. BuiltSoFar window (take i (map zone_of l)) before) (sym same) so_far in

@@ -8,6 +8,7 @@ use Rattle.job_table.specs.Marks.{Mark, marks_from, AreSectionMarks, AreMarks, A
 use Rattle.job_table.specs.Table.{jobs_of, at_line, HasLineAtFault}
 use Rattle.job_table.specs.declared.crontab.Above.{Above}
 use Rattle.job_table.specs.Zones.{NamesZone, zone_number}
+use Rattle.cron_fields.specs.declared.cause.Cause.TheVariants.{UnknownZone}
 
 -- none of the marks is at fault, and these are the jobs that they bring
 pub record Collected (zones : List NamedZone) (marks : List Mark) (jobs : List Job) : Type 0 where
@@ -55,7 +56,7 @@ pub record IsBelow (zones : List NamedZone) (above : Above) (body : LineBody) (b
 
 -- the name is no zone's, which is the line's fault
 abbrev pub NamesNoZone : List NamedZone → List ℕ → ℕ → Refusal → Type 0
-NamesNoZone zones name line refusal = (NamesZone name zones → ⊥) × (refusal ≡ at_line line 21)
+NamesNoZone zones name line refusal = (NamesZone name zones → ⊥) × (refusal ≡ at_line line UnknownZone)
 
 -- the marks of a section are collected
 pub record AddsSection (zones : List NamedZone) (old new : List Job) (section : Section) : Type 0 where

@@ -18,6 +18,8 @@ use Rattle.due_set.specs.declared.job.Period.TheVariants.{Days, Monthly, Yearly}
 use Rattle.run_text.specs.Follow.{style_of}
 use Rattle.run_text.specs.Run.{NamedZone, Section}
 use Rattle.job_table.specs.Zones.{NamesZone, zone_number}
+use Rattle.cron_fields.specs.Cause.{cause_number}
+use Rattle.cron_fields.specs.declared.cause.Cause.TheVariants.{UnknownZone, DuplicateJob}
 
 -- a line that names a zone, or a line that brings a job, which runs by the zone of that number: by its number in the run file
 pub data Mark : Type 0 where
@@ -110,8 +112,8 @@ BringsJob name (MarksJob line other zone kind ∷ marks) = (other ≡ name) ⊎ 
 
 -- a mark is at fault behind some others: its zone is neither UTC nor one of the run's, or a job of its name is there already
 abbrev pub IsMarkFault : List NamedZone → (before : List Mark) → Mark → (line cause : ℕ) → Type 0
-IsMarkFault zones before (MarksZone at name) line cause = (NamesZone name zones → ⊥) × (line ≡ at) × (cause ≡ 21)
-IsMarkFault zones before (MarksJob at name zone kind) line cause = BringsJob name before × (line ≡ at) × (cause ≡ 22)
+IsMarkFault zones before (MarksZone at name) line cause = (NamesZone name zones → ⊥) × (line ≡ at) × (cause ≡ cause_number UnknownZone)
+IsMarkFault zones before (MarksJob at name zone kind) line cause = BringsJob name before × (line ≡ at) × (cause ≡ cause_number DuplicateJob)
 
 -- none of the marks, which stand behind some others, is at fault
 abbrev pub AreSoundBehind : List NamedZone → List Mark → List Mark → Type 0

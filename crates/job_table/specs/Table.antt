@@ -1,11 +1,15 @@
 -- The table of a run's jobs, and for what a run has none.
 use Rattle.std.specs.Prelude.{◌≡◌, ◌⊎◌, ℕ, ◌<◌, ◌≤◌, List, [], ◌∷◌, ◌++◌, length, sum, Some, IsSomeAnd, slice_get}
+use Rattle.std.specs.List.{AllByRecursion}
 use Rattle.due_set.specs.Table.{Job, Table, IsShare}
 use Rattle.run_text.specs.Run.{NamedZone, Run}
 use Rattle.run_text.specs.declared.refusal.Refusal.{Refusal}
-use Rattle.zone_minutes.specs.Zone.{IsRefused}
+use Rattle.zone_minutes.specs.Zone.{IsReadable, IsRefused}
 use Rattle.job_table.specs.Marks.{Mark, MarksZone, MarksJob, AreMarks, AreSound, IsFirstMarkFault}
 use Rattle.job_table.specs.Zones.{AreReadable, zones_over}
+use Rattle.cron_fields.specs.Cause.{cause_number}
+use Rattle.cron_fields.specs.declared.cause.Cause.{Cause}
+use Rattle.cron_fields.specs.declared.cause.Cause.TheVariants.{TooManyJobs, TooManyDue, BadZone}
 
 -- the jobs that marks bring, in order
 abbrev pub jobs_of : List Mark → List Job
@@ -43,11 +47,11 @@ pub record IsTableOf (run : Run) (table : Table) : Type 0 where
   pub few_due : count ≤ 20_000
 
 -- a line is refused as a whole
-abbrev pub at_line : ℕ → ℕ → Refusal
-at_line line cause = record { line = line; cause = cause; place = 0 }
+abbrev pub at_line : ℕ → Cause → Refusal
+at_line line cause = record { line = line; cause = cause_number cause; place = 0 }
 
 -- a run is refused as a whole
-abbrev pub whole_run : ℕ → Refusal
+abbrev pub whole_run : Cause → Refusal
 whole_run cause = at_line 0 cause
 
 -- `jiff` refuses a zone, and reads those before it: the first such line is at fault
@@ -58,7 +62,7 @@ pub record HasBadZone (zones : List NamedZone) (refusal : Refusal) : Type 0 wher
   pub parts : zones ≡ before ++ zone ∷ after
   pub readable : AreReadable before
   pub refused : IsRefused zone.source
-  pub is : refusal ≡ at_line zone.line 32
+  pub is : refusal ≡ at_line zone.line BadZone
 
 -- the first line at fault, by its number
 pub record HasLineAtFault (zones : List NamedZone) (marks : List Mark) (refusal : Refusal) : Type 0 where
@@ -69,7 +73,7 @@ pub record HasLineAtFault (zones : List NamedZone) (marks : List Mark) (refusal 
 pub record HasTooManyJobs (zones : List NamedZone) (marks : List Mark) (refusal : Refusal) : Type 0 where
   pub sound : AreSound zones marks
   pub many : 1000 < length (jobs_of marks)
-  pub is : refusal ≡ whole_run 23
+  pub is : refusal ≡ whole_run TooManyJobs
 
 -- there are more than 20,000 due instants
 pub record HasTooManyDue (run : Run) (marks : List Mark) (refusal : Refusal) : Type 0 where
@@ -78,7 +82,7 @@ pub record HasTooManyDue (run : Run) (marks : List Mark) (refusal : Refusal) : T
   pub count : ℕ
   pub counted : IsDueCount (table_of run marks) count
   pub many : 20_000 < count
-  pub is : refusal ≡ whole_run 24
+  pub is : refusal ≡ whole_run TooManyDue
 
 -- the tables of a run with these marks are refused
 abbrev pub AreMarksRefused : Run → List Mark → Refusal → Type 0
@@ -95,3 +99,7 @@ pub record HasBadTables (run : Run) (refusal : Refusal) : Type 0 where
 -- for what a run has no table
 abbrev pub IsRefusedRun : Run → Refusal → Type 0
 IsRefusedRun run refusal = HasBadZone run.zones refusal ⊎ HasBadTables run refusal
+
+-- `jiff` reads or refuses each of the zones
+abbrev pub AreDecided : List NamedZone → Type 0
+AreDecided zones = AllByRecursion (λ zone. IsReadable zone.source ⊎ IsRefused zone.source) zones

@@ -18,6 +18,7 @@ ghost use Rattle.job_table.specs.Zones.{NamesZone, zone_number};
 
 use crate::jobs::{Jobs, Timing, add_job};
 use anacron_text::{AnaBody, AnaLine, AnaLines, PeriodWord};
+use cron_fields::Cause;
 use crontab_text::LineFault;
 use due_set::{JobKind, Period};
 use run_text::{RunFault, Section, ZoneLine};
@@ -58,7 +59,7 @@ fn add_named(
     ensures added { OnOk result (jobs.new ≡ jobs.old ++ named_job (anacron_name label.now identifier.now) timing.zone timing.kind ∷ []) }
     ensures new { OnOk result (HasJob (anacron_name label.now identifier.now) jobs.old → ⊥) }
     ensures refused { IfErr result (λ fault. IfRefused fault (λ refusal.
-        HasJob (anacron_name label.now identifier.now) jobs.old × (refusal ≡ at_line line 22))) }
+        HasJob (anacron_name label.now identifier.now) jobs.old × (refusal ≡ at_line line Cause.DuplicateJob))) }
 {
     let name = format!(in alloc; "{label}/{identifier}")?;
     add_job(jobs, name, timing, line)

@@ -7,6 +7,7 @@ ghost use Rattle.job_table.specs.Table.{IsTableOf, IsRefusedRun};
 use crate::collect::collect;
 use crate::due::count_due;
 use crate::zones::build_zones;
+use cron_fields::Cause;
 use due_set::JobTable;
 use run_text::{Refusal, RunFault, RunFile};
 use std::alloc::Global;
@@ -29,12 +30,12 @@ pub fn build_table(alloc: Global, run: &RunFile<'_>) -> Result<JobTable, RunFaul
     let zones = build_zones(alloc, run)?;
     let jobs = collect(alloc, run)?;
     if jobs.len() > MOST_JOBS {
-        return Err(RunFault::Refused(Refusal::of_line(0, 23)));
+        return Err(RunFault::Refused(Refusal::of_line(0, Cause::TooManyJobs)));
     }
     let specs = jobs.specs(alloc)?;
     let table = JobTable::assemble(run.window, run.grace, zones, specs);
     match count_due(&table) {
         Some(_) => Ok(table),
-        None => Err(RunFault::Refused(Refusal::of_line(0, 24))),
+        None => Err(RunFault::Refused(Refusal::of_line(0, Cause::TooManyDue))),
     }
 }

@@ -16,7 +16,7 @@ ghost use Rattle.job_table.specs.Zones.{NamesZone, zone_number};
 
 use crate::jobs::{Jobs, Timing, add_job};
 use crate::zones::find_zone;
-use cron_fields::Fields;
+use cron_fields::{Cause, Fields};
 use crontab_text::{Body, Line, LineFault, Lines, Style};
 use due_set::JobKind;
 use run_text::{Refusal, RunFault, Section, ZoneLine};
@@ -76,7 +76,7 @@ fn add_entry(
     ensures added { OnOk result (jobs.new ≡ jobs.old ++ named_job (job_name label.now (above.entries + 1)) above.zone kind ∷ []) }
     ensures new { OnOk result (HasJob (job_name label.now (above.entries + 1)) jobs.old → ⊥) }
     ensures refused { IfErr result (λ fault. IfRefused fault (λ refusal.
-        HasJob (job_name label.now (above.entries + 1)) jobs.old × (refusal ≡ at_line line 22))) }
+        HasJob (job_name label.now (above.entries + 1)) jobs.old × (refusal ≡ at_line line Cause.DuplicateJob))) }
 {
     let entries = above.entries + 1;
     let zone = above.zone;

@@ -4,6 +4,7 @@ ghost use Rattle.run_text.specs.Steps.{IfRefused};
 ghost use Rattle.job_table.specs.Jobs.{named_job, entry_job, Adds, HasJob};
 ghost use Rattle.job_table.specs.Table.{at_line};
 
+use cron_fields::Cause;
 use cron_io::OutOfMemory;
 use due_set::{JobKind, JobSpec};
 use indexmap::IndexMap;
@@ -95,11 +96,11 @@ pub fn add_job(jobs: &mut Jobs, name: String, timing: Timing, line: u32) -> Resu
     ensures added { OnOk result (jobs.new ≡ jobs.old ++ named_job (string_bytes name) timing.zone timing.kind ∷ []) }
     ensures new { OnOk result (HasJob (string_bytes name) jobs.old → ⊥) }
     ensures refused { IfErr result (λ fault. IfRefused fault (λ refusal.
-        HasJob (string_bytes name) jobs.old × (refusal ≡ at_line line 22))) }
+        HasJob (string_bytes name) jobs.old × (refusal ≡ at_line line Cause.DuplicateJob))) }
 {
     if jobs.add(name, timing)? {
         Ok(())
     } else {
-        Err(RunFault::Refused(Refusal::of_line(line, 22)))
+        Err(RunFault::Refused(Refusal::of_line(line, Cause::DuplicateJob)))
     }
 }

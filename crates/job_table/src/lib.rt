@@ -12,10 +12,3 @@ mod zones;
 
 pub use build::build_table;
 pub use laws::a_run_has_one_verdict;
-
-#[cfg(test)]
-mod anacron_tests;
-#[cfg(test)]
-mod tests;
-#[cfg(test)]
-mod zone_tests;

@@ -12,6 +12,7 @@ ghost use Rattle.job_table.specs.Collect.{NamesNoZone};
 ghost use Rattle.job_table.specs.Table.{at_line, HasBadZone};
 ghost use Rattle.job_table.specs.Zones.{AreReadable, NamesZone, zone_number, zones_over};
 
+use cron_fields::Cause;
 use cron_io::OutOfMemory;
 use hex::FromHexError;
 use run_text::{Refusal, RunFault, RunFile, ZoneLine, ZoneText};
@@ -55,7 +56,7 @@ pub fn find_zone(zones: &[ZoneLine<'_>], name: &str, line: u32) -> Result<u16, R
 {
     match zone_number(zones, name) {
         Some(number) => Ok(number),
-        None => Err(Refusal::of_line(line, 21)),
+        None => Err(Refusal::of_line(line, Cause::UnknownZone)),
     }
 }
 
@@ -71,12 +72,12 @@ fn build_source(
     ensures zone { IfOk result (λ zone. zone ≡ zone_over (zone_source source.now) window) }
     ensures readable { OnOk result (IsReadable (zone_source source.now)) }
     ensures refused { IfErr result (λ fault. IfRefused fault (λ refusal.
-        IsRefused (zone_source source.now) × (refusal ≡ at_line line 32))) }
+        IsRefused (zone_source source.now) × (refusal ≡ at_line line Cause.BadZone))) }
 {
     match ZoneRuns::build(alloc, source, window) {
         Ok(zone) => Ok(zone),
         Err(ZoneFault::OutOfMemory) => Err(RunFault::OutOfMemory),
-        Err(ZoneFault::BadZone) => Err(RunFault::Refused(Refusal::of_line(line, 32))),
+        Err(ZoneFault::BadZone) => Err(RunFault::Refused(Refusal::of_line(line, Cause::BadZone))),
     }
 }
 
@@ -100,7 +101,7 @@ fn build_zone(alloc: Global, zone: &ZoneLine<'_>, window: Window) -> Result<Zone
     ensures zone { IfOk result (λ runs. runs ≡ zone_over (source_of zone.now.source) window) }
     ensures readable { OnOk result (IsReadable (source_of zone.now.source)) }
     ensures refused { IfErr result (λ fault. IfRefused fault (λ refusal.
-        IsRefused (source_of zone.now.source) × (refusal ≡ at_line zone.now.line 32))) }
+        IsRefused (source_of zone.now.source) × (refusal ≡ at_line zone.now.line Cause.BadZone))) }
 {
     match zone.source {
         ZoneText::Fixed { minutes } => {

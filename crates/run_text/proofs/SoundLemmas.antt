@@ -8,7 +8,7 @@ use Rattle.zone_minutes.specs.Zone.{Source}
 use Rattle.anacron_text.specs.Settings.{no_settings}
 use Rattle.crontab_text.specs.Lines.{lines_of}
 use Rattle.crontab_text.specs.declared.answer.Style.{Style}
-use Rattle.run_text.specs.Follow.{Above, Nothing, Version, Replicas, Times, Sections, Table, Script, End, inside, style_of, MayStandIn, MayFollow}
+use Rattle.run_text.specs.Follow.{Above, Nothing, Version, Replicas, Times, Sections, Table, Script, End, inside, style_of, MayStandIn, MayStandBelow}
 use Rattle.run_text.specs.Reading.{ReadsFrom, IsRunText}
 use Rattle.run_text.specs.Run.{NamedZone, Section, Run, opened, with_line, with_section, with_zone}
 use Rattle.run_text.specs.Sound.{IsSoundSection, IsSoundSource, IsSoundZone, AreDistinct, AreSoundZones, IsSoundRun}
@@ -128,7 +128,7 @@ good_line number run section (suc left) line sound so_far below may =
     let longer : length (section.lines ++ line ∷ []) ≡ length section.lines + 1 = length-append section.lines (line ∷ []) in
     (sound, far_next (style_of section.kind) section left line so_far may, omega arith)
 
-good_next : (number behind : ℕ) (above next : Above) (line : List ℕ) → Good number above → MayFollow number behind above line next → Good (number + 1) next
+good_next : (number behind : ℕ) (above next : Above) (line : List ℕ) → Good number above → MayStandBelow number behind above line next → Good (number + 1) next
 good_next number behind Nothing next line good may = subst (Good (number + 1)) (sym may.1) tt
 good_next number behind Version next line good may = subst (Good (number + 1)) (sym may.1) tt
 good_next number behind (Replicas members) next line good (window, is, next_is) = subst (Good (number + 1)) (sym next_is) is.limits

@@ -1,7 +1,7 @@
 -- Steps from a place between two lines to the next, and refusals there.
 use Rattle.std.proofs.Common.{◌≡◌, ℕ, ◌+◌, List, [], ◌∷◌, length, refl, sym, subst, inl, inr}
 use Rattle.crontab_text.specs.Lines.{lines_of}
-use Rattle.run_text.specs.Follow.{Above, End, MayFollow, Refuses, Misses}
+use Rattle.run_text.specs.Follow.{Above, End, MayStandBelow, Refuses, Misses}
 use Rattle.run_text.specs.Reading.{ReadsFrom}
 use Rattle.run_text.specs.Run.{Run}
 use Rattle.run_text.specs.Steps.{Place, place_of, RefusedFrom, LeadsTo}
@@ -22,7 +22,7 @@ goes_on a b c first second = record {
 
 -- a line that may stand there
 pub one_line : (number : ℕ) (above next : Above) (text line rest : List ℕ) → lines_of text ≡ line ∷ lines_of rest
-    → MayFollow number (length (lines_of rest)) above line next
+    → MayStandBelow number (length (lines_of rest)) above line next
     → LeadsTo (record { number = number; above = above; rest = text }) (record { number = number + 1; above = next; rest = rest })
 one_line number above next text line rest is may = record {
   reads = λ run reads. rw is (next, may, reads);
@@ -43,7 +43,7 @@ missing_line number above text refusal is misses line_is place_is = rw is (misse
 
 -- the reader passes a line that may stand there
 pub one_line_at : (old new : Reader) (above next : Above) (line : List ℕ) → new.number ≡ old.number + 1 → lines_of old.rest.now ≡ line ∷ lines_of new.rest.now
-    → MayFollow (old.number + 1) (length (lines_of new.rest.now)) above line next
+    → MayStandBelow (old.number + 1) (length (lines_of new.rest.now)) above line next
     → LeadsTo (place_of old above) (place_of new next)
 one_line_at old new above next line number_is is may =
     subst (λ n. LeadsTo (place_of old above) (record { number = n + 1; above = next; rest = new.rest.now })) (sym number_is)

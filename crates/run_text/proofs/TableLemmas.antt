@@ -18,7 +18,7 @@ use Rattle.run_text.specs.Follow.{Sections, Table, inside, style_of, MayStandIn,
 use Rattle.run_text.specs.Reading.{ReadsFrom, RefusesFrom}
 use Rattle.run_text.specs.Run.{Run, Section, section_of, opened, with_line, with_lines, with_section}
 use Rattle.run_text.specs.Steps.{Place, place_of, at_table, IsCut, LeadsTo, RefusedFrom, PassesTable, RefusesTable}
-use Rattle.run_text.specs.Table.{Says, AreSaid, IsFirstFault, IsFault}
+use Rattle.run_text.specs.Table.{Says, AreSaid, IsFirstFault, IsTableFault}
 use Rattle.run_text.specs.declared.opening.Opening.{Opening}
 use Rattle.run_text.specs.declared.reader.Reader.{Reader}
 use Rattle.run_text.specs.declared.refusal.Refusal.{Refusal}
@@ -223,7 +223,7 @@ section_leads None lines line last kind label zone run text rest style_is all la
 
 -- and those of which one doesn't
 section_refused : (style : Option Style) (lines : List (List ℕ)) (line : ℕ) (kind : SectionKind) (label zone : List ℕ) (run : Run) (text rest : List ℕ) (fault : LineFault) (refusal : Refusal)
-    → style_of kind ≡ style → IsFault style label lines fault → lines_of text ≡ lines ++ lines_of rest
+    → style_of kind ≡ style → IsTableFault style label lines fault → lines_of text ≡ lines ++ lines_of rest
     → refusal.line ≡ line + fault.line → refusal.cause ≡ fault.cause → refusal.place ≡ fault.place
     → RefusedFrom (in_section (line + 1) run (opened line kind label zone) (length lines) text) refusal
 section_refused (Some style) lines line kind label zone run text rest fault refusal style_is first is line_is cause_is place_is =
@@ -248,7 +248,7 @@ passed_table old new opening section front cut all number_is section_is = record
 
 -- a section with a line at fault
 pub refused_table : (reader : Reader) (opening : Opening) (front rest : List ℕ) (fault : LineFault) (refusal : Refusal)
-    → IsCut reader.rest.now opening.count front rest → IsFault (style_of opening.kind) opening.label.now (lines_of front) fault
+    → IsCut reader.rest.now opening.count front rest → IsTableFault (style_of opening.kind) opening.label.now (lines_of front) fault
     → refusal.line ≡ reader.number + fault.line → refusal.cause ≡ fault.cause → refusal.place ≡ fault.place → RefusesTable reader opening refusal
 refused_table reader opening front rest fault refusal cut first line_is cause_is place_is =
     inr (

@@ -5,7 +5,7 @@ use Rattle.anacron_text.specs.Settings.{no_settings}
 use Rattle.crontab_text.specs.Answers.{LineAnswer, Said, Broken}
 use Rattle.crontab_text.specs.declared.answer.Style.{Style}
 use Rattle.crontab_text.proofs.AnswerLemmas.{same_answer}
-use Rattle.run_text.specs.Follow.{Above, Nothing, Version, Replicas, Times, Sections, Table, Script, End, style_of, MayStandIn, MayFollow, NamesZone, StartsSection, IsOfLine, Refuses, RefusesReplicas, RefusesInTable, RefusesBeforeScript, RefusesInScript, Misses}
+use Rattle.run_text.specs.Follow.{Above, Nothing, Version, Replicas, Times, Sections, Table, Script, End, style_of, MayStandIn, MayStandBelow, NamesZone, StartsSection, IsOfLine, Refuses, RefusesReplicas, RefusesInTable, RefusesBeforeScript, RefusesInScript, Misses}
 use Rattle.run_text.specs.Grammar.{replicas_line, first_word, HasSectionWord, IsCommandWord, round, campaign, stop, break, restart, cut, heal, drop, repeat, reverse, again, skew, fate, arrive, settle, walk, free}
 use Rattle.run_text.specs.Reading.{ReadsFrom, RefusesFrom}
 use Rattle.run_text.specs.Run.{Run, Section, with_line}
@@ -77,7 +77,7 @@ next_of_name number run line x y first second =
     let same = one_zone line first.name second.name first.source second.source first.adds.is second.adds.is in
     first.next_is ∙ rw (same.0, same.1) (sym second.next_is)
 
-pub one_next : (number behind : ℕ) (above : Above) (line : List ℕ) (x y : Above) → MayFollow number behind above line x → MayFollow number behind above line y → x ≡ y
+pub one_next : (number behind : ℕ) (above : Above) (line : List ℕ) (x y : Above) → MayStandBelow number behind above line x → MayStandBelow number behind above line y → x ≡ y
 one_next number behind Nothing line x y p q = p.1 ∙ sym q.1
 one_next number behind Version line x y p q = p.1 ∙ sym q.1
 one_next number behind (Replicas members) line x y (a, is, next) (b, other, same) = next ∙ rw (one_window_line line a b is other) (sym same)
@@ -137,7 +137,7 @@ script_not_refused behind known line fault is (inl refused) = script_no_section 
 script_not_refused behind known line fault is (inr (inl refused)) = script_no_zone (subst HasZoneWord is refused.0)
 script_not_refused behind known line fault is (inr (inr refused)) = refused.2 is
 
-not_refused_before_script : (number behind : ℕ) (run : Run) (line : List ℕ) (next : Above) (fault : ℕ) → MayFollow number behind (Sections run) line next → RefusesBeforeScript behind (names_of run.zones) line fault → ⊥
+not_refused_before_script : (number behind : ℕ) (run : Run) (line : List ℕ) (next : Above) (fault : ℕ) → MayStandBelow number behind (Sections run) line next → RefusesBeforeScript behind (names_of run.zones) line fault → ⊥
 not_refused_before_script number behind run line next fault (inl p) refused = script_not_refused behind (names_of run.zones) line fault p.0 refused
 not_refused_before_script number behind run line next fault (inr (inl p)) refused = name_not_refused number behind run line next fault p refused
 not_refused_before_script number behind run line next fault (inr (inr p)) refused = start_not_refused number behind (names_of run.zones) run line next fault p refused
@@ -151,7 +151,7 @@ not_refused_in_script : (line : List ℕ) (fault : ℕ) → line ≡ codes "end"
 not_refused_in_script line fault is (inl refused) = end_no_command (subst (λ l. IsCommandWord (first_word l)) is refused.0)
 not_refused_in_script line fault is (inr refused) = refused.1 is
 
-pub not_refused : (number behind : ℕ) (above : Above) (line : List ℕ) (next : Above) (refusal : Refusal) → MayFollow number behind above line next → Refuses number behind above line refusal → ⊥
+pub not_refused : (number behind : ℕ) (above : Above) (line : List ℕ) (next : Above) (refusal : Refusal) → MayStandBelow number behind above line next → Refuses number behind above line refusal → ⊥
 not_refused number behind Nothing line next refusal p refused = refused.0 p.0
 not_refused number behind Version line next refusal p refused = not_refused_replicas line refusal.cause p.0 refused.0
 not_refused number behind (Replicas members) line next refusal p refused = refused.0 p.0 p.1

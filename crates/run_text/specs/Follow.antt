@@ -15,6 +15,8 @@ use Rattle.run_text.specs.Zones.{AddsZone, AddsNone, HasZoneWord, names_of}
 use Rattle.run_text.specs.declared.refusal.Refusal.{Refusal}
 use Rattle.run_text.specs.declared.run.SectionKind.{SectionKind}
 use Rattle.run_text.specs.declared.run.SectionKind.TheVariants.{User, System, Anacron}
+use Rattle.cron_fields.specs.Cause.{cause_number}
+use Rattle.cron_fields.specs.declared.cause.Cause.TheVariants.{BadHeader, BadReplicas, BadWindow, BadGrace, BadSection, BadScript, MissingLine, BadZoneLine, NoFormYet}
 
 -- what the lines above a line of a run file were
 pub data Above : Type 0 where
@@ -79,18 +81,18 @@ pub record NamesZone (number : ℕ) (run : Run) (line : List ℕ) (next : Above)
   pub next_is : next ≡ Sections (with_zone run (record { line = number; name = name; source = source }))
 
 -- The line of that number, with so many lines behind it, may stand below these, and what stands above the next one then.
-abbrev pub MayFollow : (number behind : ℕ) → Above → List ℕ → Above → Type 0
-MayFollow number behind Nothing line next = (line ≡ codes "cronrun 1") × (next ≡ Version)
-MayFollow number behind Version line next = (line ≡ replicas_line 1) × (next ≡ Replicas 1)
-MayFollow number behind (Replicas members) line next = (window : Window) × IsWindowLine line window × (next ≡ Times members window)
-MayFollow number behind (Times members window) line next =
+abbrev pub MayStandBelow : (number behind : ℕ) → Above → List ℕ → Above → Type 0
+MayStandBelow number behind Nothing line next = (line ≡ codes "cronrun 1") × (next ≡ Version)
+MayStandBelow number behind Version line next = (line ≡ replicas_line 1) × (next ≡ Replicas 1)
+MayStandBelow number behind (Replicas members) line next = (window : Window) × IsWindowLine line window × (next ≡ Times members window)
+MayStandBelow number behind (Times members window) line next =
     (grace : ℕ) × IsGraceLine line grace × (next ≡ Sections (run_with members window grace))
-MayFollow number behind (Sections run) line next =
+MayStandBelow number behind (Sections run) line next =
     ((line ≡ codes "script") × (next ≡ Script run)) ⊎ (NamesZone number run line next ⊎ StartsSection number behind run line next)
-MayFollow number behind (Table run section left) line next =
+MayStandBelow number behind (Table run section left) line next =
     MayStandIn (style_of section.kind) section left line × (next ≡ inside run (with_line section line) left)
-MayFollow number behind (Script run) line next = (line ≡ codes "end") × (next ≡ End run)
-MayFollow number behind (End run) line next = ⊥
+MayStandBelow number behind (Script run) line next = (line ≡ codes "end") × (next ≡ End run)
+MayStandBelow number behind (End run) line next = ⊥
 
 -- the line of that number is refused as a whole
 abbrev pub IsOfLine : (number : ℕ) → Refusal → Type 0
@@ -99,22 +101,22 @@ IsOfLine number refusal = (refusal.line ≡ number) × (refusal.place ≡ 0)
 -- the line doesn't say how many replicas there are, or says more than there can be so far
 abbrev pub RefusesReplicas : List ℕ → (cause : ℕ) → Type 0
 RefusesReplicas line cause =
-    (((members : ℕ) → 1 ≤ members → members ≤ 7 → line ≢ replicas_line members) × (cause ≡ 26))
-    ⊎ ((members : ℕ) × (2 ≤ members) × (members ≤ 7) × (line ≡ replicas_line members) × (cause ≡ 35))
+    (((members : ℕ) → 1 ≤ members → members ≤ 7 → line ≢ replicas_line members) × (cause ≡ cause_number BadReplicas))
+    ⊎ ((members : ℕ) × (2 ≤ members) × (members ≤ 7) × (line ≡ replicas_line members) × (cause ≡ cause_number NoFormYet))
 
 -- Before the script, below lines that gave these zones' names: the line opens no section, names no zone, or is none that may
 -- stand there at all.
 abbrev pub RefusesBeforeScript : (behind : ℕ) → (known : List (List ℕ)) → List ℕ → (cause : ℕ) → Type 0
 RefusesBeforeScript behind known line cause =
-    (HasSectionWord line × OpensNone behind line × (cause ≡ 29))
-    ⊎ ((HasZoneWord line × AddsNone known line × (cause ≡ 34))
-    ⊎ ((HasSectionWord line → ⊥) × (HasZoneWord line → ⊥) × (line ≢ codes "script") × (cause ≡ 31)))
+    (HasSectionWord line × OpensNone behind line × (cause ≡ cause_number BadSection))
+    ⊎ ((HasZoneWord line × AddsNone known line × (cause ≡ cause_number BadZoneLine))
+    ⊎ ((HasSectionWord line → ⊥) × (HasZoneWord line → ⊥) × (line ≢ codes "script") × (cause ≡ cause_number MissingLine)))
 
 -- in the script: the line is a command that has no form yet, or none at all
 abbrev pub RefusesInScript : List ℕ → (cause : ℕ) → Type 0
 RefusesInScript line cause =
-    (IsCommandWord (first_word line) × (cause ≡ 35))
-    ⊎ ((IsCommandWord (first_word line) → ⊥) × (line ≢ codes "end") × (cause ≡ 30))
+    (IsCommandWord (first_word line) × (cause ≡ cause_number NoFormYet))
+    ⊎ ((IsCommandWord (first_word line) → ⊥) × (line ≢ codes "end") × (cause ≡ cause_number BadScript))
 
 -- In a section, with so many lines of it left behind: the line breaks a rule of crontabs; or it is the last of an anacrontab,
 -- and the refusal is of the first of its logical lines that breaks a rule, at the first line of that one.
@@ -126,24 +128,24 @@ RefusesInTable None number section (suc left) line refusal = ⊥
 
 -- The line of that number, with so many lines behind it, may not stand below these, and is refused so.
 abbrev pub Refuses : (number behind : ℕ) → Above → List ℕ → Refusal → Type 0
-Refuses number behind Nothing line refusal = (line ≢ codes "cronrun 1") × (refusal.cause ≡ 25) × IsOfLine number refusal
+Refuses number behind Nothing line refusal = (line ≢ codes "cronrun 1") × (refusal.cause ≡ cause_number BadHeader) × IsOfLine number refusal
 Refuses number behind Version line refusal = RefusesReplicas line refusal.cause × IsOfLine number refusal
 Refuses number behind (Replicas members) line refusal =
-    ((window : Window) → IsWindowLine line window → ⊥) × (refusal.cause ≡ 27) × IsOfLine number refusal
+    ((window : Window) → IsWindowLine line window → ⊥) × (refusal.cause ≡ cause_number BadWindow) × IsOfLine number refusal
 Refuses number behind (Times members window) line refusal =
-    ((grace : ℕ) → IsGraceLine line grace → ⊥) × (refusal.cause ≡ 28) × IsOfLine number refusal
+    ((grace : ℕ) → IsGraceLine line grace → ⊥) × (refusal.cause ≡ cause_number BadGrace) × IsOfLine number refusal
 Refuses number behind (Sections run) line refusal = RefusesBeforeScript behind (names_of run.zones) line refusal.cause × IsOfLine number refusal
 Refuses number behind (Table run section left) line refusal = RefusesInTable (style_of section.kind) number section left line refusal
 Refuses number behind (Script run) line refusal = RefusesInScript line refusal.cause × IsOfLine number refusal
-Refuses number behind (End run) line refusal = (refusal.cause ≡ 30) × IsOfLine number refusal
+Refuses number behind (End run) line refusal = (refusal.cause ≡ cause_number BadScript) × IsOfLine number refusal
 
 -- the file ends where a line is missing, and for this cause
 abbrev pub Misses : Above → ℕ → Type 0
-Misses Nothing cause = cause ≡ 25
-Misses Version cause = cause ≡ 26
-Misses (Replicas members) cause = cause ≡ 27
-Misses (Times members window) cause = cause ≡ 28
-Misses (Sections run) cause = cause ≡ 31
+Misses Nothing cause = cause ≡ cause_number BadHeader
+Misses Version cause = cause ≡ cause_number BadReplicas
+Misses (Replicas members) cause = cause ≡ cause_number BadWindow
+Misses (Times members window) cause = cause ≡ cause_number BadGrace
+Misses (Sections run) cause = cause ≡ cause_number MissingLine
 Misses (Table run section left) cause = ⊥
-Misses (Script run) cause = cause ≡ 31
+Misses (Script run) cause = cause ≡ cause_number MissingLine
 Misses (End run) cause = ⊥

@@ -2,7 +2,7 @@
 use Rattle.std.specs.Prelude.{◌≡◌, ◌⊎◌, ℕ, ◌+◌, ◌<◌, ◌≤◌, ◌^◌, List, [], ◌∷◌, length, All, Ok, ⊤}
 use Rattle.hex.specs.Hex.{decode_of}
 use Rattle.crontab_text.specs.Lines.{lines_of}
-use Rattle.run_text.specs.Follow.{Above, Nothing, End, MayFollow, IsOfLine, Refuses, Misses}
+use Rattle.run_text.specs.Follow.{Above, Nothing, End, MayStandBelow, IsOfLine, Refuses, Misses}
 use Rattle.run_text.specs.Run.{Run, run_of}
 use Rattle.run_text.specs.declared.refusal.Refusal.{Refusal}
 use Rattle.run_text.specs.declared.run.RunFile.{RunFile}
@@ -15,14 +15,14 @@ use Rattle.run_text.specs.declared.run.ZoneText.TheVariants.{Fixed, Posix, Hex}
 abbrev pub ReadsFrom : ℕ → Above → List (List ℕ) → Run → Type 0
 ReadsFrom number above [] run = above ≡ End run
 ReadsFrom number above (line ∷ lines) run =
-    (next : Above) × MayFollow number (length lines) above line next × ReadsFrom (number + 1) next lines run
+    (next : Above) × MayStandBelow number (length lines) above line next × ReadsFrom (number + 1) next lines run
 
 -- The first of the lines that may not stand where it stands is refused so, or else the line that is missing.
 abbrev pub RefusesFrom : ℕ → Above → List (List ℕ) → Refusal → Type 0
 RefusesFrom number above [] refusal = Misses above refusal.cause × IsOfLine number refusal
 RefusesFrom number above (line ∷ lines) refusal =
     Refuses number (length lines) above line refusal
-    ⊎ ((next : Above) × MayFollow number (length lines) above line next × RefusesFrom (number + 1) next lines refusal)
+    ⊎ ((next : Above) × MayStandBelow number (length lines) above line next × RefusesFrom (number + 1) next lines refusal)
 
 -- the text is a run file, which says this run
 abbrev pub IsRunText : List ℕ → Run → Type 0

@@ -15,6 +15,8 @@ use Rattle.run_text.specs.declared.refusal.Refusal.{Refusal}
 use Rattle.run_text.specs.declared.refusal.RunFault.{RunFault}
 use Rattle.run_text.specs.declared.refusal.RunFault.TheVariants.{Refused, OutOfMemory}
 use Rattle.run_text.specs.declared.run.Section.{Section as SectionText}
+use Rattle.cron_fields.specs.Cause.{cause_number}
+use Rattle.cron_fields.specs.declared.cause.Cause.TheVariants.{BadSection}
 
 -- a place between the lines: the number of the next line, what stands above it, and what is left of the text
 pub record Place : Type 0 where
@@ -70,7 +72,7 @@ pub record PassesTable (old new : Reader) (opening : Opening) (section : Section
 -- the reader found too few lines for a section, or a line that is none of a table
 abbrev pub RefusesTable : Reader → Opening → Refusal → Type 0
 RefusesTable reader opening refusal =
-    ((length (lines_of reader.rest.now) < opening.count) × (refusal.cause ≡ 29) × IsOfLine reader.number refusal)
+    ((length (lines_of reader.rest.now) < opening.count) × (refusal.cause ≡ cause_number BadSection) × IsOfLine reader.number refusal)
     ⊎ (IsWhole reader opening × ((run : Run) → RefusedFrom (place_of reader (at_table reader opening run)) refusal))
 
 -- the texts of some names

@@ -29,6 +29,6 @@ pub record IsFirstFault (style : Style) (owner : List ℕ) (lines : List (List �
   pub number : fault.line ≡ length front + 1
 
 -- the first line of a section that says nothing, and why
-abbrev pub IsFault : Option Style → (owner : List ℕ) → List (List ℕ) → LineFault → Type 0
-IsFault (Some style) owner lines fault = IsFirstFault style owner lines fault
-IsFault None owner lines fault = IsFirstBreak no_settings (joined lines) fault.line fault.cause fault.place
+abbrev pub IsTableFault : Option Style → (owner : List ℕ) → List (List ℕ) → LineFault → Type 0
+IsTableFault (Some style) owner lines fault = IsFirstFault style owner lines fault
+IsTableFault None owner lines fault = IsFirstBreak no_settings (joined lines) fault.line fault.cause fault.place

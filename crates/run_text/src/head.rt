@@ -6,9 +6,11 @@ ghost use Rattle.run_text.specs.Grammar.{replicas_line, IsWindowLine, IsGraceLin
 ghost use Rattle.run_text.specs.Run.{run_with};
 ghost use Rattle.run_text.specs.Steps.{place_of, start, LeadsTo, RefusedFrom, HasRoom};
 
-use crate::reader::{Reader, first_line};
+use crate::reader::Reader;
 use crate::refusal::Refusal;
 use anacron_text::read_number;
+use cron_fields::Cause;
+use crontab_text::first_line;
 use zone_minutes::{Window, read_stamp};
 
 // 365 days, in minutes.
@@ -55,10 +57,10 @@ fn read_version(text: &str) -> Result<Reader<'_>, Refusal>
     ensures shorter { IfOk result (λ reader. length reader.rest.now ≤ length text.now) }
 {
     let Some((line, rest)) = first_line(text) else {
-        return Err(Refusal::of_line(1, 25));
+        return Err(Refusal::of_line(1, Cause::BadHeader));
     };
     if line != "cronrun 1" {
-        return Err(Refusal::of_line(1, 25));
+        return Err(Refusal::of_line(1, Cause::BadHeader));
     }
     Ok(Reader { rest, number: 1 })
 }
@@ -73,12 +75,12 @@ fn read_replicas(reader: &mut Reader<'_>) -> Result<u8, Refusal>
     ensures shorter { OnOk result (length reader.new.rest.now ≤ length reader.old.rest.now) }
 {
     let Some(line) = reader.next_line() else {
-        return Err(Refusal::of_line(reader.number, 26));
+        return Err(Refusal::of_line(reader.number, Cause::BadReplicas));
     };
     match members_of(line) {
         Some(1) => Ok(1),
-        Some(_) => Err(Refusal::of_line(reader.number, 35)),
-        None => Err(Refusal::of_line(reader.number, 26)),
+        Some(_) => Err(Refusal::of_line(reader.number, Cause::NoFormYet)),
+        None => Err(Refusal::of_line(reader.number, Cause::BadReplicas)),
     }
 }
 
@@ -91,11 +93,11 @@ fn read_window(reader: &mut Reader<'_>) -> Result<Window, Refusal>
     ensures shorter { OnOk result (length reader.new.rest.now ≤ length reader.old.rest.now) }
 {
     let Some(line) = reader.next_line() else {
-        return Err(Refusal::of_line(reader.number, 27));
+        return Err(Refusal::of_line(reader.number, Cause::BadWindow));
     };
     match window_of(line) {
         Some(window) => Ok(window),
-        None => Err(Refusal::of_line(reader.number, 27)),
+        None => Err(Refusal::of_line(reader.number, Cause::BadWindow)),
     }
 }
 
@@ -109,11 +111,11 @@ fn read_grace(reader: &mut Reader<'_>) -> Result<u32, Refusal>
     ensures shorter { OnOk result (length reader.new.rest.now ≤ length reader.old.rest.now) }
 {
     let Some(line) = reader.next_line() else {
-        return Err(Refusal::of_line(reader.number, 28));
+        return Err(Refusal::of_line(reader.number, Cause::BadGrace));
     };
     match grace_of(line) {
         Some(grace) => Ok(grace),
-        None => Err(Refusal::of_line(reader.number, 28)),
+        None => Err(Refusal::of_line(reader.number, Cause::BadGrace)),
     }
 }
 

@@ -19,10 +19,3 @@ pub use laws::{a_text_has_a_reading, a_text_has_one_reading, each_run_is_sound};
 pub use read::read_run;
 pub use refusal::{Refusal, RunFault};
 pub use run::{RunFile, Section, SectionKind, ZoneLine, ZoneText};
-
-#[cfg(test)]
-mod anacron_tests;
-#[cfg(test)]
-mod tests;
-#[cfg(test)]
-mod zone_tests;

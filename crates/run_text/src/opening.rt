@@ -1,5 +1,6 @@
 //! The line that opens a section.
 ghost use Rattle.std.specs.Prelude.{◌≡◌, ◌≢◌, ℕ, List, codes, IfSome, IfNone, IfOk, IfErr};
+ghost use Rattle.cron_fields.specs.Cause.{cause_number};
 ghost use Rattle.run_text.specs.Follow.{OpensNone, RefusesBeforeScript, IsOfLine};
 ghost use Rattle.run_text.specs.Grammar.{IsSectionLine};
 ghost use Rattle.run_text.specs.Zones.{HasZoneWord};
@@ -9,6 +10,7 @@ use crate::refusal::Refusal;
 use crate::run::SectionKind;
 use crate::words::{has_section_word, is_label, is_zone_name, kind_of};
 use anacron_text::read_number;
+use cron_fields::Cause;
 
 // Lines of a section.
 const MOST_LINES: u32 = 65_535;
@@ -37,11 +39,15 @@ pub fn read_opening(number: u32, line: &str) -> Result<Opening<'_>, Refusal>
 }
 
 // The cause of a line that opens neither a zone, nor a section, nor the script.
-fn cause_of(line: &str) -> u8
+fn cause_of(line: &str) -> Cause
     ensures { (behind : ℕ) (known : List (List ℕ)) → OpensNone behind line.now → (HasZoneWord line.now → ⊥) → line.now ≢ codes "script"
-        → RefusesBeforeScript behind known line.now result }
+        → RefusesBeforeScript behind known line.now (cause_number result) }
 {
-    if has_section_word(line) { 29 } else { 31 }
+    if has_section_word(line) {
+        Cause::BadSection
+    } else {
+        Cause::MissingLine
+    }
 }
 
 // crontab LABEL ZONE COUNT, system LABEL ZONE COUNT, or anacrontab LABEL ZONE COUNT

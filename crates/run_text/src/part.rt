@@ -12,6 +12,7 @@ use crate::table::read_table;
 use crate::words::has_zone_word;
 use crate::zone::read_zone;
 use arrayvec::ArrayVec;
+use cron_fields::Cause;
 
 /// The names of the zones that were read, of which there are 32 at most.
 pub type Names<'a> = ArrayVec<&'a str, 32>;
@@ -37,7 +38,7 @@ pub fn read_part<'a>(
     ensures part_of { IfOk result (λ read. IfSome read (IsPartOf (length reader.old.rest.now))) }
 {
     let Some(line) = reader.next_line() else {
-        return Err(Refusal::of_line(reader.number, 31));
+        return Err(Refusal::of_line(reader.number, Cause::MissingLine));
     };
     if line == "script" {
         return Ok(None);

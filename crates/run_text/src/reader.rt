@@ -2,6 +2,8 @@ ghost use Rattle.std.specs.Prelude.{◌≡◌, ◌+◌, ◌<◌, ◌≤◌, ◌^
 ghost use Rattle.crontab_text.specs.Lines.{lines_of};
 ghost use Rattle.run_text.specs.Steps.{IsCut};
 
+use crontab_text::first_line;
+
 /// What is left to read of a run file, behind some lines of it.
 #[derive(Clone, Copy, Debug)]
 pub struct Reader<'a> {
@@ -25,21 +27,6 @@ impl<'a> Reader<'a> {
         let (line, rest) = first_line(self.rest)?;
         self.rest = rest;
         Some(line)
-    }
-}
-
-/// The first line of a text, without its newline, and what is behind it. None at the end of the text.
-pub fn first_line(text: &str) -> Option<(&str, &str)>
-    ensures line { IfSome result (λ parts. lines_of text.now ≡ parts.0.now ∷ lines_of parts.1.now) }
-    ensures shorter { IfSome result (λ parts. length parts.1.now < length text.now) }
-    ensures within { IfSome result (λ parts. length parts.0.now + length parts.1.now ≤ length text.now) }
-    ensures back { IfSome result (λ parts. (front : List ℕ) × (text.now ≡ front ++ parts.1.now)) }
-    ensures none { IfNone result (text.now ≡ []) }
-{
-    match text.split_once('\n') {
-        Some(parts) => Some(parts),
-        None if text.is_empty() => None,
-        None => Some((text, "")),
     }
 }
 

@@ -1,3 +1,4 @@
+use cron_fields::Cause;
 use cron_io::OutOfMemory;
 use std::alloc::{AllocError, AllocFailed};
 
@@ -6,7 +7,7 @@ use std::alloc::{AllocError, AllocFailed};
 pub struct Refusal {
     /// The run file's line, from 1, or 0 where no line is to blame.
     pub line: u32,
-    /// The number of the cause.
+    /// The number of its `Cause`.
     pub cause: u8,
     /// The byte in the line.
     pub place: u32,
@@ -14,16 +15,17 @@ pub struct Refusal {
 
 impl Refusal {
     ghost use Rattle.std.specs.Prelude.{◌≡◌};
+    ghost use Rattle.cron_fields.specs.Cause.{cause_number};
 
     /// A line is refused as a whole.
-    pub fn of_line(line: u32, cause: u8) -> Refusal
+    pub fn of_line(line: u32, cause: Cause) -> Refusal
         ensures line { result.line ≡ line }
-        ensures cause { result.cause ≡ cause }
+        ensures cause { result.cause ≡ cause_number cause }
         ensures place { result.place ≡ 0 }
     {
         Refusal {
             line,
-            cause,
+            cause: cause.number(),
             place: 0,
         }
     }

@@ -9,6 +9,7 @@ ghost use Rattle.run_text.specs.Steps.{place_of, LeadsTo, RefusedFrom, HasRoom};
 use crate::reader::Reader;
 use crate::refusal::Refusal;
 use crate::words::has_command_word;
+use cron_fields::Cause;
 
 /// Reads the rest of the file from the line on that is behind the one that opens the script.
 pub fn read_script(reader: &mut Reader<'_>) -> Result<(), Refusal>
@@ -18,7 +19,7 @@ pub fn read_script(reader: &mut Reader<'_>) -> Result<(), Refusal>
 {
     read_last_line(reader)?;
     match reader.next_line() {
-        Some(_) => Err(Refusal::of_line(reader.number, 30)),
+        Some(_) => Err(Refusal::of_line(reader.number, Cause::BadScript)),
         None => Ok(()),
     }
 }
@@ -31,11 +32,15 @@ fn read_last_line(reader: &mut Reader<'_>) -> Result<(), Refusal>
     ensures room { OnOk result (HasRoom reader.new) }
 {
     let Some(line) = reader.next_line() else {
-        return Err(Refusal::of_line(reader.number, 31));
+        return Err(Refusal::of_line(reader.number, Cause::MissingLine));
     };
     if line == "end" {
         return Ok(());
     }
-    let cause = if has_command_word(line) { 35 } else { 30 };
+    let cause = if has_command_word(line) {
+        Cause::NoFormYet
+    } else {
+        Cause::BadScript
+    };
     Err(Refusal::of_line(reader.number, cause))
 }

@@ -9,13 +9,14 @@ ghost use Rattle.crontab_text.specs.TableReader.{table_reader};
 ghost use Rattle.run_text.specs.Anacrontab.{SayAll, IsFirstBreak};
 ghost use Rattle.run_text.specs.Follow.{style_of};
 ghost use Rattle.run_text.specs.Steps.{HasRoom, PassesTable, RefusesTable};
-ghost use Rattle.run_text.specs.Table.{Says, AreSaid, IsFirstFault, IsFault};
+ghost use Rattle.run_text.specs.Table.{Says, AreSaid, IsFirstFault, IsTableFault};
 
 use crate::opening::Opening;
 use crate::reader::{Reader, cut_lines};
 use crate::refusal::Refusal;
 use crate::run::Section;
 use anacron_text::AnaLines;
+use cron_fields::Cause;
 use crontab_text::{LineFault, Lines};
 
 /// Reads the lines of a section. The reader stands at the line that opened it.
@@ -28,7 +29,7 @@ pub fn read_table<'a>(reader: &mut Reader<'a>, opening: Opening<'a>) -> Result<S
     ensures part { IfOk result (λ section. length section.text.now ≤ length reader.old.rest.now) }
 {
     let Some((text, rest)) = cut_lines(reader.rest, opening.count) else {
-        return Err(Refusal::of_line(reader.number, 29));
+        return Err(Refusal::of_line(reader.number, Cause::BadSection));
     };
     if let Some(fault) = first_fault(text, &opening) {
         return Err(refusal_of(reader.number, fault));
@@ -62,7 +63,7 @@ fn refusal_of(above: u32, fault: LineFault) -> Refusal
 // The first line of a section's text that says nothing.
 fn first_fault(text: &str, opening: &Opening<'_>) -> Option<LineFault>
     requires { length text.now < 2 ^ 32 }
-    ensures fault { IfSome result (IsFault (style_of opening.now.kind) opening.now.label.now (lines_of text.now)) }
+    ensures fault { IfSome result (IsTableFault (style_of opening.now.kind) opening.now.label.now (lines_of text.now)) }
     ensures none { IfNone result (AreSaid (style_of opening.now.kind) opening.now.label.now (lines_of text.now)) }
     ensures within { IfSome result (λ fault. fault.line ≤ length text.now) }
 {

@@ -1,6 +1,7 @@
 //! The line that names a zone.
 ghost use Rattle.std.specs.Prelude.{◌≡◌, ◌≢◌, ◌↔◌, ◌≤◌, ◌<◌, ◌++◌, ◌∷◌, [], ℕ, ℤ, List, IsTrue, IfSome, IfNone, IfOk, IfErr};
 ghost use Rattle.std.specs.List.{AllByRecursion};
+ghost use Rattle.cron_fields.specs.Cause.{cause_number};
 ghost use Rattle.hex.specs.Hex.{is_hex_digit};
 ghost use Rattle.zone_minutes.specs.Stamp.{two_digits};
 ghost use Rattle.zone_minutes.specs.Zone.{Source};
@@ -14,6 +15,7 @@ use crate::part::Names;
 use crate::refusal::Refusal;
 use crate::run::{ZoneLine, ZoneText};
 use crate::words::is_zone_name;
+use cron_fields::Cause;
 
 // Minutes of 14 hours, and of 12.
 const MOST_AHEAD: u16 = 840;
@@ -32,13 +34,13 @@ pub fn read_zone<'a>(
     ensures names { IfOk result (λ zone. names.new.items ≡ names.old.items ++ zone.name ∷ []) }
     ensures refused { IfErr result (λ refusal. AddsNone (texts_of names.old.items) line.now) }
     ensures line { IfErr result (IsOfLine number) }
-    ensures cause { IfErr result (λ refusal. refusal.cause ≡ 34) }
+    ensures cause { IfErr result (λ refusal. refusal.cause ≡ cause_number Cause.BadZoneLine) }
 {
     let Some(zone) = zone_of(number, line) else {
-        return Err(Refusal::of_line(number, 34));
+        return Err(Refusal::of_line(number, Cause::BadZoneLine));
     };
     if !is_free(names, zone.name) {
-        return Err(Refusal::of_line(number, 34));
+        return Err(Refusal::of_line(number, Cause::BadZoneLine));
     }
     names.push(zone.name);
     Ok(zone)

@@ -8,6 +8,7 @@ use Rattle.job_table.specs.Marks.{anacron_mark, anacron_name, period_of}
 use Rattle.job_table.specs.Table.{at_line}
 use Rattle.job_table.proofs.MarkLemmas.{adds_job, refuses_job}
 use Rattle.job_table.proofs.VariantLemmas.{both_lead, err_leads}
+use Rattle.cron_fields.specs.declared.cause.Cause.TheVariants.{DuplicateJob}
 use Rattle.job_table.proofs.anacrontab.add_line.Goals as goal
 
 pub returns-in-Job-clause-added : goal.returns-in-Job-clause-added
@@ -26,7 +27,7 @@ pub returns-in-Job-clause-refused : goal.returns-in-Job-clause-refused
 returns-in-Job-clause-refused c =
     let name = anacron_name c.args.label.now c.in-Job.identifier.now in
     let kind = Anacron (period_of c.in-Job.period) (60 * c.in-Job.first_hour + c.in-Job.delay + c.in-Job.added) (60 * c.in-Job.last_hour) in
-    err_leads c.add_named.result (λ refusal. HasJob name c.args.jobs.now × (refusal ≡ at_line c.args.at 22))
+    err_leads c.add_named.result (λ refusal. HasJob name c.args.jobs.now × (refusal ≡ at_line c.args.at DuplicateJob))
     (λ refusal. (zones : _) → RefusesMarks zones c.args.jobs.now (anacron_mark c.args.label.now c.args.zone c.args.at (body_of c.args.body)) refusal)
     (λ refusal fault zones.
     subst (λ b. RefusesMarks zones c.args.jobs.now (anacron_mark c.args.label.now c.args.zone c.args.at (body_of b)) refusal) (sym c.in-Job.is)

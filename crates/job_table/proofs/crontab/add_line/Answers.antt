@@ -9,6 +9,7 @@ use Rattle.job_table.specs.Marks.{job_name, kind_of}
 use Rattle.job_table.specs.Table.{at_line}
 use Rattle.job_table.proofs.MarkLemmas.{adds_job, refuses_job}
 use Rattle.job_table.proofs.VariantLemmas.{refused_on, both_lead, err_leads}
+use Rattle.cron_fields.specs.declared.cause.Cause.TheVariants.{DuplicateJob}
 use Rattle.job_table.proofs.crontab.add_line.Goals as goal
 
 pub returns-in_err-zone-in-Assign-clause-refused :
@@ -40,7 +41,7 @@ pub returns-in-Entry-clause-refused : goal.returns-in-Entry-clause-refused
 returns-in-Entry-clause-refused c =
     let zones = map zone_of c.args.zones.now in
     let name = job_name c.args.label.now (c.args.above.entries + 1) in
-    err_leads c.add_entry.result (λ refusal. HasJob name c.args.jobs.now × (refusal ≡ at_line c.args.at 22))
+    err_leads c.add_entry.result (λ refusal. HasJob name c.args.jobs.now × (refusal ≡ at_line c.args.at DuplicateJob))
     (RefusesMarks zones c.args.jobs.now (line_marks zones c.args.label.now c.args.above.zone c.args.at (c.args.above.entries + 1) (body_of c.args.body)))
     (λ refusal fault.
     subst (λ b. RefusesMarks zones c.args.jobs.now (line_marks zones c.args.label.now c.args.above.zone c.args.at (c.args.above.entries + 1) (body_of b)) refusal) (sym c.in-Entry.is)
@@ -63,7 +64,7 @@ pub returns-in-Nick-clause-refused : goal.returns-in-Nick-clause-refused
 returns-in-Nick-clause-refused c =
     let zones = map zone_of c.args.zones.now in
     let name = job_name c.args.label.now (c.args.above.entries + 1) in
-    err_leads c.add_entry-in-Nick.result (λ refusal. HasJob name c.args.jobs.now × (refusal ≡ at_line c.args.at 22))
+    err_leads c.add_entry-in-Nick.result (λ refusal. HasJob name c.args.jobs.now × (refusal ≡ at_line c.args.at DuplicateJob))
     (RefusesMarks zones c.args.jobs.now (line_marks zones c.args.label.now c.args.above.zone c.args.at (c.args.above.entries + 1) (body_of c.args.body)))
     (λ refusal fault.
     subst (λ b. RefusesMarks zones c.args.jobs.now (line_marks zones c.args.label.now c.args.above.zone c.args.at (c.args.above.entries + 1) (body_of b)) refusal) (sym c.in-Nick.is)

@@ -1,4 +1,4 @@
-use Rattle.std.proofs.Common.{◌≡◌, ◌-◌, [], ◌++◌, length, sym, subst, arith, rules}
+use Rattle.std.proofs.Common.{◌≡◌, ◌-◌, [], ◌++◌, length, refl, sym, subst, arith, rules}
 use Rattle.std.proofs.lemmas.Str.{IsCharBoundary-from_drop}
 use Rattle.run_text.specs.Steps.{IsCut}
 use Rattle.run_text.proofs.CutLemmas.{cut_none, cut_next, too_few, cut_size, cut_at, cut_rest}
@@ -12,12 +12,12 @@ pub lines-preserved : goal.lines-preserved
 lines-preserved c =
     let back = c.in_ok-rest.ensures.back in
     let cut = c.lines.invariant.1 in
-    (search rules, (cut.0 ++ back.0, cut_next c.args.text.now cut.0 c.lines.rest.now back.0 c.in_ok-rest.field-0-0.now c.in_ok-rest.field-0-1.now c.lines.counter cut.1 back.1 c.in_ok-rest.ensures.line))
+    (search rules, (cut.0 ++ back.0, cut_next c.args.text.now cut.0 c.lines.rest.now back.0 c.in_ok-rest.field-0-0.now c.in_ok-rest.field-0-1.now c.lines.counter cut.1 back.1 c.in_ok-rest.ensures.lines))
 
 pub returns-in_err-rest-clause-none : goal.returns-in_err-rest-clause-none
 returns-in_err-rest-clause-none c =
     let cut = c.lines.invariant.1 in
-    if_none _ (too_few c.args.text.now cut.0 c.lines.rest.now c.lines.counter c.args.count cut.1 c.in_err-rest.ensures.none (omega arith))
+    if_none _ (too_few c.args.text.now cut.0 c.lines.rest.now c.lines.counter c.args.count cut.1 (c.in_err-rest.ensures.none.0 refl) (omega arith))
 
 pub overflow_sub-text : goal.overflow_sub-text
 overflow_sub-text c =

@@ -1,0 +1,81 @@
+//! The whole program, over what the system hands to it.
+ghost use Rattle.std.specs.Prelude.{◌≡◌, ◌≢◌, ◌↔◌, ◌<◌, IfOk, IfErr};
+ghost use Rattle.cron_io.specs.Views.{SourceView, SinkView};
+ghost use Rattle.std.specs.IoError.{error_kind};
+ghost use Rattle.std.specs.Vec.Iter.{into_iter_len};
+ghost use Rattle.cron_serve.specs.Program.{EndsProgram};
+ghost use Rattle.cron_serve.specs.Stop.{StopsAtOnce, status_of};
+
+use crate::note::write_note;
+use crate::run_end::RunEnd;
+use crate::serve::cron_cluster;
+use crate::stop::Stop;
+use cron_io::{Sink, Source};
+use std::alloc::Global;
+use std::env::Args;
+use std::io::{self, ErrorKind};
+
+/// Runs the program, and tells its exit status. The first of the arguments is its name, and the others are its words. An argument
+/// that is not UTF-8 is a faulty word, and any other fault of the arguments is want of memory.
+pub fn run<S: Source, K: Sink, E: Sink>(
+    alloc: Global,
+    args: io::Result<Args>,
+    source: &mut S,
+    sink: &mut K,
+    notes: &mut E,
+) -> u8
+    // The status, the report and the note are those of one end.
+    ensures ends { EndsProgram (S.seen source.old) (S.seen source.new) (K.seen sink.old) (K.seen sink.new)
+        (E.seen notes.old) (E.seen notes.new) result }
+
+    // Status 1: there is a word behind the name, or one that is no text. Then nothing is read.
+    ensures words { IfOk args (λ args. (result ≡ 1) ↔ (1 < into_iter_len args)) }
+    ensures no_text { IfErr args (λ error. error_kind error ≡ ErrorKind.InvalidData → result ≡ 1) }
+    ensures no_memory { IfErr args (λ error. error_kind error ≢ ErrorKind.InvalidData → result ≡ 5) }
+    ensures unread { result ≡ 1 → S.seen source.new ≡ S.seen source.old }
+{
+    match args {
+        Ok(args) => run_behind_name(alloc, args, source, sink, notes),
+        Err(error) => stop_at_once(alloc, stop_of(&error), notes),
+    }
+}
+
+// Runs the program on the words behind the first argument.
+fn run_behind_name<S: Source, K: Sink, E: Sink>(
+    alloc: Global,
+    mut args: Args,
+    source: &mut S,
+    sink: &mut K,
+    notes: &mut E,
+) -> u8
+    ensures ends { EndsProgram (S.seen source.old) (S.seen source.new) (K.seen sink.old) (K.seen sink.new)
+        (E.seen notes.old) (E.seen notes.new) result }
+    ensures words { (result ≡ 1) ↔ (1 < into_iter_len args) }
+    ensures unread { result ≡ 1 → S.seen source.new ≡ S.seen source.old }
+{
+    let _name = args.next();
+    cron_cluster(alloc, args, source, sink, notes).status
+}
+
+// Why arguments that can't be had stop the program.
+fn stop_of(error: &io::Error) -> Stop
+    ensures no_text { error_kind error.now ≡ ErrorKind.InvalidData → result ≡ Stop.Usage }
+    ensures no_memory { error_kind error.now ≢ ErrorKind.InvalidData → result ≡ Stop.OutOfMemory }
+    ensures at_once { StopsAtOnce result }
+{
+    match error.kind() {
+        ErrorKind::InvalidData => Stop::Usage,
+        _ => Stop::OutOfMemory,
+    }
+}
+
+// Stops the program before anything is read, with its note.
+fn stop_at_once<E: Sink>(alloc: Global, stop: Stop, notes: &mut E) -> u8
+    requires { StopsAtOnce stop }
+    ensures ends { (source : SourceView) (sink : SinkView) → EndsProgram source source sink sink (E.seen notes.old) (E.seen notes.new) result }
+    ensures status { result ≡ status_of stop }
+{
+    let end = RunEnd::stopped(alloc, stop);
+    write_note(notes, &end);
+    end.status
+}

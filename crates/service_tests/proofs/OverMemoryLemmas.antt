@@ -1,0 +1,102 @@
+-- How the program ends over a source that is reliable and tells its bytes, and a sink that tells its room.
+use Rattle.std.proofs.Common.{◌≡◌, ◌≢◌, ◌⊎◌, inl, inr, ℕ, zero, suc, ◌≤◌, List, Option, Some, None, refl, ap, ◌∙◌, subst, arith}
+use Rattle.std.specs.Prelude.{IsSome, IsSomeAnd}
+use Rattle.cron_io.specs.Faults.{Rose}
+use Rattle.cron_io.specs.Views.{SourceView, SinkView}
+use Rattle.paxos_base.specs.declared.entry.Entry.{Entry}
+use Rattle.due_set.specs.Table.{Table}
+use Rattle.cluster_sched.specs.declared.row.SchedRow.{SchedRow}
+use Rattle.report_text.specs.Report.{IsReport}
+use Rattle.cron_serve.specs.Ends.{Ends}
+use Rattle.run_text.specs.Run.{Run}
+use Rattle.run_text.specs.declared.refusal.Refusal.{Refusal}
+use Rattle.cron_serve.specs.Input.{IsTaken}
+use Rattle.service_tests.specs.OverMemory.{IsReportOfJobs, FitsRoom, IsBeyondRoom}
+use Rattle.cron_serve.specs.Serve.{IsRefused, IsReportOfInput, IsWholeRun}
+use Rattle.cron_serve.specs.declared.run_end.RunEnd.{RunEnd}
+use Rattle.cron_serve.proofs.CompleteLemmas.{not_refused, read_whole}
+use Rattle.cron_serve.proofs.VerdictLemmas.{one_taken}
+
+-- a report of the input is one of its jobs
+report_is : (source source' : SourceView) (bytes text : List ℕ) (run : Run) (table : Table) (log : List Entry) (held : List SchedRow) → source.left ≡ Some bytes
+    → IsTaken bytes run table → IsReportOfInput source source' log held text → IsReportOfJobs table text
+report_is source source' bytes text run table log held told taken report =
+    let read : report.run.bytes ≡ bytes = read_whole source source' bytes report.run.bytes told report.run.read in
+    let given = subst (λ (bs : List ℕ). IsTaken bs report.run.run report.table) read report.run.taken in
+    let same : report.table ≡ table = (one_taken bytes report.run.run run report.table table given taken).1 in
+    record {
+      log = log;
+      held = held;
+      whole = subst (λ (t : Table). IsWholeRun t log held) same report.run.whole;
+      report = subst (λ (t : Table). IsReport t 1 held text) same report.report;
+    }
+
+-- a run that is taken isn't refused, and its report is written whole, or a write failed, or memory ran out
+abbrev AreLeft : ℕ → Type 0
+AreLeft status = ((status ≡ 0) ⊎ (status ≡ 4)) ⊎ (status ≡ 5)
+
+are_left : (status : ℕ) → status ≤ 5 → status ≢ 1 → status ≢ 2 → status ≢ 3 → AreLeft status
+are_left zero small a b c = inl (inl refl)
+are_left (suc zero) small a b c = absurd (a (omega arith))
+are_left (suc (suc zero)) small a b c = absurd (b (omega arith))
+are_left (suc (suc (suc zero))) small a b c = absurd (c (omega arith))
+are_left (suc (suc (suc (suc zero)))) small a b c = inl (inr (omega arith))
+are_left (suc (suc (suc (suc (suc k))))) small a b c = inr (omega arith)
+
+no_refusal : (source source' : SourceView) (bytes : List ℕ) (run : Run) (table : Table) (refusal : Option Refusal) → source.left ≡ Some bytes → IsTaken bytes run table
+    → IsSomeAnd refusal (IsRefused source source') → ⊥
+no_refusal source source' bytes run table None told taken refused = absurd refused
+no_refusal source source' bytes run table (Some refusal) told taken refused = not_refused source source' bytes run table refusal told taken refused
+
+-- an end over a source that is reliable and tells its bytes, and a sink that tells its room
+pub record EndsOverMemory (source source' : SourceView) (sink sink' : SinkView) (bytes : List ℕ) (room : ℕ) (end : RunEnd) : Type 0 where
+  pub has : source.left ≡ Some bytes
+  pub has_room : sink.room ≡ Some room
+  pub usage : end.status ≢ 1
+  pub reliable : end.status ≢ 3
+  pub ends : Ends source source' sink sink' end
+
+module _ (source source' : SourceView) (sink sink' : SinkView) (bytes : List ℕ) (room : ℕ) (end : RunEnd)
+    (over : EndsOverMemory source source' sink sink' bytes room end) (run : Run) (table : Table) (taken : IsTaken bytes run table) where
+  left_of_run : AreLeft end.status
+  left_of_run =
+      are_left end.status over.ends.statuses over.usage (λ e. no_refusal source source' bytes run table end.refusal over.has taken (over.ends.refused e)) over.reliable
+
+  -- a run that is taken ends with its report or for want of memory, where the room is enough
+  pub ends_whole : FitsRoom table room → (end.status ≡ 0) ⊎ (end.status ≡ 5)
+  ends_whole enough = elim left_of_run [
+    | inl (inl whole) ↦ inl whole
+    | inl (inr failed) ↦
+        (let lacks = over.ends.exceeds failed room over.has_room in
+        let size = enough lacks.text (report_is source source' bytes lacks.text run table end.log end.ledger.held over.has taken lacks.report) in
+        let beyond = lacks.beyond in
+        absurd (omega arith))
+    | inr memory ↦ inr memory
+  ]
+
+  -- a run that is taken ends by a write fault or for want of memory, where the room is too small
+  pub ends_cut : IsBeyondRoom table room → (end.status ≡ 4) ⊎ (end.status ≡ 5)
+  ends_cut small = elim left_of_run [
+    | inl (inl whole) ↦
+        (let has = over.ends.fits whole room over.has_room in
+        let size = small has.text (report_is source source' bytes has.text run table end.log end.ledger.held over.has taken has.report) in
+        let enough = has.taken.fits in
+        absurd (omega arith))
+    | inl (inr failed) ↦ inl failed
+    | inr memory ↦ inr memory
+  ]
+
+-- a count that stays at none didn't rise
+pub not_risen : (before now : ℕ) → now ≡ before → before ≡ 0 → Rose before now → ⊥
+not_risen before now same none (inl lt) = absurd (omega arith)
+not_risen before now same none (inr last) = absurd (omega arith)
+
+-- there is a refusal at status 2 alone
+refused_some : {T : Type 0} (o : Option T) (P : T → Type 0) → IsSomeAnd o P → IsSome o
+refused_some None P some = absurd some
+refused_some (Some x) P some = refl
+
+pub ends_refused : (source source' : SourceView) (sink sink' : SinkView) (end : RunEnd) (P : Refusal → Type 0) → Ends source source' sink sink' end
+    → IsSomeAnd end.refusal P ⊎ (end.status ≡ 5) → (end.status ≡ 2) ⊎ (end.status ≡ 5)
+ends_refused source source' sink sink' end P ends (inl some) = inl (ends.refusal.0 (refused_some end.refusal P some))
+ends_refused source source' sink sink' end P ends (inr five) = inr five

@@ -1,0 +1,27 @@
+use Rattle.std.proofs.Common.{ap, ◌∙◌, arith, Some}
+use Rattle.cron_io.specs.Memory.{room_unless}
+use Rattle.cron_serve.specs.Input.{IsRefusedInput}
+use Rattle.service_tests.proofs.OverMemoryLemmas.{EndsOverMemory, ends_whole, ends_cut, ends_refused, not_risen}
+use Rattle.service_tests.proofs.over_memory.status_in_memory.Goals as goal
+
+pub returns : goal.returns
+returns c =
+    let end = c.cron_cluster-end.ensures in
+    let source = c.new-source.ensures in
+    let sink = c.in_ok-sink.ensures in
+    let sure = source.fails ∙ c.new.ensures.items in
+    let told = ap (λ fails. room_unless fails c.in_ok-sink.sink.room) (sink.fails ∙ c.new-2.ensures.items) ∙ ap Some sink.room in
+    let over_memory : EndsOverMemory _ _ _ _ c.args.bytes.items c.args.room c.cron_cluster-end.result = record {
+      has = ap Some source.left;
+      has_room = told;
+      usage = λ e. let some = end.usage.0 e in absurd (omega arith);
+      reliable = end.no_read_fault sure;
+      ends = end.ends;
+    } in
+    record {
+      fits = λ run table taken. ends_whole _ _ _ _ _ _ _ over_memory run table taken;
+      exceeds = λ run table taken. ends_cut _ _ _ _ _ _ _ over_memory run table taken;
+      refused = λ none.
+          ends_refused _ _ _ _ c.cron_cluster-end.result (IsRefusedInput c.args.bytes.items) end.ends
+          ((end.complete (omega arith)).others _ (ap Some source.left) none (not_risen _ _ (end.lasting sure).quiet source.faults));
+    }

@@ -1,0 +1,21 @@
+//! Tests of whole runs, from the bytes of a run file to the report and the note.
+#![tactic(auto)]
+
+#[cfg(test)]
+mod anacron_runs;
+#[cfg(test)]
+mod bytewise;
+#[cfg(test)]
+mod bytewise_tests;
+#[cfg(test)]
+mod limit_tests;
+#[cfg(test)]
+mod over_memory;
+#[cfg(test)]
+mod play;
+#[cfg(test)]
+mod program_tests;
+#[cfg(test)]
+mod run_tests;
+#[cfg(test)]
+mod runs;

@@ -1,0 +1,44 @@
+//! A run over memory.
+use cron_io::{MemSink, MemSource};
+use cron_serve::{RunEnd, cron_cluster};
+use std::alloc::{AllocError, Global};
+use std::test::Fail;
+
+/// The numbers of the reads, of the writes of the report, and of those of the note that fail.
+#[derive(Clone, Copy)]
+pub struct Faults {
+    pub reads: &'static [u64],
+    pub writes: &'static [u64],
+    pub notes: &'static [u64],
+}
+
+pub const NO_FAULTS: Faults = Faults {
+    reads: &[],
+    writes: &[],
+    notes: &[],
+};
+
+/// What a run leaves: its end, its report and its note.
+#[derive(Drop)]
+pub struct Left {
+    pub end: RunEnd,
+    pub report: MemSink,
+    pub notes: MemSink,
+}
+
+/// What a run of these bytes leaves.
+pub fn play(alloc: Global, input: &[u8], faults: &Faults) -> Result<Left, Fail> {
+    let mut source = MemSource::new(input.to_vec(alloc)?, faults.reads.to_vec(alloc)?);
+    let mut report = MemSink::new(alloc, 1 << 20, faults.writes.to_vec(alloc)?)?;
+    let mut notes = MemSink::new(alloc, 100, faults.notes.to_vec(alloc)?)?;
+    let words = Vec::new(alloc).into_iter();
+    let end = cron_cluster(alloc, words, &mut source, &mut report, &mut notes);
+    Ok(Left { end, report, notes })
+}
+
+/// The status of a run, and its report and its note behind it.
+pub fn show(alloc: Global, left: &Left) -> Result<String, Fail> {
+    let report = std::str::from_utf8(left.report.bytes())?;
+    let note = std::str::from_utf8(left.notes.bytes())?;
+    Ok(format!(in alloc; "{}\n{report}{note}", left.end.status)?)
+}

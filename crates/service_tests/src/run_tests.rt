@@ -1,0 +1,226 @@
+//! What whole runs leave.
+use crate::anacron_runs::{
+    CRONIE, CRONIE_REPORT, HOURS, SLASH, UP_TO_THE_FIRST_MINUTE, UP_TO_THE_FIRST_MINUTE_JOBS,
+    WITH_THE_FIRST_MINUTE, WITH_THE_FIRST_MINUTE_JOBS,
+};
+use crate::play::{Faults, NO_FAULTS, play, show};
+use crate::runs::{
+    CHOICE, CHOICE_JOBS, CUT, DAY_RULE, DAY_RULE_REPORT, FOREIGN_ZONE, NEVER, NEVER_REPORT,
+    NO_SECTION, NO_SECTION_REPORT, NOT_TEXT, ONE_LABEL, SYSTEM, SYSTEM_JOBS, THREE_LAUNCHES,
+    THREE_LAUNCHES_REPORT, ZERO_BYTE, ZONE_LINE, ZONE_RULE,
+};
+use std::test::Fail;
+
+// A run file, and a part of its report.
+struct Reported {
+    input: &'static str,
+    report: &'static str,
+}
+
+const REPORTED: &[Reported] = &[
+    Reported {
+        input: THREE_LAUNCHES,
+        report: THREE_LAUNCHES_REPORT,
+    },
+    Reported {
+        input: NO_SECTION,
+        report: NO_SECTION_REPORT,
+    },
+    Reported {
+        input: DAY_RULE,
+        report: DAY_RULE_REPORT,
+    },
+    Reported {
+        input: NEVER,
+        report: NEVER_REPORT,
+    },
+    Reported {
+        input: CRONIE,
+        report: CRONIE_REPORT,
+    },
+    Reported {
+        input: SYSTEM,
+        report: SYSTEM_JOBS,
+    },
+    Reported {
+        input: CHOICE,
+        report: CHOICE_JOBS,
+    },
+    Reported {
+        input: UP_TO_THE_FIRST_MINUTE,
+        report: UP_TO_THE_FIRST_MINUTE_JOBS,
+    },
+    Reported {
+        input: WITH_THE_FIRST_MINUTE,
+        report: WITH_THE_FIRST_MINUTE_JOBS,
+    },
+];
+
+#[test]
+fn reports(rt: HostRuntime) -> Result<(), Fail> {
+    for row in REPORTED {
+        let left = play(rt.alloc(), row.input.as_bytes(), &NO_FAULTS)?;
+        let shown = show(rt.alloc(), &left)?;
+        assert!(rt; shown.starts_with("0\n"), "{}", row.input);
+        assert!(rt; shown.contains(row.report), "{}", row.input);
+    }
+    Ok(())
+}
+
+// A run file, and the note of its refusal.
+struct Refused {
+    input: &'static str,
+    shown: &'static str,
+}
+
+const REFUSED: &[Refused] = &[
+    Refused {
+        input: ZONE_LINE,
+        shown: "2\ncron_cluster: line 5: cause 34 at 0\n",
+    },
+    Refused {
+        input: ZONE_RULE,
+        shown: "2\ncron_cluster: line 6: cause 32 at 0\n",
+    },
+    Refused {
+        input: FOREIGN_ZONE,
+        shown: "2\ncron_cluster: line 6: cause 21 at 0\n",
+    },
+    Refused {
+        input: ONE_LABEL,
+        shown: "2\ncron_cluster: line 8: cause 22 at 0\n",
+    },
+    Refused {
+        input: CUT,
+        shown: "2\ncron_cluster: line 8: cause 31 at 0\n",
+    },
+    Refused {
+        input: "",
+        shown: "2\ncron_cluster: line 1: cause 25 at 0\n",
+    },
+    Refused {
+        input: ZERO_BYTE,
+        shown: "2\ncron_cluster: line 6: cause 15 at 0\n",
+    },
+    Refused {
+        input: SLASH,
+        shown: "2\ncron_cluster: line 7: cause 18 at 4\n",
+    },
+    Refused {
+        input: HOURS,
+        shown: "2\ncron_cluster: line 6: cause 19 at 18\n",
+    },
+];
+
+#[test]
+fn refusals(rt: HostRuntime) -> Result<(), Fail> {
+    for row in REFUSED {
+        let left = play(rt.alloc(), row.input.as_bytes(), &NO_FAULTS)?;
+        assert_eq!(rt;
+            show(rt.alloc(), &left)?.as_str(),
+            row.shown,
+            "{}",
+            row.input
+        );
+    }
+    let left = play(rt.alloc(), NOT_TEXT, &NO_FAULTS)?;
+    assert_eq!(rt;
+        left.notes.bytes(),
+        b"cron_cluster: line 2: cause 15 at 0\n".as_slice()
+    );
+    Ok(())
+}
+
+// Calls that fail, and what is left then.
+struct Faulty {
+    input: &'static str,
+    faults: Faults,
+    shown: &'static str,
+}
+
+const FAULTY: &[Faulty] = &[
+    Faulty {
+        input: THREE_LAUNCHES,
+        faults: Faults {
+            reads: &[0],
+            writes: &[],
+            notes: &[],
+        },
+        shown: "3\ncron_cluster: read fault\n",
+    },
+    Faulty {
+        input: THREE_LAUNCHES,
+        faults: Faults {
+            reads: &[1],
+            writes: &[],
+            notes: &[],
+        },
+        shown: "3\ncron_cluster: read fault\n",
+    },
+    Faulty {
+        input: THREE_LAUNCHES,
+        faults: Faults {
+            reads: &[],
+            writes: &[0],
+            notes: &[],
+        },
+        shown: "4\ncron_cluster: write fault\n",
+    },
+    Faulty {
+        input: THREE_LAUNCHES,
+        faults: Faults {
+            reads: &[],
+            writes: &[1],
+            notes: &[],
+        },
+        shown: "4\ncron report 1\ncron_cluster: write fault\n",
+    },
+    Faulty {
+        input: ZONE_LINE,
+        faults: Faults {
+            reads: &[],
+            writes: &[],
+            notes: &[0],
+        },
+        shown: "2\n",
+    },
+];
+
+#[test]
+fn faults(rt: HostRuntime) -> Result<(), Fail> {
+    for row in FAULTY {
+        let left = play(rt.alloc(), row.input.as_bytes(), &row.faults)?;
+        assert_eq!(rt; show(rt.alloc(), &left)?.as_str(), row.shown);
+    }
+    Ok(())
+}
+
+// A write of the report that fails, and the status then. Each line is one write, so the ninth is the last.
+struct Failing {
+    write: &'static [u64],
+    status: u8,
+}
+
+const FAILING: &[Failing] = &[
+    Failing {
+        write: &[8],
+        status: 4,
+    },
+    Failing {
+        write: &[9],
+        status: 0,
+    },
+];
+
+#[test]
+fn the_last_line(rt: HostRuntime) -> Result<(), Fail> {
+    for row in FAILING {
+        let faults = Faults {
+            writes: row.write,
+            ..NO_FAULTS
+        };
+        let left = play(rt.alloc(), THREE_LAUNCHES.as_bytes(), &faults)?;
+        assert_eq!(rt; left.end.status, row.status);
+    }
+    Ok(())
+}

@@ -1,0 +1,25 @@
+//! Tests of what a table of jobs says: fields, crontabs, anacrontabs, run files, and the jobs that these name.
+#![tactic(auto)]
+
+#[cfg(test)]
+mod anacrontab_rows;
+#[cfg(test)]
+mod anacrontab_tests;
+#[cfg(test)]
+mod command_tests;
+#[cfg(test)]
+mod crontab_rows;
+#[cfg(test)]
+mod crontab_tests;
+#[cfg(test)]
+mod due_tests;
+#[cfg(test)]
+mod field_tests;
+#[cfg(test)]
+mod job_tests;
+#[cfg(test)]
+mod refused_tests;
+#[cfg(test)]
+mod rows;
+#[cfg(test)]
+mod run_file_tests;
