@@ -24,5 +24,3 @@ pub use sink::{Sink, SinkFault, write_all};
 pub use source::{ReadAllFault, Source, SourceFault, read_all};
 pub use standard::{StdSink, StdSource};
 
-#[cfg(test)]
-mod tests;
