@@ -49,6 +49,9 @@ impl Store {
         ensures stand { IfOk result (λ found. FilesStand jobs found.1 (D.seen disk.old)) }
         // The chooser and the other area stay as they are.
         ensures others { OnOk result (OthersStay (selected (D.seen disk.old)) (D.seen disk.old) (D.seen disk.new)) }
+        // So they do, whatever the answer is, in whatever a stop leaves.
+        ensures elsewhere { D.honest disk.old → LeavesOnly D.moment D.left_since disk.old disk.new
+            (InFileOnly (selected (D.seen disk.old)) (D.may_leave disk.old) (λ bytes. ⊤)) }
 
         // From a disk that was recoverable, with the state before a change or after it, one of the two is found; whatever a
         // stop within this call leaves stands for one of them, and the disk stays recoverable.

@@ -7,7 +7,7 @@ use Rattle.gate_file.specs.Gates.{HasBodies, IsStaged}
 use Rattle.gate_file.proofs.GateLemmas.{one_list}
 use Rattle.store_format.specs.Area.{StandFor, IsFirstRecordAtFault}
 use Rattle.replica_store.specs.Files.{selected}
-use Rattle.replica_store.proofs.AttachLemmas.{looks_on, area_staged, close_recoverable}
+use Rattle.replica_store.proofs.AttachLemmas.{looks_on, looked_elsewhere, closed_elsewhere, area_staged, close_recoverable}
 use Rattle.replica_store.proofs.FaultLemmas.{damaged_below, not_memory}
 use Rattle.replica_store.proofs.FileLemmas.{selects_area, same_chooser, recoverable_stands, fewer_recoverable, read_stands}
 use Rattle.replica_store.proofs.ImageLemmas.{stays_durable}
@@ -189,3 +189,50 @@ returns-clause-settled g c =
           (now_in_run g.D.Disk.moment g.D.Disk.left_since g.D.Disk.may_leave read close (InFileOnly file (g.D.Disk.may_leave read) (λ bytes. ⊤)) (λ start image le left. g.met.D.Disk.counts_now close start image honest le left) (c.close.ensures.elsewhere there));
       keeps = (c.in_ok-kept.kept, (c.in_ok-kept.field-0-1, subst (λ bodies. StandFor c.args.jobs bodies c.in_ok-kept.kept c.in_ok-kept.field-0-1) (c.bodies.ensures ∙ sym c.in_ok-gates.ensures.bodies) c.in_ok-kept.ensures.found));
     }
+
+-- ---- the other files
+
+pub returns-in_err-area-clause-elsewhere : goal.returns-in_err-area-clause-elsewhere
+returns-in_err-area-clause-elsewhere g c honest =
+    let old = c.args.disk.now in
+    looked_elsewhere g.D.Disk.moment g.D.Disk.left_since (selected (g.D.Disk.seen old)) old c.select.new.disk (g.D.Disk.may_leave old) (c.select.ensures.images honest)
+
+pub returns-in_err-read-clause-elsewhere : goal.returns-in_err-read-clause-elsewhere
+returns-in_err-read-clause-elsewhere g c honest =
+    let old = c.args.disk.now in
+    let chosen = c.select.new.disk in
+    let read = c.read.new.disk in
+    let still = c.select.ensures.honest.1 honest in
+    looked_elsewhere g.D.Disk.moment g.D.Disk.left_since (selected (g.D.Disk.seen old)) old read (g.D.Disk.may_leave old)
+    (looks_on g.D.Disk.moment g.D.Disk.left_since old chosen read (g.D.Disk.may_leave old) (g.D.Disk.may_leave chosen) (c.select.ensures.images honest) (c.select.ensures.no_new_image honest) (c.read.ensures.images still))
+
+pub returns-in_err-kept-clause-elsewhere : goal.returns-in_err-kept-clause-elsewhere
+returns-in_err-kept-clause-elsewhere g c honest =
+    let old = c.args.disk.now in
+    let chosen = c.select.new.disk in
+    let read = c.read.new.disk in
+    let still = c.select.ensures.honest.1 honest in
+    looked_elsewhere g.D.Disk.moment g.D.Disk.left_since (selected (g.D.Disk.seen old)) old read (g.D.Disk.may_leave old)
+    (looks_on g.D.Disk.moment g.D.Disk.left_since old chosen read (g.D.Disk.may_leave old) (g.D.Disk.may_leave chosen) (c.select.ensures.images honest) (c.select.ensures.no_new_image honest) (c.read.ensures.images still))
+
+pub returns-in_err-gates-clause-elsewhere : goal.returns-in_err-gates-clause-elsewhere
+returns-in_err-gates-clause-elsewhere g c honest =
+    let old = c.args.disk.now in
+    let chosen = c.select.new.disk in
+    let read = c.read.new.disk in
+    let still = c.select.ensures.honest.1 honest in
+    let none : NoNewImage (g.D.Disk.may_leave old) (g.D.Disk.may_leave read) = λ image left. c.select.ensures.no_new_image honest image (c.read.ensures.no_new_image still image left) in
+    closed_elsewhere g.D.Disk.moment g.D.Disk.left_since (selected (g.D.Disk.seen old)) old read c.close.new.disk (g.D.Disk.may_leave old) (g.D.Disk.may_leave read)
+    (looks_on g.D.Disk.moment g.D.Disk.left_since old chosen read (g.D.Disk.may_leave old) (g.D.Disk.may_leave chosen) (c.select.ensures.images honest) (c.select.ensures.no_new_image honest) (c.read.ensures.images still)) none
+    (subst (λ f. LeavesOnly g.D.Disk.moment g.D.Disk.left_since read c.close.new.disk (InFileOnly f (g.D.Disk.may_leave read) (λ bytes. ⊤))) (c.in_ok-read.ensures.file ∙ c.in_ok-area.ensures.selected) (c.close.ensures.elsewhere (c.read.ensures.answer.honest_still.1 still)))
+
+pub returns-clause-elsewhere : goal.returns-clause-elsewhere
+returns-clause-elsewhere g c honest =
+    let old = c.args.disk.now in
+    let chosen = c.select.new.disk in
+    let read = c.read.new.disk in
+    let still = c.select.ensures.honest.1 honest in
+    let none : NoNewImage (g.D.Disk.may_leave old) (g.D.Disk.may_leave read) = λ image left. c.select.ensures.no_new_image honest image (c.read.ensures.no_new_image still image left) in
+    closed_elsewhere g.D.Disk.moment g.D.Disk.left_since (selected (g.D.Disk.seen old)) old read c.close.new.disk (g.D.Disk.may_leave old) (g.D.Disk.may_leave read)
+    (looks_on g.D.Disk.moment g.D.Disk.left_since old chosen read (g.D.Disk.may_leave old) (g.D.Disk.may_leave chosen) (c.select.ensures.images honest) (c.select.ensures.no_new_image honest) (c.read.ensures.images still)) none
+    (subst (λ f. LeavesOnly g.D.Disk.moment g.D.Disk.left_since read c.close.new.disk (InFileOnly f (g.D.Disk.may_leave read) (λ bytes. ⊤))) (c.in_ok-read.ensures.file ∙ c.in_ok-area.ensures.selected) (c.close.ensures.elsewhere (c.read.ensures.answer.honest_still.1 still)))
