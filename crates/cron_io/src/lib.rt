@@ -23,4 +23,3 @@ pub use out_of_memory::OutOfMemory;
 pub use sink::{Sink, SinkFault, write_all};
 pub use source::{ReadAllFault, Source, SourceFault, read_all};
 pub use standard::{StdSink, StdSource};
-

@@ -1,8 +1,8 @@
 -- What calls on one file leave of a disk's images.
-use Rattle.std.proofs.Common.{◌≡◌, ◌≢◌, ◌⊎◌, inl, inr, ⊎_elim, ℕ, ◌+◌, ◌≤◌, List, length, refl, sym, ap, ◌∙◌, subst, arith}
+use Rattle.std.proofs.Common.{◌≡◌, ℕ, ◌≤◌, List, refl, sym, ◌∙◌, subst, arith}
 use Rattle.disk_model.specs.declared.fault.FileNo.{FileNo}
-use Rattle.disk_model.specs.Images.{Image, file_of, OthersStay, InFile, Torn, ImagesFollow, IsDurable, NoNewImage, Elapses, LeavesOnly, InFileOnly}
-use Rattle.disk_model.proofs.CallerLemmas.{started, goes_on, follows_on}
+use Rattle.disk_model.specs.Images.{Image, file_of, InFile, Torn, ImagesFollow, IsDurable, NoNewImage, Elapses, LeavesOnly, InFileOnly}
+use Rattle.disk_model.proofs.CallerLemmas.{started, goes_on}
 
 -- the images of one disk, in terms of those of an earlier one
 abbrev pub AllInFile : FileNo → (Image → Type 0) → (Image → Type 0) → (List ℕ → Type 0) → Type 0

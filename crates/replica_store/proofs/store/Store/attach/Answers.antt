@@ -1,4 +1,4 @@
-use Rattle.std.proofs.Common.{◌≡◌, ◌≢◌, Err, inl, inr, ⊎_elim, length, sym, ap, ◌∙◌, subst}
+use Rattle.std.proofs.Common.{◌≡◌, ◌≢◌, Err, inl, inr, ⊎_elim, sym, ap, ◌∙◌, subst}
 use Rattle.std.specs.Bool.{⊤}
 use Rattle.disk_model.specs.declared.fault.FileNo.TheVariants.{Chooser}
 use Rattle.disk_model.specs.Images.{file_of, IsDurable, NoNewImage, LeavesOnly, InFileOnly, AllHave}
