@@ -6,6 +6,7 @@
 //! [`write_all`] put the parts together.
 #![tactic(auto)]
 
+mod asked;
 mod laws;
 mod memory;
 mod out_of_memory;
@@ -13,12 +14,12 @@ mod sink;
 mod source;
 mod standard;
 
-pub use laws::{a_count_that_stays_has_not_risen, what_a_sink_gained, what_a_source_gave};
+pub use laws::{
+    a_count_that_stays_has_not_risen, an_adapter_hands_one_answer_on, what_a_sink_gained,
+    what_a_source_gave,
+};
 pub use memory::{MemSink, MemSource};
 pub use out_of_memory::OutOfMemory;
 pub use sink::{Sink, SinkFault, write_all};
 pub use source::{ReadAllFault, Source, SourceFault, read_all};
 pub use standard::{StdSink, StdSource};
-
-#[cfg(test)]
-mod tests;

@@ -1,6 +1,10 @@
 // The readers and writers of std as sources and sinks.
-ghost use Rattle.std.specs.Prelude.{◌≡◌, None};
+ghost use Rattle.std.specs.Prelude.{◌≡◌, ◌<◌, length, None, IfOk, IsOk};
+ghost use Rattle.std.specs.Io.{ReadsAtMost, WritesAtMost};
+ghost use Rattle.std.specs.Io.KnownBytes.{ReadConsumes, WriteAppends};
+ghost use Rattle.cron_io.specs.Faults.{HasCause};
 
+use crate::asked::Asked;
 use crate::{Sink, SinkFault, Source, SourceFault};
 use std::io::{Read, Write};
 
@@ -8,7 +12,7 @@ use std::io::{Read, Write};
 /// fault, `Interrupted` too. It takes no memory.
 #[derive(Debug, Drop)]
 pub struct StdSource<R> {
-    reader: R,
+    reader: Asked<R>,
     faults: u64,
 }
 
@@ -18,17 +22,31 @@ impl<R: Read> StdSource<R> {
         ensures left { (⟦<StdSource<R> as Source>⟧.seen result).left ≡ R.remaining reader }
         ensures faults { (⟦<StdSource<R> as Source>⟧.seen result).faults ≡ 0 }
     {
-        StdSource { reader, faults: 0 }
+        StdSource {
+            reader: Asked::new(reader),
+            faults: 0,
+        }
     }
 }
 
 impl<R: Read> Source for StdSource<R> {
-    ghost seen = { λ s. record { left = R.remaining s.reader; faults = s.faults } };
+    ghost use Rattle.cron_io.specs.Standard.{HandsOn, count_read, source_asking, source_faults};
+
+    ghost seen = { λ s. record { left = R.remaining s.reader.inner; faults = s.faults } };
 
     // Nothing is known of the reads to come.
     ghost reliable = { λ _. ⊥ };
 
-    fn read(&mut self, into: &mut [u8]) -> Result<usize, SourceFault> {
+    /// Asks the reader once.
+    fn read(&mut self, into: &mut [u8]) -> Result<usize, SourceFault>
+        requires { 0 < length into.old }
+        ensures bound { ReadsAtMost result into.new }
+        ensures bytes { ReadConsumes (R.remaining self.old.reader.inner) (R.remaining self.new.reader.inner) result into.new }
+        ensures cause { HasCause (source_faults self.old) (source_faults self.new) result }
+        ensures no_fault { ⊥ → IsOk result }
+        // What an adapter owes.
+        ensures once { HandsOn (source_asking self.old) (source_asking self.new) (source_faults self.old) (source_faults self.new) count_read result }
+    {
         match self.reader.read(into) {
             Ok(count) => Ok(count),
             Err(_) => {
@@ -44,7 +62,7 @@ impl<R: Read> Source for StdSource<R> {
 /// flushes: a writer with a buffer would hide a fault that comes late.
 #[derive(Debug, Drop)]
 pub struct StdSink<W> {
-    writer: W,
+    writer: Asked<W>,
     faults: u64,
 }
 
@@ -54,15 +72,29 @@ impl<W: Write> StdSink<W> {
         ensures written { (⟦<StdSink<W> as Sink>⟧.seen result).written ≡ W.contents writer }
         ensures faults { (⟦<StdSink<W> as Sink>⟧.seen result).faults ≡ 0 }
     {
-        StdSink { writer, faults: 0 }
+        StdSink {
+            writer: Asked::new(writer),
+            faults: 0,
+        }
     }
 }
 
 impl<W: Write> Sink for StdSink<W> {
-    // Nothing is known of the writes to come.
-    ghost seen = { λ s. record { written = W.contents s.writer; faults = s.faults; room = None } };
+    ghost use Rattle.cron_io.specs.Standard.{HandsOn, count_written, sink_asking, sink_faults};
 
-    fn write(&mut self, piece: &[u8]) -> Result<usize, SinkFault> {
+    // Nothing is known of the writes to come.
+    ghost seen = { λ s. record { written = W.contents s.writer.inner; faults = s.faults; room = None } };
+
+    /// Asks the writer once.
+    fn write(&mut self, piece: &[u8]) -> Result<usize, SinkFault>
+        requires { 0 < length piece.now }
+        ensures bound { WritesAtMost result piece.now }
+        ensures some { IfOk result (λ count. 0 < count) }
+        ensures bytes { WriteAppends (W.contents self.old.writer.inner) (W.contents self.new.writer.inner) result piece.now }
+        ensures cause { HasCause (sink_faults self.old) (sink_faults self.new) result }
+        // What an adapter owes.
+        ensures once { HandsOn (sink_asking self.old) (sink_asking self.new) (sink_faults self.old) (sink_faults self.new) count_written result }
+    {
         match self.writer.write(piece) {
             Ok(count) if count > 0 => Ok(count),
             _ => {

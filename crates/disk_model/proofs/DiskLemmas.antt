@@ -6,8 +6,8 @@ use Rattle.disk_model.specs.declared.fault.FileNo.TheVariants.{Chooser, AreaA, A
 use Rattle.disk_model.specs.declared.mem_file.MemFile.{MemFile}
 use Rattle.disk_model.specs.declared.mem_files.MemFiles.{MemFiles}
 use Rattle.disk_model.specs.Files.{mem_file, seen_in, synced_in, touched_in, IsImageIn, InMemFile, IsSame}
-use Rattle.disk_model.specs.Images.{Image, file_of, with_file, OthersStay, InFile, written_over, Holds, Torn, Cut, Follows, IsDurable, NoNewImage}
-use Rattle.disk_model.specs.Memory.{bytes_of, synced_of, spans_of, IsImageOf, IsWritten, IsCut, IsSynced}
+use Rattle.disk_model.specs.Images.{Image, file_of, with_file, OthersStay, InFile, written_over, HoldsPiece, Torn, Cut, ImagesFollow, IsDurable, NoNewImage}
+use Rattle.disk_model.specs.Memory.{file_bytes, synced_of, spans_of, IsImageOf, IsWritten, IsFileCut, IsSynced}
 use Rattle.disk_model.specs.Told.{is_within}
 use Rattle.disk_model.specs.Touched.{is_touched, IsLeft}
 use Rattle.disk_model.proofs.FileLemmas.{length-written_over}
@@ -27,7 +27,7 @@ cases_file AreaB Chooser = inr (λ same. absurd cc)
 cases_file AreaB AreaA = inr (λ same. absurd cc)
 cases_file AreaB AreaB = inl refl
 
-pub file_of-seen : (file : FileNo) (files : MemFiles) → file_of file (seen_in files) ≡ bytes_of (mem_file file files)
+pub file_of-seen : (file : FileNo) (files : MemFiles) → file_of file (seen_in files) ≡ file_bytes (mem_file file files)
 file_of-seen Chooser files = refl
 file_of-seen AreaA files = refl
 file_of-seen AreaB files = refl
@@ -70,7 +70,7 @@ all_left files image each = record { chooser = each Chooser; area_a = each AreaA
 module _ (file : FileNo) (Step : MemFile → MemFile → Type 0) (old new : MemFiles) (change : InMemFile file Step old new) where
   pub others_seen : OthersStay file (seen_in old) (seen_in new)
   others_seen other differs =
-      file_of-seen other new ∙ ap bytes_of (change.others other differs) ∙ sym (file_of-seen other old)
+      file_of-seen other new ∙ ap file_bytes (change.others other differs) ∙ sym (file_of-seen other old)
 
   -- an image before the change, from one after it
   before_change : (image : Image) (bytes : List ℕ) → IsImageIn new image → IsImageOf (mem_file file old) bytes → IsImageIn old (with_file file bytes image)
@@ -86,10 +86,10 @@ module _ (file : FileNo) (Step : MemFile → MemFile → Type 0) (old new : MemF
 -- ---- a write
 
 module _ (file : FileNo) (at : ℕ) (piece : List ℕ) (old new : MemFiles) (change : InMemFile file (IsWritten at piece) old new) (within : at ≤ length (file_of file (seen_in old))) where
-  fits : at ≤ length (bytes_of (mem_file file old))
+  fits : at ≤ length (file_bytes (mem_file file old))
   fits = subst (λ bytes. at ≤ length bytes) (file_of-seen file old) within
 
-  pub write_holds : InFile file (Holds at piece) (seen_in old) (seen_in new)
+  pub write_holds : InFile file (HoldsPiece at piece) (seen_in old) (seen_in new)
   write_holds =
       record {
         step = file_of-seen file new ∙ change.step.bytes ∙ ap (written_over at piece) (sym (file_of-seen file old));
@@ -100,16 +100,16 @@ module _ (file : FileNo) (at : ℕ) (piece : List ℕ) (old new : MemFiles) (cha
   grows place =
       ap (λ spans. is_touched spans place) change.step.touched ∙ is_touched-push (spans_of (mem_file file old)) (record { from = at; until = at + length piece }) place
 
-  size : length (bytes_of (mem_file file new)) ≡ max (length (bytes_of (mem_file file old))) (at + length piece)
-  size = ap length change.step.bytes ∙ length-written_over at piece (bytes_of (mem_file file old)) fits
+  size : length (file_bytes (mem_file file new)) ≡ max (length (file_bytes (mem_file file old))) (at + length piece)
+  size = ap length change.step.bytes ∙ length-written_over at piece (file_bytes (mem_file file old)) fits
 
   was_torn : (image : Image) → IsImageIn new image → (before : List ℕ) × IsImageOf (mem_file file old) before × Torn at (length piece) before (file_of file image)
   was_torn image left =
-      torn (synced_of (mem_file file old)) (file_of file image) (length (bytes_of (mem_file file old))) at (length piece) (is_touched (spans_of (mem_file file old))) (is_touched (spans_of (mem_file file new))) fits grows
-      (subst (λ synced. IsLeft synced (max (length (bytes_of (mem_file file old))) (at + length piece)) (is_touched (spans_of (mem_file file new))) (file_of file image)) change.step.synced
+      torn (synced_of (mem_file file old)) (file_of file image) (length (file_bytes (mem_file file old))) at (length piece) (is_touched (spans_of (mem_file file old))) (is_touched (spans_of (mem_file file new))) fits grows
+      (subst (λ synced. IsLeft synced (max (length (file_bytes (mem_file file old))) (at + length piece)) (is_touched (spans_of (mem_file file new))) (file_of file image)) change.step.synced
       (subst (λ now. IsLeft (synced_of (mem_file file new)) now (is_touched (spans_of (mem_file file new))) (file_of file image)) size (each_left new image left file)))
 
-  pub write_follows : Follows (InFile file (Torn at (length piece))) (IsImageIn old) (IsImageIn new)
+  pub write_follows : ImagesFollow (InFile file (Torn at (length piece))) (IsImageIn old) (IsImageIn new)
   write_follows image left =
       let was = was_torn image left in (
         with_file file was.0 image,
@@ -122,32 +122,32 @@ module _ (file : FileNo) (at : ℕ) (piece : List ℕ) (old new : MemFiles) (cha
 
 -- ---- a cut
 
-module _ (file : FileNo) (cut_to : ℕ) (old new : MemFiles) (change : InMemFile file (IsCut cut_to) old new) (within : cut_to ≤ length (file_of file (seen_in old))) where
+module _ (file : FileNo) (cut_to : ℕ) (old new : MemFiles) (change : InMemFile file (IsFileCut cut_to) old new) (within : cut_to ≤ length (file_of file (seen_in old))) where
   pub cut_done : InFile file (λ before after. after ≡ take cut_to before) (seen_in old) (seen_in new)
   cut_done =
       record {
         step = file_of-seen file new ∙ change.step.bytes ∙ ap (take cut_to) (sym (file_of-seen file old));
-        others = others_seen file (IsCut cut_to) old new change;
+        others = others_seen file (IsFileCut cut_to) old new change;
       }
 
-  cut_fits : cut_to ≤ length (bytes_of (mem_file file old))
+  cut_fits : cut_to ≤ length (file_bytes (mem_file file old))
   cut_fits = subst (λ bytes. cut_to ≤ length bytes) (file_of-seen file old) within
 
-  cut_size : length (bytes_of (mem_file file new)) ≡ cut_to
-  cut_size = omega (arith, ap length change.step.bytes, length-take cut_to (bytes_of (mem_file file old)), cut_fits)
+  cut_size : length (file_bytes (mem_file file new)) ≡ cut_to
+  cut_size = omega (arith, ap length change.step.bytes, length-take cut_to (file_bytes (mem_file file old)), cut_fits)
 
   was_longer : (image : Image) → IsImageIn new image → (before : List ℕ) × IsImageOf (mem_file file old) before × Cut cut_to before (file_of file image)
   was_longer image left =
-      cut_short (synced_of (mem_file file old)) (file_of file image) (length (bytes_of (mem_file file old))) cut_to (is_touched (spans_of (mem_file file old))) cut_fits
+      cut_short (synced_of (mem_file file old)) (file_of file image) (length (file_bytes (mem_file file old))) cut_to (is_touched (spans_of (mem_file file old))) cut_fits
       (subst (λ spans. IsLeft (synced_of (mem_file file old)) cut_to (is_touched spans) (file_of file image)) change.step.touched
       (subst (λ synced. IsLeft synced cut_to (is_touched (spans_of (mem_file file new))) (file_of file image)) change.step.synced
       (subst (λ now. IsLeft (synced_of (mem_file file new)) now (is_touched (spans_of (mem_file file new))) (file_of file image)) cut_size (each_left new image left file))))
 
-  pub cut_follows : Follows (InFile file (Cut cut_to)) (IsImageIn old) (IsImageIn new)
+  pub cut_follows : ImagesFollow (InFile file (Cut cut_to)) (IsImageIn old) (IsImageIn new)
   cut_follows image left =
       let was = was_longer image left in (
         with_file file was.0 image,
-        before_change file (IsCut cut_to) old new change image was.0 left was.1,
+        before_change file (IsFileCut cut_to) old new change image was.0 left was.1,
         record {
           step = subst (λ before. Cut cut_to before (file_of file image)) (sym (file_of-with_file file was.0 image)) was.2;
           others = λ other differs. sym (others-with_file file was.0 image other differs);
@@ -157,7 +157,7 @@ module _ (file : FileNo) (cut_to : ℕ) (old new : MemFiles) (change : InMemFile
 -- ---- a sync
 
 abbrev pub Syncs : MemFile → MemFile → Type 0
-Syncs before after = IsSynced (bytes_of before) after
+Syncs before after = IsSynced (file_bytes before) after
 
 -- a file that was synced is what is there, whatever a stop leaves
 pub alone : (file : MemFile) (bytes image : List ℕ) → IsSynced bytes file → IsImageOf file image → image ≡ bytes
@@ -165,7 +165,7 @@ alone file bytes image synced left =
     synced_alone bytes image
     (subst (λ spans. IsLeft bytes (length bytes) (is_touched spans) image) synced.touched
     (subst (λ now. IsLeft bytes (length now) (is_touched (spans_of file)) image) synced.bytes
-    (subst (λ before. IsLeft before (length (bytes_of file)) (is_touched (spans_of file)) image) synced.synced left)))
+    (subst (λ before. IsLeft before (length (file_bytes file)) (is_touched (spans_of file)) image) synced.synced left)))
 
 module _ (file : FileNo) (old new : MemFiles) (change : InMemFile file Syncs old new) where
   pub sync_seen : seen_in new ≡ seen_in old
@@ -174,8 +174,8 @@ module _ (file : FileNo) (old new : MemFiles) (change : InMemFile file Syncs old
     | inr differs ↦ others_seen file Syncs old new change other differs
   ])
 
-  is_there : (image : Image) → IsImageIn new image → file_of file image ≡ bytes_of (mem_file file old)
-  is_there image left = alone (mem_file file new) (bytes_of (mem_file file old)) (file_of file image) change.step (each_left new image left file)
+  is_there : (image : Image) → IsImageIn new image → file_of file image ≡ file_bytes (mem_file file old)
+  is_there image left = alone (mem_file file new) (file_bytes (mem_file file old)) (file_of file image) change.step (each_left new image left file)
 
   pub sync_durable : IsDurable file (seen_in new) (IsImageIn new)
   sync_durable image left = is_there image left ∙ sym (file_of-seen file new ∙ change.step.bytes)
@@ -184,7 +184,7 @@ module _ (file : FileNo) (old new : MemFiles) (change : InMemFile file Syncs old
   sync_no_new_image image left = all_left old image (λ other. elim (cases_file other file) [
     | inl same ↦
         subst (λ f. IsImageOf (mem_file f old) (file_of f image)) (sym same)
-        (subst (IsImageOf (mem_file file old)) (sym (is_there image left)) (seen_left (synced_of (mem_file file old)) (bytes_of (mem_file file old)) (spans_of (mem_file file old)) (mem_file file old).agrees))
+        (subst (IsImageOf (mem_file file old)) (sym (is_there image left)) (seen_left (synced_of (mem_file file old)) (file_bytes (mem_file file old)) (spans_of (mem_file file old)) (mem_file file old).agrees))
     | inr differs ↦ subst (λ f. IsImageOf f (file_of other image)) (change.others other differs) (each_left new image left other)
   ])
 
@@ -202,9 +202,9 @@ module _ (old new : MemFiles) (same : IsSame old new) where
 
   file_alike : (file : FileNo) (image : List ℕ) → IsImageOf (mem_file file new) image → IsImageOf (mem_file file old) image
   file_alike file image left =
-      subst (λ spans. IsLeft (synced_of (mem_file file old)) (length (bytes_of (mem_file file old))) (is_touched spans) image) (same file).touched
+      subst (λ spans. IsLeft (synced_of (mem_file file old)) (length (file_bytes (mem_file file old))) (is_touched spans) image) (same file).touched
       (subst (λ bytes. IsLeft (synced_of (mem_file file old)) (length bytes) (is_touched (spans_of (mem_file file new))) image) (same file).bytes
-      (subst (λ synced. IsLeft synced (length (bytes_of (mem_file file new))) (is_touched (spans_of (mem_file file new))) image) (same file).synced left))
+      (subst (λ synced. IsLeft synced (length (file_bytes (mem_file file new))) (is_touched (spans_of (mem_file file new))) image) (same file).synced left))
 
   pub same_images : NoNewImage (IsImageIn old) (IsImageIn new)
   same_images image left = all_left old image (λ file. file_alike file (file_of file image) (each_left new image left file))
@@ -213,7 +213,7 @@ pub is_same_back : (old new : MemFiles) → IsSame old new → IsSame new old
 is_same_back old new same file = record { bytes = sym (same file).bytes; synced = sym (same file).synced; touched = sym (same file).touched }
 
 -- a write that changed nothing
-pub torn_not_at_all : (file : FileNo) (at count : ℕ) (old new : Image → Type 0) → NoNewImage old new → Follows (InFile file (Torn at count)) old new
+pub torn_not_at_all : (file : FileNo) (at count : ℕ) (old new : Image → Type 0) → NoNewImage old new → ImagesFollow (InFile file (Torn at count)) old new
 torn_not_at_all file at count old new none image left = (
   image,
   none image left,

@@ -13,8 +13,8 @@ use Rattle.disk_model.specs.Calls.{is_listing, number_by, told_by, IsRevived}
 use Rattle.disk_model.specs.Files.{mem_file, seen_in, synced_in, touched_in, IsImageIn, AllRestored, AreEmpty}
 use Rattle.disk_model.specs.Images.{Image, file_of, NoNewImage}
 use Rattle.disk_model.specs.MemDisk.{no_files, new_told}
-use Rattle.disk_model.specs.Memory.{bytes_of, synced_of, spans_of, IsImageOf, restored}
-use Rattle.disk_model.specs.Told.{Told, overwritten, image_of, image_by, after_revive}
+use Rattle.disk_model.specs.Memory.{file_bytes, synced_of, spans_of, IsImageOf}
+use Rattle.disk_model.specs.Told.{Told, overwritten, bytes_in_image, image_of, image_by, after_revive}
 use Rattle.disk_model.specs.Touched.{is_touched, IsBetween, IsLeft}
 use Rattle.disk_model.proofs.DiskLemmas.{same_image, file_of-seen, file_of-synced, each_left, all_left, alone}
 use Rattle.disk_model.proofs.FileLemmas.{length-overwritten, get_or-overwritten}
@@ -30,27 +30,30 @@ synced_left synced now touched =
       others = λ place in_image in_synced not_touched. refl;
     }
 
-overwritten_left : (file : MemFile) (byte : ℕ) → IsImageOf file (overwritten (is_touched (spans_of file)) byte 0 (bytes_of file))
+overwritten_left : (file : MemFile) (byte : ℕ) → IsImageOf file (overwritten (is_touched (spans_of file)) byte 0 (file_bytes file))
 overwritten_left file byte =
     let touched = is_touched (spans_of file) in
-    let there = seen_left (synced_of file) (bytes_of file) (spans_of file) file.agrees in
-    let long = length-overwritten touched byte 0 (bytes_of file) in
+    let there = seen_left (synced_of file) (file_bytes file) (spans_of file) file.agrees in
+    let long = length-overwritten touched byte 0 (file_bytes file) in
     record {
-      size = subst (IsBetween (length (synced_of file)) (length (bytes_of file))) (sym long) there.size;
+      size = subst (IsBetween (length (synced_of file)) (length (file_bytes file))) (sym long) there.size;
       others = λ place in_image in_synced not_touched.
-          let in_bytes : place < length (bytes_of file) = omega (arith, in_image, long) in
-          get_or-overwritten touched byte 0 place (bytes_of file) in_bytes
-          ∙ ap (λ (n : ℕ). if touched n then byte else get_or (bytes_of file) place 0) (omega arith)
-          ∙ cond-false (touched place) byte (get_or (bytes_of file) place 0) not_touched
+          let in_bytes : place < length (file_bytes file) = omega (arith, in_image, long) in
+          get_or-overwritten touched byte 0 place (file_bytes file) in_bytes
+          ∙ ap (λ (n : ℕ). if touched n then byte else get_or (file_bytes file) place 0) (omega arith)
+          ∙ cond-false (touched place) byte (get_or (file_bytes file) place 0) not_touched
           ∙ there.others place in_bytes in_synced not_touched;
     }
 
+abbrev restored : ℕ → MemFile → List ℕ
+restored image file = bytes_in_image image (synced_of file) (file_bytes file) (is_touched (spans_of file))
+
 restored_left : (image : ℕ) (file : MemFile) → IsImageOf file (restored image file)
 restored_left image file =
-    cond_both (image % 3 == 0) (synced_of file) (if image % 3 == 1 then bytes_of file else overwritten (is_touched (spans_of file)) (image / 3 % 256) 0 (bytes_of file)) (IsImageOf file)
-    (λ e. synced_left (synced_of file) (length (bytes_of file)) (is_touched (spans_of file)))
-    (λ e. cond_both (image % 3 == 1) (bytes_of file) (overwritten (is_touched (spans_of file)) (image / 3 % 256) 0 (bytes_of file)) (IsImageOf file)
-    (λ e. seen_left (synced_of file) (bytes_of file) (spans_of file) file.agrees)
+    cond_both (image % 3 == 0) (synced_of file) (if image % 3 == 1 then file_bytes file else overwritten (is_touched (spans_of file)) (image / 3 % 256) 0 (file_bytes file)) (IsImageOf file)
+    (λ e. synced_left (synced_of file) (length (file_bytes file)) (is_touched (spans_of file)))
+    (λ e. cond_both (image % 3 == 1) (file_bytes file) (overwritten (is_touched (spans_of file)) (image / 3 % 256) 0 (file_bytes file)) (IsImageOf file)
+    (λ e. seen_left (synced_of file) (file_bytes file) (spans_of file) file.agrees)
     (λ e. overwritten_left file (image / 3 % 256)))
 
 restored_in_image : (image : ℕ) (calls : Calls) (files : MemFiles) (file : FileNo) → restored image (mem_file file files) ≡ file_of file (image_of image (told_by calls files))
@@ -66,6 +69,10 @@ module _ (image : ℕ) (old new : MemFiles) (all : AllRestored image old new) wh
   pub restored_no_new_image : NoNewImage (IsImageIn old) (IsImageIn new)
   restored_no_new_image found left = all_left old found (λ file.
       subst (IsImageOf (mem_file file old)) (sym (alone (mem_file file new) (restored image (mem_file file old)) (file_of file found) (all file) (each_left new found left file))) (restored_left image (mem_file file old)))
+
+  pub restored_durable : (file : FileNo) (found : Image) → IsImageIn new found → file_of file found ≡ file_of file (seen_in new)
+  restored_durable file found left =
+      alone (mem_file file new) (restored image (mem_file file old)) (file_of file found) (all file) (each_left new found left file) ∙ sym (file_of-seen file new ∙ (all file).bytes)
 
   restored_seen : (calls : Calls) → seen_in new ≡ image_of image (told_by calls old)
   restored_seen calls = same_image (seen_in new) (image_of image (told_by calls old)) (λ file. file_of-seen file new ∙ (all file).bytes ∙ restored_in_image image calls old file)

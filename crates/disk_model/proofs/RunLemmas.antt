@@ -1,8 +1,8 @@
 -- What calls on one file leave of a disk's images.
-use Rattle.std.proofs.Common.{◌≡◌, ◌≢◌, ◌⊎◌, inl, inr, ⊎_elim, ℕ, ◌+◌, ◌≤◌, List, length, refl, sym, ap, ◌∙◌, subst, arith}
+use Rattle.std.proofs.Common.{◌≡◌, ℕ, ◌≤◌, List, refl, sym, ◌∙◌, subst, arith}
 use Rattle.disk_model.specs.declared.fault.FileNo.{FileNo}
-use Rattle.disk_model.specs.Images.{Image, file_of, OthersStay, InFile, Torn, Follows, IsDurable, NoNewImage, Elapses, LeavesOnly, InFileOnly}
-use Rattle.disk_model.proofs.CallerLemmas.{started, goes_on, follows_on}
+use Rattle.disk_model.specs.Images.{Image, file_of, InFile, Torn, ImagesFollow, IsDurable, NoNewImage, Elapses, LeavesOnly, InFileOnly}
+use Rattle.disk_model.proofs.CallerLemmas.{started, goes_on}
 
 -- the images of one disk, in terms of those of an earlier one
 abbrev pub AllInFile : FileNo → (Image → Type 0) → (Image → Type 0) → (List ℕ → Type 0) → Type 0
@@ -13,7 +13,7 @@ pub in_file_at_first : (file : FileNo) (before : Image → Type 0) (P : List ℕ
 in_file_at_first file before P has image left = (image, left, (λ other differs. refl), has image left)
 
 -- after a call on the file
-pub in_file_next : (file : FileNo) (before now later : Image → Type 0) (P Q : List ℕ → Type 0) (Step : List ℕ → List ℕ → Type 0) → AllInFile file before now P → Follows (InFile file Step) now later
+pub in_file_next : (file : FileNo) (before now later : Image → Type 0) (P Q : List ℕ → Type 0) (Step : List ℕ → List ℕ → Type 0) → AllInFile file before now P → ImagesFollow (InFile file Step) now later
     → ((old new : List ℕ) → P old → Step old new → Q new) → AllInFile file before later Q
 in_file_next file before now later P Q Step all follows steps image left =
     let from = follows image left in
@@ -44,14 +44,14 @@ not_torn at count bytes = record { before = refl; after = refl; no_shorter = ome
 
 module _ {D : Type 0} (moment : D → ℕ) (left_since : D → ℕ → Image → Type 0) (may_leave : D → Image → Type 0) where
   -- a write to a file that was synced: whatever is left of it is what it was, torn where the write went
-  pub torn_images : (old mid : D) (seen : Image) (file : FileNo) (at count : ℕ) → IsDurable file seen (may_leave old) → Follows (InFile file (Torn at count)) (may_leave old) (may_leave mid)
+  pub torn_images : (old mid : D) (seen : Image) (file : FileNo) (at count : ℕ) → IsDurable file seen (may_leave old) → ImagesFollow (InFile file (Torn at count)) (may_leave old) (may_leave mid)
       → AllInFile file (may_leave old) (may_leave mid) (Torn at count (file_of file seen))
   torn_images old mid seen file at count durable follows =
       in_file_next file (may_leave old) (may_leave old) (may_leave mid) (λ bytes. bytes ≡ file_of file seen) (Torn at count (file_of file seen)) (Torn at count)
       (in_file_at_first file (may_leave old) (λ bytes. bytes ≡ file_of file seen) durable) follows
       (λ before after is step. subst (λ bytes. Torn at count bytes after) is step)
 
-  pub write_leaves : (old mid : D) (seen : Image) (file : FileNo) (at count : ℕ) → ((image : Image) → left_since old (moment old) image → may_leave old image) → IsDurable file seen (may_leave old) → Follows (InFile file (Torn at count)) (may_leave old) (may_leave mid)
+  pub write_leaves : (old mid : D) (seen : Image) (file : FileNo) (at count : ℕ) → ((image : Image) → left_since old (moment old) image → may_leave old image) → IsDurable file seen (may_leave old) → ImagesFollow (InFile file (Torn at count)) (may_leave old) (may_leave mid)
       → Elapses (moment old) (moment mid) (left_since old) (left_since mid) (may_leave mid)
       → LeavesOnly moment left_since old mid (InFileOnly file (may_leave old) (Torn at count (file_of file seen)))
   write_leaves old mid seen file at count only durable follows time =

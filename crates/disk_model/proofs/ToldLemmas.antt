@@ -9,10 +9,10 @@ use Rattle.disk_model.specs.declared.fault.FileNo.{FileNo}
 use Rattle.disk_model.specs.declared.fault.FileNo.TheVariants.{Chooser, AreaA, AreaB}
 use Rattle.disk_model.specs.declared.mem_files.MemFiles.{MemFiles}
 use Rattle.disk_model.specs.Calls.{can_fail, is_listing, told_by, HasSameArm, Passed}
-use Rattle.disk_model.specs.Files.{mem_file, seen_in, synced_in, touched_in, InMemFile}
+use Rattle.disk_model.specs.Files.{mem_file, seen_in, synced_in, touched_in, IsImageIn, InMemFile}
 use Rattle.disk_model.specs.Images.{Image, file_of, with_file, written_over}
-use Rattle.disk_model.specs.Memory.{synced_of, spans_of, IsWritten, IsCut}
-use Rattle.disk_model.specs.Told.{Told, is_file, is_within, is_due, one_less, AfterCall}
+use Rattle.disk_model.specs.Memory.{synced_of, spans_of, IsWritten, IsFileCut}
+use Rattle.disk_model.specs.Told.{Told, is_file, is_within, is_due, one_less, AfterCall, MayBeLeft}
 use Rattle.disk_model.specs.Touched.{is_touched}
 use Rattle.disk_model.proofs.DiskLemmas.{cases_file, same_image, file_of-with_file, others-with_file, others_seen, file_of-seen, file_of-synced, Syncs}
 use Rattle.disk_model.proofs.SpanLemmas.{is_touched-push}
@@ -90,10 +90,10 @@ module _ (file : FileNo) (at : ℕ) (piece : List ℕ) (old new : MemFiles) (cha
 
 -- ---- a cut
 
-module _ (file : FileNo) (cut_to : ℕ) (old new : MemFiles) (change : InMemFile file (IsCut cut_to) old new) where
+module _ (file : FileNo) (cut_to : ℕ) (old new : MemFiles) (change : InMemFile file (IsFileCut cut_to) old new) where
   pub cut_bytes : seen_in new ≡ with_file file (take cut_to (file_of file (seen_in old))) (seen_in old)
   cut_bytes =
-      one_file file _ (seen_in old) (seen_in new) (file_of-seen file new ∙ change.step.bytes ∙ ap (take cut_to) (sym (file_of-seen file old))) (others_seen file (IsCut cut_to) old new change)
+      one_file file _ (seen_in old) (seen_in new) (file_of-seen file new ∙ change.step.bytes ∙ ap (take cut_to) (sym (file_of-seen file old))) (others_seen file (IsFileCut cut_to) old new change)
 
   pub cut_synced : synced_in new ≡ synced_in old
   cut_synced = same_image (synced_in new) (synced_in old) (λ other. file_of-synced other new ∙ same other ∙ sym (file_of-synced other old))
@@ -189,3 +189,13 @@ wants_memory effect stopped_effect result old mid files after same running seen 
 pub passed_told : {u : Unit} (effect : Told → Told) (old mid new : Calls) (files after : MemFiles) → HasSameArm old mid → old.stopped ≡ false → effect (told_by old files) ≡ with_files (told_by old files) after
     → Passed mid new (Ok u) → AfterCall {T = Unit} effect effect (Ok u) (told_by old files) (told_by new after)
 passed_told effect old mid new files after same running is passed = passes effect effect old mid new files after same running (Ok _) is is passed
+
+-- ---- what a stop may leave, by what the disk tells
+
+pub left_is_told : (calls : Calls) (files : MemFiles) (image : Image) → IsImageIn files image → MayBeLeft (told_by calls files) image
+left_is_told calls files image left Chooser = left.chooser
+left_is_told calls files image left AreaA = left.area_a
+left_is_told calls files image left AreaB = left.area_b
+
+pub told_is_left : (calls : Calls) (files : MemFiles) (image : Image) → MayBeLeft (told_by calls files) image → IsImageIn files image
+told_is_left calls files image left = record { chooser = left Chooser; area_a = left AreaA; area_b = left AreaB }

@@ -9,8 +9,12 @@ use Rattle.disk_model.specs.Faults.{Counts}
 use Rattle.disk_model.specs.Files.{seen_in, synced_in, touched_in}
 use Rattle.disk_model.specs.Told.{Told, is_due, one_less}
 
-abbrev pub counts_of : Calls → Counts
-counts_of calls = record { stops = calls.stops; faults = calls.faults }
+abbrev pub call_counts : Calls → Counts
+call_counts calls = record { stops = calls.stops; faults = calls.faults }
+
+-- no stop yet, and no fault
+abbrev pub no_counts : Counts
+no_counts = record { stops = 0; faults = 0 }
 
 abbrev pub is_listing : List ℕ → Bool
 is_listing [] = false
@@ -59,11 +63,11 @@ pub record IsArmed (arm : Option Arm) (old new : Calls) : Type 0 where
   pub fails : new.fails ≡ old.fails
   pub set : new.arm ≡ (if old.stopped then old.arm else arm)
   pub stopped : new.stopped ≡ old.stopped
-  pub counts : counts_of new ≡ counts_of old
+  pub counts : call_counts new ≡ call_counts old
 
 -- it is neither armed nor stopped, where it had stopped
 pub record IsRevived (old new : Calls) : Type 0 where
   pub fails : new.fails ≡ old.fails
   pub arm : new.arm ≡ (if old.stopped then None else old.arm)
   pub stopped : new.stopped ≡ false
-  pub counts : counts_of new ≡ counts_of old
+  pub counts : call_counts new ≡ call_counts old

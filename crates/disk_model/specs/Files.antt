@@ -5,7 +5,7 @@ use Rattle.disk_model.specs.declared.fault.FileNo.TheVariants.{Chooser, AreaA, A
 use Rattle.disk_model.specs.declared.mem_file.MemFile.{MemFile}
 use Rattle.disk_model.specs.declared.mem_files.MemFiles.{MemFiles}
 use Rattle.disk_model.specs.Images.{Image}
-use Rattle.disk_model.specs.Memory.{bytes_of, synced_of, spans_of, IsImageOf, IsSameFile, Restores}
+use Rattle.disk_model.specs.Memory.{file_bytes, synced_of, spans_of, IsImageOf, IsSameFile, Restores}
 use Rattle.disk_model.specs.Touched.{is_touched}
 
 abbrev pub mem_file : FileNo → MemFiles → MemFile
@@ -16,7 +16,7 @@ mem_file AreaB files = files.area_b
 -- what is there
 abbrev pub seen_in : MemFiles → Image
 seen_in files =
-    record { chooser = bytes_of files.chooser; area_a = bytes_of files.area_a; area_b = bytes_of files.area_b }
+    record { chooser = file_bytes files.chooser; area_a = file_bytes files.area_a; area_b = file_bytes files.area_b }
 
 -- what the last syncs left
 abbrev pub synced_in : MemFiles → Image
@@ -39,7 +39,7 @@ pub record InMemFile (file : FileNo) (Step : MemFile → MemFile → Type 0) (ol
   pub others : (other : FileNo) → other ≢ file → mem_file other new ≡ mem_file other old
 
 pub record AreEmpty (files : MemFiles) : Type 0 where
-  pub seen : (file : FileNo) → bytes_of (mem_file file files) ≡ []
+  pub seen : (file : FileNo) → file_bytes (mem_file file files) ≡ []
   pub synced : (file : FileNo) → synced_of (mem_file file files) ≡ []
   pub touched : (file : FileNo) → spans_of (mem_file file files) ≡ []
 

@@ -35,8 +35,8 @@ abbrev pub written_over : ℕ → List ℕ → List ℕ → List ℕ
 written_over at piece bytes = take at bytes ++ (piece ++ drop (at + length piece) bytes)
 
 -- the new bytes are the old ones with these written over them
-abbrev pub Holds : ℕ → List ℕ → List ℕ → List ℕ → Type 0
-Holds at piece old new = new ≡ written_over at piece old
+abbrev pub HoldsPiece : ℕ → List ℕ → List ℕ → List ℕ → Type 0
+HoldsPiece at piece old new = new ≡ written_over at piece old
 
 -- After a write of so many bytes at an offset that a stop cuts short: any bytes there and past the old end, the same
 -- elsewhere, and a length between.
@@ -52,8 +52,8 @@ pub record Cut (size : ℕ) (old new : List ℕ) : Type 0 where
   pub front : take (length new) old ≡ new
 
 -- each image that a stop may leave now is one that it might have left before, after a step
-abbrev pub Follows : (Image → Image → Type 0) → (Image → Type 0) → (Image → Type 0) → Type 0
-Follows Step old new = (image : Image) → new image → (before : Image) × old before × Step before image
+abbrev pub ImagesFollow : (Image → Image → Type 0) → (Image → Type 0) → (Image → Type 0) → Type 0
+ImagesFollow Step old new = (image : Image) → new image → (before : Image) × old before × Step before image
 
 -- whatever image a stop leaves, the file has the bytes that a read gives
 abbrev pub IsDurable : FileNo → Image → (Image → Type 0) → Type 0

@@ -6,17 +6,17 @@ use Rattle.std.proofs.Math.Nat.{le_refl, le_of_lt}
 use Rattle.disk_model.specs.declared.mem_file.MemFile.{MemFile}
 use Rattle.disk_model.specs.declared.mem_files.MemFiles.{MemFiles}
 use Rattle.disk_model.specs.Files.{seen_in, IsImageIn}
-use Rattle.disk_model.specs.Memory.{bytes_of, synced_of, IsImageOf}
+use Rattle.disk_model.specs.Memory.{file_bytes, synced_of, IsImageOf}
 use Rattle.disk_model.specs.Touched.{IsBetween}
 
 between_ends : (one other : ℕ) → (other < one) ⊎ (one ≤ other) → IsBetween one other other
 between_ends one other (inl less) = inr (le_refl other, le_of_lt less)
 between_ends one other (inr more) = inl (more, le_refl other)
 
-file_left : (file : MemFile) → IsImageOf file (bytes_of file)
+file_left : (file : MemFile) → IsImageOf file (file_bytes file)
 file_left file =
     record {
-      size = between_ends (length (synced_of file)) (length (bytes_of file)) (cases_lt (length (bytes_of file)) (length (synced_of file)));
+      size = between_ends (length (synced_of file)) (length (file_bytes file)) (cases_lt (length (file_bytes file)) (length (synced_of file)));
       others = λ place in_bytes in_synced not_touched. file.agrees place in_synced in_bytes not_touched;
     }
 

@@ -1,7 +1,7 @@
 -- A disk in memory, as contracts see it.
 use Rattle.std.specs.Prelude.{ℕ, Bool, false, [], length, Option, None, Some}
 use Rattle.disk_model.specs.declared.mem_disk.MemDisk.{MemDisk}
-use Rattle.disk_model.specs.Calls.{counts_of, told_by}
+use Rattle.disk_model.specs.Calls.{call_counts, told_by}
 use Rattle.disk_model.specs.Faults.{Counts}
 use Rattle.disk_model.specs.Files.{seen_in, IsImageIn, LeftSince}
 use Rattle.disk_model.specs.Images.{Image}
@@ -20,7 +20,7 @@ abbrev pub left_since_by : MemDisk → ℕ → Image → Type 0
 left_since_by disk start image = LeftSince disk.history.items disk.files start image
 
 abbrev pub counts_by : MemDisk → Counts
-counts_by disk = counts_of disk.calls
+counts_by disk = call_counts disk.calls
 
 abbrev pub told_of : MemDisk → Option Told
 told_of disk = Some (told_by disk.calls disk.files)

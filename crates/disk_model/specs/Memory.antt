@@ -1,13 +1,13 @@
 -- A file in memory, and what its calls do to it.
-use Rattle.std.specs.Prelude.{◌≡◌, ℕ, ◌+◌, ◌==◌, ◌/◌, ◌%◌, if◌then◌else◌, List, [], ◌∷◌, ◌++◌, length, take}
+use Rattle.std.specs.Prelude.{◌≡◌, ℕ, ◌+◌, List, [], ◌∷◌, ◌++◌, length, take}
 use Rattle.disk_model.specs.declared.span.Span.{Span}
 use Rattle.disk_model.specs.declared.mem_file.MemFile.{MemFile}
 use Rattle.disk_model.specs.Images.{written_over}
-use Rattle.disk_model.specs.Told.{overwritten}
+use Rattle.disk_model.specs.Told.{bytes_in_image}
 use Rattle.disk_model.specs.Touched.{is_touched, IsLeft}
 
-abbrev pub bytes_of : MemFile → List ℕ
-bytes_of file = file.bytes.items
+abbrev pub file_bytes : MemFile → List ℕ
+file_bytes file = file.bytes.items
 
 abbrev pub synced_of : MemFile → List ℕ
 synced_of file = file.synced.items
@@ -17,36 +17,30 @@ spans_of file = file.touched.items
 
 -- what a stop may leave of a file in memory
 abbrev pub IsImageOf : MemFile → List ℕ → Type 0
-IsImageOf file image = IsLeft (synced_of file) (length (bytes_of file)) (is_touched (spans_of file)) image
+IsImageOf file image = IsLeft (synced_of file) (length (file_bytes file)) (is_touched (spans_of file)) image
 
 -- ---- what the calls do to it
 
 pub record IsWritten (at : ℕ) (piece : List ℕ) (old new : MemFile) : Type 0 where
-  pub bytes : bytes_of new ≡ written_over at piece (bytes_of old)
+  pub bytes : file_bytes new ≡ written_over at piece (file_bytes old)
   pub synced : synced_of new ≡ synced_of old
   pub touched : spans_of new ≡ spans_of old ++ record { from = at; until = at + length piece } ∷ []
 
-pub record IsCut (size : ℕ) (old new : MemFile) : Type 0 where
-  pub bytes : bytes_of new ≡ take size (bytes_of old)
+pub record IsFileCut (size : ℕ) (old new : MemFile) : Type 0 where
+  pub bytes : file_bytes new ≡ take size (file_bytes old)
   pub synced : synced_of new ≡ synced_of old
   pub touched : spans_of new ≡ spans_of old
 
 pub record IsSynced (now : List ℕ) (new : MemFile) : Type 0 where
-  pub bytes : bytes_of new ≡ now
+  pub bytes : file_bytes new ≡ now
   pub synced : synced_of new ≡ now
   pub touched : spans_of new ≡ []
 
 pub record IsSameFile (old new : MemFile) : Type 0 where
-  pub bytes : bytes_of new ≡ bytes_of old
+  pub bytes : file_bytes new ≡ file_bytes old
   pub synced : synced_of new ≡ synced_of old
   pub touched : spans_of new ≡ spans_of old
 
--- the bytes in the image of a number
-abbrev pub restored : ℕ → MemFile → List ℕ
-restored image file =
-    if image % 3 == 0 then synced_of file
-    else if image % 3 == 1 then bytes_of file
-    else overwritten (is_touched (spans_of file)) (image / 3 % 256) 0 (bytes_of file)
-
+-- the file is what it is in the image of a number, and synced
 abbrev pub Restores : ℕ → MemFile → MemFile → Type 0
-Restores image old new = IsSynced (restored image old) new
+Restores image old new = IsSynced (bytes_in_image image (synced_of old) (file_bytes old) (is_touched (spans_of old))) new

@@ -1,11 +1,12 @@
 -- What a disk may tell of itself beside its images: when it will stop, and what that stop leaves.
-use Rattle.std.specs.Prelude.{◌≡◌, ◌⊎◌, ⊤, ℕ, ◌+◌, ◌-◌, ◌/◌, ◌%◌, ◌==◌, nat_le, nat_lt, Bool, true, false, not, ◌&&◌, ◌||◌, if◌then◌else◌, List, [], ◌∷◌, length, take, Option, None, Some, Result, Ok, Err}
+use Rattle.std.specs.Prelude.{◌≡◌, ◌⊎◌, ⊤, ℕ, ◌+◌, ◌-◌, ◌/◌, ◌%◌, ◌==◌, nat_le, nat_lt, Bool, true, false, not, ◌&&◌, ◌||◌, if◌then◌else◌, List, [], ◌∷◌, length, take, Option, None, Some, IsSomeAnd, Result, Ok, Err, IsErr}
 use Rattle.disk_model.specs.declared.armed.Arm.{Arm}
 use Rattle.disk_model.specs.declared.fault.FileNo.{FileNo}
 use Rattle.disk_model.specs.declared.fault.FileNo.TheVariants.{Chooser, AreaA, AreaB}
 use Rattle.disk_model.specs.declared.fault.DiskFault.{DiskFault}
 use Rattle.disk_model.specs.declared.fault.DiskFault.TheVariants.{Stopped, Failed, OutOfMemory}
 use Rattle.disk_model.specs.Images.{Image, file_of, with_file, written_over}
+use Rattle.disk_model.specs.Touched.{IsLeft}
 
 pub record Told : Type 0 where
   -- it can fail
@@ -25,6 +26,19 @@ abbrev pub Tells : (Told → Told → Type 0) → Option Told → Option Told �
 Tells Step None new = ⊤
 Tells Step (Some old) None = ⊥
 Tells Step (Some old) (Some new) = Step old new
+
+-- A stop may leave the image: each file is what may be left of it, by its bytes, those of its last sync and the places that
+-- were touched since.
+abbrev pub MayBeLeft : Told → Image → Type 0
+MayBeLeft told image =
+    (file : FileNo) → IsLeft (file_of file told.synced) (length (file_of file told.done)) (told.touched file) (file_of file image)
+
+-- it tells that it has stopped, or that it has not
+abbrev pub HasStopped : Option Told → Type 0
+HasStopped told = IsSomeAnd told (λ now. now.stopped ≡ true)
+
+abbrev pub IsRunning : Option Told → Type 0
+IsRunning told = IsSomeAnd told (λ now. now.stopped ≡ false)
 
 -- ---- what a call does
 
@@ -87,6 +101,17 @@ AfterLook (Err Stopped) old new = (old.stopped ≡ true) × (new ≡ old)
 AfterLook (Err Failed) old new = (old.stopped ≡ false) × (old.fails ≡ true) × (new ≡ old)
 AfterLook (Err OutOfMemory) old new = ⊥
 
+-- calls that only look, and take memory
+abbrev pub AfterLooks : {T : Type 0} → Result T DiskFault → Told → Told → Type 0
+AfterLooks (Err OutOfMemory) old new = (old.stopped ≡ false) × (new ≡ old)
+AfterLooks result old new = AfterLook result old new
+
+-- a write and then a sync of the file, or the first of the two that gives no answer
+abbrev pub AfterWriteSynced : FileNo → ℕ → List ℕ → Result Unit DiskFault → Told → Told → Type 0
+AfterWriteSynced file at piece result old new =
+    (IsErr result × AfterCall (after_write file at piece) (after_write file at piece) result old new)
+    ⊎ ((mid : Told) × AfterCall {T = Unit} (after_write file at piece) (after_write file at piece) (Ok tt) old mid × AfterCall (after_sync file) no_change result mid new)
+
 -- ---- arming, and what a stop leaves
 
 -- a disk that has stopped keeps the image that it is to leave
@@ -102,20 +127,21 @@ overwritten touched byte place [] = []
 overwritten touched byte place (first ∷ rest) =
     (if touched place then byte else first) ∷ overwritten touched byte (place + 1) rest
 
--- A file in the image of a number. Modulo 3, the number 0 stands for what the last sync left, 1 for the stopped call
--- done, and 2 for the same with one byte, the number's third modulo 256, at each place that was touched since the sync.
-abbrev pub file_in_image : ℕ → Told → FileNo → List ℕ
-file_in_image number told file =
-    if number % 3 == 0 then file_of file told.synced
-    else if number % 3 == 1 then file_of file told.done
-    else overwritten (told.touched file) (number / 3 % 256) 0 (file_of file told.done)
+-- A file in the image of a number, by what its last sync left, what it has now, and which bytes were touched since. Modulo 3,
+-- the number 0 stands for what the sync left, 1 for the stopped call done, and 2 for the same with one byte, the number's
+-- third modulo 256, at each place that was touched.
+abbrev pub bytes_in_image : ℕ → List ℕ → List ℕ → (ℕ → Bool) → List ℕ
+bytes_in_image number synced done touched =
+    if number % 3 == 0 then synced
+    else if number % 3 == 1 then done
+    else overwritten touched (number / 3 % 256) 0 done
 
 abbrev pub image_of : ℕ → Told → Image
 image_of number told =
     record {
-      chooser = file_in_image number told Chooser;
-      area_a = file_in_image number told AreaA;
-      area_b = file_in_image number told AreaB;
+      chooser = bytes_in_image number told.synced.chooser told.done.chooser (told.touched Chooser);
+      area_a = bytes_in_image number told.synced.area_a told.done.area_a (told.touched AreaA);
+      area_b = bytes_in_image number told.synced.area_b told.done.area_b (told.touched AreaB);
     }
 
 abbrev pub image_by : Option Arm → Told → Image

@@ -1,6 +1,7 @@
 ghost use Rattle.std.specs.Prelude.{◌≡◌, ◌↔◌, ℕ, IsSome};
-ghost use Rattle.disk_model.specs.Images.{Image, NoNewImage};
-ghost use Rattle.disk_model.specs.Told.{Tells, after_arm, after_disarm, after_revive};
+ghost use Rattle.disk_model.specs.declared.fault.FileNo.{FileNo};
+ghost use Rattle.disk_model.specs.Images.{Image, IsDurable, NoNewImage};
+ghost use Rattle.disk_model.specs.Told.{Tells, HasStopped, IsRunning, after_arm, after_disarm, after_revive};
 
 use crate::disk::Disk;
 
@@ -44,6 +45,9 @@ pub trait ArmedDisk: Disk {
         // The files are an image that the stop may leave.
         ensures left { Self.honest self.old → Self.may_leave self.old (Self.seen self.new) }
         ensures no_new_image { Self.honest self.old → NoNewImage (Self.may_leave self.old) (Self.may_leave self.new) }
+        ensures synced { Self.honest self.old → HasStopped (Self.told self.old)
+            → (file : FileNo) → IsDurable file (Self.seen self.new) (Self.may_leave self.new) }
+        ensures running { IsRunning (Self.told self.old) → self.new ≡ self.old }
         ensures honest { Self.honest self.new ↔ Self.honest self.old }
         ensures counts { Self.counts self.new ≡ Self.counts self.old };
 

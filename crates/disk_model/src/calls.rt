@@ -1,7 +1,7 @@
 //! Which calls of a disk in memory fail, and when it stops.
 ghost use Rattle.std.specs.Prelude.{◌≡◌, true, false, None, OnOk, IsErrOf};
 ghost use Rattle.disk_model.specs.declared.fault.DiskFault.TheVariants.{Stopped, Failed};
-ghost use Rattle.disk_model.specs.Faults.{HasCause, WantsNoMemory};
+ghost use Rattle.disk_model.specs.Faults.{CountsDiskAnswer, WantsNoMemory};
 
 use crate::armed::Arm;
 use crate::fault::DiskFault;
@@ -18,12 +18,13 @@ pub(crate) struct Calls {
 }
 
 impl Calls {
-    ghost use Rattle.disk_model.specs.Calls.{counts_of, can_fail, image_left, HasSameArm, Passed, IsArmed, IsRevived};
+    ghost use Rattle.disk_model.specs.Calls.{call_counts, no_counts, can_fail, image_left, HasSameArm, Passed, IsArmed, IsRevived};
 
     pub(crate) fn new(fails: Vec<u64>) -> Calls
         ensures fails { result.fails ≡ fails }
         ensures arm { result.arm ≡ None }
         ensures stopped { result.stopped ≡ false }
+        ensures counts { call_counts result ≡ no_counts }
     {
         Calls {
             fails,
@@ -48,9 +49,8 @@ impl Calls {
 
     // Begins a call: where the disk has stopped the call is stopped, and where its number is listed it fails.
     pub(crate) fn begin(&mut self) -> Result<(), DiskFault>
-        ensures cause { HasCause (counts_of self.old) (counts_of self.new) result }
+        ensures counts { CountsDiskAnswer (call_counts self.old) (call_counts self.new) result }
         ensures ok { OnOk result (self.old.stopped ≡ false) }
-        ensures quiet { OnOk result (counts_of self.new ≡ counts_of self.old) }
         ensures stopped { IsErrOf result Stopped → self.old.stopped ≡ true }
         ensures failed { IsErrOf result Failed → can_fail self.old ≡ true }
         ensures running { IsErrOf result Failed → self.old.stopped ≡ false }
@@ -73,7 +73,7 @@ impl Calls {
     // Lets a write, a cut or a sync succeed, or stop within.
     pub(crate) fn pass(&mut self) -> Result<(), DiskFault>
         requires { self.old.stopped ≡ false }
-        ensures cause { HasCause (counts_of self.old) (counts_of self.new) result }
+        ensures counts { CountsDiskAnswer (call_counts self.old) (call_counts self.new) result }
         ensures passed { Passed self.old self.new result }
     {
         match &mut self.arm {

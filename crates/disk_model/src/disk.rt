@@ -1,7 +1,7 @@
 ghost use Rattle.std.specs.Prelude.{◌≡◌, ◌↔◌, ◌+◌, ◌≤◌, ℕ, List, Option, Some, length, take, drop, IfOk, OnOk, IsErrOf};
 ghost use Rattle.disk_model.specs.declared.fault.DiskFault.TheVariants.{OutOfMemory};
-ghost use Rattle.disk_model.specs.Faults.{Counts, HasCause, WantsNoMemory};
-ghost use Rattle.disk_model.specs.Images.{Image, file_of, InFile, Holds, Torn, Cut, Follows, IsDurable, NoNewImage, Elapses};
+ghost use Rattle.disk_model.specs.Faults.{Counts, CountsDiskAnswer, WantsNoMemory};
+ghost use Rattle.disk_model.specs.Images.{Image, file_of, InFile, HoldsPiece, Torn, Cut, ImagesFollow, IsDurable, NoNewImage, Elapses};
 ghost use Rattle.disk_model.specs.Told.{Told, Tells, after_write, after_cut, after_sync, no_change, AfterCall, AfterLook};
 
 use crate::fault::{DiskFault, FileNo};
@@ -40,7 +40,7 @@ pub trait Disk: Drop {
         ensures images { honest self.old → NoNewImage (may_leave self.old) (may_leave self.new) }
         ensures time { honest self.old → Elapses (moment self.old) (moment self.new) (left_since self.old) (left_since self.new) (may_leave self.new) }
         ensures honest { honest self.new ↔ honest self.old }
-        ensures cause { HasCause (counts self.old) (counts self.new) result }
+        ensures counts { CountsDiskAnswer (counts self.old) (counts self.new) result }
         ensures memory { WantsNoMemory result }
         ensures told { Tells (AfterLook result) (told self.old) (told self.new) };
 
@@ -53,31 +53,31 @@ pub trait Disk: Drop {
         ensures images { honest self.old → NoNewImage (may_leave self.old) (may_leave self.new) }
         ensures time { honest self.old → Elapses (moment self.old) (moment self.new) (left_since self.old) (left_since self.new) (may_leave self.new) }
         ensures honest { honest self.new ↔ honest self.old }
-        ensures cause { HasCause (counts self.old) (counts self.new) result }
+        ensures counts { CountsDiskAnswer (counts self.old) (counts self.new) result }
         ensures memory { WantsNoMemory result }
         ensures told { Tells (AfterLook result) (told self.old) (told self.new) };
 
     /// Writes over a file's bytes from an offset on, and past its end.
     fn write_at(&mut self, file: FileNo, at: u64, bytes: &[u8]) -> Result<(), DiskFault>
         requires { at ≤ length (file_of file (seen self.old)) }
-        ensures written { OnOk result (InFile file (Holds at bytes.now) (seen self.old) (seen self.new)) }
-        ensures images { honest self.old → Follows (InFile file (Torn at (length bytes.now))) (may_leave self.old) (may_leave self.new) }
+        ensures written { OnOk result (InFile file (HoldsPiece at bytes.now) (seen self.old) (seen self.new)) }
+        ensures images { honest self.old → ImagesFollow (InFile file (Torn at (length bytes.now))) (may_leave self.old) (may_leave self.new) }
         ensures time { honest self.old → Elapses (moment self.old) (moment self.new) (left_since self.old) (left_since self.new) (may_leave self.new) }
         // Want of memory comes before anything changes.
         ensures unchanged { IsErrOf result OutOfMemory → seen self.new ≡ seen self.old }
         ensures no_new_image { IsErrOf result OutOfMemory → honest self.old → NoNewImage (may_leave self.old) (may_leave self.new) }
         ensures honest { honest self.new ↔ honest self.old }
-        ensures cause { HasCause (counts self.old) (counts self.new) result }
+        ensures counts { CountsDiskAnswer (counts self.old) (counts self.new) result }
         ensures told { Tells (AfterCall (after_write file at bytes.now) (after_write file at bytes.now) result) (told self.old) (told self.new) };
 
     /// Cuts a file to a length in bytes, which is at most its own.
     fn cut(&mut self, file: FileNo, length: u64) -> Result<(), DiskFault>
         requires { length ≤ Rattle.std.specs.Prelude.length (file_of file (seen self.old)) }
         ensures cut { OnOk result (InFile file (λ old new. new ≡ take length old) (seen self.old) (seen self.new)) }
-        ensures images { honest self.old → Follows (InFile file (Cut length)) (may_leave self.old) (may_leave self.new) }
+        ensures images { honest self.old → ImagesFollow (InFile file (Cut length)) (may_leave self.old) (may_leave self.new) }
         ensures time { honest self.old → Elapses (moment self.old) (moment self.new) (left_since self.old) (left_since self.new) (may_leave self.new) }
         ensures honest { honest self.new ↔ honest self.old }
-        ensures cause { HasCause (counts self.old) (counts self.new) result }
+        ensures counts { CountsDiskAnswer (counts self.old) (counts self.new) result }
         ensures memory { WantsNoMemory result }
         ensures told { Tells (AfterCall (after_cut file length) (after_cut file length) result) (told self.old) (told self.new) };
 
@@ -88,7 +88,7 @@ pub trait Disk: Drop {
         ensures images { honest self.old → NoNewImage (may_leave self.old) (may_leave self.new) }
         ensures time { honest self.old → Elapses (moment self.old) (moment self.new) (left_since self.old) (left_since self.new) (may_leave self.new) }
         ensures honest { honest self.new ↔ honest self.old }
-        ensures cause { HasCause (counts self.old) (counts self.new) result }
+        ensures counts { CountsDiskAnswer (counts self.old) (counts self.new) result }
         ensures memory { WantsNoMemory result }
         ensures told { Tells (AfterCall (after_sync file) no_change result) (told self.old) (told self.new) };
 

@@ -11,6 +11,7 @@ mod armed;
 mod calls;
 mod disk;
 mod fault;
+mod laws;
 mod mem_disk;
 mod mem_file;
 mod mem_files;
@@ -20,8 +21,9 @@ mod whole;
 pub use armed::{Arm, ArmedDisk};
 pub use disk::Disk;
 pub use fault::{DiskFault, FileNo};
+pub use laws::{
+    a_cut_leaves_a_front, a_memory_disk_leaves_what_may_be_left, counts_rise_where_that_is_told,
+    time_keeps_what_was_left,
+};
 pub use mem_disk::MemDisk;
 pub use whole::{read_file, write_synced};
-
-#[cfg(test)]
-mod tests;

@@ -33,8 +33,8 @@ pub struct MemDisk {
 impl MemDisk {
     ghost use Rattle.std.specs.Prelude.{◌≡◌, Some};
     ghost use Rattle.disk_model.specs.Images.{Image};
-    ghost use Rattle.disk_model.specs.Calls.{is_listing};
-    ghost use Rattle.disk_model.specs.MemDisk.{told_of, seen_of, left_by, no_files, new_told};
+    ghost use Rattle.disk_model.specs.Calls.{is_listing, no_counts};
+    ghost use Rattle.disk_model.specs.MemDisk.{told_of, seen_of, left_by, counts_by, no_files, new_told};
 
     /// Three empty files. Each call of [`Disk`] whose number, counted from 0, is in `fails` fails and changes nothing;
     /// calls of a disk that has stopped count too. The number stands still at the last value of a `u64`.
@@ -42,6 +42,7 @@ impl MemDisk {
         ensures seen { seen_of result ≡ no_files }
         ensures images { (image : Image) → left_by result image → image ≡ no_files }
         ensures told { told_of result ≡ Some (new_told (is_listing fails.items)) }
+        ensures counts { counts_by result ≡ no_counts }
     {
         MemDisk {
             files: MemFiles::new(alloc),

@@ -34,10 +34,10 @@ pub(crate) struct MemFile {
 }
 
 impl MemFile {
-    ghost use Rattle.disk_model.specs.Memory.{IsWritten, IsCut, IsSynced, IsSameFile, Restores, bytes_of, synced_of, spans_of};
+    ghost use Rattle.disk_model.specs.Memory.{IsWritten, IsFileCut, IsSynced, IsSameFile, Restores, file_bytes, synced_of, spans_of};
 
     pub(crate) fn new(alloc: Global) -> MemFile
-        ensures bytes { bytes_of result ≡ [] }
+        ensures bytes { file_bytes result ≡ [] }
         ensures synced { synced_of result ≡ [] }
         ensures touched { spans_of result ≡ [] }
     {
@@ -49,14 +49,14 @@ impl MemFile {
     }
 
     pub(crate) fn bytes(&self) -> &[u8]
-        ensures { result.now ≡ bytes_of self.now }
+        ensures { result.now ≡ file_bytes self.now }
     {
         &self.bytes
     }
 
     // Takes the room that a later sync and a return to what it left need, too.
     pub(crate) fn write_at(&mut self, at: usize, piece: &[u8]) -> Result<(), OutOfMemory>
-        requires { at ≤ length (bytes_of self.old) }
+        requires { at ≤ length (file_bytes self.old) }
         ensures ok { OnOk result (IsWritten at piece.now self.old self.new) }
         ensures err { OnErr result (IsSameFile self.old self.new) }
     {
@@ -70,14 +70,14 @@ impl MemFile {
     }
 
     pub(crate) fn cut(&mut self, size: usize)
-        requires { size ≤ length (bytes_of self.old) }
-        ensures { IsCut size self.old self.new }
+        requires { size ≤ length (file_bytes self.old) }
+        ensures { IsFileCut size self.old self.new }
     {
         self.bytes.truncate(size);
     }
 
     pub(crate) fn sync(&mut self)
-        ensures { IsSynced (bytes_of self.old) self.new }
+        ensures { IsSynced (file_bytes self.old) self.new }
     {
         self.synced.truncate(self.bytes.len());
         let kept = self.synced.len();

@@ -15,7 +15,7 @@ pub(crate) struct MemFiles {
 
 impl MemFiles {
     ghost use Rattle.disk_model.specs.Images.{Image, file_of};
-    ghost use Rattle.disk_model.specs.Memory.{bytes_of, IsWritten, IsCut, IsSynced, IsSameFile, Restores};
+    ghost use Rattle.disk_model.specs.Memory.{file_bytes, IsWritten, IsFileCut, IsSynced, IsSameFile, Restores};
     ghost use Rattle.disk_model.specs.Files.{mem_file, seen_in, InMemFile, AllRestored, AreEmpty, IsSame};
 
     pub(crate) fn new(alloc: Global) -> MemFiles
@@ -57,7 +57,7 @@ impl MemFiles {
 
     pub(crate) fn cut(&mut self, file: FileNo, size: usize)
         requires { size ≤ length (file_of file (seen_in self.old)) }
-        ensures { InMemFile file (IsCut size) self.old self.new }
+        ensures { InMemFile file (IsFileCut size) self.old self.new }
     {
         match file {
             FileNo::Chooser => self.chooser.cut(size),
@@ -67,7 +67,7 @@ impl MemFiles {
     }
 
     pub(crate) fn sync(&mut self, file: FileNo)
-        ensures { InMemFile file (λ old new. IsSynced (bytes_of old) new) self.old self.new }
+        ensures { InMemFile file (λ old new. IsSynced (file_bytes old) new) self.old self.new }
     {
         match file {
             FileNo::Chooser => self.chooser.sync(),

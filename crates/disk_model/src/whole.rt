@@ -1,7 +1,8 @@
 ghost use Rattle.std.specs.Prelude.{◌≡◌, ◌↔◌, ◌≤◌, length, IfOk, OnOk, IsErrOf};
 ghost use Rattle.disk_model.specs.declared.fault.DiskFault.TheVariants.{OutOfMemory};
-ghost use Rattle.disk_model.specs.Faults.{HasCause};
-ghost use Rattle.disk_model.specs.Images.{file_of, InFile, Holds, Torn, IsDurable, NoNewImage, LeavesOnly, InFileOnly};
+ghost use Rattle.disk_model.specs.Faults.{CountsDiskAnswer};
+ghost use Rattle.disk_model.specs.Images.{file_of, InFile, HoldsPiece, Torn, IsDurable, NoNewImage, LeavesOnly, InFileOnly};
+ghost use Rattle.disk_model.specs.Told.{Tells, AfterLooks, AfterWriteSynced};
 
 use crate::disk::Disk;
 use crate::fault::{DiskFault, FileNo};
@@ -20,14 +21,15 @@ pub fn write_synced<D: Disk>(
 ) -> Result<(), DiskFault>
     requires within { at ≤ length (file_of file (D.seen disk.old)) }
     requires durable { D.honest disk.old → IsDurable file (D.seen disk.old) (D.may_leave disk.old) }
-    ensures written { OnOk result (InFile file (Holds at bytes.now) (D.seen disk.old) (D.seen disk.new)) }
+    ensures written { OnOk result (InFile file (HoldsPiece at bytes.now) (D.seen disk.old) (D.seen disk.new)) }
     ensures durable { OnOk result (D.honest disk.new → IsDurable file (D.seen disk.new) (D.may_leave disk.new)) }
     ensures images { D.honest disk.old → LeavesOnly D.moment D.left_since disk.old disk.new
         (InFileOnly file (D.may_leave disk.old) (Torn at (length bytes.now) (file_of file (D.seen disk.old)))) }
     ensures unchanged { IsErrOf result OutOfMemory → D.seen disk.new ≡ D.seen disk.old }
     ensures still_durable { IsErrOf result OutOfMemory → D.honest disk.new → IsDurable file (D.seen disk.new) (D.may_leave disk.new) }
     ensures honest { D.honest disk.new ↔ D.honest disk.old }
-    ensures cause { HasCause (D.counts disk.old) (D.counts disk.new) result }
+    ensures counts { CountsDiskAnswer (D.counts disk.old) (D.counts disk.new) result }
+    ensures told { Tells (AfterWriteSynced file at bytes.now result) (D.told disk.old) (D.told disk.new) }
 {
     disk.write_at(file, at, bytes)?;
     disk.sync(file)
@@ -46,7 +48,8 @@ pub fn read_file<D: Disk>(alloc: Global, disk: &mut D, file: FileNo) -> Result<V
     ensures no_new_image { D.honest disk.old → NoNewImage (D.may_leave disk.old) (D.may_leave disk.new) }
     ensures images { D.honest disk.old → LeavesOnly D.moment D.left_since disk.old disk.new (D.may_leave disk.old) }
     ensures honest { D.honest disk.new ↔ D.honest disk.old }
-    ensures cause { HasCause (D.counts disk.old) (D.counts disk.new) result }
+    ensures counts { CountsDiskAnswer (D.counts disk.old) (D.counts disk.new) result }
+    ensures told { Tells (AfterLooks result) (D.told disk.old) (D.told disk.new) }
 {
     let size = disk.length(file)? as usize;
     let mut bytes = vec![in alloc; 0; size]?;

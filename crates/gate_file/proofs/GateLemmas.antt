@@ -5,7 +5,7 @@ use Rattle.std.specs.List.{flat_map}
 use Rattle.std.proofs.lemmas.List.Concat.{flat_map-cons}
 use Rattle.std.proofs.lemmas.List.{get_or-append-add, drop-drop, get_or-take, get_or-drop, get_or_append_left, get_or_at, drop-take, take-take, take_at, drop_at, length-take, length-drop, ext_get_or}
 use Rattle.std.proofs.Common.{append_assoc}
-use Rattle.disk_model.specs.Images.{Torn, Holds, written_over}
+use Rattle.disk_model.specs.Images.{Torn, HoldsPiece, written_over}
 use Rattle.disk_model.proofs.FileLemmas.{length-written_over}
 use Rattle.gate_file.specs.Gates.{gated, AreWhole, body_in, IsOpen, AreOpen, HasBodies, IsAtRest, HasBodyBehind, IsStaged, HasEither}
 
@@ -176,7 +176,7 @@ torn_gate file body image bodies gates behind torn =
     }
 
 -- a whole write is one of those that a stop may leave
-pub holds_torn : (at : ℕ) (piece old new : List ℕ) → at ≤ length old → Holds at piece old new → Torn at (length piece) old new
+pub holds_torn : (at : ℕ) (piece old new : List ℕ) → at ≤ length old → HoldsPiece at piece old new → Torn at (length piece) old new
 holds_torn at piece old new le holds =
     let front : length (take at old) ≡ at = omega (arith, length-take at old) in
     let long : length new ≡ at + (length piece + (length old - (at + length piece))) =
@@ -191,12 +191,12 @@ holds_torn at piece old new le holds =
     }
 
 -- the byte that was written
-pub byte_written : (at byte : ℕ) (old new : List ℕ) → at ≤ length old → Holds at (byte ∷ []) old new → get_or new at 0 ≡ byte
+pub byte_written : (at byte : ℕ) (old new : List ℕ) → at ≤ length old → HoldsPiece at (byte ∷ []) old new → get_or new at 0 ≡ byte
 byte_written at byte old new le holds =
     ap (λ (l : List ℕ). get_or l at 0) holds ∙ get_or_at (take at old) byte _ 0 at (omega (arith, length-take at old))
 
 -- the gate was opened
-pub rest_after_gate : (file body new : List ℕ) (bodies : List (List ℕ)) → AreOpen file bodies → HasBodyBehind file (length bodies) body → Holds (57 * length bodies) (1 ∷ []) file new → IsAtRest new (bodies ++ body ∷ [])
+pub rest_after_gate : (file body new : List ℕ) (bodies : List (List ℕ)) → AreOpen file bodies → HasBodyBehind file (length bodies) body → HoldsPiece (57 * length bodies) (1 ∷ []) file new → IsAtRest new (bodies ++ body ∷ [])
 rest_after_gate file body new bodies gates behind holds =
     let within : 57 * length bodies ≤ length file = omega (arith, behind.within) in
     let staged = torn_gate file body new bodies gates behind (holds_torn (57 * length bodies) (1 ∷ []) file new within holds) in
@@ -296,7 +296,7 @@ module _ (file image : List ℕ) (bodies found : List (List ℕ)) (pending : Opt
       none_with None keeps with_it = with_it
       none_with (Some body) keeps with_it = not_at_rest body (keeps body refl) (one_list file found (bodies ++ body ∷ []) has with_it) with_it
 
-pub rest_after_close : (file new : List ℕ) (bodies : List (List ℕ)) → HasBodies file bodies → 57 * length bodies ≤ length file → Holds (57 * length bodies) (0 ∷ []) file new → IsAtRest new bodies
+pub rest_after_close : (file new : List ℕ) (bodies : List (List ℕ)) → HasBodies file bodies → 57 * length bodies ≤ length file → HoldsPiece (57 * length bodies) (0 ∷ []) file new → IsAtRest new bodies
 rest_after_close file new bodies has le holds =
     let torn = holds_torn (57 * length bodies) (0 ∷ []) file new le holds in
     let long : length new ≡ max (length file) (57 * length bodies + 1) = ap length holds ∙ length-written_over (57 * length bodies) (0 ∷ []) file le in

@@ -1,9 +1,9 @@
 -- The answers of a gated file by those of its disk.
-use Rattle.std.specs.Prelude.{◌≤◌}
+use Rattle.std.specs.Prelude.{◌↔◌, Result}
 use Rattle.disk_model.specs.declared.fault.DiskFault.{DiskFault}
 use Rattle.disk_model.specs.declared.fault.DiskFault.TheVariants.{Failed}
 use Rattle.disk_model.specs.declared.fault.DiskFault.TheVariants as Disk
-use Rattle.disk_model.specs.Faults.{Counts}
+use Rattle.disk_model.specs.Faults.{Counts, CountsAnswer}
 use Rattle.gate_file.specs.declared.fault.GateFault.{GateFault}
 use Rattle.gate_file.specs.declared.fault.GateFault.TheVariants as Gate
 
@@ -12,7 +12,11 @@ fault_of Disk.Stopped = Gate.Stopped
 fault_of Disk.Failed = Gate.DiskFault
 fault_of Disk.OutOfMemory = Gate.OutOfMemory
 
--- neither count fell
-pub record HasCountedOn (old new : Counts) : Type 0 where
-  pub stops : old.stops ≤ new.stops
-  pub faults : old.faults ≤ new.faults
+abbrev pub CountsGateAnswer : {T : Type 0} → Counts → Counts → Result T GateFault → Type 0
+CountsGateAnswer old new result = CountsAnswer Gate.Stopped Gate.DiskFault Gate.OutOfMemory old new result
+
+-- What each call of a gated file says of its disk whatever it answers: it is as honest as it was, and its counts rose where the
+-- answer tells of it, and nowhere else.
+pub record HasGateAnswer {D T : Type 0} (honest : D → Type 0) (counts : D → Counts) (old new : D) (result : Result T GateFault) : Type 0 where
+  pub honest_still : honest new ↔ honest old
+  pub counted : CountsGateAnswer (counts old) (counts new) result

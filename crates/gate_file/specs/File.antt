@@ -12,6 +12,6 @@ abbrev pub bodies_of : GateFile → List (List ℕ)
 bodies_of gates = gates.bodies.items
 
 -- The disk's file is as the last call of the gated file left it: at rest with its bodies, whatever a stop does.
-pub record IsSettled {D : Type 0} (seen : D → Image) (may_leave : D → Image → Type 0) (honest : D → Type 0) (disk : D) (gates : GateFile) : Type 0 where
+pub record IsFileSettled {D : Type 0} (seen : D → Image) (may_leave : D → Image → Type 0) (honest : D → Type 0) (disk : D) (gates : GateFile) : Type 0 where
   pub at_rest : IsAtRest (file_of (file_no gates) (seen disk)) (bodies_of gates)
   pub durable : honest disk → IsDurable (file_no gates) (seen disk) (may_leave disk)

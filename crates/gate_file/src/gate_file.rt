@@ -1,8 +1,7 @@
 ghost use Rattle.std.specs.Prelude.{◌≡◌, ◌↔◌, ⊤, ℕ, List, ◌++◌, ◌∷◌, [], Option, Some, IfOk, OnOk, OnErr, IsErrOf};
-ghost use Rattle.cron_io.specs.Faults.{Rose};
 ghost use Rattle.disk_model.specs.Images.{file_of, OthersStay, LeavesOnly, InFileOnly, AllHave};
-ghost use Rattle.gate_file.specs.declared.fault.GateFault.TheVariants.{Stopped, DiskFault, OutOfMemory};
-ghost use Rattle.gate_file.specs.Faults.{HasCountedOn};
+ghost use Rattle.gate_file.specs.declared.fault.GateFault.TheVariants.{OutOfMemory};
+ghost use Rattle.gate_file.specs.Faults.{HasGateAnswer};
 ghost use Rattle.gate_file.specs.Gates.{HasBodies, IsStaged, gated};
 
 use crate::body::Body56;
@@ -23,7 +22,7 @@ pub struct GateFile {
 }
 
 impl GateFile {
-    ghost use Rattle.gate_file.specs.File.{file_no, bodies_of, IsSettled};
+    ghost use Rattle.gate_file.specs.File.{file_no, bodies_of, IsFileSettled};
 
     /// The file's number.
     pub fn file(&self) -> FileNo
@@ -41,8 +40,13 @@ impl GateFile {
 
     /// Attaches a file. What it has is synced, so that an earlier call that failed is decided, and read; where no byte 0
     /// stands at its tail gate, one is written there, and synced.
+    ///
+    /// # Errors
+    ///
+    /// `Stopped` and `DiskFault` where the disk stopped or failed, and `OutOfMemory` for the bodies. Then the file can be
+    /// attached again.
     pub fn attach<D: Disk>(alloc: Global, disk: &mut D, file: FileNo) -> Result<GateFile, GateFault>
-        ensures settled { IfOk result (λ gates. IsSettled D.seen D.may_leave D.honest disk.new gates) }
+        ensures settled { IfOk result (λ gates. IsFileSettled D.seen D.may_leave D.honest disk.new gates) }
         ensures file { IfOk result (λ gates. file_no gates ≡ file) }
         ensures bodies { IfOk result (λ gates. HasBodies (file_of file (D.seen disk.old)) (bodies_of gates)) }
         ensures others { OnOk result (OthersStay file (D.seen disk.old) (D.seen disk.new)) }
@@ -54,23 +58,24 @@ impl GateFile {
             → LeavesOnly D.moment D.left_since disk.old disk.new
             (InFileOnly file (D.may_leave disk.old) (IsStaged bodies pending)) }
 
-        ensures honest { D.honest disk.new ↔ D.honest disk.old }
-        ensures stopped { IsErrOf result Stopped → Rose (D.counts disk.old).stops (D.counts disk.new).stops }
-        ensures failed { IsErrOf result DiskFault → Rose (D.counts disk.old).faults (D.counts disk.new).faults }
-        ensures counted { HasCountedOn (D.counts disk.old) (D.counts disk.new) }
+        ensures answer { HasGateAnswer D.honest D.counts disk.old disk.new result }
     {
         ReadGates::read(alloc, disk, file)?.close(disk)
     }
 
     /// Writes a file anew, with these bodies and nothing else: it is cut to nothing, written whole, and synced. Until then
-    /// a stop may leave any bytes in it, and after a fault or want of memory the bodies that it had may be gone.
+    /// a stop may leave any bytes in it.
+    ///
+    /// # Errors
+    ///
+    /// `Stopped` and `DiskFault` where the disk stopped or failed, and `OutOfMemory`. The bodies that it had may be gone then.
     pub fn rewrite<D: Disk>(
         alloc: Global,
         disk: &mut D,
         file: FileNo,
         bodies: Vec<Body56>,
     ) -> Result<GateFile, GateFault>
-        ensures settled { IfOk result (λ gates. IsSettled D.seen D.may_leave D.honest disk.new gates) }
+        ensures settled { IfOk result (λ gates. IsFileSettled D.seen D.may_leave D.honest disk.new gates) }
         ensures file { IfOk result (λ gates. file_no gates ≡ file) }
         ensures bodies { IfOk result (λ gates. bodies_of gates ≡ bodies.items) }
         ensures whole { OnOk result (file_of file (D.seen disk.new) ≡ gated bodies.items) }
@@ -78,10 +83,7 @@ impl GateFile {
         ensures images { D.honest disk.old → LeavesOnly D.moment D.left_since disk.old disk.new
             (InFileOnly file (D.may_leave disk.old) (λ bytes. ⊤)) }
         ensures memory_others { IsErrOf result OutOfMemory → OthersStay file (D.seen disk.old) (D.seen disk.new) }
-        ensures honest { D.honest disk.new ↔ D.honest disk.old }
-        ensures stopped { IsErrOf result Stopped → Rose (D.counts disk.old).stops (D.counts disk.new).stops }
-        ensures failed { IsErrOf result DiskFault → Rose (D.counts disk.old).faults (D.counts disk.new).faults }
-        ensures counted { HasCountedOn (D.counts disk.old) (D.counts disk.new) }
+        ensures answer { HasGateAnswer D.honest D.counts disk.old disk.new result }
     {
         let bytes = gated(alloc, &bodies)?;
         disk.cut(file, 0)?;
@@ -90,11 +92,15 @@ impl GateFile {
         Ok(GateFile { file, bodies })
     }
 
-    /// Adds a body. At `Ok` it is in the file whatever a stop does. After want of memory the file has the bodies that it
-    /// had; after any other fault it is to be attached again.
+    /// AddsRecords a body. At `Ok` it is in the file whatever a stop does.
+    ///
+    /// # Errors
+    ///
+    /// `Stopped` and `DiskFault` where the disk stopped or failed: then the file has the bodies that it had, with the new one
+    /// or without, and is to be attached again. `OutOfMemory`: it has those that it had, and more can be appended.
     pub fn append<D: Disk>(&mut self, disk: &mut D, body: &[u8; 56]) -> Result<(), GateFault>
-        requires { IsSettled D.seen D.may_leave D.honest disk.old self.old }
-        ensures settled { OnOk result (IsSettled D.seen D.may_leave D.honest disk.new self.new) }
+        requires { IsFileSettled D.seen D.may_leave D.honest disk.old self.old }
+        ensures settled { OnOk result (IsFileSettled D.seen D.may_leave D.honest disk.new self.new) }
         ensures bodies { OnOk result (bodies_of self.new ≡ bodies_of self.old ++ body.now ∷ []) }
         ensures others { OnOk result (OthersStay (file_no self.old) (D.seen disk.old) (D.seen disk.new)) }
         ensures file { file_no self.new ≡ file_no self.old }
@@ -104,12 +110,9 @@ impl GateFile {
             (InFileOnly (file_no self.old) (D.may_leave disk.old) (IsStaged (bodies_of self.old) (Some body.now))) }
 
         ensures kept { OnErr result (bodies_of self.new ≡ bodies_of self.old) }
-        ensures memory { IsErrOf result OutOfMemory → IsSettled D.seen D.may_leave D.honest disk.new self.new }
+        ensures memory { IsErrOf result OutOfMemory → IsFileSettled D.seen D.may_leave D.honest disk.new self.new }
         ensures memory_others { IsErrOf result OutOfMemory → OthersStay (file_no self.old) (D.seen disk.old) (D.seen disk.new) }
-        ensures honest { D.honest disk.new ↔ D.honest disk.old }
-        ensures stopped { IsErrOf result Stopped → Rose (D.counts disk.old).stops (D.counts disk.new).stops }
-        ensures failed { IsErrOf result DiskFault → Rose (D.counts disk.old).faults (D.counts disk.new).faults }
-        ensures counted { HasCountedOn (D.counts disk.old) (D.counts disk.new) }
+        ensures answer { HasGateAnswer D.honest D.counts disk.old disk.new result }
     {
         if self.bodies.len() >= MOST_BODIES {
             return Err(GateFault::OutOfMemory);

@@ -13,8 +13,6 @@ mod gate_file;
 mod laws;
 mod read_gates;
 mod reading;
-#[cfg(test)]
-mod tests;
 
 pub use body::Body56;
 pub use fault::GateFault;

@@ -1,8 +1,6 @@
 ghost use Rattle.std.specs.Prelude.{◌≡◌, ◌↔◌, ⊤, ℕ, List, Option, IfOk, OnOk, IsErrOf};
-ghost use Rattle.cron_io.specs.Faults.{Rose};
 ghost use Rattle.disk_model.specs.Images.{file_of, OthersStay, NoNewImage, LeavesOnly, InFileOnly, AllHave};
-ghost use Rattle.gate_file.specs.declared.fault.GateFault.TheVariants.{Stopped, DiskFault};
-ghost use Rattle.gate_file.specs.Faults.{HasCountedOn};
+ghost use Rattle.gate_file.specs.Faults.{HasGateAnswer};
 ghost use Rattle.gate_file.specs.Gates.{HasBodies, IsStaged};
 
 use crate::body::Body56;
@@ -22,7 +20,7 @@ pub struct ReadGates {
 }
 
 impl ReadGates {
-    ghost use Rattle.gate_file.specs.File.{file_no, bodies_of, IsSettled};
+    ghost use Rattle.gate_file.specs.File.{file_no, bodies_of, IsFileSettled};
     ghost use Rattle.gate_file.specs.ReadFile.{file_read, bodies_read, IsRead};
 
     /// The bodies that the file has, in order.
@@ -33,6 +31,11 @@ impl ReadGates {
     }
 
     /// Syncs a file, so that an earlier call that failed is decided, and reads it.
+    ///
+    /// # Errors
+    ///
+    /// `Stopped` and `DiskFault` where the disk stopped or failed, and `OutOfMemory` for the bytes and the bodies. Then
+    /// nothing was written.
     pub fn read<D: Disk>(alloc: Global, disk: &mut D, file: FileNo) -> Result<ReadGates, GateFault>
         ensures read { IfOk result (λ gates. IsRead D.seen D.may_leave D.honest disk.new gates) }
         ensures file { IfOk result (λ gates. file_read gates ≡ file) }
@@ -40,10 +43,7 @@ impl ReadGates {
         ensures seen { D.seen disk.new ≡ D.seen disk.old }
         ensures no_new_image { D.honest disk.old → NoNewImage (D.may_leave disk.old) (D.may_leave disk.new) }
         ensures images { D.honest disk.old → LeavesOnly D.moment D.left_since disk.old disk.new (D.may_leave disk.old) }
-        ensures honest { D.honest disk.new ↔ D.honest disk.old }
-        ensures stopped { IsErrOf result Stopped → Rose (D.counts disk.old).stops (D.counts disk.new).stops }
-        ensures failed { IsErrOf result DiskFault → Rose (D.counts disk.old).faults (D.counts disk.new).faults }
-        ensures counted { HasCountedOn (D.counts disk.old) (D.counts disk.new) }
+        ensures answer { HasGateAnswer D.honest D.counts disk.old disk.new result }
     {
         disk.sync(file)?;
         let bytes = read_file(alloc, disk, file)?;
@@ -57,9 +57,13 @@ impl ReadGates {
     }
 
     /// Writes a byte 0 at the tail gate, where none stands there, and syncs it: then bodies can be appended.
+    ///
+    /// # Errors
+    ///
+    /// `Stopped` and `DiskFault` where the disk stopped or failed, and `OutOfMemory`. Then the file is to be read again.
     pub fn close<D: Disk>(self, disk: &mut D) -> Result<GateFile, GateFault>
         requires { IsRead D.seen D.may_leave D.honest disk.old self }
-        ensures settled { IfOk result (λ gates. IsSettled D.seen D.may_leave D.honest disk.new gates) }
+        ensures settled { IfOk result (λ gates. IsFileSettled D.seen D.may_leave D.honest disk.new gates) }
         ensures file { IfOk result (λ gates. file_no gates ≡ file_read self) }
         ensures bodies { IfOk result (λ gates. bodies_of gates ≡ bodies_read self) }
         ensures others { OnOk result (OthersStay (file_read self) (D.seen disk.old) (D.seen disk.new)) }
@@ -74,10 +78,7 @@ impl ReadGates {
         // And whatever the file had, the other files are as they were.
         ensures elsewhere { D.honest disk.old → LeavesOnly D.moment D.left_since disk.old disk.new
             (InFileOnly (file_read self) (D.may_leave disk.old) (λ bytes. ⊤)) }
-        ensures honest { D.honest disk.new ↔ D.honest disk.old }
-        ensures stopped { IsErrOf result Stopped → Rose (D.counts disk.old).stops (D.counts disk.new).stops }
-        ensures failed { IsErrOf result DiskFault → Rose (D.counts disk.old).faults (D.counts disk.new).faults }
-        ensures counted { HasCountedOn (D.counts disk.old) (D.counts disk.new) }
+        ensures answer { HasGateAnswer D.honest D.counts disk.old disk.new result }
     {
         let ReadGates {
             file,

@@ -2,13 +2,13 @@
 use Rattle.std.proofs.Common.{◌≡◌, ◌≢◌, ◌⊎◌, inl, inr, ⊎_elim, ℕ, ◌%◌, ◌==◌, Bool, true, false, if◌then◌else◌, List, [], ◌∷◌, ◌++◌, get_or, Option, None, Some, IfSome, IsSomeAnd, refl, sym, ap, ◌∙◌, subst}
 use Rattle.disk_model.specs.declared.fault.FileNo.{FileNo}
 use Rattle.disk_model.specs.declared.fault.FileNo.TheVariants.{Chooser, AreaA, AreaB}
-use Rattle.disk_model.specs.Images.{Image, file_of, Holds}
+use Rattle.disk_model.specs.Images.{Image, file_of, HoldsPiece}
 use Rattle.gate_file.specs.Gates.{HasBodies, IsStaged}
 use Rattle.gate_file.proofs.GateLemmas.{one_list, staged_has, staged_empty}
 use Rattle.paxos_base.specs.declared.durable.Durable.{Durable}
-use Rattle.store_format.specs.Area.{fresh}
+use Rattle.store_format.specs.Area.{fresh_kept}
 use Rattle.store_format.proofs.BodyLemmas.{StandFor-same}
-use Rattle.store_format.proofs.LogLemmas.{IsLog-nil}
+use Rattle.store_format.proofs.LogLemmas.{IsChangeLog-nil}
 use Rattle.replica_store.specs.Files.{selected, selected_by, bit_of, other_area, BodiesStand, BodiesStandForEither, FilesStand, FilesStandForEither, IsAreaStaged, IsRecoverable}
 
 -- two files are the same, or differ
@@ -123,21 +123,21 @@ module _ (jobs : ℕ) (before after : Durable) where
   selected_staged may_leave image recoverable left = ⊎_elim (λ never. absurd (never image left refl)) (λ staged. staged) (recoverable (selected image))
 
 -- a byte that was written to the chooser selects its area
-pub byte_written : (area : FileNo) (old new : Image) → area ≢ Chooser → Holds 0 (bit_of area ∷ []) (file_of Chooser old) (file_of Chooser new) → selected new ≡ area
+pub byte_written : (area : FileNo) (old new : Image) → area ≢ Chooser → HoldsPiece 0 (bit_of area ∷ []) (file_of Chooser old) (file_of Chooser new) → selected new ≡ area
 byte_written area old new differs holds = ap (λ bytes. selected_by (get_or bytes 0 0)) holds ∙ byte_selects area differs
 
 -- ---- empty files
 
-fresh_stand : (jobs : ℕ) → BodiesStand jobs [] (fresh jobs)
-fresh_stand jobs = (None, record { items = []; are_records = tt; stands = inl (IsLog-nil jobs (fresh jobs)); own_is = refl })
+fresh_stand : (jobs : ℕ) → BodiesStand jobs [] (fresh_kept jobs)
+fresh_stand jobs = (None, record { items = []; are_records = tt; stands = inl (IsChangeLog-nil jobs (fresh_kept jobs)); own_is = refl })
 
 has_none : HasBodies [] []
 has_none = ⊎_elim (λ has. has) (λ some. absurd some) (staged_has [] [] None (staged_empty None))
 
-pub empty_stands : (jobs : ℕ) (image : Image) → ((file : FileNo) → file_of file image ≡ []) → FilesStand jobs (fresh jobs) image
+pub empty_stands : (jobs : ℕ) (image : Image) → ((file : FileNo) → file_of file image ≡ []) → FilesStand jobs (fresh_kept jobs) image
 empty_stands jobs image empty = record { bodies = []; has = subst (λ bytes. HasBodies bytes []) (sym (empty (selected image))) has_none; stand = fresh_stand jobs }
 
-pub empty_recoverable : (jobs : ℕ) (may_leave : Image → Type 0) → ((image : Image) → may_leave image → (file : FileNo) → file_of file image ≡ []) → IsRecoverable jobs (fresh jobs) (fresh jobs) may_leave
+pub empty_recoverable : (jobs : ℕ) (may_leave : Image → Type 0) → ((image : Image) → may_leave image → (file : FileNo) → file_of file image ≡ []) → IsRecoverable jobs (fresh_kept jobs) (fresh_kept jobs) may_leave
 empty_recoverable jobs may_leave empty file =
     inr (record {
       bodies = [];

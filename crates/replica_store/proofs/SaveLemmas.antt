@@ -2,10 +2,10 @@
 use Rattle.std.proofs.Common.{◌≡◌, ◌≢◌, inl, inr, ℕ, ◌≤◌, List, [], ◌∷◌, ◌++◌, Some, sym, ap, ◌∙◌, subst}
 use Rattle.disk_model.specs.declared.fault.FileNo.{FileNo}
 use Rattle.disk_model.specs.declared.fault.FileNo.TheVariants.{Chooser}
-use Rattle.disk_model.specs.Images.{Image, file_of, OthersStay, InFile, Holds, IsDurable, LeavesOnly, InFileOnly}
+use Rattle.disk_model.specs.Images.{Image, file_of, OthersStay, InFile, HoldsPiece, IsDurable, LeavesOnly, InFileOnly}
 use Rattle.disk_model.proofs.CallerLemmas.{follows_on, leaves_weaker}
 use Rattle.disk_model.proofs.RunLemmas.{now_in_run}
-use Rattle.gate_file.specs.File.{file_no, bodies_of, IsSettled}
+use Rattle.gate_file.specs.File.{file_no, bodies_of, IsFileSettled}
 use Rattle.gate_file.specs.Gates.{IsAtRest, IsStaged}
 use Rattle.gate_file.specs.declared.gate_file.GateFile.{GateFile}
 use Rattle.paxos_base.specs.declared.durable.Delta.{Delta}
@@ -13,12 +13,12 @@ use Rattle.paxos_base.specs.declared.durable.Delta.TheVariants.{Tried, Promised,
 use Rattle.paxos_base.specs.declared.durable.Durable.{Durable}
 use Rattle.paxos_base.specs.Durable.{after_delta}
 use Rattle.store_format.specs.declared.body.Record.{Record}
-use Rattle.store_format.specs.Order.{MayFollow, delta_record, own_after}
+use Rattle.store_format.specs.Order.{ChangeMayFollow, delta_record, own_after}
 use Rattle.store_format.specs.Records.{IsRecord, RowHasCursor}
 use Rattle.store_format.proofs.ChangeLemmas.{StandFor-change}
 use Rattle.replica_store.specs.declared.store.Store.{Store}
 use Rattle.replica_store.specs.Files.{selected, bit_of, other_area, BodiesStand, FilesStandForEither, IsRecoverable}
-use Rattle.replica_store.specs.Store.{Keeps, IsStoreSettled}
+use Rattle.replica_store.specs.Store.{StoreKeeps, IsStoreSettled}
 use Rattle.replica_store.proofs.FileLemmas.{selects_area, byte_written, same_chooser, recoverable_stands, fewer_recoverable, other_differs, other_is_area}
 use Rattle.replica_store.proofs.ImageLemmas.{stays_durable, in_area, in_other, in_chooser, at_rest_alone}
 
@@ -39,8 +39,8 @@ module _ {D : Type 0} (moment : D → ℕ) (left_since : D → ℕ → Image →
 
 module _ {D : Type 0} (seen : D → Image) (may_leave : D → Image → Type 0) (honest : D → Type 0) where
   -- a gated file in a file that isn't changed
-  pub still_settled : (old new : D) (gates : GateFile) (changed : FileNo) (P : List ℕ → Type 0) → file_no gates ≢ changed → (honest new → honest old) → IsSettled seen may_leave honest old gates → OthersStay changed (seen old) (seen new)
-      → (honest old → (image : Image) → may_leave new image → InFileOnly changed (may_leave old) P image) → IsSettled seen may_leave honest new gates
+  pub still_settled : (old new : D) (gates : GateFile) (changed : FileNo) (P : List ℕ → Type 0) → file_no gates ≢ changed → (honest new → honest old) → IsFileSettled seen may_leave honest old gates → OthersStay changed (seen old) (seen new)
+      → (honest old → (image : Image) → may_leave new image → InFileOnly changed (may_leave old) P image) → IsFileSettled seen may_leave honest new gates
   still_settled old new gates changed P differs before settled others only =
       record {
         at_rest = subst (λ bytes. IsAtRest bytes (bodies_of gates)) (sym (others (file_no gates) differs)) settled.at_rest;
@@ -51,16 +51,16 @@ module _ {D : Type 0} (seen : D → Image) (may_leave : D → Image → Type 0) 
     pub is_area : file_no store.gates ≢ Chooser
     is_area is = selects_area (seen disk) (settled.selects ∙ is)
 
-    pub append_recoverable : (kept after : Durable) (body : List ℕ) → Keeps store kept → honest disk → BodiesStand store.jobs (bodies_of store.gates ++ body ∷ []) after
+    pub append_recoverable : (kept after : Durable) (body : List ℕ) → StoreKeeps store kept → honest disk → BodiesStand store.jobs (bodies_of store.gates ++ body ∷ []) after
         → IsRecoverable store.jobs kept after (InFileOnly (file_no store.gates) (may_leave disk) (IsStaged (bodies_of store.gates) (Some body)))
     append_recoverable kept after body keeps is stand =
         in_area store.jobs kept after (seen disk) (may_leave disk) (file_no store.gates) (bodies_of store.gates) (Some body) is_area settled.selects (settled.chooser is) (inl keeps) (inr stand)
 
-    pub other_recoverable : (kept after : Durable) (P : List ℕ → Type 0) → Keeps store kept → honest disk → IsRecoverable store.jobs kept after (InFileOnly (other_area (file_no store.gates)) (may_leave disk) P)
+    pub other_recoverable : (kept after : Durable) (P : List ℕ → Type 0) → StoreKeeps store kept → honest disk → IsRecoverable store.jobs kept after (InFileOnly (other_area (file_no store.gates)) (may_leave disk) P)
     other_recoverable kept after P keeps is =
         in_other store.jobs kept after (seen disk) (may_leave disk) (file_no store.gates) (bodies_of store.gates) P is_area settled.selects (settled.chooser is) (settled.gates.durable is) settled.gates.at_rest (inl keeps)
 
-    pub chooser_recoverable : (kept after : Durable) (P : List ℕ → Type 0) (gates : GateFile) → file_no gates ≡ other_area (file_no store.gates) → IsSettled seen may_leave honest disk gates → Keeps store kept → honest disk → BodiesStand store.jobs (bodies_of gates) after
+    pub chooser_recoverable : (kept after : Durable) (P : List ℕ → Type 0) (gates : GateFile) → file_no gates ≡ other_area (file_no store.gates) → IsFileSettled seen may_leave honest disk gates → StoreKeeps store kept → honest disk → BodiesStand store.jobs (bodies_of gates) after
         → IsRecoverable store.jobs kept after (InFileOnly Chooser (may_leave disk) P)
     chooser_recoverable kept after P gates other others keeps is stand =
         in_chooser store.jobs kept after (seen disk) (may_leave disk) (file_no store.gates) (bodies_of store.gates) (bodies_of gates) P is_area (settled.gates.durable is)
@@ -68,12 +68,12 @@ module _ {D : Type 0} (seen : D → Image) (may_leave : D → Image → Type 0) 
         (subst (λ file. IsAtRest (file_of file (seen disk)) (bodies_of gates)) other others.at_rest) (inl keeps) (inr stand)
 
     -- a store at rest
-    pub settled_recoverable : (kept : Durable) → Keeps store kept → honest disk → IsRecoverable store.jobs kept kept (may_leave disk)
+    pub settled_recoverable : (kept : Durable) → StoreKeeps store kept → honest disk → IsRecoverable store.jobs kept kept (may_leave disk)
     settled_recoverable kept keeps is = at_rest_alone store.jobs kept kept (seen disk) (may_leave disk) (file_no store.gates) (bodies_of store.gates) settled.selects (settled.chooser is) (settled.gates.durable is) settled.gates.at_rest (inl keeps)
 
     -- after calls on its area, which leave it at rest
-    pub settled_in_area : (new : D) (now : Store) (P : List ℕ → Type 0) → (honest new → honest disk) → IsSettled seen may_leave honest new now.gates → file_no now.gates ≡ file_no store.gates → OthersStay (file_no store.gates) (seen disk) (seen new)
-        → (honest disk → (image : Image) → may_leave new image → InFileOnly (file_no store.gates) (may_leave disk) P image) → (kept : Durable) × Keeps now kept → IsStoreSettled seen may_leave honest new now
+    pub settled_in_area : (new : D) (now : Store) (P : List ℕ → Type 0) → (honest new → honest disk) → IsFileSettled seen may_leave honest new now.gates → file_no now.gates ≡ file_no store.gates → OthersStay (file_no store.gates) (seen disk) (seen new)
+        → (honest disk → (image : Image) → may_leave new image → InFileOnly (file_no store.gates) (may_leave disk) P image) → (kept : Durable) × StoreKeeps now kept → IsStoreSettled seen may_leave honest new now
     settled_in_area new now P before gates same others only keeps =
         record {
           gates = gates;
@@ -106,9 +106,9 @@ module _ {D : Type 0} (seen : D → Image) (may_leave : D → Image → Type 0) 
         }
 
     -- after the chooser was written
-    pub settled_by_chooser : (new : D) (now : Store) (P : List ℕ → Type 0) → (honest new → honest disk) → file_no now.gates ≢ Chooser → IsSettled seen may_leave honest disk now.gates → InFile Chooser (Holds 0 (bit_of (file_no now.gates) ∷ [])) (seen disk) (seen new)
+    pub settled_by_chooser : (new : D) (now : Store) (P : List ℕ → Type 0) → (honest new → honest disk) → file_no now.gates ≢ Chooser → IsFileSettled seen may_leave honest disk now.gates → InFile Chooser (HoldsPiece 0 (bit_of (file_no now.gates) ∷ [])) (seen disk) (seen new)
         → (honest new → IsDurable Chooser (seen new) (may_leave new))
-        → (honest disk → (image : Image) → may_leave new image → InFileOnly Chooser (may_leave disk) P image) → (kept : Durable) × Keeps now kept → IsStoreSettled seen may_leave honest new now
+        → (honest disk → (image : Image) → may_leave new image → InFileOnly Chooser (may_leave disk) P image) → (kept : Durable) × StoreKeeps now kept → IsStoreSettled seen may_leave honest new now
     settled_by_chooser new now P before differs gates written durable only keeps =
         record {
           gates = still_settled disk new now.gates Chooser P differs before gates written.others only;
@@ -129,7 +129,7 @@ change_has_cursor (Voted vote) item is = subst RowHasCursor (same_item (Record.V
 change_has_cursor (Base slot rows) item is = absurd (cc is)
 
 -- the bodies stand for the state after the change, once its record is behind them
-pub change_stands : (jobs : ℕ) (bodies : List (List ℕ)) (body : List ℕ) (item : Record) (kept : Durable) (change : Delta) → BodiesStand jobs bodies kept → MayFollow jobs kept change → delta_record change ≡ Some item → (RowHasCursor item → IsRecord body item)
+pub change_stands : (jobs : ℕ) (bodies : List (List ℕ)) (body : List ℕ) (item : Record) (kept : Durable) (change : Delta) → BodiesStand jobs bodies kept → ChangeMayFollow jobs kept change → delta_record change ≡ Some item → (RowHasCursor item → IsRecord body item)
     → BodiesStand jobs (bodies ++ body ∷ []) (after_delta change kept)
 change_stands jobs bodies body item kept change stand follows is record_of =
     (own_after change stand.0, StandFor-change jobs bodies body item kept stand.0 change stand.1 follows is (record_of (change_has_cursor change item is)))

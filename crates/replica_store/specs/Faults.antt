@@ -1,6 +1,8 @@
 -- The answers of a store by those of what it stands on.
+use Rattle.std.specs.Prelude.{◌≡◌, ◌↔◌, ℕ, Result, Err}
 use Rattle.disk_model.specs.declared.fault.DiskFault.{DiskFault}
 use Rattle.disk_model.specs.declared.fault.DiskFault.TheVariants as Disk
+use Rattle.disk_model.specs.Faults.{Counts, CountsAnswer}
 use Rattle.gate_file.specs.declared.fault.GateFault.{GateFault}
 use Rattle.gate_file.specs.declared.fault.GateFault.TheVariants as Gate
 use Rattle.store_format.specs.declared.fault.ReadFault.{ReadFault}
@@ -22,3 +24,13 @@ of_gates Gate.OutOfMemory = Store.OutOfMemory
 abbrev pub of_records : ReadFault → StoreFault
 of_records (Read.Damaged number) = Store.Damaged number
 of_records Read.OutOfMemory = Store.OutOfMemory
+
+abbrev pub CountsStoreAnswer : {T : Type 0} → Counts → Counts → Result T StoreFault → Type 0
+CountsStoreAnswer old new result = CountsAnswer Store.Stopped Store.DiskFault Store.OutOfMemory old new result
+
+-- What each call of a store says of its disk whatever it answers: it is as honest as it was, and its counts rose where the
+-- answer tells of it, and nowhere else.
+pub record HasStoreAnswer {D T : Type 0} (honest : D → Type 0) (counts : D → Counts) (old new : D) (result : Result T StoreFault) : Type 0 where
+  pub honest_still : honest new ↔ honest old
+  pub counted : CountsStoreAnswer (counts old) (counts new) result
+  pub damaged : (gate : ℕ) → result ≡ Err (Store.Damaged gate) → counts new ≡ counts old

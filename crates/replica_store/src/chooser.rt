@@ -1,6 +1,6 @@
 //! The chooser's byte, and the area that it selects.
 ghost use Rattle.std.specs.Prelude.{◌≡◌, ◌↔◌, IfOk, OnOk};
-ghost use Rattle.disk_model.specs.Faults.{HasCause, WantsNoMemory};
+ghost use Rattle.disk_model.specs.Faults.{CountsDiskAnswer, WantsNoMemory};
 ghost use Rattle.disk_model.specs.Images.{IsDurable, NoNewImage, LeavesOnly};
 ghost use Rattle.disk_model.specs.declared.fault.FileNo.TheVariants.{Chooser};
 ghost use Rattle.replica_store.specs.Files.{selected, selected_by, bit_of, other_area};
@@ -46,7 +46,7 @@ pub(crate) fn select<D: Disk>(disk: &mut D) -> Result<FileNo, DiskFault>
     ensures no_new_image { D.honest disk.old → NoNewImage (D.may_leave disk.old) (D.may_leave disk.new) }
     ensures images { D.honest disk.old → LeavesOnly D.moment D.left_since disk.old disk.new (D.may_leave disk.old) }
     ensures honest { D.honest disk.new ↔ D.honest disk.old }
-    ensures cause { HasCause (D.counts disk.old) (D.counts disk.new) result }
+    ensures counts { CountsDiskAnswer (D.counts disk.old) (D.counts disk.new) result }
     ensures memory { WantsNoMemory result }
 {
     disk.sync(FileNo::Chooser)?;

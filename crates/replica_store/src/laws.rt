@@ -2,24 +2,24 @@ ghost use Rattle.std.specs.Prelude.{◌≡◌, ℕ, []};
 ghost use Rattle.disk_model.specs.declared.fault.FileNo.{FileNo};
 ghost use Rattle.disk_model.specs.Images.{Image, file_of, NoNewImage};
 ghost use Rattle.paxos_base.specs.declared.durable.Durable.{Durable};
-ghost use Rattle.store_format.specs.Area.{fresh};
+ghost use Rattle.store_format.specs.Area.{fresh_kept};
 ghost use Rattle.replica_store.specs.declared.store.Store.{Store};
 ghost use Rattle.replica_store.specs.Files.{FilesStand, FilesStandForEither, IsRecoverable};
-ghost use Rattle.replica_store.specs.Store.{jobs_of, Keeps, IsStoreSettled};
+ghost use Rattle.replica_store.specs.Store.{jobs_of, StoreKeeps, IsStoreSettled};
 
 use disk_model::Disk;
 
 /// A law, with nothing to run: files stand for one state at most, and a store keeps one.
 pub fn files_stand_for_one_state()
     ensures files { (jobs : ℕ) (image : Image) (one other : Durable) → FilesStand jobs one image → FilesStand jobs other image → one ≡ other }
-    ensures store { (store : Store) (one other : Durable) → Keeps store one → Keeps store other → one ≡ other }
+    ensures store { (store : Store) (one other : Durable) → StoreKeeps store one → StoreKeeps store other → one ≡ other }
 {}
 
 /// A law, with nothing to run: an empty disk stands for the fresh state, and is recoverable with it.
 pub fn an_empty_disk_is_recoverable<D: Disk>()
-    ensures stands { (jobs : ℕ) (image : Image) → ((file : FileNo) → file_of file image ≡ []) → FilesStand jobs (fresh jobs) image }
+    ensures stands { (jobs : ℕ) (image : Image) → ((file : FileNo) → file_of file image ≡ []) → FilesStand jobs (fresh_kept jobs) image }
     ensures recoverable { (disk : D) (jobs : ℕ) → ((image : Image) → D.may_leave disk image → (file : FileNo) → file_of file image ≡ [])
-        → IsRecoverable jobs (fresh jobs) (fresh jobs) (D.may_leave disk) }
+        → IsRecoverable jobs (fresh_kept jobs) (fresh_kept jobs) (D.may_leave disk) }
 {}
 
 /// A law, with nothing to run: each image that a stop may leave of a recoverable disk stands for one of its two states, and
@@ -33,6 +33,6 @@ pub fn a_stop_leaves_one_of_two_states<D: Disk>()
 
 /// A law, with nothing to run: between two calls of a store, whatever a stop leaves stands for the one state that it keeps.
 pub fn a_settled_store_is_recoverable<D: Disk>()
-    ensures { (disk : D) (store : Store) (kept : Durable) → D.honest disk → IsStoreSettled D.seen D.may_leave D.honest disk store → Keeps store kept
+    ensures { (disk : D) (store : Store) (kept : Durable) → D.honest disk → IsStoreSettled D.seen D.may_leave D.honest disk store → StoreKeeps store kept
         → IsRecoverable (jobs_of store) kept kept (D.may_leave disk) }
 {}

@@ -11,8 +11,6 @@ mod chooser;
 mod fault;
 mod laws;
 mod store;
-#[cfg(test)]
-mod tests;
 
 pub use fault::StoreFault;
 pub use laws::{

@@ -1,23 +1,21 @@
-ghost use Rattle.std.specs.Prelude.{◌≡◌, ◌↔◌, ◌⊎◌, ⊤, ℕ, List, Ok, Err, length, IfOk, OnOk, IsErrOf};
-ghost use Rattle.cron_io.specs.Faults.{Rose};
+ghost use Rattle.std.specs.Prelude.{◌≡◌, ◌↔◌, ◌⊎◌, ⊤, ℕ, List, Ok, Err, IfOk, OnOk, IsErrOf};
 ghost use Rattle.disk_model.specs.Images.{file_of, OthersStay, LeavesOnly, InFileOnly};
-ghost use Rattle.gate_file.specs.Faults.{HasCountedOn};
-ghost use Rattle.gate_file.specs.File.{file_no, bodies_of, IsSettled};
+ghost use Rattle.gate_file.specs.File.{file_no, bodies_of, IsFileSettled};
 ghost use Rattle.gate_file.specs.Gates.{HasBodies};
 ghost use Rattle.paxos_base.specs.declared.durable.Delta.{Delta};
 ghost use Rattle.paxos_base.specs.declared.durable.Delta.TheVariants.{Base};
 ghost use Rattle.paxos_base.specs.declared.durable.Durable.{Durable};
 ghost use Rattle.paxos_base.specs.Durable.{after_delta};
-ghost use Rattle.store_format.specs.Area.{IsFirstFault};
+ghost use Rattle.store_format.specs.Area.{IsFirstRecordAtFault};
 ghost use Rattle.paxos_base.specs.Rows.{RowsStand};
-ghost use Rattle.store_format.specs.Order.{MayFollow};
-ghost use Rattle.replica_store.specs.declared.fault.StoreFault.TheVariants.{Stopped, DiskFault, OutOfMemory, Damaged};
+ghost use Rattle.store_format.specs.Order.{ChangeMayFollow};
+ghost use Rattle.replica_store.specs.declared.fault.StoreFault.TheVariants.{OutOfMemory, Damaged};
+ghost use Rattle.replica_store.specs.Faults.{HasStoreAnswer};
 ghost use Rattle.replica_store.specs.Files.{selected, other_area, BodiesStand, FilesStand, FilesStandForEither, IsRecoverable};
 
 use crate::chooser::{bit_of, other_area, select};
 use crate::fault::StoreFault;
 use disk_model::{Disk, FileNo, write_synced};
-use due_set::JobTable;
 use gate_file::{GateFile, ReadGates};
 use paxos_base::{Delta, Durable, RowList};
 use std::alloc::Global;
@@ -32,9 +30,10 @@ pub struct Store {
 }
 
 impl Store {
-    ghost use Rattle.replica_store.specs.Store.{jobs_of, area_of, Keeps, IsStoreSettled};
+    ghost use Rattle.replica_store.specs.Store.{jobs_of, area_of, StoreKeeps, IsStoreSettled};
 
-    /// Attaches the files of a disk, and says what they stand for. What an earlier call that failed left is decided here.
+    /// Attaches the files of a disk, of a table of that many jobs, and says what they stand for. What an earlier call that
+    /// failed left is decided here.
     ///
     /// # Errors
     ///
@@ -42,33 +41,34 @@ impl Store {
     pub fn attach<D: Disk>(
         alloc: Global,
         disk: &mut D,
-        table: &JobTable,
+        jobs: u32,
     ) -> Result<(Store, Durable), StoreFault>
         ensures settled { IfOk result (λ found. IsStoreSettled D.seen D.may_leave D.honest disk.new found.0) }
-        ensures jobs { IfOk result (λ found. jobs_of found.0 ≡ length table.now.jobs) }
-        ensures keeps { IfOk result (λ found. Keeps found.0 found.1) }
-        ensures stand { IfOk result (λ found. FilesStand (length table.now.jobs) found.1 (D.seen disk.old)) }
+        ensures jobs { IfOk result (λ found. jobs_of found.0 ≡ jobs) }
+        ensures keeps { IfOk result (λ found. StoreKeeps found.0 found.1) }
+        ensures stand { IfOk result (λ found. FilesStand jobs found.1 (D.seen disk.old)) }
+        // The chooser and the other area stay as they are.
+        ensures others { OnOk result (OthersStay (selected (D.seen disk.old)) (D.seen disk.old) (D.seen disk.new)) }
+        // So they do, whatever the answer is, in whatever a stop leaves.
+        ensures elsewhere { D.honest disk.old → LeavesOnly D.moment D.left_since disk.old disk.new
+            (InFileOnly (selected (D.seen disk.old)) (D.may_leave disk.old) (λ bytes. ⊤)) }
 
         // From a disk that was recoverable, with the state before a change or after it, one of the two is found; whatever a
         // stop within this call leaves stands for one of them, and the disk stays recoverable.
-        ensures either { (before after : Durable) → D.honest disk.old → IsRecoverable (length table.now.jobs) before after (D.may_leave disk.old)
+        ensures either { (before after : Durable) → D.honest disk.old → IsRecoverable jobs before after (D.may_leave disk.old)
             → IfOk result (λ found. (found.1 ≡ before) ⊎ (found.1 ≡ after)) }
-        ensures sound { (before after : Durable) (gate : ℕ) → D.honest disk.old → IsRecoverable (length table.now.jobs) before after (D.may_leave disk.old)
+        ensures sound { (before after : Durable) (gate : ℕ) → D.honest disk.old → IsRecoverable jobs before after (D.may_leave disk.old)
             → result ≡ Err (Damaged gate) → ⊥ }
-        ensures images { (before after : Durable) → D.honest disk.old → IsRecoverable (length table.now.jobs) before after (D.may_leave disk.old)
-            → LeavesOnly D.moment D.left_since disk.old disk.new (FilesStandForEither (length table.now.jobs) before after) }
-        ensures recoverable { (before after : Durable) → D.honest disk.old → IsRecoverable (length table.now.jobs) before after (D.may_leave disk.old)
-            → IsRecoverable (length table.now.jobs) before after (D.may_leave disk.new) }
+        ensures images { (before after : Durable) → D.honest disk.old → IsRecoverable jobs before after (D.may_leave disk.old)
+            → LeavesOnly D.moment D.left_since disk.old disk.new (FilesStandForEither jobs before after) }
+        ensures recoverable { (before after : Durable) → D.honest disk.old → IsRecoverable jobs before after (D.may_leave disk.old)
+            → IsRecoverable jobs before after (D.may_leave disk.new) }
 
         ensures damaged { (gate : ℕ) (bodies : List (List ℕ)) → result ≡ Err (Damaged gate) → HasBodies (file_of (selected (D.seen disk.old)) (D.seen disk.old)) bodies
-            → IsFirstFault (length table.now.jobs) bodies gate }
+            → IsFirstRecordAtFault jobs bodies gate }
         ensures unwritten { (gate : ℕ) → result ≡ Err (Damaged gate) → D.seen disk.new ≡ D.seen disk.old }
-        ensures honest { D.honest disk.new ↔ D.honest disk.old }
-        ensures stopped { IsErrOf result Stopped → Rose (D.counts disk.old).stops (D.counts disk.new).stops }
-        ensures failed { IsErrOf result DiskFault → Rose (D.counts disk.old).faults (D.counts disk.new).faults }
-        ensures counted { HasCountedOn (D.counts disk.old) (D.counts disk.new) }
+        ensures answer { HasStoreAnswer D.honest D.counts disk.old disk.new result }
     {
-        let jobs = table.jobs();
         let area = select(disk)?;
         let read = ReadGates::read(alloc, disk, area)?;
         let (kept, _) = read_records(alloc, jobs, read.bodies())?;
@@ -76,32 +76,34 @@ impl Store {
         Ok((Store { alloc, jobs, gates }, kept))
     }
 
-    /// Saves a change. At `Ok` the files stand for the state after it, whatever a stop does. After want of memory they
-    /// stand for the state before it; after any other fault they are to be attached again.
+    /// Saves a change. At `Ok` the files stand for the state after it, whatever a stop does.
     ///
     /// A change is appended to the area by two writes, each synced. For a base the other area is cut, written and synced,
     /// and then the chooser's byte is written and synced.
+    ///
+    /// # Errors
+    ///
+    /// `Stopped` and `DiskFault` where the disk stopped or failed: then the files stand for the state before the change or
+    /// for the one after it, and are to be attached again. `OutOfMemory`: they stand for the state before it, and the store
+    /// can go on. `Damaged` never.
     pub fn save<D: Disk>(&mut self, disk: &mut D, delta: &Delta) -> Result<(), StoreFault>
         requires settled { IsStoreSettled D.seen D.may_leave D.honest disk.old self.old }
-        requires follows { (kept : Durable) → Keeps self.old kept → MayFollow (jobs_of self.old) kept delta.now }
+        requires follows { (kept : Durable) → StoreKeeps self.old kept → ChangeMayFollow (jobs_of self.old) kept delta.now }
         ensures settled { OnOk result (IsStoreSettled D.seen D.may_leave D.honest disk.new self.new) }
-        ensures keeps { (kept : Durable) → Keeps self.old kept → OnOk result (Keeps self.new (after_delta delta.now kept)) }
+        ensures keeps { (kept : Durable) → StoreKeeps self.old kept → OnOk result (StoreKeeps self.new (after_delta delta.now kept)) }
         ensures jobs { jobs_of self.new ≡ jobs_of self.old }
 
         // Whatever a stop within the call leaves stands for the state before the change or for the one after it, and whatever
         // the answer is, the disk is recoverable with one of the two.
-        ensures images { (kept : Durable) → Keeps self.old kept → D.honest disk.old
+        ensures images { (kept : Durable) → StoreKeeps self.old kept → D.honest disk.old
             → LeavesOnly D.moment D.left_since disk.old disk.new (FilesStandForEither (jobs_of self.old) kept (after_delta delta.now kept)) }
-        ensures recoverable { (kept : Durable) → Keeps self.old kept → D.honest disk.old
+        ensures recoverable { (kept : Durable) → StoreKeeps self.old kept → D.honest disk.old
             → IsRecoverable (jobs_of self.old) kept (after_delta delta.now kept) (D.may_leave disk.new) }
 
         ensures memory { IsErrOf result OutOfMemory → IsStoreSettled D.seen D.may_leave D.honest disk.new self.new }
-        ensures memory_keeps { (kept : Durable) → Keeps self.old kept → IsErrOf result OutOfMemory → Keeps self.new kept }
+        ensures memory_keeps { (kept : Durable) → StoreKeeps self.old kept → IsErrOf result OutOfMemory → StoreKeeps self.new kept }
         ensures undamaged { (gate : ℕ) → result ≡ Err (Damaged gate) → ⊥ }
-        ensures honest { D.honest disk.new ↔ D.honest disk.old }
-        ensures stopped { IsErrOf result Stopped → Rose (D.counts disk.old).stops (D.counts disk.new).stops }
-        ensures failed { IsErrOf result DiskFault → Rose (D.counts disk.old).faults (D.counts disk.new).faults }
-        ensures counted { HasCountedOn (D.counts disk.old) (D.counts disk.new) }
+        ensures answer { HasStoreAnswer D.honest D.counts disk.old disk.new result }
     {
         if let Delta::Base { slot, rows } = delta {
             let gates = self.write_area(disk, *slot, rows)?;
@@ -125,19 +127,16 @@ impl Store {
     ) -> Result<GateFile, StoreFault>
         requires settled { IsStoreSettled D.seen D.may_leave D.honest disk.old self.now }
         requires rows { RowsStand rows.now (jobs_of self.now) }
-        ensures settled { IfOk result (λ gates. IsSettled D.seen D.may_leave D.honest disk.new gates) }
+        ensures settled { IfOk result (λ gates. IsFileSettled D.seen D.may_leave D.honest disk.new gates) }
         ensures file { IfOk result (λ gates. file_no gates ≡ other_area (area_of self.now)) }
-        ensures stand { (kept : Durable) → Keeps self.now kept
+        ensures stand { (kept : Durable) → StoreKeeps self.now kept
             → IfOk result (λ gates. BodiesStand (jobs_of self.now) (bodies_of gates) (after_delta (Base slot rows.now) kept)) }
         ensures others { OnOk result (OthersStay (other_area (area_of self.now)) (D.seen disk.old) (D.seen disk.new)) }
         ensures images { D.honest disk.old → LeavesOnly D.moment D.left_since disk.old disk.new
             (InFileOnly (other_area (area_of self.now)) (D.may_leave disk.old) (λ bytes. ⊤)) }
         ensures memory_others { IsErrOf result OutOfMemory → OthersStay (other_area (area_of self.now)) (D.seen disk.old) (D.seen disk.new) }
         ensures undamaged { (gate : ℕ) → result ≡ Err (Damaged gate) → ⊥ }
-        ensures honest { D.honest disk.new ↔ D.honest disk.old }
-        ensures stopped { IsErrOf result Stopped → Rose (D.counts disk.old).stops (D.counts disk.new).stops }
-        ensures failed { IsErrOf result DiskFault → Rose (D.counts disk.old).faults (D.counts disk.new).faults }
-        ensures counted { HasCountedOn (D.counts disk.old) (D.counts disk.new) }
+        ensures answer { HasStoreAnswer D.honest D.counts disk.old disk.new result }
     {
         let (kept, own) = read_records(self.alloc, self.jobs, self.gates.bodies())?;
         let bodies = write_base(self.alloc, &kept, own, slot, rows)?;

@@ -8,36 +8,25 @@ mod votes;
 use crate::fault::BenchFault;
 use crate::votes::save_votes;
 use disk_model::MemDisk;
-use due_set::{JobKind, JobSpec, JobTable};
 use replica_store::Store;
-use std::alloc::Global;
 use std::time::{CpuClock, Duration};
-use zone_minutes::{Minute, Window};
+
+// How many jobs the replica's table has.
+const JOBS: u32 = 1;
 
 // How many votes are saved.
 const VOTES: u32 = 100_000;
 
-fn one_job(alloc: Global) -> Result<JobTable, BenchFault> {
-    let window = Window {
-        from: Minute(28_530_720),
-        until: Minute(28_530_840),
-    };
-    let mut jobs = Vec::new(alloc);
-    jobs.push(JobSpec::new(alloc, "bench:1", 0, JobKind::Never)?)?;
-    Ok(JobTable::in_utc(alloc, window, 0, jobs)?)
-}
-
 fn main(rt: HostRuntime) -> Result<(), BenchFault> {
     let alloc = rt.alloc();
-    let table = one_job(alloc)?;
     let mut disk = MemDisk::new(alloc, Vec::new(alloc));
     let start = rt.thread_cpu_time()?;
-    save_votes(alloc, &mut disk, &table, VOTES)?;
+    save_votes(alloc, &mut disk, JOBS, VOTES)?;
     let took = rt.thread_cpu_time()?.saturating_sub(start);
     println!(rt; "{VOTES} votes saved")?;
     tell(&rt, "saving", took)?;
     let start = rt.thread_cpu_time()?;
-    let (_, kept) = Store::attach(alloc, &mut disk, &table)?;
+    let (_, kept) = Store::attach(alloc, &mut disk, JOBS)?;
     let took = rt.thread_cpu_time()?.saturating_sub(start);
     let found = kept.votes.items.len();
     println!(rt; "{found} votes found")?;

@@ -15,9 +15,9 @@ use Rattle.paxos_base.proofs.PutLemmas.{all_from, SlotsRise-votes_from}
 use Rattle.acceptor_core.specs.Acceptor.{IsAbove}
 use Rattle.store_format.specs.declared.body.Record.{Record}
 use Rattle.store_format.specs.Area.{Stands, StandFor, group_of, Copy, copy_records, IsCopy, IsGreatest, after_copy, promise_above, base_records}
-use Rattle.store_format.specs.Order.{IsSound, IsPromised, IsLog, own_round}
+use Rattle.store_format.specs.Order.{IsKeptSound, IsPromised, IsChangeLog, own_round}
 use Rattle.store_format.specs.Records.{AreRecords, own_ballot}
-use Rattle.store_format.proofs.LogLemmas.{IsLog-nil}
+use Rattle.store_format.proofs.LogLemmas.{IsChangeLog-nil}
 use Rattle.store_format.proofs.CopyRuns.{longest_alone}
 use Rattle.store_format.proofs.SoundLemmas.{ballots_of, option_list, copy_ballots, base_own, all_kept}
 
@@ -84,7 +84,7 @@ unfolding after_delta
 after_base kept own slot rows round =
     ap (λ (tried : ℕ). record kept { tried = tried; votes = votes_from slot kept.votes; base = slot; rows = rows }) (sym round)
 
-pub base_stands : (jobs : ℕ) (kept : Durable) (own : Option ℕ) (slot : ℕ) (rows : List JobRow) → IsSound kept own → RowsStand rows jobs → Stands jobs (base_records kept own slot rows) (after_delta (BaseDelta slot rows) kept)
+pub base_stands : (jobs : ℕ) (kept : Durable) (own : Option ℕ) (slot : ℕ) (rows : List JobRow) → IsKeptSound kept own → RowsStand rows jobs → Stands jobs (base_records kept own slot rows) (after_delta (BaseDelta slot rows) kept)
 base_stands jobs kept own slot rows sound stand =
     let copy : Copy = written kept own slot in
     let votes_are : All (λ (vote : Vote). IsPromised kept.promised vote.ballot) (votes_from slot kept.votes) = all_kept (λ (vote : Vote). IsPromised kept.promised vote.ballot) slot kept.votes sound.votes_promised in
@@ -99,14 +99,14 @@ base_stands jobs kept own slot rows sound stand =
       is_copy = written-IsCopy kept own slot sound.votes_rise;
       longest = longest_alone slot copy;
       greatest = subst (IsGreatest kept.promised) (sym (copy_ballots own (promise_above own kept.promised) (votes_from slot kept.votes))) (greatest_of own kept.promised (votes_from slot kept.votes) sound.own_promised votes_are);
-      is_log = subst (IsLog jobs (after_copy slot rows copy kept.promised) []) (after_base kept own slot rows sound.round) (IsLog-nil jobs (after_copy slot rows copy kept.promised));
+      is_log = subst (IsChangeLog jobs (after_copy slot rows copy kept.promised) []) (after_base kept own slot rows sound.round) (IsChangeLog-nil jobs (after_copy slot rows copy kept.promised));
     })
 
 pub base_own_ballot : (kept : Durable) (own : Option ℕ) (slot : ℕ) (rows : List JobRow) → own ≡ own_ballot (base_records kept own slot rows)
 base_own_ballot kept own slot rows =
     sym (ap (λ (behind : List Record). own_ballot (group_of slot rows ++ behind)) (sym (append-nil (copy_records (written kept own slot)))) ∙ base_own slot rows (written kept own slot) [])
 
-pub base_stand_for : (jobs : ℕ) (bodies : List (List ℕ)) (kept : Durable) (own : Option ℕ) (slot : ℕ) (rows : List JobRow) → AreRecords bodies (base_records kept own slot rows) → IsSound kept own → RowsStand rows jobs
+pub base_stand_for : (jobs : ℕ) (bodies : List (List ℕ)) (kept : Durable) (own : Option ℕ) (slot : ℕ) (rows : List JobRow) → AreRecords bodies (base_records kept own slot rows) → IsKeptSound kept own → RowsStand rows jobs
     → StandFor jobs bodies (after_delta (BaseDelta slot rows) kept) own
 base_stand_for jobs bodies kept own slot rows are sound stand =
     record { items = base_records kept own slot rows; are_records = are; stands = base_stands jobs kept own slot rows sound stand; own_is = base_own_ballot kept own slot rows }

@@ -12,7 +12,7 @@ use Rattle.store_format.specs.declared.body.Record.{Record}
 use Rattle.store_format.specs.declared.body.Record.TheVariants.{Tried, Promised, Voted, Base, Row}
 use Rattle.store_format.specs.declared.place.Place.{Place}
 use Rattle.store_format.specs.declared.place.Place.TheVariants.{Start, Rows, CopyStart, CopyTried, CopyPromised, CopyVotes, Log}
-use Rattle.store_format.specs.Area.{StandFor, MayStand, IsFirstFault, fresh}
+use Rattle.store_format.specs.Area.{StandFor, BodiesMayStand, IsFirstRecordAtFault, fresh_kept}
 use Rattle.store_format.specs.Places.{next_place, taken}
 use Rattle.store_format.specs.Records.{record_bytes, IsRecord, AreRecords, tried_in, own_ballot}
 use Rattle.store_format.proofs.Machine.{Reading, reading, run, runs_on, run_parts, run_steps, runs_from}
@@ -85,7 +85,7 @@ pub record Behind (jobs : ℕ) (bodies : List (List ℕ)) (place : Place) (kept 
   pub runs : run jobs (first jobs) items ≡ Some (reading place kept)
   pub own_is : own ≡ own_ballot items
 
-pub Behind-none : (jobs : ℕ) → Behind jobs [] Start (fresh jobs) None
+pub Behind-none : (jobs : ℕ) → Behind jobs [] Start (fresh_kept jobs) None
 Behind-none jobs = record { items = []; are = tt; runs = refl; own_is = refl }
 
 pub Behind-next : (jobs : ℕ) (bodies : List (List ℕ)) (place next : Place) (kept : Durable) (own : Option ℕ) (body : List ℕ) (item : Record) → Behind jobs bodies place kept own → IsRecord body item → next_place jobs place kept item ≡ Some next
@@ -123,8 +123,8 @@ StandFor-same jobs bodies kept other own others a b =
 
 -- ---- bodies that may yet stand
 
-pub MayStand-front : (jobs : ℕ) (bodies others : List (List ℕ)) → MayStand jobs (bodies ++ others) → MayStand jobs bodies
-MayStand-front jobs bodies others may =
+pub BodiesMayStand-front : (jobs : ℕ) (bodies others : List (List ℕ)) → BodiesMayStand jobs (bodies ++ others) → BodiesMayStand jobs bodies
+BodiesMayStand-front jobs bodies others may =
     record {
       rest = others ++ may.rest;
       kept = may.kept;
@@ -132,7 +132,7 @@ MayStand-front jobs bodies others may =
       stand = subst (λ (all : List (List ℕ)). StandFor jobs all may.kept may.own) (append_assoc bodies others may.rest) may.stand;
     }
 
-stand_may : (jobs : ℕ) (bodies : List (List ℕ)) (kept : Durable) (own : Option ℕ) → StandFor jobs bodies kept own → MayStand jobs bodies
+stand_may : (jobs : ℕ) (bodies : List (List ℕ)) (kept : Durable) (own : Option ℕ) → StandFor jobs bodies kept own → BodiesMayStand jobs bodies
 stand_may jobs bodies kept own stand =
     record { rest = []; kept = kept; own = own; stand = subst (λ (all : List (List ℕ)). StandFor jobs all kept own) (sym (append-nil bodies)) stand }
 
@@ -140,7 +140,7 @@ base_fits : (bodies : List (List ℕ)) (slot count : ℕ) (rest : List Record) �
 base_fits [] slot count rest are = absurd are
 base_fits (body ∷ bodies) slot count rest are = are.0.packet.fits.slot
 
-open_may : (jobs : ℕ) (bodies : List (List ℕ)) (kept : Durable) (own : Option ℕ) → jobs < 2 ^ 32 → Behind jobs bodies Rows kept own → MayStand jobs bodies
+open_may : (jobs : ℕ) (bodies : List (List ℕ)) (kept : Durable) (own : Option ℕ) → jobs < 2 ^ 32 → Behind jobs bodies Rows kept own → BodiesMayStand jobs bodies
 open_may jobs bodies kept own few behind =
     let open_at = begun jobs behind.items (reading Rows kept) behind.runs refl in
     let slot : ℕ = open_at.slot in
@@ -163,7 +163,7 @@ open_may jobs bodies kept own few behind =
     }
 
 -- what a reader went over may yet stand for a state
-pub Behind-may : (jobs : ℕ) (bodies : List (List ℕ)) (place : Place) (kept : Durable) (own : Option ℕ) → jobs < 2 ^ 32 → Behind jobs bodies place kept own → MayStand jobs bodies
+pub Behind-may : (jobs : ℕ) (bodies : List (List ℕ)) (place : Place) (kept : Durable) (own : Option ℕ) → jobs < 2 ^ 32 → Behind jobs bodies place kept own → BodiesMayStand jobs bodies
 Behind-may jobs bodies Start kept own few behind = stand_may jobs bodies kept own (Behind-stand jobs bodies Start kept own behind (λ same. cc same))
 Behind-may jobs bodies Rows kept own few behind = open_may jobs bodies kept own few behind
 Behind-may jobs bodies CopyStart kept own few behind = stand_may jobs bodies kept own (Behind-stand jobs bodies CopyStart kept own behind (λ same. cc same))
@@ -181,7 +181,7 @@ one_record body [] are = absurd are
 one_record body (item ∷ []) are = (item, refl, are.0)
 one_record body (item ∷ other ∷ items) are = absurd are.1
 
-pub refused : (jobs : ℕ) (bodies : List (List ℕ)) (place : Place) (kept : Durable) (own : Option ℕ) (body : List ℕ) → Behind jobs bodies place kept own → IsRefused jobs place kept body → MayStand jobs (bodies ++ body ∷ []) → ⊥
+pub refused : (jobs : ℕ) (bodies : List (List ℕ)) (place : Place) (kept : Durable) (own : Option ℕ) (body : List ℕ) → Behind jobs bodies place kept own → IsRefused jobs place kept body → BodiesMayStand jobs (bodies ++ body ∷ []) → ⊥
 refused jobs bodies place kept own body behind is_refused may =
     let whole = may.stand in
     let split = AreRecords-split (bodies ++ body ∷ []) may.rest whole.items whole.are_records in
@@ -201,22 +201,22 @@ refused jobs bodies place kept own body behind is_refused may =
 
 -- ---- the first fault
 
-earlier_may : (jobs : ℕ) (bodies : List (List ℕ)) (k j : ℕ) → j < k → k ≤ length bodies → MayStand jobs (take k bodies) → MayStand jobs (take (j + 1) bodies)
+earlier_may : (jobs : ℕ) (bodies : List (List ℕ)) (k j : ℕ) → j < k → k ≤ length bodies → BodiesMayStand jobs (take k bodies) → BodiesMayStand jobs (take (j + 1) bodies)
 earlier_may jobs bodies k j before within may =
     let shorter : take (j + 1) (take k bodies) ≡ take (j + 1) bodies = take-take (j + 1) k bodies (omega (arith, before)) in
     let parts : take (j + 1) bodies ++ drop (j + 1) (take k bodies) ≡ take k bodies =
     ap (λ (f : List (List ℕ)). f ++ drop (j + 1) (take k bodies)) (sym shorter) ∙ take-append-drop (j + 1) (take k bodies) in
-    MayStand-front jobs (take (j + 1) bodies) (drop (j + 1) (take k bodies)) (subst (MayStand jobs) (sym parts) may)
+    BodiesMayStand-front jobs (take (j + 1) bodies) (drop (j + 1) (take k bodies)) (subst (BodiesMayStand jobs) (sym parts) may)
 
-stand_front : (jobs : ℕ) (bodies : List (List ℕ)) (k : ℕ) (kept : Durable) (own : Option ℕ) → StandFor jobs bodies kept own → MayStand jobs (take k bodies)
+stand_front : (jobs : ℕ) (bodies : List (List ℕ)) (k : ℕ) (kept : Durable) (own : Option ℕ) → StandFor jobs bodies kept own → BodiesMayStand jobs (take k bodies)
 stand_front jobs bodies k kept own stand =
-    MayStand-front jobs (take k bodies) (drop k bodies) (stand_may jobs (take k bodies ++ drop k bodies) kept own (subst (λ (all : List (List ℕ)). StandFor jobs all kept own) (sym (take-append-drop k bodies)) stand))
+    BodiesMayStand-front jobs (take k bodies) (drop k bodies) (stand_may jobs (take k bodies ++ drop k bodies) kept own (subst (λ (all : List (List ℕ)). StandFor jobs all kept own) (sym (take-append-drop k bodies)) stand))
 
 -- at a body that the reader goes no further with
 pub fault_here : (jobs : ℕ) (bodies : List (List ℕ)) (k : ℕ) (place : Place) (kept : Durable) (own : Option ℕ) (body : List ℕ) → jobs < 2 ^ 32 → k < length bodies → take (k + 1) bodies ≡ take k bodies ++ body ∷ []
-    → Behind jobs (take k bodies) place kept own → IsRefused jobs place kept body → IsFirstFault jobs bodies k
+    → Behind jobs (take k bodies) place kept own → IsRefused jobs place kept body → IsFirstRecordAtFault jobs bodies k
 fault_here jobs bodies k place kept own body few within more behind is_refused =
-    let none : MayStand jobs (take (k + 1) bodies) → ⊥ = λ may. refused jobs (take k bodies) place kept own body behind is_refused (subst (MayStand jobs) more may) in
+    let none : BodiesMayStand jobs (take (k + 1) bodies) → ⊥ = λ may. refused jobs (take k bodies) place kept own body behind is_refused (subst (BodiesMayStand jobs) more may) in
     record {
       within = omega (arith, within);
       earlier = λ j before. earlier_may jobs bodies k j before (omega (arith, within)) (Behind-may jobs (take k bodies) place kept own few behind);
@@ -225,18 +225,18 @@ fault_here jobs bodies k place kept own body few within more behind is_refused =
     }
 
 -- at the end, in the middle of a group
-pub fault_at_end : (jobs : ℕ) (bodies : List (List ℕ)) (k : ℕ) (kept : Durable) (own : Option ℕ) → jobs < 2 ^ 32 → k ≡ length bodies → Behind jobs bodies Rows kept own → IsFirstFault jobs bodies k
+pub fault_at_end : (jobs : ℕ) (bodies : List (List ℕ)) (k : ℕ) (kept : Durable) (own : Option ℕ) → jobs < 2 ^ 32 → k ≡ length bodies → Behind jobs bodies Rows kept own → IsFirstRecordAtFault jobs bodies k
 fault_at_end jobs bodies k kept own few at behind =
     let all : take k bodies ≡ bodies = take_all k bodies (omega (arith, at)) in
     record {
       within = omega (arith, at);
-      earlier = λ j before. earlier_may jobs bodies k j before (omega (arith, at)) (subst (MayStand jobs) (sym all) (Behind-may jobs bodies Rows kept own few behind));
+      earlier = λ j before. earlier_may jobs bodies k j before (omega (arith, at)) (subst (BodiesMayStand jobs) (sym all) (Behind-may jobs bodies Rows kept own few behind));
       here = λ short may. omega (arith, at, short);
       for_none = λ other others stand. (Behind-is jobs bodies Rows kept other own others behind stand).2 refl;
     }
 
 -- behind all bodies
-pub broken_off : (jobs : ℕ) (bodies : List (List ℕ)) (k : ℕ) (place : Place) (kept : Durable) (own : Option ℕ) → jobs < 2 ^ 32 → length bodies ≤ k → Behind jobs (take k bodies) place kept own → place ≡ Rows → IsFirstFault jobs bodies (length bodies)
+pub broken_off : (jobs : ℕ) (bodies : List (List ℕ)) (k : ℕ) (place : Place) (kept : Durable) (own : Option ℕ) → jobs < 2 ^ 32 → length bodies ≤ k → Behind jobs (take k bodies) place kept own → place ≡ Rows → IsFirstRecordAtFault jobs bodies (length bodies)
 broken_off jobs bodies k place kept own few past behind is_rows =
     fault_at_end jobs bodies (length bodies) kept own few refl
     (subst (λ (p : Place). Behind jobs bodies p kept own) is_rows (subst (λ (all : List (List ℕ)). Behind jobs all place kept own) (take_all k bodies past) behind))
@@ -246,8 +246,8 @@ all_read jobs bodies k place kept own past behind not_rows =
     Behind-stand jobs bodies place kept own (subst (λ (all : List (List ℕ)). Behind jobs all place kept own) (take_all k bodies past) behind) not_rows
 
 -- there is one first fault at most
-pub IsFirstFault-same : (jobs : ℕ) (bodies : List (List ℕ)) (j k : ℕ) → IsFirstFault jobs bodies j → IsFirstFault jobs bodies k → j ≡ k
-IsFirstFault-same jobs bodies j k one other = elim (cases_order j k) [
+pub IsFirstRecordAtFault-same : (jobs : ℕ) (bodies : List (List ℕ)) (j k : ℕ) → IsFirstRecordAtFault jobs bodies j → IsFirstRecordAtFault jobs bodies k → j ≡ k
+IsFirstRecordAtFault-same jobs bodies j k one other = elim (cases_order j k) [
   | inl same ↦ same
   | inr apart ↦ elim apart [
     | inl before ↦ absurd (one.here (omega (arith, before, other.within)) (other.earlier j before))

@@ -9,7 +9,7 @@ use Rattle.store_format.specs.declared.body.Record.TheVariants.{Tried, Promised,
 use Rattle.store_format.specs.declared.place.Place.{Place}
 use Rattle.store_format.specs.declared.place.Place.TheVariants.{Start, Rows, CopyStart, CopyTried, CopyPromised, CopyVotes, Log}
 use Rattle.store_format.specs.Area.{Stands, StandFor}
-use Rattle.store_format.specs.Order.{MayFollow, delta_record, own_after}
+use Rattle.store_format.specs.Order.{ChangeMayFollow, delta_record, own_after}
 use Rattle.store_format.specs.Places.{copy_place, log_place, next_place, taken, takes_own, takes_promise, takes_votes, keeps_order, is_above, is_behind}
 use Rattle.store_format.specs.Records.{IsRecord}
 use Rattle.store_format.proofs.Machine.{reading, run, runs_on, runs_from, next-start, next-log, copy_ends, copy_goes_on, option_cases}
@@ -53,7 +53,7 @@ goes_to jobs CopyPromised kept item change not_rows keep = from_copy jobs CopyPr
 goes_to jobs CopyVotes kept item change not_rows keep = from_copy jobs CopyVotes kept item refl keep.order
 goes_to jobs Log kept item change not_rows keep = to_log_place jobs Log kept item (next-log jobs kept item) keep.order
 
-pub Stands-change : (jobs : ℕ) (items : List Record) (item : Record) (kept : Durable) (change : Delta) → Stands jobs items kept → MayFollow jobs kept change → delta_record change ≡ Some item → Stands jobs (items ++ item ∷ []) (after_delta change kept)
+pub Stands-change : (jobs : ℕ) (items : List Record) (item : Record) (kept : Durable) (change : Delta) → Stands jobs items kept → ChangeMayFollow jobs kept change → delta_record change ≡ Some item → Stands jobs (items ++ item ∷ []) (after_delta change kept)
 Stands-change jobs items item kept change stands may is =
     let reads = Stands-reads jobs items kept stands in
     let keep = keeps jobs kept item change is may in
@@ -62,7 +62,7 @@ Stands-change jobs items item kept change stands may is =
     runs_on jobs (first jobs) (reading reads.place kept) (reading goes.next (taken item kept)) items (item ∷ []) reads.runs (runs_from jobs reads.place goes.next kept item [] goes.at) in
     subst (Stands jobs (items ++ item ∷ [])) keep.after (runs-Stands jobs (items ++ item ∷ []) (reading goes.next (taken item kept)) goes.not_rows runs)
 
-pub StandFor-change : (jobs : ℕ) (bodies : List (List ℕ)) (body : List ℕ) (item : Record) (kept : Durable) (own : Option ℕ) (change : Delta) → StandFor jobs bodies kept own → MayFollow jobs kept change → delta_record change ≡ Some item → IsRecord body item
+pub StandFor-change : (jobs : ℕ) (bodies : List (List ℕ)) (body : List ℕ) (item : Record) (kept : Durable) (own : Option ℕ) (change : Delta) → StandFor jobs bodies kept own → ChangeMayFollow jobs kept change → delta_record change ≡ Some item → IsRecord body item
     → StandFor jobs (bodies ++ body ∷ []) (after_delta change kept) (own_after change own)
 StandFor-change jobs bodies body item kept own change stand may is is_record =
     record {

@@ -17,7 +17,7 @@ use Rattle.store_format.specs.declared.place.Place.{Place}
 use Rattle.store_format.specs.declared.place.Place.TheVariants.{CopyStart, CopyTried, CopyPromised, CopyVotes}
 use Rattle.store_format.specs.Area.{Copy, copy_records, tried_records, promised_records, IsCopy, IsGreatest, after_copy}
 use Rattle.store_format.specs.Places.{copy_place, taken, takes_votes, is_above, is_behind}
-use Rattle.store_format.specs.Records.{ballot_in}
+use Rattle.store_format.specs.Records.{record_ballot}
 use Rattle.store_format.proofs.LogLemmas.{is_above-above}
 
 -- ---- the greatest ballot
@@ -162,7 +162,7 @@ form_with form item = form
 -- the form of a copy that was read, and the promise behind it
 pub record Copied (slot : ℕ) (form : Form) (promised : Option ℕ) : Type 0 where
   pub is_copy : IsCopy slot (copy_of form)
-  pub greatest : IsGreatest promised (filter_map ballot_in (copy_records (copy_of form)))
+  pub greatest : IsGreatest promised (filter_map record_ballot (copy_records (copy_of form)))
 
 -- the copy goes on with a record
 pub record GoesOn (slot : ℕ) (rows : List JobRow) (form : Form) (promised : Option ℕ) (item : Record) (next : Place) : Type 0 where
@@ -172,18 +172,18 @@ pub record GoesOn (slot : ℕ) (rows : List JobRow) (form : Form) (promised : Op
   pub kept : taken item (after_copy slot rows (copy_of form) promised) ≡ after_copy slot rows (copy_of (form_with form item)) greater
   pub copied : Copied slot (form_with form item) greater
 
-copied-push : (slot : ℕ) (form next : Form) (promised : Option ℕ) (item : Record) (ballot : ℕ) → Copied slot form promised → copy_records (copy_of next) ≡ copy_records (copy_of form) ++ item ∷ [] → filter_map ballot_in (item ∷ []) ≡ ballot ∷ [] → IsCopy slot (copy_of next)
+copied-push : (slot : ℕ) (form next : Form) (promised : Option ℕ) (item : Record) (ballot : ℕ) → Copied slot form promised → copy_records (copy_of next) ≡ copy_records (copy_of form) ++ item ∷ [] → filter_map record_ballot (item ∷ []) ≡ ballot ∷ [] → IsCopy slot (copy_of next)
     → Copied slot next (Some (max (unwrap_or promised 0) ballot))
 copied-push slot form next promised item ballot copied records one is_copy =
-    let ballots : filter_map ballot_in (copy_records (copy_of next)) ≡ filter_map ballot_in (copy_records (copy_of form)) ++ ballot ∷ [] =
-    ap (filter_map ballot_in) records ∙ filter_map-append ballot_in (copy_records (copy_of form)) (item ∷ []) ∙ ap (λ (last : List ℕ). filter_map ballot_in (copy_records (copy_of form)) ++ last) one in
+    let ballots : filter_map record_ballot (copy_records (copy_of next)) ≡ filter_map record_ballot (copy_records (copy_of form)) ++ ballot ∷ [] =
+    ap (filter_map record_ballot) records ∙ filter_map-append record_ballot (copy_records (copy_of form)) (item ∷ []) ∙ ap (λ (last : List ℕ). filter_map record_ballot (copy_records (copy_of form)) ++ last) one in
     record {
       is_copy = is_copy;
-      greatest = subst (IsGreatest (Some (max (unwrap_or promised 0) ballot))) (sym ballots) (IsGreatest-push promised (filter_map ballot_in (copy_records (copy_of form))) ballot copied.greatest);
+      greatest = subst (IsGreatest (Some (max (unwrap_or promised 0) ballot))) (sym ballots) (IsGreatest-push promised (filter_map record_ballot (copy_records (copy_of form))) ballot copied.greatest);
     }
 
 -- the same where the ballot is above the promise
-copied-above : (slot : ℕ) (form next : Form) (promised : Option ℕ) (item : Record) (ballot : ℕ) → Copied slot form promised → copy_records (copy_of next) ≡ copy_records (copy_of form) ++ item ∷ [] → filter_map ballot_in (item ∷ []) ≡ ballot ∷ [] → IsCopy slot (copy_of next)
+copied-above : (slot : ℕ) (form next : Form) (promised : Option ℕ) (item : Record) (ballot : ℕ) → Copied slot form promised → copy_records (copy_of next) ≡ copy_records (copy_of form) ++ item ∷ [] → filter_map record_ballot (item ∷ []) ≡ ballot ∷ [] → IsCopy slot (copy_of next)
     → max (unwrap_or promised 0) ballot ≡ ballot → Copied slot next (Some ballot)
 copied-above slot form next promised item ballot copied records one is_copy same =
     subst (λ (b : ℕ). Copied slot next (Some b)) same (copied-push slot form next promised item ballot copied records one is_copy)

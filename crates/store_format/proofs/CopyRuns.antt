@@ -15,11 +15,11 @@ use Rattle.store_format.specs.declared.body.Record.TheVariants.{Tried, Promised,
 use Rattle.store_format.specs.declared.place.Place.{Place}
 use Rattle.store_format.specs.declared.place.Place.TheVariants.{Start, Rows, CopyStart, CopyTried, CopyPromised, CopyVotes, Log}
 use Rattle.store_format.specs.Area.{Copy, copy_records, IsCopy, IsLongest, IsGreatest, after_copy}
-use Rattle.store_format.specs.Order.{IsLog}
+use Rattle.store_format.specs.Order.{IsChangeLog}
 use Rattle.store_format.specs.Places.{copy_place, takes_votes, is_behind, is_above}
-use Rattle.store_format.specs.Records.{ballot_in}
+use Rattle.store_format.specs.Records.{record_ballot}
 use Rattle.store_format.proofs.Machine.{Reading, reading, run, runs_on, run_parts, runs_from, runs_as_log, copy_ends, copy_goes_on, option_cases}
-use Rattle.store_format.proofs.LogLemmas.{runs_log, log_runs, IsLog-nil, IsLog-empty}
+use Rattle.store_format.proofs.LogLemmas.{runs_log, log_runs, IsChangeLog-nil, IsChangeLog-empty}
 use Rattle.store_format.proofs.CopyLemmas.{Form, Nothing, OwnBallot, Promise, Votes, copy_with, copy_of, place_of_form, form_copies, form_with, Copied, GoesOn, goes_on, AllBelow, below-is_behind, IsGreatest-same}
 
 abbrev pub state : ℕ → List JobRow → Form → Option ℕ → Reading
@@ -186,8 +186,8 @@ pub record CopyThenLog (jobs slot : ℕ) (rows : List JobRow) (items : List Reco
   pub parts : items ≡ copy_records copy ++ log
   pub is_copy : IsCopy slot copy
   pub longest : IsLongest slot copy (copy_records copy ++ log)
-  pub greatest : IsGreatest promised (filter_map ballot_in (copy_records copy))
-  pub is_log : IsLog jobs (after_copy slot rows copy promised) log last.kept
+  pub greatest : IsGreatest promised (filter_map record_ballot (copy_records copy))
+  pub is_log : IsChangeLog jobs (after_copy slot rows copy promised) log last.kept
 
 pub longest_alone : (slot : ℕ) (copy : Copy) → IsLongest slot copy (copy_records copy ++ [])
 longest_alone slot copy other rest is_copy same =
@@ -208,7 +208,7 @@ runs_copy jobs slot rows [] form promised last copied reached e =
       is_copy = copied.is_copy;
       longest = longest_alone slot (copy_of form);
       greatest = copied.greatest;
-      is_log = subst (λ (s : Reading). IsLog jobs (after_copy slot rows (copy_of form) promised) [] s.kept) same (IsLog-nil jobs (after_copy slot rows (copy_of form) promised));
+      is_log = subst (λ (s : Reading). IsChangeLog jobs (after_copy slot rows (copy_of form) promised) [] s.kept) same (IsChangeLog-nil jobs (after_copy slot rows (copy_of form) promised));
     }
 runs_copy jobs slot rows (item ∷ items) form promised last copied reached e =
     let kept : Durable = after_copy slot rows (copy_of form) promised in
@@ -270,11 +270,11 @@ pub form_not_rows : (form : Form) → place_of_form form ≡ Rows → ⊥
 form_not_rows form same = absurd (cc (form_copies form, same))
 
 log_reads : (jobs slot : ℕ) (rows : List JobRow) (form : Form) (promised : Option ℕ) (log : List Record) (kept : Durable) → Copied slot form promised → IsLongest slot (copy_of form) (copy_records (copy_of form) ++ log)
-    → IsLog jobs (after_copy slot rows (copy_of form) promised) log kept → Reads jobs (state slot rows form promised) log kept
+    → IsChangeLog jobs (after_copy slot rows (copy_of form) promised) log kept → Reads jobs (state slot rows form promised) log kept
 log_reads jobs slot rows form promised [] kept copied longest is_log =
     record {
       place = place_of_form form;
-      runs = ap (λ (k : Durable). Some (reading (place_of_form form) k)) (sym (IsLog-empty jobs (after_copy slot rows (copy_of form) promised) kept is_log));
+      runs = ap (λ (k : Durable). Some (reading (place_of_form form) k)) (sym (IsChangeLog-empty jobs (after_copy slot rows (copy_of form) promised) kept is_log));
       not_rows = form_not_rows form;
     }
 log_reads jobs slot rows form promised (item ∷ items) kept copied longest is_log =
@@ -287,14 +287,14 @@ log_reads jobs slot rows form promised (item ∷ items) kept copied longest is_l
     }
 
 pub copy_reads : (jobs slot : ℕ) (rows : List JobRow) (copy : Copy) (promised : Option ℕ) (log : List Record) (kept : Durable) → IsCopy slot copy → IsLongest slot copy (copy_records copy ++ log)
-    → IsGreatest promised (filter_map ballot_in (copy_records copy)) → IsLog jobs (after_copy slot rows copy promised) log kept
+    → IsGreatest promised (filter_map record_ballot (copy_records copy)) → IsChangeLog jobs (after_copy slot rows copy promised) log kept
     → Reads jobs (state slot rows Nothing None) (copy_records copy ++ log) kept
 copy_reads jobs slot rows copy promised log kept is_copy longest greatest is_log =
     let runs = copy_runs jobs slot rows copy is_copy in
-    let same : promised ≡ runs.greater = IsGreatest-same promised runs.greater (filter_map ballot_in (copy_records copy)) greatest (subst (λ (c : Copy). IsGreatest runs.greater (filter_map ballot_in (copy_records c))) runs.is runs.copied.greatest) in
+    let same : promised ≡ runs.greater = IsGreatest-same promised runs.greater (filter_map record_ballot (copy_records copy)) greatest (subst (λ (c : Copy). IsGreatest runs.greater (filter_map record_ballot (copy_records c))) runs.is runs.copied.greatest) in
     let there = log_reads jobs slot rows runs.last runs.greater log kept runs.copied
     (subst (λ (c : Copy). IsLongest slot c (copy_records c ++ log)) (sym runs.is) longest)
-    (subst (λ (c : Copy). IsLog jobs (after_copy slot rows c runs.greater) log kept) (sym runs.is) (subst (λ (p : Option ℕ). IsLog jobs (after_copy slot rows copy p) log kept) same is_log)) in
+    (subst (λ (c : Copy). IsChangeLog jobs (after_copy slot rows c runs.greater) log kept) (sym runs.is) (subst (λ (p : Option ℕ). IsChangeLog jobs (after_copy slot rows copy p) log kept) same is_log)) in
     record {
       place = there.place;
       runs = runs_on jobs (state slot rows Nothing None) (state slot rows runs.last runs.greater) (reading there.place kept) (copy_records copy) log runs.runs there.runs;

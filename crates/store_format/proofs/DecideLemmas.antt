@@ -21,9 +21,9 @@ use Rattle.store_format.specs.declared.body.Record.{Record}
 use Rattle.store_format.specs.declared.body.Record.TheVariants.{Tried, Promised, Voted, Base, Row}
 use Rattle.store_format.specs.declared.place.Place.{Place}
 use Rattle.store_format.specs.declared.place.Place.TheVariants.{Start, Rows, CopyStart, CopyTried, CopyPromised, CopyVotes, Log}
-use Rattle.store_format.specs.Area.{StandFor, IsFirstFault, fresh}
+use Rattle.store_format.specs.Area.{StandFor, IsFirstRecordAtFault, fresh_kept}
 use Rattle.store_format.specs.Places.{next_place, taken}
-use Rattle.store_format.specs.Records.{kind_of, packet_of, record_bytes, IsRecord}
+use Rattle.store_format.specs.Records.{record_kind, packet_of, record_bytes, IsRecord}
 use Rattle.store_format.proofs.Machine.{option_cases}
 use Rattle.store_format.proofs.RecordLemmas.{packet_kind_of, IsRecord-kind, IsRecord-packet, IsRecord-same}
 use Rattle.store_format.proofs.BodyLemmas.{Behind, Behind-none, Behind-next, Behind-stand, IsRefused, fault_here, fault_at_end}
@@ -130,7 +130,7 @@ vote_as slot ballot (StartEntry job at now) = refl
 vote_as slot ballot (End job at Launch) = refl
 vote_as slot ballot (End job at Void) = refl
 
-record_again : (item : Record) → record_as (kind_of item) (packet_of item) ≡ item
+record_again : (item : Record) → record_as (record_kind item) (packet_of item) ≡ item
 record_again (Tried ballot) = refl
 record_again (Promised ballot) = refl
 record_again (Voted vote) = vote_as vote.slot vote.ballot vote.entry
@@ -167,7 +167,7 @@ rows_decided CopyVotes = inr (λ same. cc same)
 rows_decided Log = inr (λ same. cc same)
 
 abbrev Faulty : ℕ → List (List ℕ) → Type 0
-Faulty jobs bodies = (k : ℕ) × IsFirstFault jobs bodies k
+Faulty jobs bodies = (k : ℕ) × IsFirstRecordAtFault jobs bodies k
 
 abbrev StandForNone : ℕ → List (List ℕ) → Type 0
 StandForNone jobs bodies = (kept : Durable) (own : Option ℕ) → StandFor jobs bodies kept own → ⊥
@@ -205,4 +205,4 @@ fault_from jobs front (body ∷ bodies) place kept own few behind none = elim (b
 ]
 
 pub first_fault : (jobs : ℕ) (bodies : List (List ℕ)) → jobs < 2 ^ 32 → StandForNone jobs bodies → Faulty jobs bodies
-first_fault jobs bodies few none = fault_from jobs [] bodies Start (fresh jobs) None few (Behind-none jobs) none
+first_fault jobs bodies few none = fault_from jobs [] bodies Start (fresh_kept jobs) None few (Behind-none jobs) none

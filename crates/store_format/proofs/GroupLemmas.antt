@@ -12,7 +12,7 @@ use Rattle.store_format.specs.declared.body.Record.{Record}
 use Rattle.store_format.specs.declared.body.Record.TheVariants.{Tried, Promised, Voted, Base, Row}
 use Rattle.store_format.specs.declared.place.Place.{Place}
 use Rattle.store_format.specs.declared.place.Place.TheVariants.{Start, Rows, CopyStart, Log}
-use Rattle.store_format.specs.Area.{fresh}
+use Rattle.store_format.specs.Area.{fresh_kept}
 use Rattle.store_format.specs.Places.{copy_place, group_place, taken}
 use Rattle.store_format.specs.Records.{record_bytes, AreRecords}
 use Rattle.store_format.proofs.Machine.{Reading, reading, run, run_steps, runs_as_log, copy_ends, option_cases, IsChange}
@@ -76,13 +76,13 @@ pub record Begun (jobs : ℕ) (items : List Record) (last : Reading) : Type 0 wh
 
 not_in_log : (jobs : ℕ) (item : Record) (items : List Record) (last : Reading) → IsChange item → run jobs (first jobs) (item ∷ items) ≡ Some last → last.place ≡ Rows → ⊥
 not_in_log jobs item items last change e is_rows =
-    let log = runs_log jobs (fresh jobs) (item ∷ items) last (sym (start_as_log jobs (fresh jobs) item items change) ∙ e) in
+    let log = runs_log jobs (fresh_kept jobs) (item ∷ items) last (sym (start_as_log jobs (fresh_kept jobs) item items change) ∙ e) in
     let same : Log ≡ Rows = sym log.0 ∙ is_rows in
     cc same
 
 begun_base : (jobs slot count : ℕ) (items : List Record) (last : Reading) → run jobs (first jobs) (Base slot count ∷ items) ≡ Some last → last.place ≡ Rows → OpenGroup jobs slot last
 begun_base jobs slot count items last e is_rows =
-    let parts = run_steps jobs Start (fresh jobs) (Base slot count) items last e in
+    let parts = run_steps jobs Start (fresh_kept jobs) (Base slot count) items last e in
     let now = base_kept jobs count parts.next (eqb count jobs) parts.at in
     let rest : run jobs (reading (group_place jobs 0) (with_rows slot [])) items ≡ Some last =
     ap (λ (p : Place). run jobs (reading p (with_rows slot [])) items) now.1 ∙ parts.rest in
@@ -102,7 +102,7 @@ begun jobs (Voted vote ∷ items) last e is_rows = absurd (not_in_log jobs (Vote
 begun jobs (Base slot count ∷ items) last e is_rows =
     record { slot = slot; count = count; rest = items; is = refl; group = begun_base jobs slot count items last e is_rows }
 begun jobs (Row slot row ∷ items) last e is_rows =
-    let parts = run_steps jobs Start (fresh jobs) (Row slot row) items last e in absurd (none-some parts.next parts.at)
+    let parts = run_steps jobs Start (fresh_kept jobs) (Row slot row) items last e in absurd (none-some parts.next parts.at)
 
 -- ---- the rows that are to come, each fresh
 

@@ -15,7 +15,7 @@ use Rattle.store_format.specs.declared.body.Record.{Record}
 use Rattle.store_format.specs.declared.body.Record.TheVariants.{Tried, Promised, Voted, Base, Row}
 use Rattle.store_format.specs.declared.place.Place.{Place}
 use Rattle.store_format.specs.declared.place.Place.TheVariants.{Log}
-use Rattle.store_format.specs.Order.{MayFollow, delta_record, after_deltas, IsLog}
+use Rattle.store_format.specs.Order.{ChangeMayFollow, delta_record, after_deltas, IsChangeLog}
 use Rattle.store_format.specs.Places.{is_above, is_at_least, keeps_order, log_place, taken}
 use Rattle.store_format.proofs.Machine.{Reading, reading, run, run_steps, runs_from, next-log, to_log, IsChange}
 
@@ -45,7 +45,7 @@ greatest-at_least ballot (Some other) h = omega (arith, h)
 -- the change of a record may follow, and brings what the record does
 pub record Follows (jobs : ℕ) (kept : Durable) (item : Record) (change : Delta) : Type 0 where
   pub is_record : delta_record change ≡ Some item
-  pub may_follow : MayFollow jobs kept change
+  pub may_follow : ChangeMayFollow jobs kept change
   pub after : taken item kept ≡ after_delta change kept
 
 vote_taken : (vote : Vote) (kept : Durable) → IsAtLeast vote.ballot kept.promised → taken (Voted vote) kept ≡ after_delta (VotedDelta vote) kept
@@ -76,7 +76,7 @@ pub record Keeps (kept : Durable) (item : Record) (change : Delta) : Type 0 wher
 keeps_at : (jobs : ℕ) (kept : Durable) (item other : Record) (change : Delta) → item ≡ other → Keeps kept other change → Keeps kept item change
 keeps_at jobs kept item other change same keeps = subst (λ (i : Record). Keeps kept i change) (sym same) keeps
 
-pub keeps : (jobs : ℕ) (kept : Durable) (item : Record) (change : Delta) → delta_record change ≡ Some item → MayFollow jobs kept change → Keeps kept item change
+pub keeps : (jobs : ℕ) (kept : Durable) (item : Record) (change : Delta) → delta_record change ≡ Some item → ChangeMayFollow jobs kept change → Keeps kept item change
 unfolding after_delta
 keeps jobs kept item (TriedDelta ballot) is may =
     keeps_at jobs kept item (Tried ballot) (TriedDelta ballot) (sym (same_Some (Tried ballot) item is))
@@ -91,18 +91,18 @@ keeps jobs kept item (BaseDelta slot rows) is may = absurd (none-some item is)
 
 -- ---- logs from the front
 
-pub IsLog-nil : (jobs : ℕ) (kept : Durable) → IsLog jobs kept [] kept
-IsLog-nil jobs kept =
+pub IsChangeLog-nil : (jobs : ℕ) (kept : Durable) → IsChangeLog jobs kept [] kept
+IsChangeLog-nil jobs kept =
     record { changes = []; are_changes = refl; may_follow = λ k change is. absurd (none-some change is); after = refl }
 
-may_follow-cons : (jobs : ℕ) (kept : Durable) (first : Delta) (changes : List Delta) → MayFollow jobs kept first
-    → ((k : ℕ) (change : Delta) → slice_get changes k ≡ Some change → MayFollow jobs (after_deltas (take k changes) (after_delta first kept)) change)
-    → (k : ℕ) (change : Delta) → slice_get (first ∷ changes) k ≡ Some change → MayFollow jobs (after_deltas (take k (first ∷ changes)) kept) change
-may_follow-cons jobs kept first changes here rest zero change is = subst (MayFollow jobs kept) (same_Some first change is) here
+may_follow-cons : (jobs : ℕ) (kept : Durable) (first : Delta) (changes : List Delta) → ChangeMayFollow jobs kept first
+    → ((k : ℕ) (change : Delta) → slice_get changes k ≡ Some change → ChangeMayFollow jobs (after_deltas (take k changes) (after_delta first kept)) change)
+    → (k : ℕ) (change : Delta) → slice_get (first ∷ changes) k ≡ Some change → ChangeMayFollow jobs (after_deltas (take k (first ∷ changes)) kept) change
+may_follow-cons jobs kept first changes here rest zero change is = subst (ChangeMayFollow jobs kept) (same_Some first change is) here
 may_follow-cons jobs kept first changes here rest (suc k) change is = rest k change is
 
-pub IsLog-cons : (jobs : ℕ) (kept last : Durable) (item : Record) (items : List Record) (change : Delta) → delta_record change ≡ Some item → MayFollow jobs kept change → IsLog jobs (after_delta change kept) items last → IsLog jobs kept (item ∷ items) last
-IsLog-cons jobs kept last item items change is may rest =
+pub IsChangeLog-cons : (jobs : ℕ) (kept last : Durable) (item : Record) (items : List Record) (change : Delta) → delta_record change ≡ Some item → ChangeMayFollow jobs kept change → IsChangeLog jobs (after_delta change kept) items last → IsChangeLog jobs kept (item ∷ items) last
+IsChangeLog-cons jobs kept last item items change is may rest =
     record {
       changes = change ∷ rest.changes;
       are_changes =
@@ -114,11 +114,11 @@ IsLog-cons jobs kept last item items change is may rest =
 pub record Uncons (jobs : ℕ) (kept last : Durable) (item : Record) (items : List Record) : Type 0 where
   pub change : Delta
   pub is_record : delta_record change ≡ Some item
-  pub may_follow : MayFollow jobs kept change
-  pub rest : IsLog jobs (after_delta change kept) items last
+  pub may_follow : ChangeMayFollow jobs kept change
+  pub rest : IsChangeLog jobs (after_delta change kept) items last
 
 uncons_changes : (jobs : ℕ) (kept last : Durable) (item : Record) (items : List Record) (changes : List Delta) → map delta_record changes ≡ map (λ (i : Record). Some i) (item ∷ items)
-    → ((k : ℕ) (change : Delta) → slice_get changes k ≡ Some change → MayFollow jobs (after_deltas (take k changes) kept) change) → last ≡ after_deltas changes kept → Uncons jobs kept last item items
+    → ((k : ℕ) (change : Delta) → slice_get changes k ≡ Some change → ChangeMayFollow jobs (after_deltas (take k changes) kept) change) → last ≡ after_deltas changes kept → Uncons jobs kept last item items
 uncons_changes jobs kept last item items [] are may after = absurd (cc are)
 uncons_changes jobs kept last item items (change ∷ changes) are may after =
     record {
@@ -128,16 +128,16 @@ uncons_changes jobs kept last item items (change ∷ changes) are may after =
       rest = record { changes = changes; are_changes = cc are; may_follow = λ k other is. may (suc k) other is; after = after };
     }
 
-pub IsLog-uncons : (jobs : ℕ) (kept last : Durable) (item : Record) (items : List Record) → IsLog jobs kept (item ∷ items) last → Uncons jobs kept last item items
-IsLog-uncons jobs kept last item items log =
+pub IsChangeLog-uncons : (jobs : ℕ) (kept last : Durable) (item : Record) (items : List Record) → IsChangeLog jobs kept (item ∷ items) last → Uncons jobs kept last item items
+IsChangeLog-uncons jobs kept last item items log =
     uncons_changes jobs kept last item items log.changes log.are_changes log.may_follow log.after
 
 empty_changes : (kept last : Durable) (changes : List Delta) → map delta_record changes ≡ [] → last ≡ after_deltas changes kept → last ≡ kept
 empty_changes kept last [] are after = after
 empty_changes kept last (change ∷ changes) are after = absurd (cc are)
 
-pub IsLog-empty : (jobs : ℕ) (kept last : Durable) → IsLog jobs kept [] last → last ≡ kept
-IsLog-empty jobs kept last log = empty_changes kept last log.changes log.are_changes log.after
+pub IsChangeLog-empty : (jobs : ℕ) (kept last : Durable) → IsChangeLog jobs kept [] last → last ≡ kept
+IsChangeLog-empty jobs kept last log = empty_changes kept last log.changes log.are_changes log.after
 
 -- ---- a reader in a log
 
@@ -145,20 +145,20 @@ pub log_place-keeps : (kept : Durable) (item : Record) → keeps_order kept item
 log_place-keeps kept item keeps = ap (λ (b : Bool). if b then Some Log else None) keeps
 
 -- a log is read
-pub log_runs : (jobs : ℕ) (kept last : Durable) (items : List Record) → IsLog jobs kept items last → run jobs (reading Log kept) items ≡ Some (reading Log last)
-log_runs jobs kept last [] log = ap (λ (k : Durable). Some (reading Log k)) (sym (IsLog-empty jobs kept last log))
+pub log_runs : (jobs : ℕ) (kept last : Durable) (items : List Record) → IsChangeLog jobs kept items last → run jobs (reading Log kept) items ≡ Some (reading Log last)
+log_runs jobs kept last [] log = ap (λ (k : Durable). Some (reading Log k)) (sym (IsChangeLog-empty jobs kept last log))
 log_runs jobs kept last (item ∷ items) log =
-    let parts = IsLog-uncons jobs kept last item items log in
+    let parts = IsChangeLog-uncons jobs kept last item items log in
     let now = keeps jobs kept item parts.change parts.is_record parts.may_follow in
     runs_from jobs Log Log kept item items (next-log jobs kept item ∙ log_place-keeps kept item now.order)
     ∙ ap (λ (k : Durable). run jobs (reading Log k) items) now.after
     ∙ log_runs jobs (after_delta parts.change kept) last items parts.rest
 
 -- what is read in a log is one
-pub runs_log : (jobs : ℕ) (kept : Durable) (items : List Record) (t : Reading) → run jobs (reading Log kept) items ≡ Some t → (t.place ≡ Log) × IsLog jobs kept items t.kept
+pub runs_log : (jobs : ℕ) (kept : Durable) (items : List Record) (t : Reading) → run jobs (reading Log kept) items ≡ Some t → (t.place ≡ Log) × IsChangeLog jobs kept items t.kept
 runs_log jobs kept [] t e =
     let same : reading Log kept ≡ t = same_Some (reading Log kept) t e in
-    subst (λ (u : Reading). (u.place ≡ Log) × IsLog jobs kept [] u.kept) same (refl, IsLog-nil jobs kept)
+    subst (λ (u : Reading). (u.place ≡ Log) × IsChangeLog jobs kept [] u.kept) same (refl, IsChangeLog-nil jobs kept)
 runs_log jobs kept (item ∷ items) t e =
     let parts = run_steps jobs Log kept item items t e in
     let at = to_log kept item parts.next (sym (next-log jobs kept item) ∙ parts.at) in
@@ -166,4 +166,4 @@ runs_log jobs kept (item ∷ items) t e =
     let rest : run jobs (reading Log (after_delta now.0 kept)) items ≡ Some t =
     ap (λ (k : Durable). run jobs (reading Log k) items) (sym now.1.after) ∙ ap (λ (p : Place). run jobs (reading p (taken item kept)) items) (sym at.0) ∙ parts.rest in
     let log = runs_log jobs (after_delta now.0 kept) items t rest in
-    (log.0, IsLog-cons jobs kept t.kept item items now.0 now.1.is_record now.1.may_follow log.1)
+    (log.0, IsChangeLog-cons jobs kept t.kept item items now.0 now.1.is_record now.1.may_follow log.1)

@@ -15,10 +15,10 @@ use Rattle.paxos_base.proofs.PutLemmas.{all_from, SlotsRise-votes_from, SlotsRis
 use Rattle.acceptor_core.specs.Acceptor.{IsAbove, IsAtLeast}
 use Rattle.store_format.specs.declared.body.Record.{Record}
 use Rattle.store_format.specs.declared.body.Record.TheVariants.{Tried, Promised, Voted, Row}
-use Rattle.store_format.specs.Area.{Stands, StandFor, fresh, group_of, Copy, copy_records, IsCopy, IsGreatest, after_copy}
-use Rattle.store_format.specs.Order.{MayFollow, delta_record, IsLog, IsSound, IsPromised, own_after}
-use Rattle.store_format.specs.Records.{ballot_in, tried_in, own_ballot}
-use Rattle.store_format.proofs.LogLemmas.{IsLog-uncons, IsLog-empty}
+use Rattle.store_format.specs.Area.{Stands, StandFor, fresh_kept, group_of, Copy, copy_records, IsCopy, IsGreatest, after_copy}
+use Rattle.store_format.specs.Order.{ChangeMayFollow, delta_record, IsChangeLog, IsKeptSound, IsPromised, own_after}
+use Rattle.store_format.specs.Records.{record_ballot, tried_in, own_ballot}
+use Rattle.store_format.proofs.LogLemmas.{IsChangeLog-uncons, IsChangeLog-empty}
 use Rattle.store_format.proofs.CopyLemmas.{copy_with}
 use Rattle.store_format.proofs.BodyLemmas.{own_ballot-append, last_or-append}
 
@@ -51,9 +51,9 @@ pub all_kept : (P : Vote → Type 0) (slot : ℕ) (votes : List Vote) → All P 
 unfolding votes_from
 all_kept P slot votes all = All-filter _ P votes all
 
-pub IsSound-change : (jobs : ℕ) (kept : Durable) (own : Option ℕ) (change : Delta) → IsSound kept own → MayFollow jobs kept change → IsSound (after_delta change kept) (own_after change own)
+pub IsKeptSound-change : (jobs : ℕ) (kept : Durable) (own : Option ℕ) (change : Delta) → IsKeptSound kept own → ChangeMayFollow jobs kept change → IsKeptSound (after_delta change kept) (own_after change own)
 unfolding after_delta
-IsSound-change jobs kept own (TriedDelta ballot) sound may =
+IsKeptSound-change jobs kept own (TriedDelta ballot) sound may =
     let promised : IsPromised (Some ballot) ballot = omega arith in
     record {
       round = refl;
@@ -62,7 +62,7 @@ IsSound-change jobs kept own (TriedDelta ballot) sound may =
       votes_rise = sound.votes_rise;
       votes_from_base = sound.votes_from_base;
     }
-IsSound-change jobs kept own (PromisedDelta ballot) sound may =
+IsKeptSound-change jobs kept own (PromisedDelta ballot) sound may =
     record {
       round = sound.round;
       own_promised = own_on kept.promised own ballot (above_least kept.promised ballot may) sound.own_promised;
@@ -70,7 +70,7 @@ IsSound-change jobs kept own (PromisedDelta ballot) sound may =
       votes_rise = sound.votes_rise;
       votes_from_base = sound.votes_from_base;
     }
-IsSound-change jobs kept own (VotedDelta vote) sound may =
+IsKeptSound-change jobs kept own (VotedDelta vote) sound may =
     let here : IsPromised (Some vote.ballot) vote.ballot = omega arith in
     record {
       round = sound.round;
@@ -79,7 +79,7 @@ IsSound-change jobs kept own (VotedDelta vote) sound may =
       votes_rise = SlotsRise-put_vote vote kept.votes sound.votes_rise;
       votes_from_base = all_put (λ (v : Vote). kept.base ≤ v.slot) vote kept.votes may.1 sound.votes_from_base;
     }
-IsSound-change jobs kept own (BaseDelta slot rows) sound may =
+IsKeptSound-change jobs kept own (BaseDelta slot rows) sound may =
     record {
       round = sound.round;
       own_promised = sound.own_promised;
@@ -103,15 +103,15 @@ own_of_change own (BaseDelta slot rows) item items is = absurd (none-some item i
 pub own_ballot-change : (items : List Record) (change : Delta) (item : Record) → delta_record change ≡ Some item → own_ballot (items ++ item ∷ []) ≡ own_after change (own_ballot items)
 own_ballot-change items change item is = own_ballot-append items (item ∷ []) ∙ own_of_change (own_ballot items) change item [] is
 
-IsSound-log : (jobs : ℕ) (kept last : Durable) (own : Option ℕ) (items : List Record) → IsLog jobs kept items last → IsSound kept own → IsSound last (last_or own (filter_map tried_in items))
-IsSound-log jobs kept last own [] log sound = subst (λ (k : Durable). IsSound k own) (sym (IsLog-empty jobs kept last log)) sound
-IsSound-log jobs kept last own (item ∷ items) log sound =
-    let parts = IsLog-uncons jobs kept last item items log in
-    subst (IsSound last) (sym (own_of_change own parts.change item items parts.is_record))
-    (IsSound-log jobs (after_delta parts.change kept) last (own_after parts.change own) items parts.rest (IsSound-change jobs kept own parts.change sound parts.may_follow))
+IsKeptSound-log : (jobs : ℕ) (kept last : Durable) (own : Option ℕ) (items : List Record) → IsChangeLog jobs kept items last → IsKeptSound kept own → IsKeptSound last (last_or own (filter_map tried_in items))
+IsKeptSound-log jobs kept last own [] log sound = subst (λ (k : Durable). IsKeptSound k own) (sym (IsChangeLog-empty jobs kept last log)) sound
+IsKeptSound-log jobs kept last own (item ∷ items) log sound =
+    let parts = IsChangeLog-uncons jobs kept last item items log in
+    subst (IsKeptSound last) (sym (own_of_change own parts.change item items parts.is_record))
+    (IsKeptSound-log jobs (after_delta parts.change kept) last (own_after parts.change own) items parts.rest (IsKeptSound-change jobs kept own parts.change sound parts.may_follow))
 
-IsSound-fresh : (jobs : ℕ) → IsSound (fresh jobs) None
-IsSound-fresh jobs =
+IsKeptSound-fresh : (jobs : ℕ) → IsKeptSound (fresh_kept jobs) None
+IsKeptSound-fresh jobs =
     record {
       round = refl;
       own_promised = tt;
@@ -129,11 +129,11 @@ abbrev pub option_list : Option ℕ → List ℕ
 option_list None = []
 option_list (Some ballot) = ballot ∷ []
 
-voted_ballots : (votes : List Vote) → filter_map ballot_in (map (λ (vote : Vote). Voted vote) votes) ≡ ballots_of votes
+voted_ballots : (votes : List Vote) → filter_map record_ballot (map (λ (vote : Vote). Voted vote) votes) ≡ ballots_of votes
 voted_ballots [] = refl
 voted_ballots (vote ∷ votes) = ap (λ (ballots : List ℕ). vote.ballot ∷ ballots) (voted_ballots votes)
 
-pub copy_ballots : (tried promised : Option ℕ) (votes : List Vote) → filter_map ballot_in (copy_records (copy_with tried promised votes)) ≡ option_list tried ++ (option_list promised ++ ballots_of votes)
+pub copy_ballots : (tried promised : Option ℕ) (votes : List Vote) → filter_map record_ballot (copy_records (copy_with tried promised votes)) ≡ option_list tried ++ (option_list promised ++ ballots_of votes)
 copy_ballots None None votes = voted_ballots votes
 copy_ballots (Some own) None votes = ap (λ (ballots : List ℕ). own ∷ ballots) (voted_ballots votes)
 copy_ballots None (Some ballot) votes = ap (λ (ballots : List ℕ). ballot ∷ ballots) (voted_ballots votes)
@@ -156,12 +156,12 @@ own_first : (promised tried : Option ℕ) (others : List ℕ) → All (λ (ballo
 own_first promised None others all = tt
 own_first promised (Some own) others all = All-head (λ (ballot : ℕ). IsPromised promised ballot) own others all
 
-IsSound-copy : (slot : ℕ) (rows : List JobRow) (copy : Copy) (promised : Option ℕ) → IsCopy slot copy → IsGreatest promised (filter_map ballot_in (copy_records copy)) → IsSound (after_copy slot rows copy promised) copy.tried
-IsSound-copy slot rows copy promised is_copy greatest =
+IsKeptSound-copy : (slot : ℕ) (rows : List JobRow) (copy : Copy) (promised : Option ℕ) → IsCopy slot copy → IsGreatest promised (filter_map record_ballot (copy_records copy)) → IsKeptSound (after_copy slot rows copy promised) copy.tried
+IsKeptSound-copy slot rows copy promised is_copy greatest =
     let P : ℕ → Type 0 = λ ballot. IsPromised promised ballot in
     let behind : List ℕ = option_list copy.promised ++ ballots_of copy.votes in
     let all : All P (option_list copy.tried ++ behind) =
-    subst (All P) (copy_ballots copy.tried copy.promised copy.votes) (all_promised promised (filter_map ballot_in (copy_records copy)) greatest) in
+    subst (All P) (copy_ballots copy.tried copy.promised copy.votes) (all_promised promised (filter_map record_ballot (copy_records copy)) greatest) in
     record {
       round = refl;
       own_promised = own_first promised copy.tried behind all;
@@ -194,12 +194,12 @@ base_own slot rows copy log =
     ∙ last_or-append None (filter_map tried_in (copy_records copy)) (filter_map tried_in log)
     ∙ ap (λ (own : Option ℕ). last_or own (filter_map tried_in log)) (copy_own copy.tried copy.promised copy.votes)
 
-pub Stands-sound : (jobs : ℕ) (items : List Record) (kept : Durable) → Stands jobs items kept → IsSound kept (own_ballot items)
-Stands-sound jobs items kept (inl log) = IsSound-log jobs (fresh jobs) kept None items log (IsSound-fresh jobs)
+pub Stands-sound : (jobs : ℕ) (items : List Record) (kept : Durable) → Stands jobs items kept → IsKeptSound kept (own_ballot items)
+Stands-sound jobs items kept (inl log) = IsKeptSound-log jobs (fresh_kept jobs) kept None items log (IsKeptSound-fresh jobs)
 Stands-sound jobs items kept (inr base) =
     let own : own_ballot items ≡ last_or base.copy.tried (filter_map tried_in base.log) = ap own_ballot base.parts ∙ base_own base.slot base.rows base.copy base.log in
-    subst (IsSound kept) (sym own)
-    (IsSound-log jobs (after_copy base.slot base.rows base.copy base.promised) kept base.copy.tried base.log base.is_log (IsSound-copy base.slot base.rows base.copy base.promised base.is_copy base.greatest))
+    subst (IsKeptSound kept) (sym own)
+    (IsKeptSound-log jobs (after_copy base.slot base.rows base.copy base.promised) kept base.copy.tried base.log base.is_log (IsKeptSound-copy base.slot base.rows base.copy base.promised base.is_copy base.greatest))
 
-pub StandFor-sound : (jobs : ℕ) (bodies : List (List ℕ)) (kept : Durable) (own : Option ℕ) → StandFor jobs bodies kept own → IsSound kept own
-StandFor-sound jobs bodies kept own stand = subst (IsSound kept) (sym stand.own_is) (Stands-sound jobs stand.items kept stand.stands)
+pub StandFor-sound : (jobs : ℕ) (bodies : List (List ℕ)) (kept : Durable) (own : Option ℕ) → StandFor jobs bodies kept own → IsKeptSound kept own
+StandFor-sound jobs bodies kept own stand = subst (IsKeptSound kept) (sym stand.own_is) (Stands-sound jobs stand.items kept stand.stands)

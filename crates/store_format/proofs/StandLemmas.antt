@@ -11,11 +11,11 @@ use Rattle.store_format.specs.declared.body.Record.{Record}
 use Rattle.store_format.specs.declared.body.Record.TheVariants.{Tried, Promised, Voted, Base, Row}
 use Rattle.store_format.specs.declared.place.Place.{Place}
 use Rattle.store_format.specs.declared.place.Place.TheVariants.{Start, Rows, CopyStart, Log}
-use Rattle.store_format.specs.Area.{Stands, StandsFromBase, fresh, group_of, copy_records}
-use Rattle.store_format.specs.Order.{IsLog}
+use Rattle.store_format.specs.Area.{Stands, StandsFromBase, fresh_kept, group_of, copy_records}
+use Rattle.store_format.specs.Order.{IsChangeLog}
 use Rattle.store_format.specs.Places.{group_place, next_place, taken}
 use Rattle.store_format.proofs.Machine.{Reading, reading, run, runs_on, runs_from, run_steps, runs_as_log, next-start, IsChange}
-use Rattle.store_format.proofs.LogLemmas.{IsLog-nil, IsLog-empty, IsLog-uncons, keeps, runs_log, log_runs}
+use Rattle.store_format.proofs.LogLemmas.{IsChangeLog-nil, IsChangeLog-empty, IsChangeLog-uncons, keeps, runs_log, log_runs}
 use Rattle.store_format.proofs.CopyLemmas.{Nothing}
 use Rattle.store_format.proofs.CopyRuns.{nothing_copied, runs_copy, copy_reads, Reads}
 
@@ -77,34 +77,34 @@ rows_run jobs slot (row ∷ rows) front count are =
     ∙ rows_run jobs slot rows (front ++ row ∷ []) (omega (arith, count, more)) (subst (λ (n : ℕ). AreFrom n rows) (sym more) are.1)
     ∙ ap (λ (all : List JobRow). Some (reading CopyStart (with_rows slot all))) (append_assoc front (row ∷ []) rows)
 
-base_place : (jobs slot count : ℕ) → count ≡ jobs → next_place jobs Start (fresh jobs) (Base slot count) ≡ Some (group_place jobs 0)
+base_place : (jobs slot count : ℕ) → count ≡ jobs → next_place jobs Start (fresh_kept jobs) (Base slot count) ≡ Some (group_place jobs 0)
 base_place jobs slot count same = ap (λ (b : Bool). if b then Some (group_place jobs 0) else None) (eq-eqb count jobs same)
 
 abbrev pub first : ℕ → Reading
-first jobs = reading Start (fresh jobs)
+first jobs = reading Start (fresh_kept jobs)
 
 pub group_runs : (jobs slot : ℕ) (rows : List JobRow) → RowsStand rows jobs → run jobs (first jobs) (group_of slot rows) ≡ Some (reading CopyStart (with_rows slot rows))
 group_runs jobs slot rows stand =
-    runs_from jobs Start (group_place jobs 0) (fresh jobs) (Base slot (length rows)) (map (λ (row : JobRow). Row slot row) rows) (base_place jobs slot (length rows) stand.count)
+    runs_from jobs Start (group_place jobs 0) (fresh_kept jobs) (Base slot (length rows)) (map (λ (row : JobRow). Row slot row) rows) (base_place jobs slot (length rows) stand.count)
     ∙ rows_run jobs slot rows [] (omega (arith, stand.count)) (from_stand rows jobs stand)
 
 -- ---- a state is read
 
-change_not : (jobs : ℕ) (kept last : Durable) (item : Record) (items : List Record) → IsLog jobs kept (item ∷ items) last → IsChange item
+change_not : (jobs : ℕ) (kept last : Durable) (item : Record) (items : List Record) → IsChangeLog jobs kept (item ∷ items) last → IsChange item
 change_not jobs kept last item items log =
-    let parts = IsLog-uncons jobs kept last item items log in
+    let parts = IsChangeLog-uncons jobs kept last item items log in
     (keeps jobs kept item parts.change parts.is_record parts.may_follow).is_change
 
 pub start_as_log : (jobs : ℕ) (kept : Durable) (item : Record) (items : List Record) → IsChange item → run jobs (reading Start kept) (item ∷ items) ≡ run jobs (reading Log kept) (item ∷ items)
 start_as_log jobs kept item items change = runs_as_log jobs Start kept item items (next-start jobs kept item change)
 
-log_from_start : (jobs : ℕ) (items : List Record) (kept : Durable) → IsLog jobs (fresh jobs) items kept → Reads jobs (first jobs) items kept
+log_from_start : (jobs : ℕ) (items : List Record) (kept : Durable) → IsChangeLog jobs (fresh_kept jobs) items kept → Reads jobs (first jobs) items kept
 log_from_start jobs [] kept log =
-    record { place = Start; runs = ap (λ (k : Durable). Some (reading Start k)) (sym (IsLog-empty jobs (fresh jobs) kept log)); not_rows = λ same. cc same }
+    record { place = Start; runs = ap (λ (k : Durable). Some (reading Start k)) (sym (IsChangeLog-empty jobs (fresh_kept jobs) kept log)); not_rows = λ same. cc same }
 log_from_start jobs (item ∷ items) kept log =
     record {
       place = Log;
-      runs = start_as_log jobs (fresh jobs) item items (change_not jobs (fresh jobs) kept item items log) ∙ log_runs jobs (fresh jobs) kept (item ∷ items) log;
+      runs = start_as_log jobs (fresh_kept jobs) item items (change_not jobs (fresh_kept jobs) kept item items log) ∙ log_runs jobs (fresh_kept jobs) kept (item ∷ items) log;
       not_rows = λ same. cc same;
     }
 
@@ -220,7 +220,7 @@ base_kept jobs count next false at = absurd (none-some next at)
 -- from the group of a base on
 stands_from_base : (jobs slot count : ℕ) (items : List Record) (last : Reading) → (last.place ≡ Rows → ⊥) → run jobs (first jobs) (Base slot count ∷ items) ≡ Some last → StandsFromBase jobs (Base slot count ∷ items) last.kept
 stands_from_base jobs slot count items last not_rows e =
-    let parts = run_steps jobs Start (fresh jobs) (Base slot count) items last e in
+    let parts = run_steps jobs Start (fresh_kept jobs) (Base slot count) items last e in
     let now = base_kept jobs count parts.next (eqb count jobs) parts.at in
     let rest : run jobs (reading (group_place jobs 0) (with_rows slot [])) items ≡ Some last =
     ap (λ (p : Place). run jobs (reading p (with_rows slot [])) items) now.1 ∙ parts.rest in
@@ -245,19 +245,19 @@ stands_from_base jobs slot count items last not_rows e =
 
 stands_as_log : (jobs : ℕ) (item : Record) (items : List Record) (last : Reading) → IsChange item → run jobs (first jobs) (item ∷ items) ≡ Some last → Stands jobs (item ∷ items) last.kept
 stands_as_log jobs item items last change e =
-    inl (runs_log jobs (fresh jobs) (item ∷ items) last (sym (start_as_log jobs (fresh jobs) item items change) ∙ e)).1
+    inl (runs_log jobs (fresh_kept jobs) (item ∷ items) last (sym (start_as_log jobs (fresh_kept jobs) item items change) ∙ e)).1
 
 -- what is read, and not in the middle of a group, stands
 pub runs-Stands : (jobs : ℕ) (items : List Record) (last : Reading) → (last.place ≡ Rows → ⊥) → run jobs (first jobs) items ≡ Some last → Stands jobs items last.kept
 runs-Stands jobs [] last not_rows e =
     let same : first jobs ≡ last = same_Some (first jobs) last e in
-    subst (λ (s : Reading). Stands jobs [] s.kept) same (inl (IsLog-nil jobs (fresh jobs)))
+    subst (λ (s : Reading). Stands jobs [] s.kept) same (inl (IsChangeLog-nil jobs (fresh_kept jobs)))
 runs-Stands jobs (Tried ballot ∷ items) last not_rows e = stands_as_log jobs (Tried ballot) items last tt e
 runs-Stands jobs (Promised ballot ∷ items) last not_rows e = stands_as_log jobs (Promised ballot) items last tt e
 runs-Stands jobs (Voted vote ∷ items) last not_rows e = stands_as_log jobs (Voted vote) items last tt e
 runs-Stands jobs (Base slot count ∷ items) last not_rows e = inr (stands_from_base jobs slot count items last not_rows e)
 runs-Stands jobs (Row slot row ∷ items) last not_rows e =
-    let parts = run_steps jobs Start (fresh jobs) (Row slot row) items last e in absurd (none-some parts.next parts.at)
+    let parts = run_steps jobs Start (fresh_kept jobs) (Row slot row) items last e in absurd (none-some parts.next parts.at)
 
 -- records stand for one state at most
 pub Stands-same : (jobs : ℕ) (items : List Record) (one other : Durable) → Stands jobs items one → Stands jobs items other → one ≡ other

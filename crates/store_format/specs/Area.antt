@@ -9,12 +9,12 @@ use Rattle.paxos_base.specs.Vote.{SlotsRise, votes_from}
 use Rattle.acceptor_core.specs.Acceptor.{IsAbove}
 use Rattle.store_format.specs.declared.body.Record.{Record}
 use Rattle.store_format.specs.declared.body.Record.TheVariants.{Tried, Promised, Voted, Base, Row}
-use Rattle.store_format.specs.Order.{IsLog, own_round}
-use Rattle.store_format.specs.Records.{AreRecords, ballot_in, own_ballot}
+use Rattle.store_format.specs.Order.{IsChangeLog, own_round}
+use Rattle.store_format.specs.Records.{AreRecords, record_ballot, own_ballot}
 
 -- what a replica keeps at first: nothing was tried, promised or voted for, and each job's row is fresh
-abbrev pub fresh : ℕ → Durable
-fresh jobs = record { tried = 0; promised = None; votes = []; base = 0; rows = fresh_rows jobs }
+abbrev pub fresh_kept : ℕ → Durable
+fresh_kept jobs = record { tried = 0; promised = None; votes = []; base = 0; rows = fresh_rows jobs }
 
 -- the group of a base: its slot and how many rows follow, and then the rows, each with that slot
 abbrev pub group_of : ℕ → List JobRow → List Record
@@ -74,13 +74,13 @@ pub record StandsFromBase (jobs : ℕ) (items : List Record) (kept : Durable) : 
   pub rows_stand : RowsStand rows jobs
   pub is_copy : IsCopy slot copy
   pub longest : IsLongest slot copy (copy_records copy ++ log)
-  pub greatest : IsGreatest promised (filter_map ballot_in (copy_records copy))
-  pub is_log : IsLog jobs (after_copy slot rows copy promised) log kept
+  pub greatest : IsGreatest promised (filter_map record_ballot (copy_records copy))
+  pub is_log : IsChangeLog jobs (after_copy slot rows copy promised) log kept
 
 -- The records stand for what is kept, of a table of that many jobs: they are a log from the fresh state on, or begin with
 -- the group of a base.
 abbrev pub Stands : ℕ → List Record → Durable → Type 0
-Stands jobs items kept = IsLog jobs (fresh jobs) items kept ⊎ StandsFromBase jobs items kept
+Stands jobs items kept = IsChangeLog jobs (fresh_kept jobs) items kept ⊎ StandsFromBase jobs items kept
 
 -- bodies stand for what is kept and the replica's own ballot
 pub record StandFor (jobs : ℕ) (bodies : List (List ℕ)) (kept : Durable) (own : Option ℕ) : Type 0 where
@@ -90,7 +90,7 @@ pub record StandFor (jobs : ℕ) (bodies : List (List ℕ)) (kept : Durable) (ow
   pub own_is : own ≡ own_ballot items
 
 -- some list of bodies that begins with these stands for a state
-pub record MayStand (jobs : ℕ) (bodies : List (List ℕ)) : Type 0 where
+pub record BodiesMayStand (jobs : ℕ) (bodies : List (List ℕ)) : Type 0 where
   pub rest : List (List ℕ)
   pub kept : Durable
   pub own : Option ℕ
@@ -98,10 +98,10 @@ pub record MayStand (jobs : ℕ) (bodies : List (List ℕ)) : Type 0 where
 
 -- The first record at fault is the least k such that no list of bodies that begins with bodies 0 to k stands for a state;
 -- where there is none, and yet the bodies stand for no state, it is their number.
-pub record IsFirstFault (jobs : ℕ) (bodies : List (List ℕ)) (k : ℕ) : Type 0 where
+pub record IsFirstRecordAtFault (jobs : ℕ) (bodies : List (List ℕ)) (k : ℕ) : Type 0 where
   pub within : k ≤ length bodies
-  pub earlier : (j : ℕ) → j < k → MayStand jobs (take (j + 1) bodies)
-  pub here : k < length bodies → MayStand jobs (take (k + 1) bodies) → ⊥
+  pub earlier : (j : ℕ) → j < k → BodiesMayStand jobs (take (j + 1) bodies)
+  pub here : k < length bodies → BodiesMayStand jobs (take (k + 1) bodies) → ⊥
   pub for_none : (kept : Durable) (own : Option ℕ) → StandFor jobs bodies kept own → ⊥
 
 -- the promise, where it is above the replica's own ballot

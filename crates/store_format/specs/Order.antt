@@ -15,11 +15,11 @@ use Rattle.store_format.specs.declared.body.Record.TheVariants.{Tried, Promised,
 -- The change may follow what is kept. A round that is tried is above every earlier one, a ballot that is tried or promised
 -- is above the promise, and a ballot that is voted in is the promised one or above it. A vote is at a slot from the base
 -- on. A base is above the one before it, and has the rows of a table of that many jobs.
-abbrev pub MayFollow : ℕ → Durable → Delta → Type 0
-MayFollow jobs kept (TriedDelta ballot) = (kept.tried < round_of ballot) × IsAbove ballot kept.promised
-MayFollow jobs kept (PromisedDelta ballot) = IsAbove ballot kept.promised
-MayFollow jobs kept (VotedDelta vote) = IsAtLeast vote.ballot kept.promised × (kept.base ≤ vote.slot)
-MayFollow jobs kept (BaseDelta slot rows) = (kept.base < slot) × RowsStand rows jobs
+abbrev pub ChangeMayFollow : ℕ → Durable → Delta → Type 0
+ChangeMayFollow jobs kept (TriedDelta ballot) = (kept.tried < round_of ballot) × IsAbove ballot kept.promised
+ChangeMayFollow jobs kept (PromisedDelta ballot) = IsAbove ballot kept.promised
+ChangeMayFollow jobs kept (VotedDelta vote) = IsAtLeast vote.ballot kept.promised × (kept.base ≤ vote.slot)
+ChangeMayFollow jobs kept (BaseDelta slot rows) = (kept.base < slot) × RowsStand rows jobs
 
 -- the record of a change; a base has none of its own, since it begins an area anew
 abbrev pub delta_record : Delta → Option Record
@@ -34,10 +34,10 @@ after_deltas changes kept = fold (λ now change. after_delta change now) kept ch
 
 -- The records lead from one state to another: they are those of changes, and each change may follow the state that the
 -- changes before it leave.
-pub record IsLog (jobs : ℕ) (first : Durable) (items : List Record) (last : Durable) : Type 0 where
+pub record IsChangeLog (jobs : ℕ) (first : Durable) (items : List Record) (last : Durable) : Type 0 where
   pub changes : List Delta
   pub are_changes : map delta_record changes ≡ map (λ item. Some item) items
-  pub may_follow : (k : ℕ) (change : Delta) → slice_get changes k ≡ Some change → MayFollow jobs (after_deltas (take k changes) first) change
+  pub may_follow : (k : ℕ) (change : Delta) → slice_get changes k ≡ Some change → ChangeMayFollow jobs (after_deltas (take k changes) first) change
   pub after : last ≡ after_deltas changes first
 
 -- the round of the replica's own ballot, or 0 where it has none
@@ -51,7 +51,7 @@ IsPromised promised ballot = IsSomeAnd promised (λ other. ballot ≤ other)
 
 -- Of what is kept, the highest round is that of the replica's own ballot, no ballot is above the promise, and the votes are
 -- at slots from the base on.
-pub record IsSound (kept : Durable) (own : Option ℕ) : Type 0 where
+pub record IsKeptSound (kept : Durable) (own : Option ℕ) : Type 0 where
   pub round : kept.tried ≡ own_round own
   pub own_promised : IfSome own (λ ballot. IsPromised kept.promised ballot)
   pub votes_promised : All (λ vote. IsPromised kept.promised vote.ballot) kept.votes

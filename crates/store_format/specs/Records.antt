@@ -11,12 +11,12 @@ use Rattle.store_format.specs.declared.body.Record.{Record}
 use Rattle.store_format.specs.declared.body.Record.TheVariants.{Tried, Promised, Voted, Base, Row}
 
 -- the number of a record's kind
-abbrev pub kind_of : Record → ℕ
-kind_of (Tried ballot) = 1
-kind_of (Promised ballot) = 2
-kind_of (Voted vote) = 3
-kind_of (Base slot count) = 4
-kind_of (Row slot row) = 5
+abbrev pub record_kind : Record → ℕ
+record_kind (Tried ballot) = 1
+record_kind (Promised ballot) = 2
+record_kind (Voted vote) = 3
+record_kind (Base slot count) = 4
+record_kind (Row slot row) = 5
 
 -- the packet that has the fields of a record
 abbrev pub packet_of : Record → Packet
@@ -28,7 +28,7 @@ packet_of (Row slot row) = SnapRow slot row
 
 -- the bytes of a record: those of its packet, from 0, with the record's kind in place of the packet's
 abbrev pub record_bytes : Record → List ℕ
-record_bytes item = slice_set (packet_bytes 0 (packet_of item)) (offset_of KindField) (kind_of item)
+record_bytes item = slice_set (packet_bytes 0 (packet_of item)) (offset_of KindField) (record_kind item)
 
 -- The bytes are those of a record, whose packet is one from member 0 of seven.
 pub record IsRecord (bytes : List ℕ) (item : Record) : Type 0 where
@@ -48,12 +48,12 @@ RowHasCursor (Row slot row) = OpenHasCursor row
 RowHasCursor item = ⊤
 
 -- the ballot that a record is about
-abbrev pub ballot_in : Record → Option ℕ
-ballot_in (Tried ballot) = Some ballot
-ballot_in (Promised ballot) = Some ballot
-ballot_in (Voted vote) = Some vote.ballot
-ballot_in (Base slot count) = None
-ballot_in (Row slot row) = None
+abbrev pub record_ballot : Record → Option ℕ
+record_ballot (Tried ballot) = Some ballot
+record_ballot (Promised ballot) = Some ballot
+record_ballot (Voted vote) = Some vote.ballot
+record_ballot (Base slot count) = None
+record_ballot (Row slot row) = None
 
 -- the ballot of a Tried
 abbrev pub tried_in : Record → Option ℕ

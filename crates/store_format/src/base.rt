@@ -5,9 +5,9 @@ ghost use Rattle.paxos_base.specs.Durable.{after_delta};
 ghost use Rattle.paxos_base.specs.Rows.{OpenHaveCursors, RowsStand};
 ghost use Rattle.paxos_base.specs.Vote.{votes_from};
 ghost use Rattle.store_format.specs.Area.{StandFor, base_records, promise_above, group_of, tried_records, promised_records};
-ghost use Rattle.store_format.specs.Order.{IsSound};
+ghost use Rattle.store_format.specs.Order.{IsKeptSound};
 ghost use Rattle.store_format.specs.Records.{record_bytes, AreRecords, RowHasCursor};
-ghost use Rattle.store_format.specs.Written.{Adds};
+ghost use Rattle.store_format.specs.Written.{AddsRecords};
 
 use crate::body::{Record, record_bytes};
 use crate::order::is_above;
@@ -21,7 +21,7 @@ type Bodies = Vec<Body56>;
 
 fn put(item: Record, bodies: &mut Bodies) -> Result<(), OutOfMemory>
     requires { RowHasCursor item }
-    ensures { OnOk result (Adds (item ∷ []) bodies.old.items bodies.new.items) }
+    ensures { OnOk result (AddsRecords (item ∷ []) bodies.old.items bodies.new.items) }
 {
     bodies.push(Body56 {
         bytes: record_bytes(&item),
@@ -31,7 +31,7 @@ fn put(item: Record, bodies: &mut Bodies) -> Result<(), OutOfMemory>
 
 fn put_rows(slot: u64, rows: &[JobRow], bodies: &mut Bodies) -> Result<(), OutOfMemory>
     requires { OpenHaveCursors rows.now }
-    ensures { OnOk result (Adds (map (λ row. Record.Row slot row) rows.now) bodies.old.items bodies.new.items) }
+    ensures { OnOk result (AddsRecords (map (λ row. Record.Row slot row) rows.now) bodies.old.items bodies.new.items) }
 {
     for row in rows {
         put(Record::Row { slot, row: *row }, bodies)?;
@@ -40,7 +40,7 @@ fn put_rows(slot: u64, rows: &[JobRow], bodies: &mut Bodies) -> Result<(), OutOf
 }
 
 fn put_group(slot: u64, rows: &RowList, bodies: &mut Bodies) -> Result<(), OutOfMemory>
-    ensures { OnOk result (Adds (group_of slot rows.now) bodies.old.items bodies.new.items) }
+    ensures { OnOk result (AddsRecords (group_of slot rows.now) bodies.old.items bodies.new.items) }
 {
     let count = rows.items.len() as u64;
     put(Record::Base { slot, count }, bodies)?;
@@ -53,7 +53,7 @@ fn put_ballots(
     promised: Option<Ballot>,
     bodies: &mut Bodies,
 ) -> Result<(), OutOfMemory>
-    ensures { OnOk result (Adds (tried_records own ++ promised_records (promise_above own promised)) bodies.old.items bodies.new.items) }
+    ensures { OnOk result (AddsRecords (tried_records own ++ promised_records (promise_above own promised)) bodies.old.items bodies.new.items) }
 {
     if let Some(ballot) = own {
         put(Record::Tried(ballot), bodies)?;
@@ -65,7 +65,7 @@ fn put_ballots(
 }
 
 fn put_votes(votes: &[Vote], bodies: &mut Bodies) -> Result<(), OutOfMemory>
-    ensures { OnOk result (Adds (map (λ vote. Record.Voted vote) votes.now) bodies.old.items bodies.new.items) }
+    ensures { OnOk result (AddsRecords (map (λ vote. Record.Voted vote) votes.now) bodies.old.items bodies.new.items) }
 {
     for vote in votes {
         put(Record::Voted(*vote), bodies)?;
@@ -74,7 +74,7 @@ fn put_votes(votes: &[Vote], bodies: &mut Bodies) -> Result<(), OutOfMemory>
 }
 
 fn put_votes_from(slot: u64, votes: &VoteList, bodies: &mut Bodies) -> Result<(), OutOfMemory>
-    ensures { OnOk result (Adds (map (λ vote. Record.Voted vote) (votes_from slot votes.now)) bodies.old.items bodies.new.items) }
+    ensures { OnOk result (AddsRecords (map (λ vote. Record.Voted vote) (votes_from slot votes.now)) bodies.old.items bodies.new.items) }
 {
     let votes = &votes.items;
     put_votes(&votes[place_of(votes, slot)..], bodies)
@@ -91,7 +91,7 @@ pub fn write_base(
 ) -> Result<Vec<Body56>, OutOfMemory>
     ensures bodies { IfOk result (λ bodies. bodies.items ≡ map record_bytes (base_records kept.now own slot rows.now)) }
     ensures records { IfOk result (λ bodies. AreRecords bodies.items (base_records kept.now own slot rows.now)) }
-    ensures stand { (jobs : ℕ) → IsSound kept.now own → RowsStand rows.now jobs
+    ensures stand { (jobs : ℕ) → IsKeptSound kept.now own → RowsStand rows.now jobs
         → IfOk result (λ bodies. StandFor jobs bodies.items (after_delta (Base slot rows.now) kept.now) own) }
 {
     let mut bodies = Vec::new(alloc);

@@ -6,14 +6,14 @@ ghost use Rattle.paxos_base.specs.declared.rows.JobRow.{JobRow};
 ghost use Rattle.paxos_base.specs.Durable.{after_delta};
 ghost use Rattle.paxos_base.specs.Rows.{RowsStand};
 ghost use Rattle.store_format.specs.declared.body.Record.{Record};
-ghost use Rattle.store_format.specs.Area.{Stands, StandFor, IsFirstFault, fresh, base_records};
-ghost use Rattle.store_format.specs.Order.{MayFollow, IsSound, delta_record, own_after};
+ghost use Rattle.store_format.specs.Area.{Stands, StandFor, IsFirstRecordAtFault, fresh_kept, base_records};
+ghost use Rattle.store_format.specs.Order.{ChangeMayFollow, IsKeptSound, delta_record, own_after};
 ghost use Rattle.store_format.specs.Records.{IsRecord, own_ballot};
 
 /// A law, with nothing to run: the empty list stands for the fresh state.
 pub fn no_records_stand_for_the_fresh_state()
-    ensures records { (jobs : ℕ) → Stands jobs [] (fresh jobs) }
-    ensures bodies { (jobs : ℕ) → StandFor jobs [] (fresh jobs) None }
+    ensures records { (jobs : ℕ) → Stands jobs [] (fresh_kept jobs) }
+    ensures bodies { (jobs : ℕ) → StandFor jobs [] (fresh_kept jobs) None }
 {}
 
 /// A law, with nothing to run: records stand for one state at most, and so do bodies.
@@ -27,26 +27,26 @@ pub fn records_stand_for_one_state()
 /// A law, with nothing to run: a change that may follow, with its record behind the others, brings the state after it.
 pub fn a_record_brings_its_change()
     ensures records { (jobs : ℕ) (items : List Record) (item : Record) (kept : Durable) (change : Delta)
-        → Stands jobs items kept → MayFollow jobs kept change → delta_record change ≡ Some item
+        → Stands jobs items kept → ChangeMayFollow jobs kept change → delta_record change ≡ Some item
         → Stands jobs (items ++ item ∷ []) (after_delta change kept) }
     ensures bodies { (jobs : ℕ) (bodies : List (List ℕ)) (body : List ℕ) (item : Record) (kept : Durable) (own : Option ℕ) (change : Delta)
-        → StandFor jobs bodies kept own → MayFollow jobs kept change → delta_record change ≡ Some item → IsRecord body item
+        → StandFor jobs bodies kept own → ChangeMayFollow jobs kept change → delta_record change ≡ Some item → IsRecord body item
         → StandFor jobs (bodies ++ body ∷ []) (after_delta change kept) (own_after change own) }
 {}
 
 /// A law, with nothing to run: the records of a base stand for the state after it.
 pub fn the_records_of_a_base_stand()
     ensures { (jobs slot : ℕ) (rows : List JobRow) (kept : Durable) (own : Option ℕ)
-        → IsSound kept own → RowsStand rows jobs
+        → IsKeptSound kept own → RowsStand rows jobs
         → Stands jobs (base_records kept own slot rows) (after_delta (Base slot rows) kept) }
 {}
 
 /// A law, with nothing to run: what records stand for is sound, and each change that may follow leaves it so.
 pub fn states_are_sound()
-    ensures records { (jobs : ℕ) (items : List Record) (kept : Durable) → Stands jobs items kept → IsSound kept (own_ballot items) }
-    ensures bodies { (jobs : ℕ) (bodies : List (List ℕ)) (kept : Durable) (own : Option ℕ) → StandFor jobs bodies kept own → IsSound kept own }
+    ensures records { (jobs : ℕ) (items : List Record) (kept : Durable) → Stands jobs items kept → IsKeptSound kept (own_ballot items) }
+    ensures bodies { (jobs : ℕ) (bodies : List (List ℕ)) (kept : Durable) (own : Option ℕ) → StandFor jobs bodies kept own → IsKeptSound kept own }
     ensures changes { (jobs : ℕ) (kept : Durable) (own : Option ℕ) (change : Delta)
-        → IsSound kept own → MayFollow jobs kept change → IsSound (after_delta change kept) (own_after change own) }
+        → IsKeptSound kept own → ChangeMayFollow jobs kept change → IsKeptSound (after_delta change kept) (own_after change own) }
 {}
 
 /// A law, with nothing to run: two records have different bytes.
@@ -58,6 +58,6 @@ pub fn records_differ_in_their_bytes()
 pub fn bodies_have_a_first_fault()
     ensures some { (jobs : ℕ) (bodies : List (List ℕ)) → jobs < 2 ^ 32
         → ((kept : Durable) (own : Option ℕ) → StandFor jobs bodies kept own → ⊥)
-        → (k : ℕ) × IsFirstFault jobs bodies k }
-    ensures one { (jobs : ℕ) (bodies : List (List ℕ)) (j k : ℕ) → IsFirstFault jobs bodies j → IsFirstFault jobs bodies k → j ≡ k }
+        → (k : ℕ) × IsFirstRecordAtFault jobs bodies k }
+    ensures one { (jobs : ℕ) (bodies : List (List ℕ)) (j k : ℕ) → IsFirstRecordAtFault jobs bodies j → IsFirstRecordAtFault jobs bodies k → j ≡ k }
 {}

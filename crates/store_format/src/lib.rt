@@ -25,8 +25,6 @@ mod order;
 mod place;
 mod reader;
 mod reading;
-#[cfg(test)]
-mod tests;
 
 pub use base::write_base;
 pub use body::{Record, record_bytes, record_in};

@@ -1,7 +1,7 @@
 //! The order rule: which changes may follow what is kept.
 ghost use Rattle.std.specs.Prelude.{◌≡◌, ◌↔◌, ◌&&◌, nat_lt, nat_le, IsTrue};
 ghost use Rattle.paxos_base.specs.Ballot.{round_of};
-ghost use Rattle.store_format.specs.Order.{MayFollow, delta_record};
+ghost use Rattle.store_format.specs.Order.{ChangeMayFollow, delta_record};
 ghost use Rattle.store_format.specs.Places.{is_above, is_at_least, keeps_order};
 
 use crate::body::Record;
@@ -53,7 +53,7 @@ pub(crate) fn keeps_order(kept: &Durable, item: &Record) -> bool
 
 /// Whether a change may follow what is kept, of a table of that many jobs.
 pub fn may_follow(kept: &Durable, jobs: u32, delta: &Delta) -> bool
-    ensures { IsTrue result ↔ MayFollow jobs kept.now delta.now }
+    ensures { IsTrue result ↔ ChangeMayFollow jobs kept.now delta.now }
 {
     match delta {
         Delta::Tried(ballot) => may_try(kept, *ballot),

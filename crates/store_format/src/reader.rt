@@ -5,7 +5,7 @@ ghost use Rattle.std.specs.Option.{option_or};
 ghost use Rattle.paxos_base.specs.Rows.{OpenHasCursor};
 ghost use Rattle.paxos_base.specs.Vote.{put_vote};
 ghost use Rattle.paxos_base.specs.Rows.{fresh_row};
-ghost use Rattle.store_format.specs.Area.{fresh};
+ghost use Rattle.store_format.specs.Area.{fresh_kept};
 ghost use Rattle.store_format.specs.Places.{taken};
 ghost use Rattle.store_format.specs.Records.{RowHasCursor, tried_in};
 
@@ -44,7 +44,7 @@ impl Reader {
     /// A reader before the first record.
     pub(crate) fn new(alloc: Global, jobs: u32) -> Result<Reader, OutOfMemory>
         ensures place { IfOk result (λ reader. reader.place ≡ Place.Start) }
-        ensures kept { IfOk result (λ reader. reader.kept ≡ fresh jobs) }
+        ensures kept { IfOk result (λ reader. reader.kept ≡ fresh_kept jobs) }
         ensures own { IfOk result (λ reader. reader.own ≡ None) }
     {
         let rows = RowList::fresh(alloc, jobs)?;

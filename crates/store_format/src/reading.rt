@@ -1,8 +1,8 @@
 //! Reading the records of an area.
 ghost use Rattle.std.specs.Prelude.{◌≡◌, ℕ, Option, Ok, Err, IfOk, MatchResult};
 ghost use Rattle.paxos_base.specs.declared.durable.Durable.{Durable};
-ghost use Rattle.store_format.specs.Area.{StandFor, IsFirstFault};
-ghost use Rattle.store_format.specs.Order.{IsSound};
+ghost use Rattle.store_format.specs.Area.{StandFor, IsFirstRecordAtFault};
+ghost use Rattle.store_format.specs.Order.{IsKeptSound};
 
 use crate::body::record_in;
 use crate::fault::ReadFault;
@@ -23,11 +23,11 @@ pub fn read_records(
     bodies: &[Body56],
 ) -> Result<(Durable, Option<Ballot>), ReadFault>
     ensures found { IfOk result (λ state. StandFor jobs bodies.now state.0 state.1) }
-    ensures sound { IfOk result (λ state. IsSound state.0 state.1) }
+    ensures sound { IfOk result (λ state. IsKeptSound state.0 state.1) }
     // Bodies that stand for a state are read, unless memory runs out.
     ensures only { (kept : Durable) (own : Option ℕ) → StandFor jobs bodies.now kept own
         → MatchResult result (λ state. (state.0 ≡ kept) × (state.1 ≡ own)) (λ fault. fault ≡ ReadFault.OutOfMemory) }
-    ensures damaged { (k : ℕ) → result ≡ Err (ReadFault.Damaged k) → IsFirstFault jobs bodies.now k }
+    ensures damaged { (k : ℕ) → result ≡ Err (ReadFault.Damaged k) → IsFirstRecordAtFault jobs bodies.now k }
 {
     let mut reader = Reader::new(alloc, jobs)?;
     for (number, body) in bodies.iter().enumerate() {

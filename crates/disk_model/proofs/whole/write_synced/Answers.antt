@@ -1,5 +1,5 @@
 use Rattle.std.proofs.Common.{length}
-use Rattle.disk_model.specs.Images.{Image, file_of, Torn, LeavesOnly, InFileOnly}
+use Rattle.disk_model.specs.Images.{file_of, Torn}
 use Rattle.disk_model.proofs.RunLemmas.{torn_images, write_leaves, still_leaves}
 use Rattle.disk_model.proofs.whole.write_synced.Goals as goal
 

@@ -4,12 +4,12 @@ use Rattle.std.specs.Bool.{⊤}
 use Rattle.acceptor_core.specs.Acceptor.{IsAtLeast}
 use Rattle.disk_model.specs.MemDisk.{seen_of, left_by}
 use Rattle.paxos_base.specs.declared.durable.Durable.{Durable}
-use Rattle.replica_store.specs.Store.{Keeps, IsStoreSettled}
+use Rattle.replica_store.specs.Store.{StoreKeeps, IsStoreSettled}
 use Rattle.store_bench.proofs.votes.save_votes.Given as goal
 
 abbrev pub invariant-loop-slot : goal.invariant-loop-slot
 invariant-loop-slot l =
     record {
       settled : IsStoreSettled seen_of left_by (λ disk. ⊤) l.disk l.store;
-      takes : (kept : Durable) × (Keeps l.store kept × (IsAtLeast l.ballot kept.promised × (kept.base ≤ l.base)));
+      takes : (kept : Durable) × (StoreKeeps l.store kept × (IsAtLeast l.ballot kept.promised × (kept.base ≤ l.base)));
     }

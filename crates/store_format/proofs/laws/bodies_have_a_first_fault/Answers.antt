@@ -1,4 +1,4 @@
-use Rattle.store_format.proofs.BodyLemmas.{IsFirstFault-same}
+use Rattle.store_format.proofs.BodyLemmas.{IsFirstRecordAtFault-same}
 use Rattle.store_format.proofs.DecideLemmas.{first_fault}
 use Rattle.store_format.proofs.laws.bodies_have_a_first_fault.Goals as goal
 
@@ -6,4 +6,4 @@ pub returns-clause-some : goal.returns-clause-some
 returns-clause-some c = λ jobs bodies few none. first_fault jobs bodies few none
 
 pub returns-clause-one : goal.returns-clause-one
-returns-clause-one c = IsFirstFault-same
+returns-clause-one c = IsFirstRecordAtFault-same

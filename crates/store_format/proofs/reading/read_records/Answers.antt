@@ -2,7 +2,7 @@ use Rattle.std.proofs.Common.{◌≡◌, ℕ, ◌+◌, ◌<◌, List, [], ◌∷
 use Rattle.std.proofs.lemmas.Bool.{false≢true}
 use Rattle.std.proofs.lemmas.List.{take_more, get_or_read}
 use Rattle.std.proofs.lemmas.Option.{none-some}
-use Rattle.store_format.specs.Area.{IsFirstFault, StandFor}
+use Rattle.store_format.specs.Area.{IsFirstRecordAtFault, StandFor}
 use Rattle.store_format.specs.Places.{next_place}
 use Rattle.store_format.proofs.BodyLemmas.{Behind-next, fault_here, broken_off, all_read, StandFor-same}
 use Rattle.store_format.proofs.RecordLemmas.{IsRecord-same}
@@ -16,7 +16,7 @@ up_to bodies k item body within is same =
     take_more bodies k [] within ∙ ap (λ (last : List ℕ). take k bodies ++ last ∷ []) (sym (same ∙ get_or_read bodies k item within is []))
 
 -- a body that is no record
-unread : (c : After-drop-reader-in_default) → IsFirstFault c.args.jobs c.args.bodies.now c.loop-number.number
+unread : (c : After-drop-reader-in_default) → IsFirstRecordAtFault c.args.jobs c.args.bodies.now c.loop-number.number
 unread c =
     let bodies = c.args.bodies.now in
     let k = c.loop-number.number in
@@ -26,13 +26,13 @@ unread c =
 pub returns-in_default-clause-damaged : goal.returns-in_default-clause-damaged
 returns-in_default-clause-damaged c j same =
     let number : c.loop-number.number ≡ j = cc same in
-    subst (IsFirstFault c.args.jobs c.args.bodies.now) number (unread c)
+    subst (IsFirstRecordAtFault c.args.jobs c.args.bodies.now) number (unread c)
 
 pub returns-in_default-clause-only : goal.returns-in_default-clause-only
 returns-in_default-clause-only c kept own stand = absurd ((unread c).for_none kept own stand)
 
 -- a record that can't come next
-unfit : (c : After-drop-reader-in_default-next-2) → IsFirstFault c.args.jobs c.args.bodies.now c.loop-number.number
+unfit : (c : After-drop-reader-in_default-next-2) → IsFirstRecordAtFault c.args.jobs c.args.bodies.now c.loop-number.number
 unfit c =
     let bodies = c.args.bodies.now in
     let k = c.loop-number.number in
@@ -42,7 +42,7 @@ unfit c =
 pub returns-in_default-next-clause-damaged : goal.returns-in_default-next-clause-damaged
 returns-in_default-next-clause-damaged c j same =
     let number : c.loop-number.number ≡ j = cc same in
-    subst (IsFirstFault c.args.jobs c.args.bodies.now) number (unfit c)
+    subst (IsFirstRecordAtFault c.args.jobs c.args.bodies.now) number (unfit c)
 
 pub returns-in_default-next-clause-only : goal.returns-in_default-next-clause-only
 returns-in_default-next-clause-only c kept own stand = absurd ((unfit c).for_none kept own stand)
@@ -57,7 +57,7 @@ loop-number-preserved c =
 pub returns-then-is_in_group-clause-damaged : goal.returns-then-is_in_group-clause-damaged
 returns-then-is_in_group-clause-damaged c j same =
     let number : length c.args.bodies.now ≡ j = cc same in
-    subst (IsFirstFault c.args.jobs c.args.bodies.now) number
+    subst (IsFirstRecordAtFault c.args.jobs c.args.bodies.now) number
     (broken_off c.args.jobs c.args.bodies.now c.loop-number.number c.loop-number.reader.place c.loop-number.reader.kept c.loop-number.reader.own c.ranges.jobs.fits c.loop-number-test.false c.loop-number.invariant (c.if-is_in_group.ensures.0 refl))
 
 pub returns-then-is_in_group-clause-only : goal.returns-then-is_in_group-clause-only

@@ -1,5 +1,5 @@
 use Rattle.std.proofs.Common.{◌≡◌, ◌++◌, ◌∷◌, [], ◌+◌, ◌*◌, length, Some, sym, subst, arith, rules}
-use Rattle.disk_model.specs.Images.{file_of, Holds, Torn, LeavesOnly, InFileOnly}
+use Rattle.disk_model.specs.Images.{file_of, HoldsPiece, Torn, LeavesOnly, InFileOnly}
 use Rattle.gate_file.specs.File.{bodies_of, file_no}
 use Rattle.gate_file.specs.Gates.{IsAtRest, IsStaged}
 use Rattle.gate_file.proofs.AppendLemmas.{mid_behind, mid_open, mid_at_rest, new_at_rest, body_leaves, write_after}
@@ -29,9 +29,9 @@ returns-in_err-write_synced-2-clause-images g c honest =
     let seen = file_of file (g.D.Disk.seen old) in
     let run = subst (λ at. LeavesOnly g.D.Disk.moment g.D.Disk.left_since old c.write_synced.new.disk (InFileOnly file (g.D.Disk.may_leave old) (Torn (at + 1) (length c.with_closed_gate.result) seen))) place (c.write_synced.ensures.images honest) in
     let first = body_leaves g.D.Disk.moment g.D.Disk.left_since g.D.Disk.may_leave file c.args.body.now (bodies_of gates) old c.write_synced.new.disk seen (length c.with_closed_gate.result) c.requires.at_rest run in
-    let holds : Holds (57 * length (bodies_of gates) + 1) (c.args.body.now ++ 0 ∷ []) (file_of (file_no gates) (g.D.Disk.seen c.args.disk.now)) (file_of (file_no gates) (g.D.Disk.seen c.write_synced.new.disk)) =
-    subst (λ at. Holds (at + 1) (c.args.body.now ++ 0 ∷ []) (file_of (file_no gates) (g.D.Disk.seen c.args.disk.now)) (file_of (file_no gates) (g.D.Disk.seen c.write_synced.new.disk))) place
-    (subst (λ piece. Holds (c.len-2.result * 57 + 1) piece (file_of (file_no gates) (g.D.Disk.seen c.args.disk.now)) (file_of (file_no gates) (g.D.Disk.seen c.write_synced.new.disk))) c.with_closed_gate.ensures c.in_ok-write_synced.ensures.written.step) in
+    let holds : HoldsPiece (57 * length (bodies_of gates) + 1) (c.args.body.now ++ 0 ∷ []) (file_of (file_no gates) (g.D.Disk.seen c.args.disk.now)) (file_of (file_no gates) (g.D.Disk.seen c.write_synced.new.disk)) =
+    subst (λ at. HoldsPiece (at + 1) (c.args.body.now ++ 0 ∷ []) (file_of (file_no gates) (g.D.Disk.seen c.args.disk.now)) (file_of (file_no gates) (g.D.Disk.seen c.write_synced.new.disk))) place
+    (subst (λ piece. HoldsPiece (c.len-2.result * 57 + 1) piece (file_of (file_no gates) (g.D.Disk.seen c.args.disk.now)) (file_of (file_no gates) (g.D.Disk.seen c.write_synced.new.disk))) c.with_closed_gate.ensures c.in_ok-write_synced.ensures.written.step) in
     let mid = c.write_synced.new.disk in
     let still = c.write_synced.ensures.honest.1 honest in
     let seen_mid = file_of file (g.D.Disk.seen mid) in
@@ -50,9 +50,9 @@ returns-clause-images g c honest =
     let seen = file_of file (g.D.Disk.seen old) in
     let run = subst (λ at. LeavesOnly g.D.Disk.moment g.D.Disk.left_since old c.write_synced.new.disk (InFileOnly file (g.D.Disk.may_leave old) (Torn (at + 1) (length c.with_closed_gate.result) seen))) place (c.write_synced.ensures.images honest) in
     let first = body_leaves g.D.Disk.moment g.D.Disk.left_since g.D.Disk.may_leave file c.args.body.now (bodies_of gates) old c.write_synced.new.disk seen (length c.with_closed_gate.result) c.requires.at_rest run in
-    let holds : Holds (57 * length (bodies_of gates) + 1) (c.args.body.now ++ 0 ∷ []) (file_of (file_no gates) (g.D.Disk.seen c.args.disk.now)) (file_of (file_no gates) (g.D.Disk.seen c.write_synced.new.disk)) =
-    subst (λ at. Holds (at + 1) (c.args.body.now ++ 0 ∷ []) (file_of (file_no gates) (g.D.Disk.seen c.args.disk.now)) (file_of (file_no gates) (g.D.Disk.seen c.write_synced.new.disk))) place
-    (subst (λ piece. Holds (c.len-2.result * 57 + 1) piece (file_of (file_no gates) (g.D.Disk.seen c.args.disk.now)) (file_of (file_no gates) (g.D.Disk.seen c.write_synced.new.disk))) c.with_closed_gate.ensures c.in_ok-write_synced.ensures.written.step) in
+    let holds : HoldsPiece (57 * length (bodies_of gates) + 1) (c.args.body.now ++ 0 ∷ []) (file_of (file_no gates) (g.D.Disk.seen c.args.disk.now)) (file_of (file_no gates) (g.D.Disk.seen c.write_synced.new.disk)) =
+    subst (λ at. HoldsPiece (at + 1) (c.args.body.now ++ 0 ∷ []) (file_of (file_no gates) (g.D.Disk.seen c.args.disk.now)) (file_of (file_no gates) (g.D.Disk.seen c.write_synced.new.disk))) place
+    (subst (λ piece. HoldsPiece (c.len-2.result * 57 + 1) piece (file_of (file_no gates) (g.D.Disk.seen c.args.disk.now)) (file_of (file_no gates) (g.D.Disk.seen c.write_synced.new.disk))) c.with_closed_gate.ensures c.in_ok-write_synced.ensures.written.step) in
     let mid = c.write_synced.new.disk in
     let still = c.write_synced.ensures.honest.1 honest in
     let seen_mid = file_of file (g.D.Disk.seen mid) in
@@ -68,9 +68,9 @@ pub returns-in_err-write_synced-2-clause-memory : goal.returns-in_err-write_sync
 returns-in_err-write_synced-2-clause-memory g c memory =
     let gates = c.args.self.now in
     let place : c.len-2.result * 57 ≡ 57 * length (bodies_of gates) = omega (arith, c.len-2.ensures, c.reserve.ensures.len, c.args.self.now.bodies.ok.0) in
-    let holds : Holds (57 * length (bodies_of gates) + 1) (c.args.body.now ++ 0 ∷ []) (file_of (file_no gates) (g.D.Disk.seen c.args.disk.now)) (file_of (file_no gates) (g.D.Disk.seen c.write_synced.new.disk)) =
-    subst (λ at. Holds (at + 1) (c.args.body.now ++ 0 ∷ []) (file_of (file_no gates) (g.D.Disk.seen c.args.disk.now)) (file_of (file_no gates) (g.D.Disk.seen c.write_synced.new.disk))) place
-    (subst (λ piece. Holds (c.len-2.result * 57 + 1) piece (file_of (file_no gates) (g.D.Disk.seen c.args.disk.now)) (file_of (file_no gates) (g.D.Disk.seen c.write_synced.new.disk))) c.with_closed_gate.ensures c.in_ok-write_synced.ensures.written.step) in
+    let holds : HoldsPiece (57 * length (bodies_of gates) + 1) (c.args.body.now ++ 0 ∷ []) (file_of (file_no gates) (g.D.Disk.seen c.args.disk.now)) (file_of (file_no gates) (g.D.Disk.seen c.write_synced.new.disk)) =
+    subst (λ at. HoldsPiece (at + 1) (c.args.body.now ++ 0 ∷ []) (file_of (file_no gates) (g.D.Disk.seen c.args.disk.now)) (file_of (file_no gates) (g.D.Disk.seen c.write_synced.new.disk))) place
+    (subst (λ piece. HoldsPiece (c.len-2.result * 57 + 1) piece (file_of (file_no gates) (g.D.Disk.seen c.args.disk.now)) (file_of (file_no gates) (g.D.Disk.seen c.write_synced.new.disk))) c.with_closed_gate.ensures c.in_ok-write_synced.ensures.written.step) in
     let rest = mid_at_rest (file_of (file_no gates) (g.D.Disk.seen c.args.disk.now)) c.args.body.now (bodies_of gates) c.requires.at_rest c.told-body (file_of (file_no gates) (g.D.Disk.seen c.write_synced.new.disk)) holds in
     let is = handed_on c.in_err-write_synced-2.field-0.0 c.write_synced-2.result c.from_residual-in_err-write_synced-2.result c.in_err-write_synced-2.was c.from_residual-in_err-write_synced-2.ensures.1 memory in
     let same = c.write_synced-2.ensures.unchanged is in
@@ -83,11 +83,11 @@ pub returns-clause-settled : goal.returns-clause-settled
 returns-clause-settled g c =
     let gates = c.args.self.now in
     let place : c.len-2.result * 57 ≡ 57 * length (bodies_of gates) = omega (arith, c.len-2.ensures, c.reserve.ensures.len, c.args.self.now.bodies.ok.0) in
-    let holds : Holds (57 * length (bodies_of gates) + 1) (c.args.body.now ++ 0 ∷ []) (file_of (file_no gates) (g.D.Disk.seen c.args.disk.now)) (file_of (file_no gates) (g.D.Disk.seen c.write_synced.new.disk)) =
-    subst (λ at. Holds (at + 1) (c.args.body.now ++ 0 ∷ []) (file_of (file_no gates) (g.D.Disk.seen c.args.disk.now)) (file_of (file_no gates) (g.D.Disk.seen c.write_synced.new.disk))) place
-    (subst (λ piece. Holds (c.len-2.result * 57 + 1) piece (file_of (file_no gates) (g.D.Disk.seen c.args.disk.now)) (file_of (file_no gates) (g.D.Disk.seen c.write_synced.new.disk))) c.with_closed_gate.ensures c.in_ok-write_synced.ensures.written.step) in
-    let opened : Holds (57 * length (bodies_of gates)) (1 ∷ []) (file_of (file_no gates) (g.D.Disk.seen c.write_synced.new.disk)) (file_of (file_no gates) (g.D.Disk.seen c.write_synced-2.new.disk)) =
-    subst (λ at. Holds at (1 ∷ []) (file_of (file_no gates) (g.D.Disk.seen c.write_synced.new.disk)) (file_of (file_no gates) (g.D.Disk.seen c.write_synced-2.new.disk))) place c.in_ok-write_synced-2.ensures.written.step in
+    let holds : HoldsPiece (57 * length (bodies_of gates) + 1) (c.args.body.now ++ 0 ∷ []) (file_of (file_no gates) (g.D.Disk.seen c.args.disk.now)) (file_of (file_no gates) (g.D.Disk.seen c.write_synced.new.disk)) =
+    subst (λ at. HoldsPiece (at + 1) (c.args.body.now ++ 0 ∷ []) (file_of (file_no gates) (g.D.Disk.seen c.args.disk.now)) (file_of (file_no gates) (g.D.Disk.seen c.write_synced.new.disk))) place
+    (subst (λ piece. HoldsPiece (c.len-2.result * 57 + 1) piece (file_of (file_no gates) (g.D.Disk.seen c.args.disk.now)) (file_of (file_no gates) (g.D.Disk.seen c.write_synced.new.disk))) c.with_closed_gate.ensures c.in_ok-write_synced.ensures.written.step) in
+    let opened : HoldsPiece (57 * length (bodies_of gates)) (1 ∷ []) (file_of (file_no gates) (g.D.Disk.seen c.write_synced.new.disk)) (file_of (file_no gates) (g.D.Disk.seen c.write_synced-2.new.disk)) =
+    subst (λ at. HoldsPiece at (1 ∷ []) (file_of (file_no gates) (g.D.Disk.seen c.write_synced.new.disk)) (file_of (file_no gates) (g.D.Disk.seen c.write_synced-2.new.disk))) place c.in_ok-write_synced-2.ensures.written.step in
     let rest = new_at_rest (file_of (file_no gates) (g.D.Disk.seen c.args.disk.now)) c.args.body.now (bodies_of gates) c.requires.at_rest c.told-body (file_of (file_no gates) (g.D.Disk.seen c.write_synced.new.disk)) holds (file_of (file_no gates) (g.D.Disk.seen c.write_synced-2.new.disk)) opened in
     let more : c.push.new.self.items ≡ bodies_of gates ++ c.args.body.now ∷ [] = search rules in
     record { at_rest = subst (IsAtRest (file_of (file_no gates) (g.D.Disk.seen c.write_synced-2.new.disk))) (sym more) rest; durable = c.in_ok-write_synced-2.ensures.durable }

@@ -1,5 +1,5 @@
 use Rattle.std.proofs.Common.{◌≡◌, ◌∷◌, [], ◌*◌, length, subst, arith}
-use Rattle.disk_model.specs.Images.{file_of, Torn, Holds, LeavesOnly, InFileOnly}
+use Rattle.disk_model.specs.Images.{file_of, Torn, HoldsPiece, LeavesOnly, InFileOnly}
 use Rattle.disk_model.proofs.CallerLemmas.{started}
 use Rattle.disk_model.proofs.RunLemmas.{in_file_at_first}
 use Rattle.gate_file.specs.Gates.{IsStaged}
@@ -43,7 +43,7 @@ returns-clause-settled g c =
     let now = file_of file (g.D.Disk.seen old) in
     let found = bodies_read gates in
     let place : c.len.result * 57 ≡ 57 * length found = omega (arith, c.len.ensures, gates.bodies.ok.0) in
-    let closed = subst (λ at. Holds at (0 ∷ []) now (file_of file (g.D.Disk.seen c.write_synced.new.disk))) place c.in_ok-write_synced.ensures.written.step in
+    let closed = subst (λ at. HoldsPiece at (0 ∷ []) now (file_of file (g.D.Disk.seen c.write_synced.new.disk))) place c.in_ok-write_synced.ensures.written.step in
     record { at_rest = rest_after_close now (file_of file (g.D.Disk.seen c.write_synced.new.disk)) found c.requires.has c.requires.within closed; durable = c.in_ok-write_synced.ensures.durable }
 
 -- ---- the other files

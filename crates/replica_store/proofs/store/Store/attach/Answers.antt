@@ -1,13 +1,13 @@
-use Rattle.std.proofs.Common.{◌≡◌, ◌≢◌, Err, inl, inr, ⊎_elim, length, sym, ap, ◌∙◌, subst}
+use Rattle.std.proofs.Common.{◌≡◌, ◌≢◌, Err, inl, inr, ⊎_elim, sym, ap, ◌∙◌, subst}
 use Rattle.std.specs.Bool.{⊤}
 use Rattle.disk_model.specs.declared.fault.FileNo.TheVariants.{Chooser}
 use Rattle.disk_model.specs.Images.{file_of, IsDurable, NoNewImage, LeavesOnly, InFileOnly, AllHave}
 use Rattle.disk_model.proofs.RunLemmas.{now_in_run}
 use Rattle.gate_file.specs.Gates.{HasBodies, IsStaged}
 use Rattle.gate_file.proofs.GateLemmas.{one_list}
-use Rattle.store_format.specs.Area.{StandFor, IsFirstFault}
+use Rattle.store_format.specs.Area.{StandFor, IsFirstRecordAtFault}
 use Rattle.replica_store.specs.Files.{selected}
-use Rattle.replica_store.proofs.AttachLemmas.{looks_on, area_staged, close_recoverable}
+use Rattle.replica_store.proofs.AttachLemmas.{looks_on, looked_elsewhere, closed_elsewhere, area_staged, close_recoverable}
 use Rattle.replica_store.proofs.FaultLemmas.{damaged_below, not_memory}
 use Rattle.replica_store.proofs.FileLemmas.{selects_area, same_chooser, recoverable_stands, fewer_recoverable, read_stands}
 use Rattle.replica_store.proofs.ImageLemmas.{stays_durable}
@@ -19,11 +19,11 @@ use Rattle.replica_store.proofs.store.Store.attach.Goals as goal
 pub returns-in_err-area-clause-images : goal.returns-in_err-area-clause-images
 returns-in_err-area-clause-images g c before after honest recoverable =
     let old = c.args.disk.now in
-    run_stands g.D.Disk.moment g.D.Disk.left_since (length c.args.table.now.jobs) before after old c.select.new.disk (g.D.Disk.may_leave old) recoverable (c.select.ensures.images honest)
+    run_stands g.D.Disk.moment g.D.Disk.left_since c.args.jobs before after old c.select.new.disk (g.D.Disk.may_leave old) recoverable (c.select.ensures.images honest)
 
 pub returns-in_err-area-clause-recoverable : goal.returns-in_err-area-clause-recoverable
 returns-in_err-area-clause-recoverable g c before after honest recoverable =
-    fewer_recoverable (length c.args.table.now.jobs) before after (g.D.Disk.may_leave c.args.disk.now) (g.D.Disk.may_leave c.select.new.disk) (c.select.ensures.no_new_image honest) recoverable
+    fewer_recoverable c.args.jobs before after (g.D.Disk.may_leave c.args.disk.now) (g.D.Disk.may_leave c.select.new.disk) (c.select.ensures.no_new_image honest) recoverable
 
 -- ---- the area
 
@@ -32,12 +32,12 @@ returns-in_err-read-clause-images g c before after honest recoverable =
     let old = c.args.disk.now in
     let chosen = c.select.new.disk in
     let looked = looks_on g.D.Disk.moment g.D.Disk.left_since old chosen c.read.new.disk (g.D.Disk.may_leave old) (g.D.Disk.may_leave chosen) (c.select.ensures.images honest) (c.select.ensures.no_new_image honest) (c.read.ensures.images (c.select.ensures.honest.1 honest)) in
-    run_stands g.D.Disk.moment g.D.Disk.left_since (length c.args.table.now.jobs) before after old c.read.new.disk (g.D.Disk.may_leave old) recoverable looked
+    run_stands g.D.Disk.moment g.D.Disk.left_since c.args.jobs before after old c.read.new.disk (g.D.Disk.may_leave old) recoverable looked
 
 pub returns-in_err-read-clause-recoverable : goal.returns-in_err-read-clause-recoverable
 returns-in_err-read-clause-recoverable g c before after honest recoverable =
     let none : NoNewImage (g.D.Disk.may_leave c.args.disk.now) (g.D.Disk.may_leave c.read.new.disk) = λ image left. c.select.ensures.no_new_image honest image (c.read.ensures.no_new_image (c.select.ensures.honest.1 honest) image left) in
-    fewer_recoverable (length c.args.table.now.jobs) before after (g.D.Disk.may_leave c.args.disk.now) (g.D.Disk.may_leave c.read.new.disk) none recoverable
+    fewer_recoverable c.args.jobs before after (g.D.Disk.may_leave c.args.disk.now) (g.D.Disk.may_leave c.read.new.disk) none recoverable
 
 -- ---- its records
 
@@ -46,17 +46,17 @@ returns-in_err-kept-clause-images g c before after honest recoverable =
     let old = c.args.disk.now in
     let chosen = c.select.new.disk in
     let looked = looks_on g.D.Disk.moment g.D.Disk.left_since old chosen c.read.new.disk (g.D.Disk.may_leave old) (g.D.Disk.may_leave chosen) (c.select.ensures.images honest) (c.select.ensures.no_new_image honest) (c.read.ensures.images (c.select.ensures.honest.1 honest)) in
-    run_stands g.D.Disk.moment g.D.Disk.left_since (length c.args.table.now.jobs) before after old c.read.new.disk (g.D.Disk.may_leave old) recoverable looked
+    run_stands g.D.Disk.moment g.D.Disk.left_since c.args.jobs before after old c.read.new.disk (g.D.Disk.may_leave old) recoverable looked
 
 pub returns-in_err-kept-clause-recoverable : goal.returns-in_err-kept-clause-recoverable
 returns-in_err-kept-clause-recoverable g c before after honest recoverable =
     let none : NoNewImage (g.D.Disk.may_leave c.args.disk.now) (g.D.Disk.may_leave c.read.new.disk) = λ image left. c.select.ensures.no_new_image honest image (c.read.ensures.no_new_image (c.select.ensures.honest.1 honest) image left) in
-    fewer_recoverable (length c.args.table.now.jobs) before after (g.D.Disk.may_leave c.args.disk.now) (g.D.Disk.may_leave c.read.new.disk) none recoverable
+    fewer_recoverable c.args.jobs before after (g.D.Disk.may_leave c.args.disk.now) (g.D.Disk.may_leave c.read.new.disk) none recoverable
 
 pub returns-in_err-kept-clause-sound : goal.returns-in_err-kept-clause-sound
 returns-in_err-kept-clause-sound g c before after gate honest recoverable damaged =
     let old = c.args.disk.now in
-    let jobs = length c.args.table.now.jobs in
+    let jobs = c.args.jobs in
     let seen = g.D.Disk.seen old in
     let has-0 = subst (λ image. HasBodies (file_of c.in_ok-area.area image) c.in_ok-read.read.bodies.items) c.select.ensures.seen c.in_ok-read.ensures.bodies in
     let has-1 = subst (λ area. HasBodies (file_of area seen) c.in_ok-read.read.bodies.items) c.in_ok-area.ensures.selected has-0 in
@@ -65,8 +65,8 @@ returns-in_err-kept-clause-sound g c before after gate honest recoverable damage
     let fault = c.in_err-kept.field-0.0 in
     let is = damaged_below fault gate c.from_residual-in_err-kept.result c.from_residual-in_err-kept.ensures.1 damaged in
     ⊎_elim
-    (λ was. not_memory fault gate (c.in_err-kept.ensures.only before was.0 (subst (λ n. StandFor n c.bodies.result.now before was.0) (sym c.jobs-jobs.ensures.count) was.1)) is)
-    (λ now. not_memory fault gate (c.in_err-kept.ensures.only after now.0 (subst (λ n. StandFor n c.bodies.result.now after now.0) (sym c.jobs-jobs.ensures.count) now.1)) is)
+    (λ was. not_memory fault gate (c.in_err-kept.ensures.only before was.0 was.1) is)
+    (λ now. not_memory fault gate (c.in_err-kept.ensures.only after now.0 now.1) is)
     stand
 
 pub returns-in_err-kept-clause-damaged : goal.returns-in_err-kept-clause-damaged
@@ -77,8 +77,7 @@ returns-in_err-kept-clause-damaged g c gate bodies damaged has =
     let found = subst (λ found. HasBodies (file_of (selected seen) seen) found) (sym c.bodies.ensures) has-1 in
     let is = damaged_below c.in_err-kept.field-0.0 gate c.from_residual-in_err-kept.result c.from_residual-in_err-kept.ensures.1 damaged in
     let fault = c.in_err-kept.ensures.damaged gate (ap Err is) in
-    let counted = subst (λ n. IsFirstFault n c.bodies.result.now gate) c.jobs-jobs.ensures.count fault in
-    subst (λ list. IsFirstFault (length c.args.table.now.jobs) list gate) (one_list (file_of (selected seen) seen) c.bodies.result.now bodies found has) counted
+    subst (λ list. IsFirstRecordAtFault c.args.jobs list gate) (one_list (file_of (selected seen) seen) c.bodies.result.now bodies found has) fault
 
 -- ---- its tail gate
 
@@ -87,10 +86,10 @@ returns-in_err-gates-clause-images g c before after honest recoverable =
     let old = c.args.disk.now in
     let chosen = c.select.new.disk in
     let read = c.read.new.disk in
-    let jobs = length c.args.table.now.jobs in
+    let jobs = c.args.jobs in
     let area = c.in_ok-area.area in
     let still = c.select.ensures.honest.1 honest in
-    let there = c.read.ensures.honest.1 still in
+    let there = c.read.ensures.answer.honest_still.1 still in
     let none : NoNewImage (g.D.Disk.may_leave old) (g.D.Disk.may_leave read) = λ image left. c.select.ensures.no_new_image honest image (c.read.ensures.no_new_image still image left) in
     let looked = looks_on g.D.Disk.moment g.D.Disk.left_since old chosen read (g.D.Disk.may_leave old) (g.D.Disk.may_leave chosen) (c.select.ensures.images honest) (c.select.ensures.no_new_image honest) (c.read.ensures.images still) in
     let is : selected (g.D.Disk.seen read) ≡ area = ap selected (c.read.ensures.seen ∙ c.select.ensures.seen) ∙ sym c.in_ok-area.ensures.selected in
@@ -106,17 +105,17 @@ pub returns-in_err-gates-clause-recoverable : goal.returns-in_err-gates-clause-r
 returns-in_err-gates-clause-recoverable g c before after honest recoverable =
     let old = c.args.disk.now in
     let read = c.read.new.disk in
-    let jobs = length c.args.table.now.jobs in
+    let jobs = c.args.jobs in
     let area = c.in_ok-area.area in
     let still = c.select.ensures.honest.1 honest in
-    let there = c.read.ensures.honest.1 still in
+    let there = c.read.ensures.answer.honest_still.1 still in
     let none : NoNewImage (g.D.Disk.may_leave old) (g.D.Disk.may_leave read) = λ image left. c.select.ensures.no_new_image honest image (c.read.ensures.no_new_image still image left) in
     let is : selected (g.D.Disk.seen read) ≡ area = ap selected (c.read.ensures.seen ∙ c.select.ensures.seen) ∙ sym c.in_ok-area.ensures.selected in
     let durable : IsDurable Chooser (g.D.Disk.seen read) (g.D.Disk.may_leave read) = λ image left. c.in_ok-area.ensures.durable still image (c.read.ensures.no_new_image still image left) ∙ sym (ap (file_of Chooser) c.read.ensures.seen) in
     let staged = area_staged jobs before after (g.D.Disk.seen read) (g.D.Disk.may_leave read) area is (g.met.D.Disk.seen_is_left read there) (fewer_recoverable jobs before after (g.D.Disk.may_leave old) (g.D.Disk.may_leave read) none recoverable) in
     let Q = InFileOnly area (g.D.Disk.may_leave read) (IsStaged staged.bodies staged.pending) in
     let close = subst (λ f. AllHave f (IsStaged staged.bodies staged.pending) (g.D.Disk.may_leave read) → LeavesOnly g.D.Disk.moment g.D.Disk.left_since read c.close.new.disk (InFileOnly f (g.D.Disk.may_leave read) (IsStaged staged.bodies staged.pending))) c.in_ok-read.ensures.file (c.close.ensures.images staged.bodies staged.pending there) in
-    run_recoverable g.D.Disk.moment g.D.Disk.left_since jobs before after g.D.Disk.may_leave read c.close.new.disk Q (λ start image le left. g.met.D.Disk.counts_now c.close.new.disk start image (c.close.ensures.honest.1 there) le left)
+    run_recoverable g.D.Disk.moment g.D.Disk.left_since jobs before after g.D.Disk.may_leave read c.close.new.disk Q (λ start image le left. g.met.D.Disk.counts_now c.close.new.disk start image (c.close.ensures.answer.honest_still.1 there) le left)
     (close_recoverable jobs before after (g.D.Disk.seen read) (g.D.Disk.may_leave read) area is durable staged) (close staged.staged)
 
 -- ---- attached
@@ -126,10 +125,10 @@ returns-clause-images g c before after honest recoverable =
     let old = c.args.disk.now in
     let chosen = c.select.new.disk in
     let read = c.read.new.disk in
-    let jobs = length c.args.table.now.jobs in
+    let jobs = c.args.jobs in
     let area = c.in_ok-area.area in
     let still = c.select.ensures.honest.1 honest in
-    let there = c.read.ensures.honest.1 still in
+    let there = c.read.ensures.answer.honest_still.1 still in
     let none : NoNewImage (g.D.Disk.may_leave old) (g.D.Disk.may_leave read) = λ image left. c.select.ensures.no_new_image honest image (c.read.ensures.no_new_image still image left) in
     let looked = looks_on g.D.Disk.moment g.D.Disk.left_since old chosen read (g.D.Disk.may_leave old) (g.D.Disk.may_leave chosen) (c.select.ensures.images honest) (c.select.ensures.no_new_image honest) (c.read.ensures.images still) in
     let is : selected (g.D.Disk.seen read) ≡ area = ap selected (c.read.ensures.seen ∙ c.select.ensures.seen) ∙ sym c.in_ok-area.ensures.selected in
@@ -145,31 +144,31 @@ pub returns-clause-recoverable : goal.returns-clause-recoverable
 returns-clause-recoverable g c before after honest recoverable =
     let old = c.args.disk.now in
     let read = c.read.new.disk in
-    let jobs = length c.args.table.now.jobs in
+    let jobs = c.args.jobs in
     let area = c.in_ok-area.area in
     let still = c.select.ensures.honest.1 honest in
-    let there = c.read.ensures.honest.1 still in
+    let there = c.read.ensures.answer.honest_still.1 still in
     let none : NoNewImage (g.D.Disk.may_leave old) (g.D.Disk.may_leave read) = λ image left. c.select.ensures.no_new_image honest image (c.read.ensures.no_new_image still image left) in
     let is : selected (g.D.Disk.seen read) ≡ area = ap selected (c.read.ensures.seen ∙ c.select.ensures.seen) ∙ sym c.in_ok-area.ensures.selected in
     let durable : IsDurable Chooser (g.D.Disk.seen read) (g.D.Disk.may_leave read) = λ image left. c.in_ok-area.ensures.durable still image (c.read.ensures.no_new_image still image left) ∙ sym (ap (file_of Chooser) c.read.ensures.seen) in
     let staged = area_staged jobs before after (g.D.Disk.seen read) (g.D.Disk.may_leave read) area is (g.met.D.Disk.seen_is_left read there) (fewer_recoverable jobs before after (g.D.Disk.may_leave old) (g.D.Disk.may_leave read) none recoverable) in
     let Q = InFileOnly area (g.D.Disk.may_leave read) (IsStaged staged.bodies staged.pending) in
     let close = subst (λ f. AllHave f (IsStaged staged.bodies staged.pending) (g.D.Disk.may_leave read) → LeavesOnly g.D.Disk.moment g.D.Disk.left_since read c.close.new.disk (InFileOnly f (g.D.Disk.may_leave read) (IsStaged staged.bodies staged.pending))) c.in_ok-read.ensures.file (c.close.ensures.images staged.bodies staged.pending there) in
-    run_recoverable g.D.Disk.moment g.D.Disk.left_since jobs before after g.D.Disk.may_leave read c.close.new.disk Q (λ start image le left. g.met.D.Disk.counts_now c.close.new.disk start image (c.close.ensures.honest.1 there) le left)
+    run_recoverable g.D.Disk.moment g.D.Disk.left_since jobs before after g.D.Disk.may_leave read c.close.new.disk Q (λ start image le left. g.met.D.Disk.counts_now c.close.new.disk start image (c.close.ensures.answer.honest_still.1 there) le left)
     (close_recoverable jobs before after (g.D.Disk.seen read) (g.D.Disk.may_leave read) area is durable staged) (close staged.staged)
 
 pub returns-clause-either : goal.returns-clause-either
 returns-clause-either g c before after honest recoverable =
     let old = c.args.disk.now in
-    let jobs = length c.args.table.now.jobs in
+    let jobs = c.args.jobs in
     let seen = g.D.Disk.seen old in
     let has-0 = subst (λ image. HasBodies (file_of c.in_ok-area.area image) c.in_ok-read.read.bodies.items) c.select.ensures.seen c.in_ok-read.ensures.bodies in
     let has-1 = subst (λ area. HasBodies (file_of area seen) c.in_ok-read.read.bodies.items) c.in_ok-area.ensures.selected has-0 in
     let has = subst (λ bodies. HasBodies (file_of (selected seen) seen) bodies) (sym c.bodies.ensures) has-1 in
     let stand = read_stands jobs before after seen c.bodies.result.now has (recoverable_stands jobs before after (g.D.Disk.may_leave old) recoverable seen (g.met.D.Disk.seen_is_left old honest)) in
     ⊎_elim
-    (λ was. inl ((c.in_ok-kept.ensures.only before was.0 (subst (λ n. StandFor n c.bodies.result.now before was.0) (sym c.jobs-jobs.ensures.count) was.1)).0))
-    (λ now. inr ((c.in_ok-kept.ensures.only after now.0 (subst (λ n. StandFor n c.bodies.result.now after now.0) (sym c.jobs-jobs.ensures.count) now.1)).0))
+    (λ was. inl ((c.in_ok-kept.ensures.only before was.0 was.1).0))
+    (λ now. inr ((c.in_ok-kept.ensures.only after now.0 now.1).0))
     stand
 
 pub returns-clause-settled : goal.returns-clause-settled
@@ -183,10 +182,57 @@ returns-clause-settled g c =
       gates = c.in_ok-gates.ensures.settled;
       selects = same_chooser (g.D.Disk.seen close) (g.D.Disk.seen read) (c.in_ok-gates.ensures.others Chooser differs) ∙ is ∙ sym c.in_ok-gates.ensures.file;
       chooser = λ honest.
-          let there = c.close.ensures.honest.0 honest in
-          let still = c.read.ensures.honest.0 there in
+          let there = c.close.ensures.answer.honest_still.0 honest in
+          let still = c.read.ensures.answer.honest_still.0 there in
           let durable : IsDurable Chooser (g.D.Disk.seen read) (g.D.Disk.may_leave read) = λ image left. c.in_ok-area.ensures.durable still image (c.read.ensures.no_new_image still image left) ∙ sym (ap (file_of Chooser) c.read.ensures.seen) in
           stays_durable Chooser file differs (g.D.Disk.seen read) (g.D.Disk.seen close) (g.D.Disk.may_leave read) (g.D.Disk.may_leave close) (λ bytes. ⊤) durable c.in_ok-gates.ensures.others
           (now_in_run g.D.Disk.moment g.D.Disk.left_since g.D.Disk.may_leave read close (InFileOnly file (g.D.Disk.may_leave read) (λ bytes. ⊤)) (λ start image le left. g.met.D.Disk.counts_now close start image honest le left) (c.close.ensures.elsewhere there));
-      keeps = (c.in_ok-kept.kept, (c.in_ok-kept.field-0-1, subst (λ bodies. StandFor c.jobs-jobs.result bodies c.in_ok-kept.kept c.in_ok-kept.field-0-1) (c.bodies.ensures ∙ sym c.in_ok-gates.ensures.bodies) c.in_ok-kept.ensures.found));
+      keeps = (c.in_ok-kept.kept, (c.in_ok-kept.field-0-1, subst (λ bodies. StandFor c.args.jobs bodies c.in_ok-kept.kept c.in_ok-kept.field-0-1) (c.bodies.ensures ∙ sym c.in_ok-gates.ensures.bodies) c.in_ok-kept.ensures.found));
     }
+
+-- ---- the other files
+
+pub returns-in_err-area-clause-elsewhere : goal.returns-in_err-area-clause-elsewhere
+returns-in_err-area-clause-elsewhere g c honest =
+    let old = c.args.disk.now in
+    looked_elsewhere g.D.Disk.moment g.D.Disk.left_since (selected (g.D.Disk.seen old)) old c.select.new.disk (g.D.Disk.may_leave old) (c.select.ensures.images honest)
+
+pub returns-in_err-read-clause-elsewhere : goal.returns-in_err-read-clause-elsewhere
+returns-in_err-read-clause-elsewhere g c honest =
+    let old = c.args.disk.now in
+    let chosen = c.select.new.disk in
+    let read = c.read.new.disk in
+    let still = c.select.ensures.honest.1 honest in
+    looked_elsewhere g.D.Disk.moment g.D.Disk.left_since (selected (g.D.Disk.seen old)) old read (g.D.Disk.may_leave old)
+    (looks_on g.D.Disk.moment g.D.Disk.left_since old chosen read (g.D.Disk.may_leave old) (g.D.Disk.may_leave chosen) (c.select.ensures.images honest) (c.select.ensures.no_new_image honest) (c.read.ensures.images still))
+
+pub returns-in_err-kept-clause-elsewhere : goal.returns-in_err-kept-clause-elsewhere
+returns-in_err-kept-clause-elsewhere g c honest =
+    let old = c.args.disk.now in
+    let chosen = c.select.new.disk in
+    let read = c.read.new.disk in
+    let still = c.select.ensures.honest.1 honest in
+    looked_elsewhere g.D.Disk.moment g.D.Disk.left_since (selected (g.D.Disk.seen old)) old read (g.D.Disk.may_leave old)
+    (looks_on g.D.Disk.moment g.D.Disk.left_since old chosen read (g.D.Disk.may_leave old) (g.D.Disk.may_leave chosen) (c.select.ensures.images honest) (c.select.ensures.no_new_image honest) (c.read.ensures.images still))
+
+pub returns-in_err-gates-clause-elsewhere : goal.returns-in_err-gates-clause-elsewhere
+returns-in_err-gates-clause-elsewhere g c honest =
+    let old = c.args.disk.now in
+    let chosen = c.select.new.disk in
+    let read = c.read.new.disk in
+    let still = c.select.ensures.honest.1 honest in
+    let none : NoNewImage (g.D.Disk.may_leave old) (g.D.Disk.may_leave read) = λ image left. c.select.ensures.no_new_image honest image (c.read.ensures.no_new_image still image left) in
+    closed_elsewhere g.D.Disk.moment g.D.Disk.left_since (selected (g.D.Disk.seen old)) old read c.close.new.disk (g.D.Disk.may_leave old) (g.D.Disk.may_leave read)
+    (looks_on g.D.Disk.moment g.D.Disk.left_since old chosen read (g.D.Disk.may_leave old) (g.D.Disk.may_leave chosen) (c.select.ensures.images honest) (c.select.ensures.no_new_image honest) (c.read.ensures.images still)) none
+    (subst (λ f. LeavesOnly g.D.Disk.moment g.D.Disk.left_since read c.close.new.disk (InFileOnly f (g.D.Disk.may_leave read) (λ bytes. ⊤))) (c.in_ok-read.ensures.file ∙ c.in_ok-area.ensures.selected) (c.close.ensures.elsewhere (c.read.ensures.answer.honest_still.1 still)))
+
+pub returns-clause-elsewhere : goal.returns-clause-elsewhere
+returns-clause-elsewhere g c honest =
+    let old = c.args.disk.now in
+    let chosen = c.select.new.disk in
+    let read = c.read.new.disk in
+    let still = c.select.ensures.honest.1 honest in
+    let none : NoNewImage (g.D.Disk.may_leave old) (g.D.Disk.may_leave read) = λ image left. c.select.ensures.no_new_image honest image (c.read.ensures.no_new_image still image left) in
+    closed_elsewhere g.D.Disk.moment g.D.Disk.left_since (selected (g.D.Disk.seen old)) old read c.close.new.disk (g.D.Disk.may_leave old) (g.D.Disk.may_leave read)
+    (looks_on g.D.Disk.moment g.D.Disk.left_since old chosen read (g.D.Disk.may_leave old) (g.D.Disk.may_leave chosen) (c.select.ensures.images honest) (c.select.ensures.no_new_image honest) (c.read.ensures.images still)) none
+    (subst (λ f. LeavesOnly g.D.Disk.moment g.D.Disk.left_since read c.close.new.disk (InFileOnly f (g.D.Disk.may_leave read) (λ bytes. ⊤))) (c.in_ok-read.ensures.file ∙ c.in_ok-area.ensures.selected) (c.close.ensures.elsewhere (c.read.ensures.answer.honest_still.1 still)))

@@ -1,12 +1,12 @@
 use Rattle.std.proofs.Common.{◌≢◌, ◌∷◌, [], Some, rules, sym, ap, ◌∙◌, subst}
 use Rattle.std.specs.Bool.{⊤}
 use Rattle.disk_model.specs.declared.fault.FileNo.TheVariants.{Chooser}
-use Rattle.disk_model.specs.Images.{Image, file_of, Torn, Holds, InFile, InFileOnly}
+use Rattle.disk_model.specs.Images.{Image, file_of, Torn, HoldsPiece, InFile, InFileOnly}
 use Rattle.disk_model.proofs.RunLemmas.{now_in_run}
 use Rattle.gate_file.specs.File.{file_no, bodies_of}
 use Rattle.gate_file.specs.Gates.{IsStaged}
 use Rattle.paxos_base.specs.Durable.{after_delta}
-use Rattle.store_format.specs.Order.{MayFollow}
+use Rattle.store_format.specs.Order.{ChangeMayFollow}
 use Rattle.replica_store.specs.Files.{bit_of, other_area, BodiesStand}
 use Rattle.replica_store.specs.declared.store.Store.{Store}
 use Rattle.replica_store.specs.Store.{area_of}
@@ -21,7 +21,7 @@ use Rattle.replica_store.proofs.store.Store.save.Goals as goal
 pub write_area-requires-clause-rows : goal.write_area-requires-clause-rows
 write_area-requires-clause-rows g c =
     let keeps = c.requires.settled.keeps in
-    (subst (MayFollow c.args.self.now.jobs keeps.0) c.in-Base.is (c.requires.follows keeps.0 keeps.1)).1
+    (subst (ChangeMayFollow c.args.self.now.jobs keeps.0) c.in-Base.is (c.requires.follows keeps.0 keeps.1)).1
 
 pub returns-in_err-gates-clause-images : goal.returns-in_err-gates-clause-images
 returns-in_err-gates-clause-images g c kept keeps honest =
@@ -39,16 +39,16 @@ returns-in_err-gates-clause-recoverable g c kept keeps honest =
     let after = after_delta c.args.delta.now kept in
     let recoverable = other_recoverable g.D.Disk.seen g.D.Disk.may_leave g.D.Disk.honest old store c.requires.settled kept after (λ bytes. ⊤) keeps honest in
     run_recoverable g.D.Disk.moment g.D.Disk.left_since store.jobs kept after g.D.Disk.may_leave old mid (InFileOnly (other_area (area_of store)) (g.D.Disk.may_leave old) (λ bytes. ⊤))
-    (λ start image le left. g.met.D.Disk.counts_now mid start image (c.write_area.ensures.honest.1 honest) le left) recoverable (c.write_area.ensures.images honest)
+    (λ start image le left. g.met.D.Disk.counts_now mid start image (c.write_area.ensures.answer.honest_still.1 honest) le left) recoverable (c.write_area.ensures.images honest)
 
 pub returns-in_err-gates-clause-memory : goal.returns-in_err-gates-clause-memory
 returns-in_err-gates-clause-memory g c memory =
     let old = c.args.disk.now in
     let mid = c.write_area.new.disk in
     let store = c.args.self.now in
-    settled_in_other g.D.Disk.seen g.D.Disk.may_leave g.D.Disk.honest old store c.requires.settled mid (λ bytes. ⊤) c.write_area.ensures.honest.0 (c.write_area.ensures.memory_others (search rules))
+    settled_in_other g.D.Disk.seen g.D.Disk.may_leave g.D.Disk.honest old store c.requires.settled mid (λ bytes. ⊤) c.write_area.ensures.answer.honest_still.0 (c.write_area.ensures.memory_others (search rules))
     (λ honest. now_in_run g.D.Disk.moment g.D.Disk.left_since g.D.Disk.may_leave old mid (InFileOnly (other_area (area_of store)) (g.D.Disk.may_leave old) (λ bytes. ⊤))
-    (λ start image le left. g.met.D.Disk.counts_now mid start image (c.write_area.ensures.honest.1 honest) le left) (c.write_area.ensures.images honest))
+    (λ start image le left. g.met.D.Disk.counts_now mid start image (c.write_area.ensures.answer.honest_still.1 honest) le left) (c.write_area.ensures.images honest))
 
 -- ---- the chooser
 
@@ -57,7 +57,7 @@ write_synced-requires-clause-durable g c honest =
     let old = c.args.disk.now in
     let mid = c.write_area.new.disk in
     let other = other_area (area_of c.args.self.now) in
-    let before = c.write_area.ensures.honest.0 honest in
+    let before = c.write_area.ensures.answer.honest_still.0 honest in
     stays_durable Chooser other (λ is. other_is_area (area_of c.args.self.now) (sym is)) (g.D.Disk.seen old) (g.D.Disk.seen mid) (g.D.Disk.may_leave old) (g.D.Disk.may_leave mid) (λ bytes. ⊤) (c.requires.settled.chooser before) c.in_ok-gates.ensures.others
     (now_in_run g.D.Disk.moment g.D.Disk.left_since g.D.Disk.may_leave old mid (InFileOnly other (g.D.Disk.may_leave old) (λ bytes. ⊤)) (λ start image le left. g.met.D.Disk.counts_now mid start image honest le left) (c.write_area.ensures.images before))
 
@@ -69,10 +69,10 @@ returns-in_err-write_synced-clause-images g c kept keeps honest =
     let store = c.args.self.now in
     let other = other_area (area_of store) in
     let after = after_delta c.args.delta.now kept in
-    let there = c.write_area.ensures.honest.1 honest in
+    let there = c.write_area.ensures.answer.honest_still.1 honest in
     let first = other_recoverable g.D.Disk.seen g.D.Disk.may_leave g.D.Disk.honest old store c.requires.settled kept after (λ bytes. ⊤) keeps honest in
-    let settled = settled_in_other g.D.Disk.seen g.D.Disk.may_leave g.D.Disk.honest old store c.requires.settled mid (λ bytes. ⊤) c.write_area.ensures.honest.0 c.in_ok-gates.ensures.others
-    (λ is. now_in_run g.D.Disk.moment g.D.Disk.left_since g.D.Disk.may_leave old mid (InFileOnly other (g.D.Disk.may_leave old) (λ bytes. ⊤)) (λ start image le left. g.met.D.Disk.counts_now mid start image (c.write_area.ensures.honest.1 is) le left) (c.write_area.ensures.images is)) in
+    let settled = settled_in_other g.D.Disk.seen g.D.Disk.may_leave g.D.Disk.honest old store c.requires.settled mid (λ bytes. ⊤) c.write_area.ensures.answer.honest_still.0 c.in_ok-gates.ensures.others
+    (λ is. now_in_run g.D.Disk.moment g.D.Disk.left_since g.D.Disk.may_leave old mid (InFileOnly other (g.D.Disk.may_leave old) (λ bytes. ⊤)) (λ start image le left. g.met.D.Disk.counts_now mid start image (c.write_area.ensures.answer.honest_still.1 is) le left) (c.write_area.ensures.images is)) in
     let stand : BodiesStand store.jobs (bodies_of c.in_ok-gates.gates) after = subst (λ delta. BodiesStand store.jobs (bodies_of c.in_ok-gates.gates) (after_delta delta kept)) (sym c.in-Base.is) (c.in_ok-gates.ensures.stand kept keeps) in
     let T = Torn 0 1 (file_of Chooser (g.D.Disk.seen mid)) in
     let second = chooser_recoverable g.D.Disk.seen g.D.Disk.may_leave g.D.Disk.honest mid store settled kept after T c.in_ok-gates.gates c.in_ok-gates.ensures.file c.in_ok-gates.ensures.settled keeps there stand in
@@ -88,10 +88,10 @@ returns-in_err-write_synced-clause-recoverable g c kept keeps honest =
     let store = c.args.self.now in
     let other = other_area (area_of store) in
     let after = after_delta c.args.delta.now kept in
-    let there = c.write_area.ensures.honest.1 honest in
+    let there = c.write_area.ensures.answer.honest_still.1 honest in
     let first = other_recoverable g.D.Disk.seen g.D.Disk.may_leave g.D.Disk.honest old store c.requires.settled kept after (λ bytes. ⊤) keeps honest in
-    let settled = settled_in_other g.D.Disk.seen g.D.Disk.may_leave g.D.Disk.honest old store c.requires.settled mid (λ bytes. ⊤) c.write_area.ensures.honest.0 c.in_ok-gates.ensures.others
-    (λ is. now_in_run g.D.Disk.moment g.D.Disk.left_since g.D.Disk.may_leave old mid (InFileOnly other (g.D.Disk.may_leave old) (λ bytes. ⊤)) (λ start image le left. g.met.D.Disk.counts_now mid start image (c.write_area.ensures.honest.1 is) le left) (c.write_area.ensures.images is)) in
+    let settled = settled_in_other g.D.Disk.seen g.D.Disk.may_leave g.D.Disk.honest old store c.requires.settled mid (λ bytes. ⊤) c.write_area.ensures.answer.honest_still.0 c.in_ok-gates.ensures.others
+    (λ is. now_in_run g.D.Disk.moment g.D.Disk.left_since g.D.Disk.may_leave old mid (InFileOnly other (g.D.Disk.may_leave old) (λ bytes. ⊤)) (λ start image le left. g.met.D.Disk.counts_now mid start image (c.write_area.ensures.answer.honest_still.1 is) le left) (c.write_area.ensures.images is)) in
     let stand : BodiesStand store.jobs (bodies_of c.in_ok-gates.gates) after = subst (λ delta. BodiesStand store.jobs (bodies_of c.in_ok-gates.gates) (after_delta delta kept)) (sym c.in-Base.is) (c.in_ok-gates.ensures.stand kept keeps) in
     let T = Torn 0 1 (file_of Chooser (g.D.Disk.seen mid)) in
     let second = chooser_recoverable g.D.Disk.seen g.D.Disk.may_leave g.D.Disk.honest mid store settled kept after T c.in_ok-gates.gates c.in_ok-gates.ensures.file c.in_ok-gates.ensures.settled keeps there stand in
@@ -106,10 +106,10 @@ returns-in-Base-clause-images g c kept keeps honest =
     let store = c.args.self.now in
     let other = other_area (area_of store) in
     let after = after_delta c.args.delta.now kept in
-    let there = c.write_area.ensures.honest.1 honest in
+    let there = c.write_area.ensures.answer.honest_still.1 honest in
     let first = other_recoverable g.D.Disk.seen g.D.Disk.may_leave g.D.Disk.honest old store c.requires.settled kept after (λ bytes. ⊤) keeps honest in
-    let settled = settled_in_other g.D.Disk.seen g.D.Disk.may_leave g.D.Disk.honest old store c.requires.settled mid (λ bytes. ⊤) c.write_area.ensures.honest.0 c.in_ok-gates.ensures.others
-    (λ is. now_in_run g.D.Disk.moment g.D.Disk.left_since g.D.Disk.may_leave old mid (InFileOnly other (g.D.Disk.may_leave old) (λ bytes. ⊤)) (λ start image le left. g.met.D.Disk.counts_now mid start image (c.write_area.ensures.honest.1 is) le left) (c.write_area.ensures.images is)) in
+    let settled = settled_in_other g.D.Disk.seen g.D.Disk.may_leave g.D.Disk.honest old store c.requires.settled mid (λ bytes. ⊤) c.write_area.ensures.answer.honest_still.0 c.in_ok-gates.ensures.others
+    (λ is. now_in_run g.D.Disk.moment g.D.Disk.left_since g.D.Disk.may_leave old mid (InFileOnly other (g.D.Disk.may_leave old) (λ bytes. ⊤)) (λ start image le left. g.met.D.Disk.counts_now mid start image (c.write_area.ensures.answer.honest_still.1 is) le left) (c.write_area.ensures.images is)) in
     let stand : BodiesStand store.jobs (bodies_of c.in_ok-gates.gates) after = subst (λ delta. BodiesStand store.jobs (bodies_of c.in_ok-gates.gates) (after_delta delta kept)) (sym c.in-Base.is) (c.in_ok-gates.ensures.stand kept keeps) in
     let T = Torn 0 1 (file_of Chooser (g.D.Disk.seen mid)) in
     let second = chooser_recoverable g.D.Disk.seen g.D.Disk.may_leave g.D.Disk.honest mid store settled kept after T c.in_ok-gates.gates c.in_ok-gates.ensures.file c.in_ok-gates.ensures.settled keeps there stand in
@@ -125,10 +125,10 @@ returns-in-Base-clause-recoverable g c kept keeps honest =
     let store = c.args.self.now in
     let other = other_area (area_of store) in
     let after = after_delta c.args.delta.now kept in
-    let there = c.write_area.ensures.honest.1 honest in
+    let there = c.write_area.ensures.answer.honest_still.1 honest in
     let first = other_recoverable g.D.Disk.seen g.D.Disk.may_leave g.D.Disk.honest old store c.requires.settled kept after (λ bytes. ⊤) keeps honest in
-    let settled = settled_in_other g.D.Disk.seen g.D.Disk.may_leave g.D.Disk.honest old store c.requires.settled mid (λ bytes. ⊤) c.write_area.ensures.honest.0 c.in_ok-gates.ensures.others
-    (λ is. now_in_run g.D.Disk.moment g.D.Disk.left_since g.D.Disk.may_leave old mid (InFileOnly other (g.D.Disk.may_leave old) (λ bytes. ⊤)) (λ start image le left. g.met.D.Disk.counts_now mid start image (c.write_area.ensures.honest.1 is) le left) (c.write_area.ensures.images is)) in
+    let settled = settled_in_other g.D.Disk.seen g.D.Disk.may_leave g.D.Disk.honest old store c.requires.settled mid (λ bytes. ⊤) c.write_area.ensures.answer.honest_still.0 c.in_ok-gates.ensures.others
+    (λ is. now_in_run g.D.Disk.moment g.D.Disk.left_since g.D.Disk.may_leave old mid (InFileOnly other (g.D.Disk.may_leave old) (λ bytes. ⊤)) (λ start image le left. g.met.D.Disk.counts_now mid start image (c.write_area.ensures.answer.honest_still.1 is) le left) (c.write_area.ensures.images is)) in
     let stand : BodiesStand store.jobs (bodies_of c.in_ok-gates.gates) after = subst (λ delta. BodiesStand store.jobs (bodies_of c.in_ok-gates.gates) (after_delta delta kept)) (sym c.in-Base.is) (c.in_ok-gates.ensures.stand kept keeps) in
     let T = Torn 0 1 (file_of Chooser (g.D.Disk.seen mid)) in
     let second = chooser_recoverable g.D.Disk.seen g.D.Disk.may_leave g.D.Disk.honest mid store settled kept after T c.in_ok-gates.gates c.in_ok-gates.ensures.file c.in_ok-gates.ensures.settled keeps there stand in
@@ -142,8 +142,8 @@ returns-in_err-write_synced-clause-memory g c memory =
     let new = c.write_synced.new.disk in
     let store = c.args.self.now in
     let other = other_area (area_of store) in
-    let settled = settled_in_other g.D.Disk.seen g.D.Disk.may_leave g.D.Disk.honest old store c.requires.settled mid (λ bytes. ⊤) c.write_area.ensures.honest.0 c.in_ok-gates.ensures.others
-    (λ is. now_in_run g.D.Disk.moment g.D.Disk.left_since g.D.Disk.may_leave old mid (InFileOnly other (g.D.Disk.may_leave old) (λ bytes. ⊤)) (λ start image le left. g.met.D.Disk.counts_now mid start image (c.write_area.ensures.honest.1 is) le left) (c.write_area.ensures.images is)) in
+    let settled = settled_in_other g.D.Disk.seen g.D.Disk.may_leave g.D.Disk.honest old store c.requires.settled mid (λ bytes. ⊤) c.write_area.ensures.answer.honest_still.0 c.in_ok-gates.ensures.others
+    (λ is. now_in_run g.D.Disk.moment g.D.Disk.left_since g.D.Disk.may_leave old mid (InFileOnly other (g.D.Disk.may_leave old) (λ bytes. ⊤)) (λ start image le left. g.met.D.Disk.counts_now mid start image (c.write_area.ensures.answer.honest_still.1 is) le left) (c.write_area.ensures.images is)) in
     let T = Torn 0 1 (file_of Chooser (g.D.Disk.seen mid)) in
     let only : g.D.Disk.honest mid → (image : Image) → g.D.Disk.may_leave new image → InFileOnly Chooser (g.D.Disk.may_leave mid) T image = λ is. now_in_run g.D.Disk.moment g.D.Disk.left_since g.D.Disk.may_leave mid new (InFileOnly Chooser (g.D.Disk.may_leave mid) T) (λ start image le left. g.met.D.Disk.counts_now new start image (c.write_synced.ensures.honest.1 is) le left) (c.write_synced.ensures.images is) in
     let none = handed_on c.in_err-write_synced.field-0.0 c.write_synced.result c.from_residual-in_err-write_synced.result c.in_err-write_synced.was c.from_residual-in_err-write_synced.ensures.1 memory in
@@ -159,14 +159,14 @@ returns-in-Base-clause-settled g c =
     let new = c.write_synced.new.disk in
     let store = c.args.self.now in
     let other = other_area (area_of store) in
-    let settled = settled_in_other g.D.Disk.seen g.D.Disk.may_leave g.D.Disk.honest old store c.requires.settled mid (λ bytes. ⊤) c.write_area.ensures.honest.0 c.in_ok-gates.ensures.others
-    (λ is. now_in_run g.D.Disk.moment g.D.Disk.left_since g.D.Disk.may_leave old mid (InFileOnly other (g.D.Disk.may_leave old) (λ bytes. ⊤)) (λ start image le left. g.met.D.Disk.counts_now mid start image (c.write_area.ensures.honest.1 is) le left) (c.write_area.ensures.images is)) in
+    let settled = settled_in_other g.D.Disk.seen g.D.Disk.may_leave g.D.Disk.honest old store c.requires.settled mid (λ bytes. ⊤) c.write_area.ensures.answer.honest_still.0 c.in_ok-gates.ensures.others
+    (λ is. now_in_run g.D.Disk.moment g.D.Disk.left_since g.D.Disk.may_leave old mid (InFileOnly other (g.D.Disk.may_leave old) (λ bytes. ⊤)) (λ start image le left. g.met.D.Disk.counts_now mid start image (c.write_area.ensures.answer.honest_still.1 is) le left) (c.write_area.ensures.images is)) in
     let T = Torn 0 1 (file_of Chooser (g.D.Disk.seen mid)) in
     let only : g.D.Disk.honest mid → (image : Image) → g.D.Disk.may_leave new image → InFileOnly Chooser (g.D.Disk.may_leave mid) T image = λ is. now_in_run g.D.Disk.moment g.D.Disk.left_since g.D.Disk.may_leave mid new (InFileOnly Chooser (g.D.Disk.may_leave mid) T) (λ start image le left. g.met.D.Disk.counts_now new start image (c.write_synced.ensures.honest.1 is) le left) (c.write_synced.ensures.images is) in
     let gates = c.in_ok-gates.gates in
     let keeps = c.requires.settled.keeps in
     let differs : file_no gates ≢ Chooser = λ is. other_is_area (area_of store) (sym c.in_ok-gates.ensures.file ∙ is) in
-    let byte = subst (λ bit. InFile Chooser (Holds 0 (bit ∷ [])) (g.D.Disk.seen mid) (g.D.Disk.seen new)) (c.bit_of.ensures ∙ ap bit_of c.file.ensures) c.in_ok-write_synced.ensures.written in
+    let byte = subst (λ bit. InFile Chooser (HoldsPiece 0 (bit ∷ [])) (g.D.Disk.seen mid) (g.D.Disk.seen new)) (c.bit_of.ensures ∙ ap bit_of c.file.ensures) c.in_ok-write_synced.ensures.written in
     settled_by_chooser g.D.Disk.seen g.D.Disk.may_leave g.D.Disk.honest mid store settled new (record { alloc = store.alloc; jobs = store.jobs; gates = gates }) T c.write_synced.ensures.honest.0 differs c.in_ok-gates.ensures.settled byte c.in_ok-write_synced.ensures.durable only
     (after_delta c.args.delta.now keeps.0, subst (λ delta. BodiesStand store.jobs (bodies_of gates) (after_delta delta keeps.0)) (sym c.in-Base.is) (c.in_ok-gates.ensures.stand keeps.0 keeps.1))
 
@@ -194,7 +194,7 @@ returns-in_err-append-clause-recoverable g c kept keeps honest =
     let Q = InFileOnly (area_of store) (g.D.Disk.may_leave old) (IsStaged (bodies_of store.gates) (Some body)) in
     let stand = change_stands store.jobs (bodies_of store.gates) body c.in-Some.item kept c.args.delta.now keeps (c.requires.follows kept keeps) (sym c.delta_record.ensures ∙ c.in-Some.is) c.record_bytes.ensures.is_record in
     let recoverable = append_recoverable g.D.Disk.seen g.D.Disk.may_leave g.D.Disk.honest old store c.requires.settled kept after body keeps honest stand in
-    run_recoverable g.D.Disk.moment g.D.Disk.left_since store.jobs kept after g.D.Disk.may_leave old new Q (λ start image le left. g.met.D.Disk.counts_now new start image (c.append.ensures.honest.1 honest) le left) recoverable (c.append.ensures.images honest)
+    run_recoverable g.D.Disk.moment g.D.Disk.left_since store.jobs kept after g.D.Disk.may_leave old new Q (λ start image le left. g.met.D.Disk.counts_now new start image (c.append.ensures.answer.honest_still.1 honest) le left) recoverable (c.append.ensures.images honest)
 
 pub returns-clause-images : goal.returns-clause-images
 returns-clause-images g c kept keeps honest =
@@ -218,7 +218,7 @@ returns-clause-recoverable g c kept keeps honest =
     let Q = InFileOnly (area_of store) (g.D.Disk.may_leave old) (IsStaged (bodies_of store.gates) (Some body)) in
     let stand = change_stands store.jobs (bodies_of store.gates) body c.in-Some.item kept c.args.delta.now keeps (c.requires.follows kept keeps) (sym c.delta_record.ensures ∙ c.in-Some.is) c.record_bytes.ensures.is_record in
     let recoverable = append_recoverable g.D.Disk.seen g.D.Disk.may_leave g.D.Disk.honest old store c.requires.settled kept after body keeps honest stand in
-    run_recoverable g.D.Disk.moment g.D.Disk.left_since store.jobs kept after g.D.Disk.may_leave old new Q (λ start image le left. g.met.D.Disk.counts_now new start image (c.append.ensures.honest.1 honest) le left) recoverable (c.append.ensures.images honest)
+    run_recoverable g.D.Disk.moment g.D.Disk.left_since store.jobs kept after g.D.Disk.may_leave old new Q (λ start image le left. g.met.D.Disk.counts_now new start image (c.append.ensures.answer.honest_still.1 honest) le left) recoverable (c.append.ensures.images honest)
 
 pub returns-in_err-append-clause-memory : goal.returns-in_err-append-clause-memory
 returns-in_err-append-clause-memory g c memory =
@@ -229,9 +229,9 @@ returns-in_err-append-clause-memory g c memory =
     let keeps = c.requires.settled.keeps in
     let P = IsStaged (bodies_of store.gates) (Some c.record_bytes.result) in
     let only : g.D.Disk.honest old → (image : Image) → g.D.Disk.may_leave new image → InFileOnly (area_of store) (g.D.Disk.may_leave old) P image =
-    λ is. now_in_run g.D.Disk.moment g.D.Disk.left_since g.D.Disk.may_leave old new (InFileOnly (area_of store) (g.D.Disk.may_leave old) P) (λ start image le left. g.met.D.Disk.counts_now new start image (c.append.ensures.honest.1 is) le left) (c.append.ensures.images is) in
+    λ is. now_in_run g.D.Disk.moment g.D.Disk.left_since g.D.Disk.may_leave old new (InFileOnly (area_of store) (g.D.Disk.may_leave old) P) (λ start image le left. g.met.D.Disk.counts_now new start image (c.append.ensures.answer.honest_still.1 is) le left) (c.append.ensures.images is) in
     let none = gates_handed_on c.in_err-append.field-0.0 c.append.result c.from_residual-in_err-append.result c.in_err-append.was c.from_residual-in_err-append.ensures.1 memory in
-    settled_in_area g.D.Disk.seen g.D.Disk.may_leave g.D.Disk.honest old store c.requires.settled new now P c.append.ensures.honest.0 (c.append.ensures.memory none) c.append.ensures.file (c.append.ensures.memory_others none) only
+    settled_in_area g.D.Disk.seen g.D.Disk.may_leave g.D.Disk.honest old store c.requires.settled new now P c.append.ensures.answer.honest_still.0 (c.append.ensures.memory none) c.append.ensures.file (c.append.ensures.memory_others none) only
     (keeps.0, subst (λ bodies. BodiesStand store.jobs bodies keeps.0) (sym c.in_err-append.ensures.kept) keeps.1)
 
 pub returns-in_err-append-clause-memory_keeps : goal.returns-in_err-append-clause-memory_keeps
@@ -252,7 +252,7 @@ returns-clause-settled g c =
     let keeps = c.requires.settled.keeps in
     let P = IsStaged (bodies_of store.gates) (Some c.record_bytes.result) in
     let only : g.D.Disk.honest old → (image : Image) → g.D.Disk.may_leave new image → InFileOnly (area_of store) (g.D.Disk.may_leave old) P image =
-    λ is. now_in_run g.D.Disk.moment g.D.Disk.left_since g.D.Disk.may_leave old new (InFileOnly (area_of store) (g.D.Disk.may_leave old) P) (λ start image le left. g.met.D.Disk.counts_now new start image (c.append.ensures.honest.1 is) le left) (c.append.ensures.images is) in
+    λ is. now_in_run g.D.Disk.moment g.D.Disk.left_since g.D.Disk.may_leave old new (InFileOnly (area_of store) (g.D.Disk.may_leave old) P) (λ start image le left. g.met.D.Disk.counts_now new start image (c.append.ensures.answer.honest_still.1 is) le left) (c.append.ensures.images is) in
     let stand = change_stands store.jobs (bodies_of store.gates) c.record_bytes.result c.in-Some.item keeps.0 c.args.delta.now keeps.1 (c.requires.follows keeps.0 keeps.1) (sym c.delta_record.ensures ∙ c.in-Some.is) c.record_bytes.ensures.is_record in
-    settled_in_area g.D.Disk.seen g.D.Disk.may_leave g.D.Disk.honest old store c.requires.settled new now P c.append.ensures.honest.0 c.in_ok-append.ensures.settled c.append.ensures.file c.in_ok-append.ensures.others only
+    settled_in_area g.D.Disk.seen g.D.Disk.may_leave g.D.Disk.honest old store c.requires.settled new now P c.append.ensures.answer.honest_still.0 c.in_ok-append.ensures.settled c.append.ensures.file c.in_ok-append.ensures.others only
     (after_delta c.args.delta.now keeps.0, subst (λ bodies. BodiesStand store.jobs bodies (after_delta c.args.delta.now keeps.0)) (sym c.in_ok-append.ensures.bodies) stand)

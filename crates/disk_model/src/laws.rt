@@ -1,0 +1,38 @@
+//! Laws of disks. Each is the contract of a function that does nothing.
+ghost use Rattle.std.specs.Prelude.{◌≡◌, ◌↔◌, ◌≤◌, ℕ, List, Result, Some, length, min, take, IsErrOf};
+ghost use Rattle.disk_model.specs.declared.fault.DiskFault.{DiskFault};
+ghost use Rattle.disk_model.specs.declared.fault.DiskFault.TheVariants.{Stopped, Failed};
+ghost use Rattle.disk_model.specs.declared.mem_disk.MemDisk.{MemDisk};
+ghost use Rattle.disk_model.specs.Faults.{Counts, CountsDiskAnswer};
+ghost use Rattle.disk_model.specs.Images.{Image, Cut, Elapses};
+ghost use Rattle.disk_model.specs.MemDisk.{told_of, left_by};
+ghost use Rattle.disk_model.specs.Told.{Told, MayBeLeft};
+
+use crate::disk::Disk;
+
+/// Each count stays but at the answer that tells of its rise: a disk that never answers `Failed` has counted no fault.
+pub fn counts_rise_where_that_is_told()
+    ensures stops { (old new : Counts) (result : Result ℕ DiskFault) → CountsDiskAnswer old new result
+        → (IsErrOf result Stopped → ⊥) → new.stops ≡ old.stops }
+    ensures faults { (old new : Counts) (result : Result ℕ DiskFault) → CountsDiskAnswer old new result
+        → (IsErrOf result Failed → ⊥) → new.faults ≡ old.faults }
+{}
+
+/// What a stop may leave of a disk in memory is just what may be left of its files by what it tells.
+pub fn a_memory_disk_leaves_what_may_be_left()
+    ensures { (disk : MemDisk) (told : Told) (image : Image) → told_of disk ≡ Some told → (left_by disk image ↔ MayBeLeft told image) }
+{}
+
+/// A cut that a stop cuts short leaves a front of the file, which is no shorter than the cut makes it.
+pub fn a_cut_leaves_a_front()
+    ensures { (size : ℕ) (old new : List ℕ) → Cut size old new
+        → (min size (length old) ≤ length new) × (length new ≤ length old) × (new ≡ take (length new) old) }
+{}
+
+/// What a stop since a moment might have left stays so over the calls that follow.
+pub fn time_keeps_what_was_left<D: Disk>()
+    ensures { (one two three : D) (start : ℕ) (image : Image)
+        → Elapses (D.moment one) (D.moment two) (D.left_since one) (D.left_since two) (D.may_leave two)
+        → Elapses (D.moment two) (D.moment three) (D.left_since two) (D.left_since three) (D.may_leave three)
+        → start ≤ D.moment one → D.left_since one start image → D.left_since three start image }
+{}
