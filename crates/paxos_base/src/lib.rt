@@ -9,8 +9,6 @@ mod laws;
 pub mod layout;
 mod members;
 mod rows;
-#[cfg(test)]
-mod tests;
 mod votes;
 mod wire;
 

@@ -1,5 +1,5 @@
 //! Ballots, entries and votes by their numbers.
-use paxos_base::{Ballot, Entry, Vote, VoteList, put_vote};
+use paxos_base::{Ballot, Entry, Vote, VoteList};
 use std::alloc::Global;
 use std::test::Fail;
 
@@ -44,10 +44,9 @@ pub fn no_votes(alloc: Global) -> VoteList {
 
 // The same as a list of which the slots rise.
 pub fn list_of(alloc: Global, casts: &[Cast]) -> Result<VoteList, Fail> {
-    let mut items = Vec::new(alloc);
+    let mut votes = no_votes(alloc);
     for vote in votes_of(alloc, casts)? {
-        items.reserve(1)?;
-        put_vote(&mut items, vote);
+        votes.put(&vote)?;
     }
-    Ok(VoteList { items })
+    Ok(votes)
 }

@@ -11,6 +11,8 @@ mod base;
 #[cfg(test)]
 mod builders;
 #[cfg(test)]
+mod durable;
+#[cfg(test)]
 mod fault_rows;
 #[cfg(test)]
 mod learner;
