@@ -60,8 +60,10 @@ pub fn hear(
     ensures { OnOk result (IsOfTable table.now replica.new) }
 {
     assert!(rt; replica.is_small());
-    Ok(replica
-        .step(table, Input::Hear { bytes })
-        .ok()
-        .ok_or("the letter is refused")?)
+    Ok(
+        replica
+            .step(table, Input::Hear { bytes })
+            .ok()
+            .ok_or("the letter is refused")?,
+    )
 }
