@@ -3,7 +3,7 @@ use Rattle.std.proofs.Common.{◌≡◌, Bool, List, [], ◌++◌, Option, None,
 use Rattle.std.specs.Prelude.{IsTrue, unwrap_or}
 use Rattle.std.proofs.lemmas.List.{append-nil}
 use Rattle.cluster_sched.specs.Held.{IsFirstUnder, IsLookedUp}
-use Rattle.cluster_sched.specs.Fates.{Holdings, Holds, Arrives, added}
+use Rattle.cluster_sched.specs.Fates.{Holdings, HoldsRow, Arrives, added}
 use Rattle.cluster_sched.proofs.HeldLemmas.{IsFirstUnder-same}
 use Rattle.cluster_sched.proofs.LedgerLemmas.{row_eq, Decides-row_eq}
 use Rattle.cluster_sched.specs.declared.row.SchedRow.{SchedRow}
@@ -15,7 +15,7 @@ first_after held row None none = record { before = held; after = []; parts = ref
 first_after held row (Some first) is = subst (λ (rows : List SchedRow). IsFirstUnder rows row.name first) (sym (append-nil held)) is
 
 -- a row stands where the first row under its name is that row
-pub Arrives-told : (old new : Holdings) (row : SchedRow) (found : Option SchedRow) (stands : Bool) → Holds old row found new
+pub Arrives-told : (old new : Holdings) (row : SchedRow) (found : Option SchedRow) (stands : Bool) → HoldsRow old row found new
     → stands ≡ row_eq (unwrap_or found row) row → Arrives old row stands new
 Arrives-told old new row found stands holds is =
     let first : IsFirstUnder new.held row.name (unwrap_or found row) = rw holds.held (first_after old.held row found holds.is_found) in

@@ -4,7 +4,7 @@ use Rattle.std.specs.Prelude.{IsTrue, unwrap_or}
 use Rattle.std.proofs.lemmas.Bool.Decides.{same_from_decides}
 use Rattle.std.proofs.lemmas.List.{append-nil}
 use Rattle.cluster_sched.specs.Calls.{AfterLook, IsCall}
-use Rattle.cluster_sched.specs.Fates.{Holdings, IsUnchanged, Outcome, LooksUp, look_answer, fate_after_look, faults_after, added, creation, call, ComesTo, CreatesRow, CallsByName, Creates, Calls, Holds, Arrives}
+use Rattle.cluster_sched.specs.Fates.{Holdings, IsUnchanged, Outcome, LooksUp, look_answer, fate_after_look, faults_after, added, creation, call, ComesTo, CreatesRow, CallsByName, Creates, Calls, HoldsRow, Arrives}
 use Rattle.cluster_sched.specs.Held.{IsFirstUnder, IsLookedUp}
 use Rattle.cluster_sched.specs.declared.fate.Fate.{Fate}
 use Rattle.cluster_sched.specs.declared.fate.Fate.TheVariants.{Done, LostBefore, LostAfter, Late}
@@ -104,7 +104,7 @@ pub Arrives-some : (old : Holdings) (row : SchedRow) → (stands : Bool) × (new
 Arrives-some old row =
     let looked = IsLookedUp-some old.held row.name in
     let new : Holdings = record old { held = old.held ++ added row looked.0 } in
-    let holds : Holds old row looked.0 new = record { is_found = looked.1; held = refl; late = refl; fate = refl; faults = refl; spare = omega arith } in
+    let holds : HoldsRow old row looked.0 new = record { is_found = looked.1; held = refl; late = refl; fate = refl; faults = refl; spare = omega arith } in
     let stands = row_eq (unwrap_or looked.0 row) row in
     (stands, new, Arrives-told old new row looked.0 stands holds refl)
 

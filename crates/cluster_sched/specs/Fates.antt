@@ -135,7 +135,7 @@ Calls old row result new =
 -- ---- arrivals
 
 -- a row is held where none is held under its name, and nothing else changes
-pub record Holds (old : Holdings) (row : SchedRow) (found : Option SchedRow) (new : Holdings) : Type 0 where
+pub record HoldsRow (old : Holdings) (row : SchedRow) (found : Option SchedRow) (new : Holdings) : Type 0 where
   pub is_found : IsLookedUp old.held row.name found
   pub held : new.held ≡ old.held ++ added row found
   pub late : new.late ≡ old.late
@@ -146,7 +146,7 @@ pub record Holds (old : Holdings) (row : SchedRow) (found : Option SchedRow) (ne
 -- a late call arrives, and the answer is whether its row is now the one under its name
 pub record Arrives (old : Holdings) (row : SchedRow) (stands : Bool) (new : Holdings) : Type 0 where
   pub found : Option SchedRow
-  pub holds : Holds old row found new
+  pub holds : HoldsRow old row found new
   pub told : IsTrue stands ↔ IsFirstUnder new.held row.name row
 
 -- what the arrival of a late call does, with and without memory; where there is no call of that number, it does nothing

@@ -31,8 +31,8 @@ IsLookedUp held name None = NoneUnder held name
 IsLookedUp held name (Some row) = IsFirstUnder held name row
 
 -- after a call the rows are the same, or the call's row is the last of them, whose name was new
-abbrev pub Follows : List SchedRow → SchedRow → List SchedRow → Type 0
-Follows old row new = (new ≡ old) ⊎ (NoneUnder old row.name × (new ≡ old ++ row ∷ []))
+abbrev pub FollowsCall : List SchedRow → SchedRow → List SchedRow → Type 0
+FollowsCall old row new = (new ≡ old) ⊎ (NoneUnder old row.name × (new ≡ old ++ row ∷ []))
 
 -- A call goes late: nothing is held under its row's name, what is held stays, and the row joins the late rows at their
 -- end, whatever else is late.

@@ -1,7 +1,7 @@
 ghost use Rattle.std.specs.Prelude.{◌≡◌, ◌≤◌, IfOk, IsErrOf};
 ghost use Rattle.cron_io.specs.Faults.{Rose};
 ghost use Rattle.cluster_sched.specs.Calls.{IsCall};
-ghost use Rattle.cluster_sched.specs.Held.{Answers, Follows, MayGoLate, NoneUnder};
+ghost use Rattle.cluster_sched.specs.Held.{Answers, FollowsCall, MayGoLate, NoneUnder};
 
 use crate::fault::CallFault;
 use crate::row::SchedRow;
@@ -15,7 +15,7 @@ use crate::scheduler::Scheduler;
 /// `Failed` only where the scheduler's count of faults rose, and `OutOfMemory`, where nothing changed.
 pub fn call_by_name<C: Scheduler>(sched: &mut C, row: SchedRow) -> Result<SchedRow, CallFault>
     ensures first { IfOk result (λ first. Answers (C.held sched.old) row first (C.held sched.new)) }
-    ensures held { Follows (C.held sched.old) row (C.held sched.new) }
+    ensures held { FollowsCall (C.held sched.old) row (C.held sched.new) }
     ensures late { MayGoLate (C.held sched.old) (C.held sched.new) (C.late sched.old) (C.late sched.new) row result }
     // Where a row is held under the name, whatever the answer is, nothing changed and nothing was created.
     ensures known { ¬ NoneUnder (C.held sched.old) row.name

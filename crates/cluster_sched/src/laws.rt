@@ -4,7 +4,7 @@ ghost use Rattle.cron_io.specs.declared.out_of_memory.OutOfMemory.{OutOfMemory};
 ghost use Rattle.due_set.specs.Table.{Table, IsSound};
 ghost use Rattle.cluster_sched.specs.Calls.{IsCall};
 ghost use Rattle.cluster_sched.specs.Fates.{Arrives, Calls, CallsByName, Creates, CreatesRow, Holdings, IsArrival, IsUnchanged, LooksUp};
-ghost use Rattle.cluster_sched.specs.Held.{Answers, AreNamedOnce, Follows, IsFirstUnder, IsLookedUp, MayGoLate, NoneUnder};
+ghost use Rattle.cluster_sched.specs.Held.{Answers, AreNamedOnce, FollowsCall, IsFirstUnder, IsLookedUp, MayGoLate, NoneUnder};
 ghost use Rattle.cluster_sched.specs.Names.{IsNameIn, name_text};
 ghost use Rattle.cluster_sched.specs.declared.fate.Fate.{Fate};
 ghost use Rattle.cluster_sched.specs.declared.fault.CallFault.{CallFault};
@@ -19,11 +19,11 @@ pub fn names_differ_in_their_texts()
 
 /// A row that is held stays, in its place and the first under its name, and no name comes twice.
 pub fn held_rows_stay()
-    ensures place { (old new : List SchedRow) (row : SchedRow) → Follows old row new
+    ensures place { (old new : List SchedRow) (row : SchedRow) → FollowsCall old row new
         → (rest : List SchedRow) × (new ≡ old ++ rest) }
-    ensures first { (old new : List SchedRow) (row first : SchedRow) (name : Name) → Follows old row new
+    ensures first { (old new : List SchedRow) (row first : SchedRow) (name : Name) → FollowsCall old row new
         → IsFirstUnder old name first → IsFirstUnder new name first }
-    ensures once { (old new : List SchedRow) (row : SchedRow) → Follows old row new
+    ensures once { (old new : List SchedRow) (row : SchedRow) → FollowsCall old row new
         → AreNamedOnce old → AreNamedOnce new }
 {}
 
@@ -38,7 +38,7 @@ pub fn answers_stay()
     ensures first { (old new : List SchedRow) (row first : SchedRow) → Answers old row first new
         → IsFirstUnder new row.name first }
     ensures held { (old new : List SchedRow) (row first : SchedRow) → Answers old row first new
-        → Follows old row new }
+        → FollowsCall old row new }
 {}
 
 /// Of rows of which no two are under one name, each is the first under its name.

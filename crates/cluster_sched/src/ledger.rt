@@ -1,6 +1,6 @@
 ghost use Rattle.std.specs.Prelude.{◌≡◌, ◌≤◌, ◌<◌, [], ◌++◌, IsOk, OnOk, OnErr, slice_get};
 ghost use Rattle.cron_io.specs.Faults.{next_count};
-ghost use Rattle.cluster_sched.specs.Fates.{added, Creates, Holds, IsArrival, IsUnchanged, LacksMemory, LooksUp};
+ghost use Rattle.cluster_sched.specs.Fates.{added, Creates, HoldsRow, IsArrival, IsUnchanged, LacksMemory, LooksUp};
 
 use crate::fate::Fate;
 use crate::fault::CallFault;
@@ -123,7 +123,7 @@ impl Ledger {
     // Holds the row where none was found under its name.
     fn hold(&mut self, row: SchedRow, found: Option<SchedRow>) -> Result<(), OutOfMemory>
         requires { IsLookedUp self.old.held row.name found }
-        ensures ok { OnOk result (Holds self.old row found self.new) }
+        ensures ok { OnOk result (HoldsRow self.old row found self.new) }
         ensures err { OnErr result (LacksMemory Fate.Done self.old row self.new) }
     {
         if found.is_none() {

@@ -1,6 +1,6 @@
 ghost use Rattle.std.specs.Prelude.{◌≡◌, ◌≤◌, ℕ, ⊤, List, Option, Result, IfOk, IsErrOf};
 ghost use Rattle.cron_io.specs.Faults.{Rose};
-ghost use Rattle.cluster_sched.specs.Held.{Answers, Follows, IsLookedUp, MayGoLate};
+ghost use Rattle.cluster_sched.specs.Held.{Answers, FollowsCall, IsLookedUp, MayGoLate};
 ghost use Rattle.cluster_sched.specs.declared.fault.CallFault.{CallFault};
 ghost use Rattle.cluster_sched.specs.declared.row.Name.{Name};
 ghost use Rattle.cluster_sched.specs.declared.row.SchedRow.{SchedRow};
@@ -52,7 +52,7 @@ pub trait Scheduler {
     /// `OutOfMemory`, where nothing changed.
     fn create(&mut self, row: SchedRow) -> Result<SchedRow, CallFault>
         ensures first { IfOk result (λ first. Answers (held self.old) row first (held self.new)) }
-        ensures held { Follows (held self.old) row (held self.new) }
+        ensures held { FollowsCall (held self.old) row (held self.new) }
         ensures late { MayGoLate (held self.old) (held self.new) (late self.old) (late self.new) row result }
         ensures memory { IsErrOf result CallFault.OutOfMemory
             → (held self.new ≡ held self.old) × (late self.new ≡ late self.old) }

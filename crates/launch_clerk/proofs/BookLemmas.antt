@@ -4,11 +4,11 @@ use Rattle.std.specs.Prelude.{Result, Ok, Err, OnOk, OnErr}
 use Rattle.std.proofs.lemmas.List.Elements.{All-push, All-weaker, Contains-append_left}
 use Rattle.paxos_base.specs.declared.entry.Entry.{Entry}
 use Rattle.paxos_base.specs.declared.entry.Entry.TheVariants.{Start}
-use Rattle.cluster_sched.specs.Held.{Follows}
+use Rattle.cluster_sched.specs.Held.{FollowsCall}
 use Rattle.cluster_sched.specs.declared.row.SchedRow.{SchedRow}
 use Rattle.launch_clerk.specs.Book.{AreStarted, IsStarted}
 
-pub started_call : (log : List Entry) (old new : List SchedRow) (row : SchedRow) → AreStarted log old → IsStarted log row.name → Follows old row new → AreStarted log new
+pub started_call : (log : List Entry) (old new : List SchedRow) (row : SchedRow) → AreStarted log old → IsStarted log row.name → FollowsCall old row new → AreStarted log new
 started_call log old new row known started (inl same) = subst (AreStarted log) (sym same) known
 started_call log old new row known started (inr (none, added)) =
     subst (AreStarted log) (sym added) (All-push (λ (r : SchedRow). IsStarted log r.name) old row known started)

@@ -1,6 +1,6 @@
 //! The log and the scheduler, kept together: no launch is called whose start isn't in the log.
 ghost use Rattle.std.specs.Prelude.{◌≡◌, [], ◌∷◌, ◌++◌, IfOk, OnOk, OnErr};
-ghost use Rattle.cluster_sched.specs.Held.{Answers, Follows};
+ghost use Rattle.cluster_sched.specs.Held.{Answers, FollowsCall};
 ghost use Rattle.launch_clerk.specs.Book.{AnswersAll, AreStarted, IsStarted};
 
 use cluster_sched::{CallFault, Ledger, SchedRow, call_by_name};
@@ -99,7 +99,7 @@ fn push_entry(list: &mut EntryList, entry: Entry) -> Result<(), OutOfMemory>
 fn call_ledger(ledger: &mut Ledger, row: SchedRow) -> Result<SchedRow, OutOfMemory>
     requires { AnswersAll ledger.old }
     ensures first { IfOk result (λ first. Answers ledger.old.held row first ledger.new.held) }
-    ensures held { Follows ledger.old.held row ledger.new.held }
+    ensures held { FollowsCall ledger.old.held row ledger.new.held }
     ensures err { OnErr result (ledger.new.held ≡ ledger.old.held) }
     ensures answers { AnswersAll ledger.new }
 {
