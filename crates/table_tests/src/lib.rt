@@ -18,6 +18,8 @@ mod field_tests;
 #[cfg(test)]
 mod job_tests;
 #[cfg(test)]
+mod match_tests;
+#[cfg(test)]
 mod refused_tests;
 #[cfg(test)]
 mod rows;
