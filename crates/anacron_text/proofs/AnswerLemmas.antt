@@ -7,9 +7,9 @@ use Rattle.crontab_text.proofs.BlankLemmas.{same_skip}
 use Rattle.crontab_text.proofs.ListLemmas.{eq_dec}
 use Rattle.crontab_text.proofs.TotalLemmas.{some_skip}
 use Rattle.crontab_text.proofs.UniqueLemmas.{SameFault}
-use Rattle.anacron_text.specs.Answers.{IsOther, IsBadSetting, Says, Breaks, IsBehindBlanks, IsLineOf, IsLineBreak, LineAnswer, Said, Broken, IsAnswer, SetsByAnswer, AreAnswersBelow, AreAnswers}
+use Rattle.anacron_text.specs.Answers.{IsAnacronOther, IsBadSetting, AnacronSays, AnacronBreaks, IsBehindBlanks, IsAnacronLineOf, IsAnacronLineBreak, AnacronLineAnswer, Said, Broken, IsAnacronAnswer, SetsByAnswer, AreAnswersBelow, AreAnacronAnswers}
 use Rattle.anacron_text.specs.Job.{IsJobFault}
-use Rattle.anacron_text.specs.LineBody.{LineBody, BlankBody, CommentBody, AssignBody, JobBody}
+use Rattle.anacron_text.specs.LineBody.{AnacronLineBody, BlankBody, CommentBody, AssignBody, JobBody}
 use Rattle.anacron_text.specs.LogicalLines.{logical_lines}
 use Rattle.anacron_text.specs.Setting.{IsSetting}
 use Rattle.anacron_text.specs.Settings.{Sets, IsBadValue, no_settings}
@@ -32,7 +32,7 @@ abbrev HasShape : Shape → List ℕ → Type 0
 HasShape Empty text = text ≡ []
 HasShape Note text = BeginsWithByte 35 text
 HasShape Setting text = (name : List ℕ) × (value : List ℕ) × (left : ℕ) × IsSetting text name value left
-HasShape Other text = IsOther text
+HasShape Other text = IsAnacronOther text
 
 some_byte : (byte : ℕ) (text : List ℕ) → BeginsWithByte byte text → text ≢ []
 some_byte byte [] begins e = begins
@@ -90,23 +90,23 @@ same_shape Other Empty text p q = absurd (p.some q)
 same_shape Other Note text p q = absurd (p.no_comment q)
 same_shape Other Setting text p (name, value, left, is) = absurd (p.no_assignment name is.read is.is)
 
-abbrev shape_of : LineBody → Shape
+abbrev shape_of : AnacronLineBody → Shape
 shape_of BlankBody = Empty
 shape_of CommentBody = Note
 shape_of (AssignBody name value) = Setting
 shape_of (JobBody job) = Other
 
-says_shape : (settings : Settings) (text : List ℕ) (body : LineBody) → Says settings text body → HasShape (shape_of body) text
+says_shape : (settings : Settings) (text : List ℕ) (body : AnacronLineBody) → AnacronSays settings text body → HasShape (shape_of body) text
 says_shape settings text BlankBody says = says
 says_shape settings text CommentBody says = says
 says_shape settings text (AssignBody name value) says = (name, value, says.left, says.setting)
 says_shape settings text (JobBody job) says = says.0
 
 -- a text says one thing
-same_says : (settings : Settings) (text : List ℕ) (a b : LineBody) → Says settings text a → Says settings text b → a ≡ b
+same_says : (settings : Settings) (text : List ℕ) (a b : AnacronLineBody) → AnacronSays settings text a → AnacronSays settings text b → a ≡ b
 same_says settings text a b p q = by_shape a b (same_shape (shape_of a) (shape_of b) text (says_shape settings text a p) (says_shape settings text b q)) p q
   where
-    by_shape : (a b : LineBody) → shape_of a ≡ shape_of b → Says settings text a → Says settings text b → a ≡ b
+    by_shape : (a b : AnacronLineBody) → shape_of a ≡ shape_of b → AnacronSays settings text a → AnacronSays settings text b → a ≡ b
     by_shape BlankBody BlankBody same p q = refl
     by_shape CommentBody CommentBody same p q = refl
     by_shape (AssignBody n v) (AssignBody m w) same p q =
@@ -132,7 +132,7 @@ bad_shape : (text : List ℕ) (cause left : ℕ) → IsBadSetting text cause lef
 bad_shape text cause left bad = (bad.name, bad.value, left, bad.setting)
 
 -- or breaks a rule
-says_or_breaks : (settings : Settings) (text : List ℕ) (body : LineBody) (c l : ℕ) → Says settings text body → Breaks text c l → ⊥
+says_or_breaks : (settings : Settings) (text : List ℕ) (body : AnacronLineBody) (c l : ℕ) → AnacronSays settings text body → AnacronBreaks text c l → ⊥
 says_or_breaks settings text BlankBody c l says (inl bad) = setting_some text (bad_shape text c l bad) says
 says_or_breaks settings text BlankBody c l says (inr fault) = fault.0.some says
 says_or_breaks settings text CommentBody c l says (inl bad) = no_setting text (bad_shape text c l bad) says
@@ -145,7 +145,7 @@ says_or_breaks settings text (JobBody job) c l says (inl bad) = says.0.no_assign
 says_or_breaks settings text (JobBody job) c l says (inr fault) = job_or_fault settings text job c l says.1 fault.1
 
 -- a text breaks one rule, at one place
-same_breaks : (text : List ℕ) (c d l m : ℕ) → Breaks text c l → Breaks text d m → SameFault c d l m
+same_breaks : (text : List ℕ) (c d l m : ℕ) → AnacronBreaks text c l → AnacronBreaks text d m → SameFault c d l m
 same_breaks text c d l m (inl p) (inl q) =
     let same = same_setting text p.name q.name p.value q.value l m p.setting q.setting in
     (same_bad_value q.name q.value c d (subst (λ n. IsBadValue n q.value c) same.0 (subst (λ v. IsBadValue p.name v c) same.1 p.bad)) q.bad, same.2)
@@ -165,19 +165,19 @@ some_behind_blanks line =
     (text, record { skips = subst (SkipsBlanks (spaced line)) (sym is) skips; stands = stands })
 
 -- each line has one answer
-pub same_answer : (settings : Settings) (line : List ℕ) (a b : LineAnswer) → IsAnswer settings line a → IsAnswer settings line b → a ≡ b
+pub same_answer : (settings : Settings) (line : List ℕ) (a b : AnacronLineAnswer) → IsAnacronAnswer settings line a → IsAnacronAnswer settings line b → a ≡ b
 same_answer settings line (Said a) (Said b) p q =
     let text = same_behind_blanks line p.text q.text p.behind q.behind in
-    ap Said (same_says settings q.text a b (subst (λ t. Says settings t a) text p.says) q.says)
+    ap Said (same_says settings q.text a b (subst (λ t. AnacronSays settings t a) text p.says) q.says)
 same_answer settings line (Said a) (Broken d y) p q =
     let text = same_behind_blanks line p.text q.is.text p.behind q.is.behind in
-    absurd (says_or_breaks settings q.is.text a d q.left (subst (λ t. Says settings t a) text p.says) q.is.breaks)
+    absurd (says_or_breaks settings q.is.text a d q.left (subst (λ t. AnacronSays settings t a) text p.says) q.is.breaks)
 same_answer settings line (Broken c x) (Said b) p q =
     let text = same_behind_blanks line q.text p.is.text q.behind p.is.behind in
-    absurd (says_or_breaks settings p.is.text b c p.left (subst (λ t. Says settings t b) text q.says) p.is.breaks)
+    absurd (says_or_breaks settings p.is.text b c p.left (subst (λ t. AnacronSays settings t b) text q.says) p.is.breaks)
 same_answer settings line (Broken c x) (Broken d y) p q =
     let text = same_behind_blanks line p.is.text q.is.text p.is.behind q.is.behind in
-    let same = same_breaks q.is.text c d p.left q.left (subst (λ t. Breaks t c p.left) text p.is.breaks) q.is.breaks in
+    let same = same_breaks q.is.text c d p.left q.left (subst (λ t. AnacronBreaks t c p.left) text p.is.breaks) q.is.breaks in
     let cause = same.0 in
     let left = same.1 in
     let first = p.place_is in
@@ -185,19 +185,19 @@ same_answer settings line (Broken c x) (Broken d y) p q =
     let place : x ≡ y = omega arith in
     cc
 
-breaks_within : (text : List ℕ) (cause left : ℕ) → Breaks text cause left → left ≤ length text
+breaks_within : (text : List ℕ) (cause left : ℕ) → AnacronBreaks text cause left → left ≤ length text
 breaks_within text cause left (inl bad) = setting_within text bad.name bad.value left bad.setting
 breaks_within text cause left (inr fault) = job_fault_within text cause left fault.1
 
 -- a fault stands within its line
-pub line_break_within : (line : List ℕ) (cause left : ℕ) → IsLineBreak line cause left → left ≤ length line
+pub line_break_within : (line : List ℕ) (cause left : ℕ) → IsAnacronLineBreak line cause left → left ≤ length line
 line_break_within line cause left is =
     let within = breaks_within is.text cause left is.breaks in
     let size = ap length is.behind.stands.parts ∙ length-append is.behind.stands.before (is.text ++ is.behind.stands.after) in
     let tail = length-append is.text is.behind.stands.after in omega arith
 
 -- what a text says or breaks
-says_some : (settings : Settings) (text : List ℕ) → ((body : LineBody) × Says settings text body) ⊎ ((cause : ℕ) × (left : ℕ) × Breaks text cause left)
+says_some : (settings : Settings) (text : List ℕ) → ((body : AnacronLineBody) × AnacronSays settings text body) ⊎ ((cause : ℕ) × (left : ℕ) × AnacronBreaks text cause left)
 says_some settings [] = inl (BlankBody, refl)
 says_some settings (c ∷ cs) = elim (eq_dec c 35) [
   | inl is ↦ inl (CommentBody, is)
@@ -207,7 +207,7 @@ says_some settings (c ∷ cs) = elim (eq_dec c 35) [
       | inr (cause, bad) ↦ inr (cause, left, inl (record { name = name; value = value; setting = setting; bad = bad }))
     ]
     | inr none ↦
-        let other : IsOther (c ∷ cs) = record { some = λ e. cc; no_comment = no_comment; no_assignment = none } in
+        let other : IsAnacronOther (c ∷ cs) = record { some = λ e. cc; no_comment = no_comment; no_assignment = none } in
         elim (some_job settings (c ∷ cs)) [
           | inl (job, is) ↦ inl (JobBody job, (other, is))
           | inr (cause, left, fault) ↦ inr (cause, left, inr (other, fault))
@@ -215,13 +215,13 @@ says_some settings (c ∷ cs) = elim (eq_dec c 35) [
   ]
 ]
 
-pub some_answer : (settings : Settings) (line : List ℕ) → (answer : LineAnswer) × IsAnswer settings line answer
+pub some_answer : (settings : Settings) (line : List ℕ) → (answer : AnacronLineAnswer) × IsAnacronAnswer settings line answer
 some_answer settings line =
     let (text, behind) = some_behind_blanks line in
     elim (says_some settings text) [
       | inl (body, says) ↦ (Said body, record { text = text; behind = behind; says = says })
       | inr (cause, left, breaks) ↦
-          let is : IsLineBreak line cause left = record { text = text; behind = behind; breaks = breaks } in
+          let is : IsAnacronLineBreak line cause left = record { text = text; behind = behind; breaks = breaks } in
           let within = line_break_within line cause left is in
           (Broken cause (length line - left), record { left = left; is = is; place_is = omega arith })
     ]
@@ -246,14 +246,14 @@ same_sets old a b name value (inr (inr p)) (inl q) = absurd (p.no_delay q.name_i
 same_sets old a b name value (inr (inr p)) (inr (inl q)) = absurd (p.no_hours q.name_is)
 same_sets old a b name value (inr (inr p)) (inr (inr q)) = p.new_is ∙ sym q.new_is
 
-pub same_sets_by : (answer : LineAnswer) (old a b : Settings) → SetsByAnswer answer old a → SetsByAnswer answer old b → a ≡ b
+pub same_sets_by : (answer : AnacronLineAnswer) (old a b : Settings) → SetsByAnswer answer old a → SetsByAnswer answer old b → a ≡ b
 same_sets_by (Said (AssignBody name value)) old a b p q = same_sets old a b name value p q
 same_sets_by (Said BlankBody) old a b p q = p ∙ sym q
 same_sets_by (Said CommentBody) old a b p q = p ∙ sym q
 same_sets_by (Said (JobBody job)) old a b p q = p ∙ sym q
 same_sets_by (Broken cause place) old a b p q = p ∙ sym q
 
-some_sets_by : (settings : Settings) (line : List ℕ) (answer : LineAnswer) → IsAnswer settings line answer → (next : Settings) × SetsByAnswer answer settings next
+some_sets_by : (settings : Settings) (line : List ℕ) (answer : AnacronLineAnswer) → IsAnacronAnswer settings line answer → (next : Settings) × SetsByAnswer answer settings next
 some_sets_by settings line (Said (AssignBody name value)) is = elim (sets_or_bad settings name value) [
   | inl (new, sets, good) ↦ (new, sets)
   | inr (cause, bad) ↦ absurd (is.says.good cause bad)
@@ -264,7 +264,7 @@ some_sets_by settings line (Said (JobBody job)) is = (settings, refl)
 some_sets_by settings line (Broken cause place) is = (settings, refl)
 
 -- each list of lines has one list of answers
-pub same_answers_below : (lines : List (List ℕ)) (settings : Settings) (a b : List LineAnswer) → AreAnswersBelow lines settings a → AreAnswersBelow lines settings b → a ≡ b
+pub same_answers_below : (lines : List (List ℕ)) (settings : Settings) (a b : List AnacronLineAnswer) → AreAnswersBelow lines settings a → AreAnswersBelow lines settings b → a ≡ b
 same_answers_below [] settings [] [] p q = refl
 same_answers_below [] settings [] (b ∷ bs) p q = absurd q
 same_answers_below [] settings (a ∷ as') b p q = absurd p
@@ -276,7 +276,7 @@ same_answers_below (line ∷ lines) settings (a ∷ as') (b ∷ bs) (s, is, sets
     let tail = same_answers_below lines t as' bs (subst (λ x. AreAnswersBelow lines x as') next rest) more in
     cc
 
-some_answers_below : (lines : List (List ℕ)) (settings : Settings) → (answers : List LineAnswer) × AreAnswersBelow lines settings answers
+some_answers_below : (lines : List (List ℕ)) (settings : Settings) → (answers : List AnacronLineAnswer) × AreAnswersBelow lines settings answers
 some_answers_below [] settings = ([], tt)
 some_answers_below (line ∷ lines) settings =
     let (answer, is) = some_answer settings line in
@@ -284,17 +284,17 @@ some_answers_below (line ∷ lines) settings =
     let (answers, are) = some_answers_below lines next in
     (answer ∷ answers, (next, is, sets, are))
 
-pub same_answers : (text : List ℕ) (a b : List LineAnswer) → AreAnswers text a → AreAnswers text b → a ≡ b
+pub same_answers : (text : List ℕ) (a b : List AnacronLineAnswer) → AreAnacronAnswers text a → AreAnacronAnswers text b → a ≡ b
 same_answers text a b p q = same_answers_below (logical_lines text) no_settings a b p q
 
-pub some_answers : (text : List ℕ) → (answers : List LineAnswer) × AreAnswers text answers
+pub some_answers : (text : List ℕ) → (answers : List AnacronLineAnswer) × AreAnacronAnswers text answers
 some_answers text = some_answers_below (logical_lines text) no_settings
 
 -- a line that sets a variable
-pub line_sets : (old new : Settings) (line text name value : List ℕ) (left : ℕ) → IsBehindBlanks line text → IsSetting text name value left → Sets old name value new → IsLineOf old line (AssignBody name value)
+pub line_sets : (old new : Settings) (line text name value : List ℕ) (left : ℕ) → IsBehindBlanks line text → IsSetting text name value left → Sets old name value new → IsAnacronLineOf old line (AssignBody name value)
 line_sets old new line text name value left behind setting sets =
     record { text = text; behind = behind; says = record { left = left; setting = setting; good = sets_good old new name value sets } }
 
 -- a line whose job is at fault
-pub line_breaks_job : (line text : List ℕ) (cause left : ℕ) → IsBehindBlanks line text → IsOther text → IsJobFault text cause left → IsLineBreak line cause left
+pub line_breaks_job : (line text : List ℕ) (cause left : ℕ) → IsBehindBlanks line text → IsAnacronOther text → IsJobFault text cause left → IsAnacronLineBreak line cause left
 line_breaks_job line text cause left behind other fault = record { text = text; behind = behind; breaks = inr (other, fault) }

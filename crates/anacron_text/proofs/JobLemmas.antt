@@ -6,7 +6,7 @@ use Rattle.crontab_text.specs.Tail.{IsCommand, IsBadCommand, EndsWithCommand, Is
 use Rattle.crontab_text.proofs.BlankLemmas.{same_word}
 use Rattle.crontab_text.proofs.TotalLemmas.{some_word, some_command}
 use Rattle.crontab_text.proofs.UniqueLemmas.{SameFault, same_command, command_or_fault, same_command_fault}
-use Rattle.anacron_text.specs.Job.{IsPeriod, IsDelay, IsIdentifier, JobWords, BeginsWithWords, added_minutes, IsJob, IsBadWord, IsPeriodFault, IsDelayFault, IsIdentifierFault, IsLateFault, IsJobFault}
+use Rattle.anacron_text.specs.Job.{IsPeriod, IsDelay, IsIdentifier, JobWords, BeginsWithWords, added_minutes, IsJob, IsAnacronBadWord, IsPeriodFault, IsDelayFault, IsIdentifierFault, IsAnacronLateFault, IsJobFault}
 use Rattle.anacron_text.specs.LineBody.{Job}
 use Rattle.anacron_text.specs.Spaced.{spaced, StandsIn}
 use Rattle.anacron_text.specs.declared.answer.PeriodWord.{PeriodWord}
@@ -69,7 +69,7 @@ same_job settings text a b first second =
 -- what may be wrong with a job's words
 abbrev Fault : JobWords → (cause left : ℕ) → Type 0
 Fault words cause left =
-    IsPeriodFault words cause left ⊎ (IsDelayFault words cause left ⊎ (IsIdentifierFault words cause left ⊎ IsLateFault words cause left))
+    IsPeriodFault words cause left ⊎ (IsDelayFault words cause left ⊎ (IsIdentifierFault words cause left ⊎ IsAnacronLateFault words cause left))
 
 -- or has a fault
 pub job_or_fault : (settings : Settings) (text : List ℕ) (job : Job) (c l : ℕ) → IsJob settings text job → IsJobFault text c l → ⊥
@@ -87,7 +87,7 @@ job_or_fault settings text job c l is fault =
     by_fault words (inr (inr (inl bad))) period delay identifier ends = bad.bad identifier
     by_fault words (inr (inr (inr late))) period delay identifier ends = command_or_fault words.tail (spaced job.command) c l ends late.is
 
-same_bad_word : (word : List ℕ) (here rule c d l m : ℕ) → IsBadWord word here rule c l → IsBadWord word here rule d m → SameFault c d l m
+same_bad_word : (word : List ℕ) (here rule c d l m : ℕ) → IsAnacronBadWord word here rule c l → IsAnacronBadWord word here rule d m → SameFault c d l m
 same_bad_word word here rule c d l m (inl p) (inl q) = (p.1 ∙ sym q.1, p.2 ∙ sym q.2)
 same_bad_word word here rule c d l m (inl p) (inr q) = absurd (omega (arith, q.0, ap length p.0))
 same_bad_word word here rule c d l m (inr p) (inl q) = absurd (omega (arith, p.0, ap length q.0))
@@ -117,7 +117,7 @@ same_job_fault text c d l m first second =
     same_fault second.words c d l m (subst (λ w. Fault w c l) words first.fault) second.fault
 
 -- a word that is none of its kind is missing or at fault
-bad_word : (word : List ℕ) (here rule : ℕ) → (cause : ℕ) × (left : ℕ) × IsBadWord word here rule cause left
+bad_word : (word : List ℕ) (here rule : ℕ) → (cause : ℕ) × (left : ℕ) × IsAnacronBadWord word here rule cause left
 bad_word [] here rule = (10, 0, inl (refl, refl, refl))
 bad_word (c ∷ cs) here rule = (rule, here, inr (omega arith, refl, refl))
 
@@ -194,9 +194,9 @@ some_job settings text =
         )
 
 -- a word's bytes to the end of the line, as they are written and as they are read
-pub bad_word_read : (word after : List ℕ) (here rule cause left : ℕ) → here ≡ length word + length after → IsBadWord word here rule cause left → IsBadWord word (length word + length (spaced after)) rule cause left
+pub bad_word_read : (word after : List ℕ) (here rule cause left : ℕ) → here ≡ length word + length after → IsAnacronBadWord word here rule cause left → IsAnacronBadWord word (length word + length (spaced after)) rule cause left
 bad_word_read word after here rule cause left is bad =
-    subst (λ n. IsBadWord word n rule cause left) (is ∙ ap (λ n. length word + n) (sym (spaced-length after))) bad
+    subst (λ n. IsAnacronBadWord word n rule cause left) (is ∙ ap (λ n. length word + n) (sym (spaced-length after))) bad
 
 -- a fault stands within its text
 pub job_fault_within : (text : List ℕ) (cause left : ℕ) → IsJobFault text cause left → left ≤ length text
@@ -213,7 +213,7 @@ job_fault_within text cause left fault = by_fault fault.words fault.begins fault
         let f = ap length begins.third.cut.parts ∙ length-append words.identifier words.tail in
         (omega arith, omega arith, omega arith)
 
-    bad_within : (word : List ℕ) (here rule : ℕ) → here ≤ length text → IsBadWord word here rule cause left → left ≤ length text
+    bad_within : (word : List ℕ) (here rule : ℕ) → here ≤ length text → IsAnacronBadWord word here rule cause left → left ≤ length text
     bad_within word here rule within (inl none) = omega (arith, none.2)
     bad_within word here rule within (inr bad) = omega (arith, bad.2)
 
@@ -234,7 +234,7 @@ job_fault_within text cause left fault = by_fault fault.words fault.begins fault
 -- the first fault of a job, by its words as they are written
 pub period_fault : (text period delay identifier after_period after_delay tail : List ℕ) (here cause left : ℕ)
     → IsFirstWord (spaced text) period (spaced after_period) → IsFirstWord (spaced after_period) delay (spaced after_delay) → IsFirstWord (spaced after_delay) identifier (spaced tail)
-    → ((p : PeriodWord) → IsPeriod period p → ⊥) → here ≡ length period + length after_period → IsBadWord period here 16 cause left → IsJobFault text cause left
+    → ((p : PeriodWord) → IsPeriod period p → ⊥) → here ≡ length period + length after_period → IsAnacronBadWord period here 16 cause left → IsJobFault text cause left
 period_fault text period delay identifier after_period after_delay tail here cause left one two three none size bad = record {
   words = record { period = period; behind_period = spaced after_period; delay = delay; behind_delay = spaced after_delay; identifier = identifier; tail = spaced tail };
   begins = record { first = one; second = two; third = three };
@@ -243,7 +243,7 @@ period_fault text period delay identifier after_period after_delay tail here cau
 
 pub delay_fault : (text period delay identifier after_period after_delay tail : List ℕ) (p : PeriodWord) (here cause left : ℕ)
     → IsFirstWord (spaced text) period (spaced after_period) → IsFirstWord (spaced after_period) delay (spaced after_delay) → IsFirstWord (spaced after_delay) identifier (spaced tail)
-    → IsPeriod period p → ((n : ℕ) → IsDelay delay n → ⊥) → here ≡ length delay + length after_delay → IsBadWord delay here 17 cause left → IsJobFault text cause left
+    → IsPeriod period p → ((n : ℕ) → IsDelay delay n → ⊥) → here ≡ length delay + length after_delay → IsAnacronBadWord delay here 17 cause left → IsJobFault text cause left
 delay_fault text period delay identifier after_period after_delay tail p here cause left one two three is_period none size bad = record {
   words = record { period = period; behind_period = spaced after_period; delay = delay; behind_delay = spaced after_delay; identifier = identifier; tail = spaced tail };
   begins = record { first = one; second = two; third = three };
@@ -252,7 +252,7 @@ delay_fault text period delay identifier after_period after_delay tail p here ca
 
 pub identifier_fault : (text period delay identifier after_period after_delay tail : List ℕ) (p : PeriodWord) (n here cause left : ℕ)
     → IsFirstWord (spaced text) period (spaced after_period) → IsFirstWord (spaced after_period) delay (spaced after_delay) → IsFirstWord (spaced after_delay) identifier (spaced tail)
-    → IsPeriod period p → IsDelay delay n → (IsIdentifier identifier → ⊥) → here ≡ length identifier + length tail → IsBadWord identifier here 18 cause left → IsJobFault text cause left
+    → IsPeriod period p → IsDelay delay n → (IsIdentifier identifier → ⊥) → here ≡ length identifier + length tail → IsAnacronBadWord identifier here 18 cause left → IsJobFault text cause left
 identifier_fault text period delay identifier after_period after_delay tail p n here cause left one two three is_period is_delay none size bad = record {
   words = record { period = period; behind_period = spaced after_period; delay = delay; behind_delay = spaced after_delay; identifier = identifier; tail = spaced tail };
   begins = record { first = one; second = two; third = three };

@@ -5,11 +5,11 @@ use Rattle.std.proofs.lemmas.List.{append-nil, drop-drop, drop_at}
 use Rattle.crontab_text.specs.declared.answer.LineFault.{LineFault}
 use Rattle.crontab_text.specs.declared.fault.Fault.{Fault}
 use Rattle.crontab_text.proofs.ReaderLemmas.{IsLeft, split_taken}
-use Rattle.anacron_text.specs.Answers.{LineAnswer, IsLineOf, IsLineBreak, SetsBy, AreAnswersBelow}
-use Rattle.anacron_text.specs.LineBody.{body_of}
+use Rattle.anacron_text.specs.Answers.{AnacronLineAnswer, IsAnacronLineOf, IsAnacronLineBreak, SetsBy, AreAnswersBelow}
+use Rattle.anacron_text.specs.LineBody.{anacron_body_of}
 use Rattle.anacron_text.specs.LogicalLines.{logical_lines, line_count, BeginsWithLogicalLine}
-use Rattle.anacron_text.specs.Reader.{GoesOn, ReadsLine, answer_of}
-use Rattle.anacron_text.specs.TableReader.{TableReader, rest_of}
+use Rattle.anacron_text.specs.Reader.{AnacronGoesOn, ReadsAnacronLine, anacron_answer_of}
+use Rattle.anacron_text.specs.TableReader.{AnacronTableReader, anacron_rest_of}
 use Rattle.anacron_text.specs.declared.answer.AnaBody.{AnaBody}
 use Rattle.anacron_text.specs.declared.answer.AnaLine.{AnaLine}
 use Rattle.anacron_text.specs.declared.settings.Settings.{Settings}
@@ -39,20 +39,20 @@ behind_line text rest line after is begins =
     )
 
 -- a reader of a text at a place
-abbrev pub reader_at : (text rest : List ℕ) → Settings → ℕ → TableReader
+abbrev pub reader_at : (text rest : List ℕ) → Settings → ℕ → AnacronTableReader
 reader_at text rest settings passed = record { text = text; settings = settings; place = length text - length rest; passed = passed }
 
 -- what a reader does with its next line
 pub reads_line : (text rest line after : List ℕ) (settings next : Settings) (passed count : ℕ) (answer : Result AnaBody Fault) (handed : Result AnaLine LineFault) → IsLeft text rest → BeginsWithLogicalLine rest line after → count ≡ line_count line
-    → IfOk answer (λ body. IsLineOf settings line (body_of body)) → IfOk answer (λ body. SetsBy (body_of body) settings next)
-    → IfErr answer (λ fault. IsLineBreak line fault.cause fault.left) → IfErr answer (λ fault. next ≡ settings)
+    → IfOk answer (λ body. IsAnacronLineOf settings line (anacron_body_of body)) → IfOk answer (λ body. SetsBy (anacron_body_of body) settings next)
+    → IfErr answer (λ fault. IsAnacronLineBreak line fault.cause fault.left) → IfErr answer (λ fault. next ≡ settings)
     → IfOk answer (λ body. handed ≡ Ok (record { number = passed + 1; span = record { from = length text - length rest; until = length text - length rest + length line }; body = body }))
     → IfErr answer (λ fault. handed ≡ Err (record { line = passed + 1; place = length line - fault.left; cause = fault.cause }))
-    → ReadsLine (reader_at text rest settings passed) (reader_at text after next (passed + count)) handed
+    → ReadsAnacronLine (reader_at text rest settings passed) (reader_at text after next (passed + count)) handed
 reads_line text rest line after settings next passed count answer handed is begins count_is read sets fault kept as_ok as_err =
     by_answer answer read sets fault kept as_ok as_err
   where
-    goes_on : GoesOn (reader_at text rest settings passed) (reader_at text after next (passed + count)) line
+    goes_on : AnacronGoesOn (reader_at text rest settings passed) (reader_at text after next (passed + count)) line
     goes_on = record {
       begins = subst (λ t. BeginsWithLogicalLine t line (drop (length text - length after) text)) (sym is.back)
           (subst (BeginsWithLogicalLine rest line) (sym (behind_line text rest line after is begins).0.back) begins);
@@ -60,11 +60,11 @@ reads_line text rest line after settings next passed count answer handed is begi
       new_is = ap (λ n. reader_at text after next (passed + n)) count_is;
     }
 
-    by_answer : (answer : Result AnaBody Fault) → IfOk answer (λ body. IsLineOf settings line (body_of body)) → IfOk answer (λ body. SetsBy (body_of body) settings next)
-        → IfErr answer (λ fault. IsLineBreak line fault.cause fault.left) → IfErr answer (λ fault. next ≡ settings)
+    by_answer : (answer : Result AnaBody Fault) → IfOk answer (λ body. IsAnacronLineOf settings line (anacron_body_of body)) → IfOk answer (λ body. SetsBy (anacron_body_of body) settings next)
+        → IfErr answer (λ fault. IsAnacronLineBreak line fault.cause fault.left) → IfErr answer (λ fault. next ≡ settings)
         → IfOk answer (λ body. handed ≡ Ok (record { number = passed + 1; span = record { from = length text - length rest; until = length text - length rest + length line }; body = body }))
         → IfErr answer (λ fault. handed ≡ Err (record { line = passed + 1; place = length line - fault.left; cause = fault.cause }))
-        → ReadsLine (reader_at text rest settings passed) (reader_at text after next (passed + count)) handed
+        → ReadsAnacronLine (reader_at text rest settings passed) (reader_at text after next (passed + count)) handed
     by_answer (Ok body) read sets fault kept as_ok as_err = rw as_ok (record {
       line = line;
       goes_on = goes_on;
@@ -83,8 +83,8 @@ reads_line text rest line after settings next passed count answer handed is begi
     })
 
 -- the answer to the next line stands before the answers to the rest
-pub answers_before : (old new : TableReader) (handed : Result AnaLine LineFault) (answers : List LineAnswer) → ReadsLine old new handed
-    → AreAnswersBelow (logical_lines (rest_of new)) new.settings answers → AreAnswersBelow (logical_lines (rest_of old)) old.settings (answer_of handed ∷ answers)
+pub answers_before : (old new : AnacronTableReader) (handed : Result AnaLine LineFault) (answers : List AnacronLineAnswer) → ReadsAnacronLine old new handed
+    → AreAnswersBelow (logical_lines (anacron_rest_of new)) new.settings answers → AreAnswersBelow (logical_lines (anacron_rest_of old)) old.settings (anacron_answer_of handed ∷ answers)
 answers_before old new handed answers reads are =
     rw reads.goes_on.begins.lines (new.settings, reads.answer, reads.sets, are)
 
@@ -93,11 +93,11 @@ pub no_answers : (settings : Settings) → AreAnswersBelow (logical_lines []) se
 no_answers settings = rw logical-none tt
 
 -- the bytes of a line's span are the line
-pub span_holds : (old new : TableReader) (handed : AnaLine) → ReadsLine old new (Ok handed) → BeginsWithLogicalLine (rest_of old) (slice_range old.text handed.span.from handed.span.until) (rest_of new)
+pub span_holds : (old new : AnacronTableReader) (handed : AnaLine) → ReadsAnacronLine old new (Ok handed) → BeginsWithLogicalLine (anacron_rest_of old) (slice_range old.text handed.span.from handed.span.until) (anacron_rest_of new)
 span_holds old new handed is =
     let from_is = is.span.from_is in
     let until_is = is.span.until_is in
     let size : handed.span.until - handed.span.from ≡ length is.line = omega arith in
     let slice : slice_range old.text handed.span.from handed.span.until ≡ is.line =
-    ap (λ n. take n (drop handed.span.from old.text)) size ∙ (ap (λ n. take (length is.line) (drop n old.text)) from_is ∙ split_taken (rest_of old) is.line (rest_of new) is.goes_on.begins.split) in
-    subst (λ l. BeginsWithLogicalLine (rest_of old) l (rest_of new)) (sym slice) is.goes_on.begins
+    ap (λ n. take n (drop handed.span.from old.text)) size ∙ (ap (λ n. take (length is.line) (drop n old.text)) from_is ∙ split_taken (anacron_rest_of old) is.line (anacron_rest_of new) is.goes_on.begins.split) in
+    subst (λ l. BeginsWithLogicalLine (anacron_rest_of old) l (anacron_rest_of new)) (sym slice) is.goes_on.begins

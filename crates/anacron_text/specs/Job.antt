@@ -4,7 +4,7 @@ use Rattle.cron_fields.specs.Hash.{fnv_of, fnv_start}
 use Rattle.crontab_text.specs.Blanks.{IsFirstWord}
 use Rattle.crontab_text.specs.Lines.{Lacks}
 use Rattle.crontab_text.specs.Tail.{EndsWithCommand, IsCommandFault}
-use Rattle.anacron_text.specs.LineBody.{Job, LineBody, JobBody}
+use Rattle.anacron_text.specs.LineBody.{Job, AnacronLineBody, JobBody}
 use Rattle.anacron_text.specs.Settings.{IsNumberWithin}
 use Rattle.anacron_text.specs.Spaced.{spaced, StandsIn}
 use Rattle.anacron_text.specs.declared.answer.PeriodWord.{PeriodWord}
@@ -64,26 +64,26 @@ pub record IsJob (settings : Settings) (text : List ℕ) (job : Job) : Type 0 wh
   pub last_hour_is : job.last_hour ≡ settings.last_hour
 
 -- the body is the job that the text is
-abbrev pub IsJobBody : Settings → List ℕ → LineBody → Type 0
+abbrev pub IsJobBody : Settings → List ℕ → AnacronLineBody → Type 0
 IsJobBody settings text (JobBody job) = IsJob settings text job
 IsJobBody settings text body = ⊥
 
 -- A word is missing (cause 10, at the line's end), or breaks its own rule. From its first byte on the line has `here` bytes.
-abbrev pub IsBadWord : (word : List ℕ) (here rule cause left : ℕ) → Type 0
-IsBadWord word here rule cause left =
+abbrev pub IsAnacronBadWord : (word : List ℕ) (here rule cause left : ℕ) → Type 0
+IsAnacronBadWord word here rule cause left =
     ((word ≡ []) × (cause ≡ cause_number TooFewFields) × (left ≡ 0)) ⊎ ((0 < length word) × (cause ≡ rule) × (left ≡ here))
 
 -- the first word is no period (cause 16)
 pub record IsPeriodFault (words : JobWords) (cause left : ℕ) : Type 0 where
   pub bad : (period : PeriodWord) → IsPeriod words.period period → ⊥
-  pub is : IsBadWord words.period (length words.period + length words.behind_period) (cause_number BadPeriod) cause left
+  pub is : IsAnacronBadWord words.period (length words.period + length words.behind_period) (cause_number BadPeriod) cause left
 
 -- the second is no delay (17), behind a period
 pub record IsDelayFault (words : JobWords) (cause left : ℕ) : Type 0 where
   pub period : PeriodWord
   pub is_period : IsPeriod words.period period
   pub bad : (delay : ℕ) → IsDelay words.delay delay → ⊥
-  pub is : IsBadWord words.delay (length words.delay + length words.behind_delay) (cause_number BadDelay) cause left
+  pub is : IsAnacronBadWord words.delay (length words.delay + length words.behind_delay) (cause_number BadDelay) cause left
 
 -- the third is no identifier (18), behind a period and a delay
 pub record IsIdentifierFault (words : JobWords) (cause left : ℕ) : Type 0 where
@@ -92,10 +92,10 @@ pub record IsIdentifierFault (words : JobWords) (cause left : ℕ) : Type 0 wher
   pub is_period : IsPeriod words.period period
   pub is_delay : IsDelay words.delay delay
   pub bad : IsIdentifier words.identifier → ⊥
-  pub is : IsBadWord words.identifier (length words.identifier + length words.tail) (cause_number BadIdentifier) cause left
+  pub is : IsAnacronBadWord words.identifier (length words.identifier + length words.tail) (cause_number BadIdentifier) cause left
 
 -- what is behind the three is no command
-pub record IsLateFault (words : JobWords) (cause left : ℕ) : Type 0 where
+pub record IsAnacronLateFault (words : JobWords) (cause left : ℕ) : Type 0 where
   pub period : PeriodWord
   pub delay : ℕ
   pub is_period : IsPeriod words.period period
@@ -107,4 +107,4 @@ pub record IsLateFault (words : JobWords) (cause left : ℕ) : Type 0 where
 pub record IsJobFault (text : List ℕ) (cause left : ℕ) : Type 0 where
   pub words : JobWords
   pub begins : BeginsWithWords (spaced text) words
-  pub fault : IsPeriodFault words cause left ⊎ (IsDelayFault words cause left ⊎ (IsIdentifierFault words cause left ⊎ IsLateFault words cause left))
+  pub fault : IsPeriodFault words cause left ⊎ (IsDelayFault words cause left ⊎ (IsIdentifierFault words cause left ⊎ IsAnacronLateFault words cause left))

@@ -16,18 +16,18 @@ pub record Job : Type 0 where
   pub command : List ℕ
 
 -- nothing, a comment, a variable that is set, or a job
-pub data LineBody : Type 0 where
-  BlankBody : LineBody
-  CommentBody : LineBody
-  AssignBody : (name value : List ℕ) → LineBody
-  JobBody : Job → LineBody
+pub data AnacronLineBody : Type 0 where
+  BlankBody : AnacronLineBody
+  CommentBody : AnacronLineBody
+  AssignBody : (name value : List ℕ) → AnacronLineBody
+  JobBody : Job → AnacronLineBody
 
 -- what a body of the program stands for
-abbrev pub body_of : AnaBody → LineBody
-body_of Blank = BlankBody
-body_of Comment = CommentBody
-body_of (Assign name value) = AssignBody name.now value.now
-body_of (JobOfProgram period delay added first_hour last_hour identifier command) =
+abbrev pub anacron_body_of : AnaBody → AnacronLineBody
+anacron_body_of Blank = BlankBody
+anacron_body_of Comment = CommentBody
+anacron_body_of (Assign name value) = AssignBody name.now value.now
+anacron_body_of (JobOfProgram period delay added first_hour last_hour identifier command) =
     JobBody (record {
       period = period;
       delay = delay;

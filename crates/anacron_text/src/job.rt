@@ -1,8 +1,8 @@
 ghost use Rattle.std.specs.Prelude.{◌≡◌, ◌↔◌, ◌≤◌, ◌<◌, ℕ, Some, IsTrue, IsNone, IfSome, IfNone, IfOk, IfErr};
 ghost use Rattle.cron_fields.specs.Cause.{cause_number};
-ghost use Rattle.anacron_text.specs.Job.{IsJobBody, IsJobFault, IsPeriod, IsIdentifier, IsBadWord, added_minutes};
+ghost use Rattle.anacron_text.specs.Job.{IsJobBody, IsJobFault, IsPeriod, IsIdentifier, IsAnacronBadWord, added_minutes};
 ghost use Rattle.anacron_text.specs.Limits.{IsBodyWithin};
-ghost use Rattle.anacron_text.specs.LineBody.{body_of};
+ghost use Rattle.anacron_text.specs.LineBody.{anacron_body_of};
 ghost use Rattle.anacron_text.specs.Settings.{AreSettings};
 ghost use Rattle.anacron_text.specs.declared.answer.PeriodWord.{PeriodWord};
 
@@ -22,7 +22,7 @@ const MAX_IDENTIFIER: usize = 64;
 /// Reads a text of a period, a delay, an identifier and a command.
 pub fn read_job(settings: Settings, text: &str) -> Result<AnaBody<'_>, Fault>
     requires { AreSettings settings }
-    ensures read { IfOk result (λ body. IsJobBody settings text.now (body_of body)) }
+    ensures read { IfOk result (λ body. IsJobBody settings text.now (anacron_body_of body)) }
     ensures within { IfOk result IsBodyWithin }
     ensures fault { IfErr result (λ fault. IsJobFault text.now fault.cause fault.left) }
 {
@@ -53,7 +53,7 @@ pub fn read_job(settings: Settings, text: &str) -> Result<AnaBody<'_>, Fault>
 fn accept<T: Copy>(word: Word<'_>, read: Option<T>, rule: Cause) -> Result<T, Fault>
     ensures read { IfOk result (λ value. read ≡ Some value) }
     ensures none { IfErr result (λ fault. IsNone read) }
-    ensures fault { IfErr result (λ fault. IsBadWord word.entry.text.now word.entry.left (cause_number rule) fault.cause fault.left) }
+    ensures fault { IfErr result (λ fault. IsAnacronBadWord word.entry.text.now word.entry.left (cause_number rule) fault.cause fault.left) }
 {
     match read {
         Some(value) => Ok(value),

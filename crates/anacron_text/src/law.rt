@@ -2,11 +2,11 @@ ghost use Rattle.std.specs.Prelude.{◌≡◌, ◌<◌, ◌≤◌, ◌+◌, ◌*
 ghost use Rattle.std.specs.List.{AllByRecursion, slice_range};
 ghost use Rattle.crontab_text.specs.Lines.{lines_of};
 ghost use Rattle.crontab_text.specs.declared.answer.LineFault.{LineFault};
-ghost use Rattle.anacron_text.specs.Answers.{AreAnswers, AreAnswersBelow, IsAnswer, LineAnswer};
+ghost use Rattle.anacron_text.specs.Answers.{AreAnacronAnswers, AreAnswersBelow, IsAnacronAnswer, AnacronLineAnswer};
 ghost use Rattle.anacron_text.specs.Limits.{IsJobWithin};
 ghost use Rattle.anacron_text.specs.LogicalLines.{BeginsWithLogicalLine, is_continued, logical_lines};
-ghost use Rattle.anacron_text.specs.Reader.{ReadsLine, answer_of};
-ghost use Rattle.anacron_text.specs.TableReader.{TableReader, rest_of};
+ghost use Rattle.anacron_text.specs.Reader.{ReadsAnacronLine, anacron_answer_of};
+ghost use Rattle.anacron_text.specs.TableReader.{AnacronTableReader, anacron_rest_of};
 ghost use Rattle.anacron_text.specs.declared.answer.AnaLine.{AnaLine};
 ghost use Rattle.anacron_text.specs.declared.answer.PeriodWord.{PeriodWord};
 ghost use Rattle.anacron_text.specs.declared.settings.Settings.{Settings};
@@ -14,9 +14,9 @@ ghost use Rattle.anacron_text.specs.declared.settings.Settings.{Settings};
 /// A law: each line says one thing, or breaks one rule first at one place, and never both.
 pub fn a_line_has_one_reading()
     ensures some { (settings : Settings) (line : List ℕ)
-        → (answer : LineAnswer) × IsAnswer settings line answer }
-    ensures one { (settings : Settings) (line : List ℕ) (a b : LineAnswer)
-        → IsAnswer settings line a → IsAnswer settings line b → a ≡ b }
+        → (answer : AnacronLineAnswer) × IsAnacronAnswer settings line answer }
+    ensures one { (settings : Settings) (line : List ℕ) (a b : AnacronLineAnswer)
+        → IsAnacronAnswer settings line a → IsAnacronAnswer settings line b → a ≡ b }
 {}
 
 /// A law: the logical lines of a text are the one that it begins with, and those of what is behind it. An empty text has
@@ -33,24 +33,24 @@ pub fn a_text_is_its_logical_lines()
 
 /// A law: each table has one list of answers.
 pub fn a_table_has_one_list_of_answers()
-    ensures some { (text : List ℕ) → (answers : List LineAnswer) × AreAnswers text answers }
-    ensures one { (text : List ℕ) (a b : List LineAnswer) → AreAnswers text a → AreAnswers text b → a ≡ b }
+    ensures some { (text : List ℕ) → (answers : List AnacronLineAnswer) × AreAnacronAnswers text answers }
+    ensures one { (text : List ℕ) (a b : List AnacronLineAnswer) → AreAnacronAnswers text a → AreAnacronAnswers text b → a ≡ b }
 {}
 
 /// A law: the answer that a reader hands out stands before the answers to the rest of its table, and at the end there
 /// are none. So the answers that the calls hand out, in order, are those of the table.
 pub fn answers_come_in_order()
-    ensures next { (old new : TableReader) (handed : Result AnaLine LineFault) (answers : List LineAnswer)
-        → ReadsLine old new handed
-        → AreAnswersBelow (logical_lines (rest_of new)) new.settings answers
-        → AreAnswersBelow (logical_lines (rest_of old)) old.settings (answer_of handed ∷ answers) }
+    ensures next { (old new : AnacronTableReader) (handed : Result AnaLine LineFault) (answers : List AnacronLineAnswer)
+        → ReadsAnacronLine old new handed
+        → AreAnswersBelow (logical_lines (anacron_rest_of new)) new.settings answers
+        → AreAnswersBelow (logical_lines (anacron_rest_of old)) old.settings (anacron_answer_of handed ∷ answers) }
     ensures end { (settings : Settings) → AreAnswersBelow (logical_lines []) settings [] }
 {}
 
 /// A law: what stands in the text from the first byte of a line's span up to its last is the line that was read, without its newline.
 pub fn a_span_is_that_of_its_line()
-    ensures { (old new : TableReader) (line : AnaLine) → ReadsLine old new (Ok line)
-        → BeginsWithLogicalLine (rest_of old) (slice_range old.text line.span.from line.span.until) (rest_of new) }
+    ensures { (old new : AnacronTableReader) (line : AnaLine) → ReadsAnacronLine old new (Ok line)
+        → BeginsWithLogicalLine (anacron_rest_of old) (slice_range old.text line.span.from line.span.until) (anacron_rest_of new) }
 {}
 
 /// A law: the hours of a job within the limits are those of one day, and at most 19,998 minutes are counted from the first of them.

@@ -1,11 +1,11 @@
 ghost use Rattle.std.specs.Prelude.{◌≡◌, ◌↔◌, ◌<◌, ◌^◌, ◌≤◌, ◌+◌, ◌-◌, [], length, IsNone, IfSome, IfNone, IfOk, IfErr, OnErr, Ok, Err};
 ghost use Rattle.std.specs.Result.{ForErr};
-ghost use Rattle.anacron_text.specs.Answers.{IsLineOf, IsLineBreak, SetsBy};
+ghost use Rattle.anacron_text.specs.Answers.{IsAnacronLineOf, IsAnacronLineBreak, SetsBy};
 ghost use Rattle.anacron_text.specs.Limits.{IsBodyWithin};
-ghost use Rattle.anacron_text.specs.LineBody.{body_of};
-ghost use Rattle.anacron_text.specs.Reader.{ReadsLine};
+ghost use Rattle.anacron_text.specs.LineBody.{anacron_body_of};
+ghost use Rattle.anacron_text.specs.Reader.{ReadsAnacronLine};
 ghost use Rattle.anacron_text.specs.Settings.{AreSettings};
-ghost use Rattle.anacron_text.specs.TableReader.{rest_of, table_reader};
+ghost use Rattle.anacron_text.specs.TableReader.{anacron_rest_of, anacron_table_reader};
 
 use crate::answer::{AnaBody, AnaLine};
 use crate::blank::skip_blanks;
@@ -28,9 +28,9 @@ pub struct AnaLines<'a> {
 impl<'a> Model for AnaLines<'a> {
     ghost use Rattle.std.specs.Prelude.{◌≡◌, ◌+◌, ◌-◌, ◌^◌, ◌<◌, ◌≤◌, drop, length};
     ghost use Rattle.anacron_text.specs.Settings.{AreSettings};
-    ghost use Rattle.anacron_text.specs.TableReader.{TableReader};
+    ghost use Rattle.anacron_text.specs.TableReader.{AnacronTableReader};
 
-    ghost Value = { TableReader };
+    ghost Value = { AnacronTableReader };
 
     ghost view = { λ lines. record {
       text = lines.text.now;
@@ -49,7 +49,7 @@ impl<'a> AnaLines<'a> {
     /// The lines of a table.
     pub fn new(text: &'a str) -> AnaLines<'a>
         requires { length text.now < 2 ^ 32 }
-        ensures { result ≡ table_reader text.now }
+        ensures { result ≡ anacron_table_reader text.now }
     {
         AnaLines {
             text,
@@ -61,7 +61,7 @@ impl<'a> AnaLines<'a> {
 
     /// What is left of the text.
     pub fn rest(&self) -> &'a str
-        ensures { result.now ≡ rest_of self.now }
+        ensures { result.now ≡ anacron_rest_of self.now }
     {
         self.rest
     }
@@ -84,9 +84,9 @@ impl<'a> AnaLines<'a> {
     /// | 19 | `START_HOURS_RANGE` is two hours from 0 to 24 that rise, with `-` between them | the value |
     /// | 20 | `RANDOM_DELAY` is 0 to 9,999 minutes | the value |
     pub fn next(&mut self) -> Option<Result<AnaLine<'a>, LineFault>>
-        ensures end { IsNone result ↔ (rest_of self.old ≡ []) }
+        ensures end { IsNone result ↔ (anacron_rest_of self.old ≡ []) }
         ensures none { IfNone result (self.new ≡ self.old) }
-        ensures line { IfSome result (ReadsLine self.old self.new) }
+        ensures line { IfSome result (ReadsAnacronLine self.old self.new) }
         ensures rises { IfSome result (λ _. self.old.place < self.new.place) }
         ensures within { IfSome result (λ handed. IfOk handed (λ line. IsBodyWithin line.body)) }
     {
@@ -102,9 +102,9 @@ impl<'a> AnaLines<'a> {
 // What a line says. Where it sets one of the settings, they are changed.
 fn read_line<'a>(settings: &mut Settings, line: &'a str) -> Result<AnaBody<'a>, Fault>
     requires { AreSettings settings.old }
-    ensures read { IfOk result (λ body. IsLineOf settings.old line.now (body_of body)) }
-    ensures sets { IfOk result (λ body. SetsBy (body_of body) settings.old settings.new) }
-    ensures fault { IfErr result (λ fault. IsLineBreak line.now fault.cause fault.left) }
+    ensures read { IfOk result (λ body. IsAnacronLineOf settings.old line.now (anacron_body_of body)) }
+    ensures sets { IfOk result (λ body. SetsBy (anacron_body_of body) settings.old settings.new) }
+    ensures fault { IfErr result (λ fault. IsAnacronLineBreak line.now fault.cause fault.left) }
     ensures unchanged { OnErr result (settings.new ≡ settings.old) }
     ensures kept { AreSettings settings.new }
     ensures within { IfOk result IsBodyWithin }

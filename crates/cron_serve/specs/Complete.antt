@@ -25,7 +25,7 @@ pub record Completes (source source' : SourceView) (sink sink' : SinkView) (end 
       → IsSomeAnd end.refusal (IsRefusedInput bytes) ⊎ (end.status ≡ 5)
 
 -- the source told these bytes, no read and no write failed, and the end is the one that they decide
-pub record AreDecided (source source' : SourceView) (sink sink' : SinkView) (end : RunEnd) (bytes : List ℕ) : Type 0 where
+pub record EndsUndisturbed (source source' : SourceView) (sink sink' : SinkView) (end : RunEnd) (bytes : List ℕ) : Type 0 where
   pub completes : Completes source source' sink sink' end
   pub told : source.left ≡ Some bytes
   pub read : ¬ Rose source.faults source'.faults

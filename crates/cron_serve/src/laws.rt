@@ -18,7 +18,7 @@ ghost use Rattle.launch_law.specs.Launched.{IsCalledAt, OpensBy};
 ghost use Rattle.launch_machine.specs.Starts.{StartsOf};
 ghost use Rattle.run_text.specs.Run.{Run};
 ghost use Rattle.run_text.specs.declared.refusal.Refusal.{Refusal};
-ghost use Rattle.cron_serve.specs.Complete.{AreDecided};
+ghost use Rattle.cron_serve.specs.Complete.{EndsUndisturbed};
 ghost use Rattle.cron_serve.specs.Ends.{Ends};
 ghost use Rattle.cron_serve.specs.Input.{IsTaken, IsRefusedInput, TakesNone};
 ghost use Rattle.cron_serve.specs.Serve.{IsNoted, IsRefused, IsReportOfInput, IsWholeRun};
@@ -102,9 +102,9 @@ pub fn a_note_is_whole_unless_it_fails()
 /// ends with its report, and any other input is refused, for the one thing that it is refused for.
 pub fn the_bytes_decide_the_end()
     ensures report { (source source' : SourceView) (sink sink' : SinkView) (end : RunEnd) (bytes : List ℕ) (run : Run) (table : Table)
-        → AreDecided source source' sink sink' end bytes → IsTaken bytes run table → (end.status ≡ 0) ⊎ (end.status ≡ 5) }
+        → EndsUndisturbed source source' sink sink' end bytes → IsTaken bytes run table → (end.status ≡ 0) ⊎ (end.status ≡ 5) }
     ensures refusal { (source source' : SourceView) (sink sink' : SinkView) (end : RunEnd) (bytes : List ℕ) (refusal : Refusal)
-        → AreDecided source source' sink sink' end bytes → IsRefusedInput bytes refusal → (end.refusal ≡ Some refusal) ⊎ (end.status ≡ 5) }
+        → EndsUndisturbed source source' sink sink' end bytes → IsRefusedInput bytes refusal → (end.refusal ≡ Some refusal) ⊎ (end.status ≡ 5) }
     ensures others { (source source' : SourceView) (sink sink' : SinkView) (end : RunEnd) (bytes : List ℕ)
-        → AreDecided source source' sink sink' end bytes → TakesNone bytes → IsSomeAnd end.refusal (IsRefusedInput bytes) ⊎ (end.status ≡ 5) }
+        → EndsUndisturbed source source' sink sink' end bytes → TakesNone bytes → IsSomeAnd end.refusal (IsRefusedInput bytes) ⊎ (end.status ≡ 5) }
 {}

@@ -2,7 +2,7 @@
 use Rattle.std.proofs.Common.{inl, inr, ℕ, ◌+◌, ◌<◌, Bool, true, false, List, [], ◌∷◌, ◌++◌, length, Option, None, Some, refl, sym, subst, codes, bytes_eq, append_assoc, if◌then◌else◌}
 use Rattle.std.proofs.lemmas.List.{append-nil}
 use Rattle.std.proofs.lemmas.List.Elements.{All-nil, All-cons, All-append}
-use Rattle.anacron_text.specs.LineBody.{LineBody as AnaBody, BlankBody as AnaBlank, CommentBody as AnaComment, AssignBody as AnaAssign, JobBody}
+use Rattle.anacron_text.specs.LineBody.{AnacronLineBody, BlankBody as AnaBlank, CommentBody as AnaComment, AssignBody as AnaAssign, JobBody}
 use Rattle.anacron_text.specs.LogicalLines.{joined, line_count}
 use Rattle.crontab_text.specs.LineBody.{LineBody, BlankBody, CommentBody, AssignBody, EntryBody, NickBody}
 use Rattle.crontab_text.specs.declared.answer.Style.{Style}
@@ -53,7 +53,7 @@ sound_behind : (zones : List NamedZone) (before front back : List Mark) → AreS
 sound_behind zones before [] back sound = subst (λ b. AreSoundBehind zones b back) (sym (append-nil before)) sound
 sound_behind zones before (m ∷ front) back sound = subst (λ b. AreSoundBehind zones b back) (append_assoc before (m ∷ []) front) (sound_behind zones (before ++ m ∷ []) front back sound.1)
 
-anacron_below : (zones : List NamedZone) (label : List ℕ) (zone line : ℕ) (lines : List (List ℕ)) (bodies : List AnaBody) → zone < 1 + length zones → Below zones (anacron_marks label zone line lines bodies)
+anacron_below : (zones : List NamedZone) (label : List ℕ) (zone line : ℕ) (lines : List (List ℕ)) (bodies : List AnacronLineBody) → zone < 1 + length zones → Below zones (anacron_marks label zone line lines bodies)
 anacron_below zones label zone line [] bodies is = All-nil (λ (job : Job). job.zone < 1 + length zones)
 anacron_below zones label zone line (text ∷ lines) [] is = All-nil (λ (job : Job). job.zone < 1 + length zones)
 anacron_below zones label zone line (text ∷ lines) (AnaBlank ∷ bodies) is = anacron_below zones label zone (line + line_count text) lines bodies is

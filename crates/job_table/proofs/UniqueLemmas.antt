@@ -4,7 +4,7 @@ use Rattle.std.specs.List.{AllZip}
 use Rattle.std.proofs.lemmas.List.{append-nil}
 use Rattle.std.proofs.lemmas.List.Elements.{All-head, All-tail}
 use Rattle.anacron_text.specs.Answers.{Said}
-use Rattle.anacron_text.specs.LineBody.{LineBody as AnaBody}
+use Rattle.anacron_text.specs.LineBody.{AnacronLineBody}
 use Rattle.anacron_text.specs.LogicalLines.{joined}
 use Rattle.anacron_text.specs.Settings.{no_settings}
 use Rattle.anacron_text.proofs.AnswerLemmas.{same_answers_below}
@@ -39,7 +39,7 @@ same_bodies style owner (l ∷ ls) (a ∷ as') (b ∷ bs) first second =
     let tail = same_bodies style owner ls as' bs first.1 second.1 in
     rw (head, tail) refl
 
-same_said : (a b : List AnaBody) → map Said a ≡ map Said b → a ≡ b
+same_said : (a b : List AnacronLineBody) → map Said a ≡ map Said b → a ≡ b
 same_said [] [] is = refl
 same_said [] (b ∷ bs) is = cc
 same_said (a ∷ as') [] is = cc

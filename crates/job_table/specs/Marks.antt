@@ -2,7 +2,7 @@
 use Rattle.std.specs.Prelude.{◌≡◌, ◌⊎◌, ℕ, ◌+◌, ◌*◌, List, [], ◌∷◌, ◌++◌, Option, None, Some, if◌then◌else◌, codes, decimal, map, bytes_eq}
 use Rattle.std.specs.List.{AllZip}
 use Rattle.anacron_text.specs.Answers.{Said, AreAnswersBelow}
-use Rattle.anacron_text.specs.LineBody.{LineBody as AnaBody, BlankBody as AnaBlank, CommentBody as AnaComment, AssignBody as AnaAssign, JobBody, Job as AnaJob}
+use Rattle.anacron_text.specs.LineBody.{AnacronLineBody, BlankBody as AnaBlank, CommentBody as AnaComment, AssignBody as AnaAssign, JobBody, Job as AnaJob}
 use Rattle.anacron_text.specs.LogicalLines.{joined, line_count}
 use Rattle.anacron_text.specs.Settings.{no_settings}
 use Rattle.anacron_text.specs.declared.answer.PeriodWord.{PeriodWord}
@@ -66,21 +66,21 @@ abbrev pub anacron_kind : AnaJob → JobKind
 anacron_kind job = Anacron (period_of job.period) (60 * job.first_hour + job.delay + job.added) (60 * job.last_hour)
 
 -- The marks of a logical line of an anacrontab, which begins at that line of the run file. No variable changes the zone there.
-abbrev pub anacron_mark : (label : List ℕ) → (zone line : ℕ) → AnaBody → List Mark
+abbrev pub anacron_mark : (label : List ℕ) → (zone line : ℕ) → AnacronLineBody → List Mark
 anacron_mark label zone line AnaBlank = []
 anacron_mark label zone line AnaComment = []
 anacron_mark label zone line (AnaAssign name value) = []
 anacron_mark label zone line (JobBody job) = MarksJob line (anacron_name label job.identifier) zone (anacron_kind job) ∷ []
 
 -- the marks of an anacrontab's logical lines, by what each says: a line that is continued takes up more lines of the run file
-abbrev pub anacron_marks : (label : List ℕ) → (zone line : ℕ) → List (List ℕ) → List AnaBody → List Mark
+abbrev pub anacron_marks : (label : List ℕ) → (zone line : ℕ) → List (List ℕ) → List AnacronLineBody → List Mark
 anacron_marks label zone line [] bodies = []
 anacron_marks label zone line (text ∷ lines) [] = []
 anacron_marks label zone line (text ∷ lines) (body ∷ bodies) =
     anacron_mark label zone line body ++ anacron_marks label zone (line + line_count text) lines bodies
 
 -- what each logical line of an anacrontab says
-abbrev pub AreAnacronBodies : List (List ℕ) → List AnaBody → Type 0
+abbrev pub AreAnacronBodies : List (List ℕ) → List AnacronLineBody → Type 0
 AreAnacronBodies lines bodies = AreAnswersBelow lines no_settings (map Said bodies)
 
 -- the marks of a section's lines, of a crontab in that style or else of an anacrontab, where the zone of that number is in force
@@ -89,7 +89,7 @@ AreTableMarks zones (Some style) section zone marks =
     (bodies : List LineBody) × AllZip (IsLineOf style section.label) section.lines bodies
     × (marks ≡ marks_from zones section.label zone (section.line + 1) 1 bodies)
 AreTableMarks zones None section zone marks =
-    (bodies : List AnaBody) × AreAnacronBodies (joined section.lines) bodies
+    (bodies : List AnacronLineBody) × AreAnacronBodies (joined section.lines) bodies
     × (marks ≡ anacron_marks section.label zone (section.line + 1) (joined section.lines) bodies)
 
 -- the marks of a section: the line that opens it names the zone of its first jobs

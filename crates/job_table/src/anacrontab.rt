@@ -1,7 +1,7 @@
 //! The jobs of an anacrontab, collected line by line.
 ghost use Rattle.std.specs.Prelude.{◌≡◌, ◌∷◌, [], ◌++◌, ◌+◌, ◌*◌, ◌<◌, ◌≤◌, ◌^◌, List, length, map, None, Ok, IfErr, OnOk, IsOk};
 ghost use Rattle.anacron_text.specs.Limits.{IsBodyWithin, IsJobWithin};
-ghost use Rattle.anacron_text.specs.LineBody.{body_of};
+ghost use Rattle.anacron_text.specs.LineBody.{anacron_body_of};
 ghost use Rattle.anacron_text.specs.LogicalLines.{joined};
 ghost use Rattle.anacron_text.specs.Settings.{no_settings};
 ghost use Rattle.crontab_text.specs.Lines.{lines_of};
@@ -76,9 +76,9 @@ fn add_line(
 ) -> Result<(), RunFault>
     requires { IsBodyWithin body }
     ensures added { OnOk result ((zones : List NamedZone)
-        → AddsMarks zones jobs.old jobs.new (anacron_mark label.now zone at (body_of body.entry))) }
+        → AddsMarks zones jobs.old jobs.new (anacron_mark label.now zone at (anacron_body_of body.entry))) }
     ensures refused { IfErr result (λ fault. IfRefused fault (λ refusal. (zones : List NamedZone)
-        → RefusesMarks zones jobs.old (anacron_mark label.now zone at (body_of body.entry)) refusal)) }
+        → RefusesMarks zones jobs.old (anacron_mark label.now zone at (anacron_body_of body.entry)) refusal)) }
 {
     match body {
         AnaBody::Blank | AnaBody::Comment | AnaBody::Assign { .. } => Ok(()),

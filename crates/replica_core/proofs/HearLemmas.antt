@@ -19,27 +19,27 @@ use Rattle.step_law.specs.Message.{Message, ballot_in, Prepare, Promise, Accept,
 use Rattle.step_law.specs.State.{Identity, State, prefix_of}
 use Rattle.step_law.specs.Step.{asks_change}
 use Rattle.replica_draft.specs.Draft.{Desk, Goes, done, drafted, said_by}
-use Rattle.replica_core.specs.Lines.{Does, IsKept}
+use Rattle.replica_core.specs.Lines.{Does, IsFixed}
 use Rattle.replica_core.specs.Heard.{HearsBy, ballot_named, changes_asked, changes_in, hear_in, line_in, message_in, shows_gap_in}
-use Rattle.replica_core.specs.Replica.{DoesAsTerm, Flies, Makes, idle_desk, identity_of, kept_of, next_slot, state_of}
+use Rattle.replica_core.specs.Replica.{DoesAsTerm, Flies, Makes, idle_desk, identity_of, fixed_of, next_slot, state_of}
 use Rattle.replica_draft.specs.declared.draft.Draft.{Draft}
 use Rattle.replica_core.specs.declared.parts.Core.{Core}
 use Rattle.replica_draft.proofs.DraftLemmas.{done-append, done-nil}
 use Rattle.replica_core.proofs.LineLemmas.{drafted-prefix}
 
 -- a replica keeps what its parts keep
-pub core-kept : (core : Core) → core.learner.base ≡ core.acceptor.base → IsKept core.acceptor core.learner (kept_of core)
+pub core-kept : (core : Core) → core.learner.base ≡ core.acceptor.base → IsFixed core.acceptor core.learner (fixed_of core)
 core-kept core base = record { acceptor = record { promised = refl; votes = refl; base = refl }; learned = refl; base = base }
 
 -- what a line of the table does, it does for the replica
 pub of_state : {X E : Type 0} (result : Result X E) (core : Core) (old new : Draft) (acts : State → List Act) → core.learner.base ≡ core.acceptor.base
     → OnOk result (Does core.acceptor core.learner old new acts) → OnOk result (HearsBy core old new acts)
-of_state (Ok value) core old new acts base does = does (kept_of core) (core-kept core base)
+of_state (Ok value) core old new acts base does = does (fixed_of core) (core-kept core base)
 of_state (Err fault) core old new acts base does = tt
 
 pub of_term : {X E : Type 0} (result : Result X E) (core : Core) (old new : Draft) (acts : Term → List Act) → core.learner.base ≡ core.acceptor.base
     → OnOk result (DoesAsTerm core old new acts) → OnOk result (HearsBy core old new (λ state. acts state.term))
-of_term (Ok value) core old new acts base does = does (kept_of core) (core-kept core base) refl
+of_term (Ok value) core old new acts base does = does (fixed_of core) (core-kept core base) refl
 of_term (Err fault) core old new acts base does = tt
 
 -- ---- A ballot is observed
@@ -65,8 +65,8 @@ heard-message : (core : Core) (old middle new : Draft) (self : Identity) (from :
 unfolding hear
 heard-message core old middle new self from message asked observed answered =
     answered
-    ∙ ap (λ (desk : Desk). done (line self from message asked desk.state) desk) (observed (kept_of core))
-    ∙ sym (done-append (Observe (ballot_in message) ∷ []) (line self from message asked (after_act (Observe (ballot_in message)) (drafted (kept_of core) old).state)) (drafted (kept_of core) old))
+    ∙ ap (λ (desk : Desk). done (line self from message asked desk.state) desk) (observed (fixed_of core))
+    ∙ sym (done-append (Observe (ballot_in message) ∷ []) (line self from message asked (after_act (Observe (ballot_in message)) (drafted (fixed_of core) old).state)) (drafted (fixed_of core) old))
 
 -- a packet is heard as its message; one that names no ballot and is no message changes nothing
 heard-packet : (core : Core) (old middle new : Draft) (self : Identity) (from : ℕ) (packet : Packet) (rest : List Packet) (asked : Bool) → Goes old middle (Observe (ballot_named packet) ∷ [])
@@ -81,7 +81,7 @@ heard-packet core old middle new self from (packet.Known slot entry) rest asked 
 heard-packet core old middle new self from (packet.AskFrom slot) rest asked observed answered = heard-message core old middle new self from (AskFrom slot) asked observed answered
 heard-packet core old middle new self from (packet.Snap slot count) rest asked observed answered = heard-message core old middle new self from (Snap slot (flat_map row_in (take count rest))) asked observed answered
 heard-packet core old middle new self from (packet.SnapRow slot row) rest asked observed answered =
-    answered ∙ ap (done []) (observed (kept_of core) ∙ sym (observe-none (drafted (kept_of core) old)))
+    answered ∙ ap (done []) (observed (fixed_of core) ∙ sym (observe-none (drafted (fixed_of core) old)))
 heard-packet core old middle new self from (packet.Lead ballot slot) rest asked observed answered = heard-message core old middle new self from (Lead ballot slot) asked observed answered
 
 -- the same, where its line was carried out
@@ -151,7 +151,7 @@ small_at jobs (packet ∷ packets) (suc place) none small within =
 
 -- what holds once the packets before a place were heard: what is left to hear leads to the same, with few changes and entries
 pub record Hearing (core : Core) (from : ℕ) (packets : List Packet) (place : ℕ) (asked : Bool) (draft : Draft) : Type 0 where
-  pub acts : done (hear_all (identity_of core) from (messages_of (drop place packets)) asked (drafted (kept_of core) draft).state) (drafted (kept_of core) draft) ≡ done (hear_all (identity_of core) from (messages_of packets) false (state_of core)) (idle_desk core)
+  pub acts : done (hear_all (identity_of core) from (messages_of (drop place packets)) asked (drafted (fixed_of core) draft).state) (drafted (fixed_of core) draft) ≡ done (hear_all (identity_of core) from (messages_of packets) false (state_of core)) (idle_desk core)
   pub flies : Flies core.learner draft
   pub once : changes_in draft.change + count_by asks_change (messages_of (drop place packets)) ≤ 1
   pub few : length draft.learnt.items ≤ place
@@ -169,11 +169,11 @@ pub hearing-next : (core : Core) (from : ℕ) (packets : List Packet) (packet : 
     → Hearing core from packets place asked old
     → HearsBy core old new (hear_in (identity_of core) from (message_in packet (drop (place + 1) packets)) asked) → Flies core.learner new
     → changes_in new.change ≤ changes_in old.change + changes_asked packet → length new.learnt.items ≤ length old.learnt.items + 1
-    → Hearing core from packets (place + 1) (asked || shows_gap_in packet (drafted (kept_of core) old).state) new
+    → Hearing core from packets (place + 1) (asked || shows_gap_in packet (drafted (fixed_of core) old).state) new
 hearing-next core from packets packet place asked old new at hearing heard flies once few =
     let self = identity_of core in
     let rest = drop (place + 1) packets in
-    let desk = drafted (kept_of core) old in
+    let desk = drafted (fixed_of core) old in
     let now = hear_in self from (message_in packet rest) asked desk.state in
     let after = asked || shows_gap_in packet desk.state in
     let later = hear_all self from (messages_of rest) after (after_acts now desk.state) in
@@ -197,10 +197,10 @@ pub hearing-all : (core : Core) (from : ℕ) (packets : List Packet) (place : �
 unfolding hear_all messages_of
 hearing-all core from packets place asked draft past hearing =
     let none : drop place packets ≡ [] = drop_all place packets past in
-    sym (done-nil (drafted (kept_of core) draft))
-    ∙ ap (λ (list : List Packet). done (hear_all (identity_of core) from (messages_of list) asked (drafted (kept_of core) draft).state) (drafted (kept_of core) draft)) (sym none)
+    sym (done-nil (drafted (fixed_of core) draft))
+    ∙ ap (λ (list : List Packet). done (hear_all (identity_of core) from (messages_of list) asked (drafted (fixed_of core) draft).state) (drafted (fixed_of core) draft)) (sym none)
     ∙ hearing.acts
 
 -- the first slot that isn't learned, in the words of the protocol
-pub next-drafted : (core : Core) (draft : Draft) → core.learner.base ≡ core.acceptor.base → next_slot core.learner draft ≡ prefix_of (drafted (kept_of core) draft).state
-next-drafted core draft base = sym (drafted-prefix core.acceptor core.learner draft (kept_of core) (core-kept core base))
+pub next-drafted : (core : Core) (draft : Draft) → core.learner.base ≡ core.acceptor.base → next_slot core.learner draft ≡ prefix_of (drafted (fixed_of core) draft).state
+next-drafted core draft base = sym (drafted-prefix core.acceptor core.learner draft (fixed_of core) (core-kept core base))

@@ -28,9 +28,9 @@ use Rattle.step_law.specs.Folds.{calls_by, deltas_by, learnt_by}
 use Rattle.step_law.specs.Message.{Accept, Known, Others, Outside, Prepare}
 use Rattle.step_law.specs.Propose.{answer, campaign, end_if, is_open, lead_if, lead_on, next_ballot, propose, tick, vote_of, wait}
 use Rattle.step_law.specs.State.{Identity, State, prefix_of}
-use Rattle.replica_draft.specs.Draft.{Chooses, Goes, Kept, done, drafted, said_by, with_best}
-use Rattle.replica_core.specs.Lines.{Does, IsKept}
-use Rattle.replica_core.specs.Replica.{FliesAt, IsReady, IsWhole, Makes, identity_of, idle_desk, kept_of, next_slot, state_of}
+use Rattle.replica_draft.specs.Draft.{Chooses, Goes, FixedParts, done, drafted, said_by, with_best}
+use Rattle.replica_core.specs.Lines.{Does, IsFixed}
+use Rattle.replica_core.specs.Replica.{FliesAt, IsReady, IsWhole, Makes, identity_of, idle_desk, fixed_of, next_slot, state_of}
 use Rattle.replica_core.specs.declared.parts.Core.{Core}
 use Rattle.replica_draft.specs.declared.draft.Change.TheVariants.{Tried}
 use Rattle.replica_draft.specs.declared.draft.Draft.{Draft}
@@ -83,10 +83,10 @@ bound-last slot votes last rise is = elim (leb_tells slot last.slot) [
 -- ---- From a step in which nothing was done
 
 -- a draft that goes on from nothing makes what it goes on by
-pub makes : (core : Core) (old new : Draft) (acts : List Act) → drafted (kept_of core) old ≡ idle_desk core → Goes old new acts → Makes core acts new
-makes core old new acts idle goes = goes (kept_of core) ∙ ap (done acts) idle
+pub makes : (core : Core) (old new : Draft) (acts : List Act) → drafted (fixed_of core) old ≡ idle_desk core → Goes old new acts → Makes core acts new
+makes core old new acts idle goes = goes (fixed_of core) ∙ ap (done acts) idle
 
-pub makes_nothing : (core : Core) (old : Draft) → drafted (kept_of core) old ≡ idle_desk core → Makes core [] old
+pub makes_nothing : (core : Core) (old : Draft) → drafted (fixed_of core) old ≡ idle_desk core → Makes core [] old
 makes_nothing core old idle = idle ∙ sym (done-nil (idle_desk core))
 
 pub nothing-learned : (learner : LearnerState) (draft : Draft) (slot : ℕ) → draft.learnt.items ≡ [] → slot ≡ learned.prefix_of learner → slot ≡ next_slot learner draft
@@ -114,7 +114,7 @@ pub leads_with : (term : Term) (ballot : ℕ) (best votes : List Vote) (flight o
 leads_with term ballot best votes flight other is same_flight same_votes = is ∙ rw (same_flight, same_votes) refl
 
 -- what the replica keeps is what its parts say
-own_kept : (core : Core) → IsWhole core → IsKept core.acceptor core.learner (kept_of core)
+own_kept : (core : Core) → IsWhole core → IsFixed core.acceptor core.learner (fixed_of core)
 own_kept core whole = record {
   acceptor = record { promised = refl; votes = refl; base = refl };
   learned = refl;
@@ -126,7 +126,7 @@ own-prefix core whole = ap (λ base. base + length core.learner.entries) whole.b
 
 -- ---- Propose
 
-chosen-acts : (kept : Kept) (old new : Draft) (slot : ℕ) (entry : Entry) → slot ≡ prefix_of (drafted kept old).state → Chooses old new slot entry
+chosen-acts : (kept : FixedParts) (old new : Draft) (slot : ℕ) (entry : Entry) → slot ≡ prefix_of (drafted kept old).state → Chooses old new slot entry
     → drafted kept new ≡ done (Learn slot entry ∷ Send Others (Known slot entry) ∷ []) (drafted kept old)
 chosen-acts kept old new slot entry at chooses =
     chooses.told kept
@@ -137,7 +137,7 @@ chosen-acts kept old new slot entry at chooses =
 abbrev pub proposed : ℕ → Vote → List Act
 proposed me vote = Propose me vote ∷ Send Others (Accept vote) ∷ []
 
-proposed-prefix : (kept : Kept) (old middle : Draft) (me : ℕ) (vote : Vote) → Goes old middle (proposed me vote) → prefix_of (drafted kept middle).state ≡ prefix_of (drafted kept old).state
+proposed-prefix : (kept : FixedParts) (old middle : Draft) (me : ℕ) (vote : Vote) → Goes old middle (proposed me vote) → prefix_of (drafted kept middle).state ≡ prefix_of (drafted kept old).state
 unfolding after_act after_delta
 proposed-prefix kept old middle me vote goes = ap (λ desk. prefix_of desk.state) (goes kept)
 
@@ -161,9 +161,9 @@ proposes-alone acceptor learner old middle sent new self vote alone at first sec
     ∙ ap (done (Learn vote.slot vote.entry ∷ Send Others (Known vote.slot vote.entry) ∷ [])) (goes kept)
     ∙ sym (done-append (proposed self.me vote) (Learn vote.slot vote.entry ∷ Send Others (Known vote.slot vote.entry) ∷ []) (drafted kept old)))
 
-pub makes_proposal : (core : Core) (old new : Draft) (vote : Vote) → IsWhole core → drafted (kept_of core) old ≡ idle_desk core
+pub makes_proposal : (core : Core) (old new : Draft) (vote : Vote) → IsWhole core → drafted (fixed_of core) old ≡ idle_desk core
     → Does core.acceptor core.learner old new (λ state. propose (identity_of core) vote) → Makes core (propose (identity_of core) vote) new
-makes_proposal core old new vote whole idle does = does (kept_of core) (own_kept core whole) ∙ ap (done (propose (identity_of core) vote)) idle
+makes_proposal core old new vote whole idle does = does (fixed_of core) (own_kept core whole) ∙ ap (done (propose (identity_of core) vote)) idle
 
 -- of what holds of a value that a call gave, what follows holds of it too
 pub if_ok : {X E : Type 0} (result : Result X E) (P Q : X → Type 0) → ((x : X) → P x → Q x) → IfOk result P → IfOk result Q
@@ -176,13 +176,13 @@ makes_as core draft acts these same is = is ∙ done_as (idle_desk core) acts th
 
 -- ---- Campaign
 
-stands : (core : Core) (old : Draft) (ballot first : ℕ) (own : List Vote) (term : Term) → drafted (kept_of core) old ≡ idle_desk core → old.learnt.items ≡ [] → old.call ≡ None
+stands : (core : Core) (old : Draft) (ballot first : ℕ) (own : List Vote) (term : Term) → drafted (fixed_of core) old ≡ idle_desk core → old.learnt.items ≡ [] → old.call ≡ None
     → first ≡ prefix_of (state_of core) → own ≡ votes_from first core.acceptor.votes → term ≡ candidacy core.members ballot first (only_member core.me) []
-    → drafted (kept_of core) (record old { best = Some own; change = Some (Tried ballot); term = term }) ≡ done (Stand core.me ballot ∷ lead_if core.members (only_member core.me)) (idle_desk core)
+    → drafted (fixed_of core) (record old { best = Some own; change = Some (Tried ballot); term = term }) ≡ done (Stand core.me ballot ∷ lead_if core.members (only_member core.me)) (idle_desk core)
 unfolding after_act deltas_by learnt_by said_by calls_by
 stands core old ballot first own term idle none no_call at votes begins =
     let seen : old.seen ≡ core.seen = ap (λ desk. desk.state.seen) idle in
-    let said : (drafted (kept_of core) old).said ≡ [] = ap (λ desk. desk.said) idle in
+    let said : (drafted (fixed_of core) old).said ≡ [] = ap (λ desk. desk.said) idle in
     elim (cases_Bool (has_majority core.members (only_member core.me))) [
       | inl alone ↦ rw (begins, alone, none, no_call, seen, said, votes, at, append-nil core.learner.entries) refl
       | inr not_alone ↦ rw (begins, not_alone, none, no_call, seen, said, votes, at, append-nil core.learner.entries) refl
@@ -199,13 +199,13 @@ turned core ballot first =
       | inr not_alone ↦ rw not_alone refl
     ]
 
-pub campaigns : (core : Core) (old new : Draft) (ballot first : ℕ) (own : List Vote) (term : Term) → drafted (kept_of core) old ≡ idle_desk core → old.learnt.items ≡ [] → old.call ≡ None
+pub campaigns : (core : Core) (old new : Draft) (ballot first : ℕ) (own : List Vote) (term : Term) → drafted (fixed_of core) old ≡ idle_desk core → old.learnt.items ≡ [] → old.call ≡ None
     → first ≡ prefix_of (state_of core) → own ≡ votes_from first core.acceptor.votes → term ≡ candidacy core.members ballot first (only_member core.me) [] → ballot ≡ next_ballot core.me (state_of core)
     → Goes (record old { best = Some own; change = Some (Tried ballot); term = term }) new (Send Others (Prepare ballot first) ∷ []) → Makes core (campaign (identity_of core) (state_of core)) new
 unfolding campaign
 campaigns core old new ballot first own term idle none no_call at votes begins next goes =
     rw (← next, ← at)
-    (goes (kept_of core)
+    (goes (fixed_of core)
     ∙ ap (done (Send Others (Prepare ballot first) ∷ [])) (stands core old ballot first own term idle none no_call at votes begins)
     ∙ sym (done-append (Stand core.me ballot ∷ lead_if core.members (only_member core.me)) (Send Others (Prepare ballot first) ∷ []) (idle_desk core))
     ∙ turned core ballot first)

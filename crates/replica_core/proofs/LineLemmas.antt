@@ -22,8 +22,8 @@ use Rattle.step_law.specs.Hear.{ask_below, is_vote_of, known_from, on_accept, on
 use Rattle.step_law.specs.Message.{AskFrom, Known, Nack, Only, Others, Promise}
 use Rattle.step_law.specs.State.{State, prefix_of, promised_in}
 use Rattle.step_law.specs.declared.out.LearntRow.{LearntRow}
-use Rattle.replica_draft.specs.Draft.{Chooses, Desk, Goes, Kept, LearnsNext, done, drafted, durable_of, entries_in, said_by, with_best}
-use Rattle.replica_core.specs.Lines.{Does, IsKept, cast_vote, tell_vote}
+use Rattle.replica_draft.specs.Draft.{Chooses, Desk, Goes, FixedParts, LearnsNext, done, drafted, durable_of, entries_in, said_by, with_best}
+use Rattle.replica_core.specs.Lines.{Does, IsFixed, cast_vote, tell_vote}
 use Rattle.replica_core.specs.Replica.{DoesAsTerm, Flies, best_in, next_slot}
 use Rattle.replica_core.specs.declared.parts.Core.{Core}
 use Rattle.replica_draft.specs.declared.draft.Change.{Change}
@@ -37,12 +37,12 @@ done_as desk acts these same = ap (λ list. done list desk) (sym same)
 
 -- a draft that goes on by acts does what comes to these acts
 pub does_as : (acceptor : AcceptorState) (learner : LearnerState) (old new : Draft) (acts : State → List Act) (these : List Act) → Goes old new these
-    → ((kept : Kept) → IsKept acceptor learner kept → acts (drafted kept old).state ≡ these) → Does acceptor learner old new acts
+    → ((kept : FixedParts) → IsFixed acceptor learner kept → acts (drafted kept old).state ≡ these) → Does acceptor learner old new acts
 does_as acceptor learner old new acts these goes same kept is = goes kept ∙ done_as (drafted kept old) (acts (drafted kept old).state) these (same kept is)
 
 -- nothing is done
 pub does_nothing : (acceptor : AcceptorState) (learner : LearnerState) (old : Draft) (acts : State → List Act)
-    → ((kept : Kept) → IsKept acceptor learner kept → acts (drafted kept old).state ≡ []) → Does acceptor learner old old acts
+    → ((kept : FixedParts) → IsFixed acceptor learner kept → acts (drafted kept old).state ≡ []) → Does acceptor learner old old acts
 does_nothing acceptor learner old acts same = does_as acceptor learner old old acts [] (λ kept. sym (done-nil (drafted kept old))) same
 
 -- no change of a draft moves the base
@@ -54,13 +54,13 @@ base_stays (Some (change.Promised ballot)) durable = refl
 base_stays (Some (change.Voted vote)) durable = refl
 
 -- the first slot that isn't learned is the learner's, and what the draft has learned
-pub drafted-prefix : (acceptor : AcceptorState) (learner : LearnerState) (draft : Draft) (kept : Kept) → IsKept acceptor learner kept
+pub drafted-prefix : (acceptor : AcceptorState) (learner : LearnerState) (draft : Draft) (kept : FixedParts) → IsFixed acceptor learner kept
     → prefix_of (drafted kept draft).state ≡ next_slot learner draft
 drafted-prefix acceptor learner draft kept is =
     rw (base_stays draft.change kept.durable, sym is.base, sym is.learned, length-append learner.entries (entries_in draft.learnt.items), length-map draft.learnt.items (λ (row : LearntRow). row.entry)) (omega arith)
 
 -- what is promised, where nothing is changed yet
-pub drafted-promised : (acceptor : AcceptorState) (learner : LearnerState) (draft : Draft) (kept : Kept) → draft.change ≡ None → IsKept acceptor learner kept
+pub drafted-promised : (acceptor : AcceptorState) (learner : LearnerState) (draft : Draft) (kept : FixedParts) → draft.change ≡ None → IsFixed acceptor learner kept
     → promised_in (drafted kept draft).state.kept ≡ unwrap_or acceptor.promised 0
 drafted-promised acceptor learner draft kept none is = rw (none, is.acceptor.promised) refl
 
@@ -112,7 +112,7 @@ asks_not acceptor learner old from slot reached =
     (λ kept is. rw (drafted-prefix acceptor learner old kept is, le-ltb (next_slot learner old) slot reached) refl)
 
 -- the prefix of a draft that has cast a vote
-cast-prefix : (kept : Kept) (old middle : Draft) (vote : Vote) → Goes old middle (Cast vote ∷ []) → prefix_of (drafted kept middle).state ≡ prefix_of (drafted kept old).state
+cast-prefix : (kept : FixedParts) (old middle : Draft) (vote : Vote) → Goes old middle (Cast vote ∷ []) → prefix_of (drafted kept middle).state ≡ prefix_of (drafted kept old).state
 unfolding after_act after_delta
 cast-prefix kept old middle vote goes = ap (λ desk. prefix_of desk.state) (goes kept)
 
@@ -217,7 +217,7 @@ abbrev pub passed : LearnerState → ℕ → ℕ
 passed learner slot = fresh_slot learner slot - learned.prefix_of learner
 
 -- what is told are the learner's entries from the slot on, and then those that the draft has learned
-ask-parts : (acceptor : AcceptorState) (learner : LearnerState) (old : Draft) (from slot : ℕ) (kept : Kept) → learner.base ≤ slot → IsKept acceptor learner kept
+ask-parts : (acceptor : AcceptorState) (learner : LearnerState) (old : Draft) (from slot : ℕ) (kept : FixedParts) → learner.base ≤ slot → IsFixed acceptor learner kept
     → on_ask from slot (drafted kept old).state
     ≡ send_all from (known_from slot (drop (slot - learner.base) learner.entries)) ++ send_all from (known_from (fresh_slot learner slot) (drop (passed learner slot) (entries_in old.learnt.items)))
 unfolding on_ask
@@ -263,7 +263,7 @@ ask-one acceptor learner old new from slot above_base none first =
 -- ---- Accepted
 
 -- a draft counts a vote for its flight
-counts : (kept : Kept) (old : Draft) (from own : ℕ) (votes : List Vote) (flight : Flight) → old.term ≡ Leader own votes (Some flight)
+counts : (kept : FixedParts) (old : Draft) (from own : ℕ) (votes : List Vote) (flight : Flight) → old.term ≡ Leader own votes (Some flight)
     → drafted kept (record old { term = Leader own votes (Some (accepted_by from flight)) }) ≡ done (Count from ∷ []) (drafted kept old)
 unfolding after_act deltas_by learnt_by said_by calls_by
 counts kept old from own votes flight is =
@@ -303,7 +303,7 @@ not_both option vote none some = absurd cc
 abbrev chosen_acts : ℕ → Flight → List Act
 chosen_acts from flight = Count from ∷ Learn flight.slot flight.entry ∷ Send Others (Known flight.slot flight.entry) ∷ []
 
-counted-chosen : (kept : Kept) (old new : Draft) (from own : ℕ) (votes : List Vote) (flight : Flight) → old.term ≡ Leader own votes (Some flight)
+counted-chosen : (kept : FixedParts) (old new : Draft) (from own : ℕ) (votes : List Vote) (flight : Flight) → old.term ≡ Leader own votes (Some flight)
     → flight.slot ≡ prefix_of (drafted kept old).state → Chooses (record old { term = Leader own votes None }) new flight.slot flight.entry
     → drafted kept new ≡ done (chosen_acts from flight) (drafted kept old)
 counted-chosen kept old new from own votes flight is at chooses =

@@ -20,7 +20,7 @@ use Rattle.launch_machine.specs.Answers.{IsIntent}
 use Rattle.launch_machine.specs.declared.machine.Intent.{Intent}
 use Rattle.replica_core.specs.declared.input.Input.TheVariants as input
 use Rattle.replica_draft.specs.Draft.{drafted, said_in, said_of}
-use Rattle.replica_core.specs.Replica.{Makes, identity_of, idle_desk, kept_of, state_of}
+use Rattle.replica_core.specs.Replica.{Makes, identity_of, idle_desk, fixed_of, state_of}
 use Rattle.replica_core.specs.Step.{Hears, MakesStep}
 use Rattle.replica_draft.specs.declared.draft.Draft.{Draft}
 use Rattle.replica_core.specs.declared.parts.Core.{Core}
@@ -49,7 +49,7 @@ read-from members from (packet ∷ packets) bytes spells =
     ltb-true from members (rw (named from packet) at below)
 
 -- a letter beyond the bounds is heard as one without messages
-pub hears-nothing : (jobs from : ℕ) (packets : List Packet) (core : Core) (draft : Draft) → is_small_letter jobs packets ≡ false → drafted (kept_of core) draft ≡ idle_desk core
+pub hears-nothing : (jobs from : ℕ) (packets : List Packet) (core : Core) (draft : Draft) → is_small_letter jobs packets ≡ false → drafted (fixed_of core) draft ≡ idle_desk core
     → Makes core (hear_all (identity_of core) from (heard_in jobs packets) false (state_of core)) draft
 unfolding hear_all
 hears-nothing jobs from packets core draft large idle = rw large (idle ∙ sym (done-nil (idle_desk core)))

@@ -19,7 +19,7 @@ use Rattle.replica_draft.specs.Draft.{drafted, durable_of, entries_in, with_best
 use Rattle.replica_draft.specs.declared.draft.Change.{Change}
 use Rattle.replica_draft.specs.declared.draft.Change.TheVariants as change
 use Rattle.replica_core.specs.Counts.{highest_count}
-use Rattle.replica_core.specs.Replica.{FliesAt, IsWhole, identity_of, kept_of, state_of}
+use Rattle.replica_core.specs.Replica.{FliesAt, IsWhole, identity_of, fixed_of, state_of}
 use Rattle.replica_draft.specs.declared.draft.Draft.{Draft}
 use Rattle.replica_core.specs.declared.parts.Core.{Core}
 use Rattle.replica_core.proofs.LineLemmas.{base_stays}
@@ -31,14 +31,14 @@ flies_bound slot best (Candidate ballot first heard votes) flies = flies
 flies_bound slot best (Leader ballot votes None) flies = flies
 flies_bound slot best (Leader ballot votes (Some flight)) flies = flies
 
-pub whole_after : (old new : Core) (draft : Draft) → IsWhole old → state_of new ≡ (drafted (kept_of old) draft).state → identity_of new ≡ identity_of old
+pub whole_after : (old new : Core) (draft : Draft) → IsWhole old → state_of new ≡ (drafted (fixed_of old) draft).state → identity_of new ≡ identity_of old
     → new.learner.base ≡ new.acceptor.base → FliesAt (prefix_of (state_of old) + length draft.learnt.items) draft.term
     → new.high_count ≡ highest_count new.machine.rows → IsWhole new
 whole_after old new draft whole state identity base flies counts =
     let me : new.me ≡ old.me = ap (λ identity. identity.me) identity in
     let members : new.members ≡ old.members = ap (λ identity. identity.members) identity in
     let entries : new.learner.entries ≡ old.learner.entries ++ entries_in draft.learnt.items = ap (λ state. state.learned) state in
-    let base_is : new.acceptor.base ≡ old.acceptor.base = ap (λ state. state.kept.base) state ∙ base_stays draft.change (kept_of old).durable in
+    let base_is : new.acceptor.base ≡ old.acceptor.base = ap (λ state. state.kept.base) state ∙ base_stays draft.change (fixed_of old).durable in
     let term : new.term ≡ with_best (unwrap_or draft.best (best_votes old.term)) draft.term = ap (λ state. state.term) state in
     let count : length new.learner.entries ≡ length old.learner.entries + length draft.learnt.items =
     ap length entries ∙ length-append old.learner.entries (entries_in draft.learnt.items) ∙ rw (length-map draft.learnt.items (λ (row : LearntRow). row.entry)) refl in
@@ -67,9 +67,9 @@ rows_stay (Some (change.Promised ballot)) durable = refl
 rows_stay (Some (change.Voted vote)) durable = refl
 
 -- the launch table is still that of the state, as what is learned is applied
-pub launches_after : (table : Table) (old new : Core) (draft : Draft) → state_of new ≡ (drafted (kept_of old) draft).state → IsLaunchTable table (state_of old) old.machine.rows
+pub launches_after : (table : Table) (old new : Core) (draft : Draft) → state_of new ≡ (drafted (fixed_of old) draft).state → IsLaunchTable table (state_of old) old.machine.rows
     → AppliesAll table old.machine.rows (entries_in draft.learnt.items) new.machine.rows → IsLaunchTable table (state_of new) new.machine.rows
 launches_after table old new draft state before applied =
-    let rows : new.rows ≡ old.rows = ap (λ state. state.kept.rows) state ∙ rows_stay draft.change (kept_of old).durable in
+    let rows : new.rows ≡ old.rows = ap (λ state. state.kept.rows) state ∙ rows_stay draft.change (fixed_of old).durable in
     let entries : new.learner.entries ≡ old.learner.entries ++ entries_in draft.learnt.items = ap (λ state. state.learned) state in
     rw (rows, entries) (applied_append table old.rows old.machine.rows new.machine.rows old.learner.entries (entries_in draft.learnt.items) before applied)

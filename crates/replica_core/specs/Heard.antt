@@ -9,7 +9,7 @@ use Rattle.step_law.specs.Heard.{row_in, vote_in}
 use Rattle.step_law.specs.Message.{Message, Prepare, Promise, Accept, Accepted, Nack, Known, AskFrom, Snap, Lead, Mention}
 use Rattle.step_law.specs.State.{State, Identity, prefix_of}
 use Rattle.replica_draft.specs.Draft.{done, drafted}
-use Rattle.replica_core.specs.Replica.{kept_of}
+use Rattle.replica_core.specs.Replica.{fixed_of}
 use Rattle.replica_draft.specs.declared.draft.Change.{Change}
 use Rattle.replica_draft.specs.declared.draft.Draft.{Draft}
 use Rattle.replica_core.specs.declared.parts.Core.{Core}
@@ -72,4 +72,4 @@ changes_in (Some change) = 1
 -- a draft of a replica goes on by the acts that its state asks for
 abbrev pub HearsBy : Core → Draft → Draft → (State → List Act) → Type 0
 HearsBy core old new acts =
-    drafted (kept_of core) new ≡ done (acts (drafted (kept_of core) old).state) (drafted (kept_of core) old)
+    drafted (fixed_of core) new ≡ done (acts (drafted (fixed_of core) old).state) (drafted (fixed_of core) old)

@@ -14,8 +14,8 @@ use Rattle.term_core.specs.declared.term.Term.TheVariants.{Leader}
 use Rattle.launch_machine.specs.Machine.{Launches}
 use Rattle.step_law.specs.State.{State, Identity, prefix_of}
 use Rattle.step_law.specs.Act.{Act}
-use Rattle.replica_draft.specs.Draft.{Desk, Kept, delta_of, done, drafted}
-use Rattle.replica_core.specs.Lines.{IsKept}
+use Rattle.replica_draft.specs.Draft.{Desk, FixedParts, delta_of, done, drafted}
+use Rattle.replica_core.specs.Lines.{IsFixed}
 use Rattle.replica_core.specs.Counts.{highest_count}
 use Rattle.replica_core.specs.declared.parts.Core.{Core}
 use Rattle.replica_draft.specs.declared.draft.Change.{Change}
@@ -60,16 +60,16 @@ replica_of core =
     }
 
 -- what a planned step doesn't change
-abbrev pub kept_in : ReplicaState → Kept
-kept_in replica = record { durable = replica.state.kept; learned = replica.state.learned; best = best_votes replica.state.term }
+abbrev pub fixed_in : ReplicaState → FixedParts
+fixed_in replica = record { durable = replica.state.kept; learned = replica.state.learned; best = best_votes replica.state.term }
 
 -- a step in which nothing was done yet
 abbrev pub idle_in : ReplicaState → Desk
 idle_in replica = record { state = replica.state; deltas = []; learnt = []; said = []; calls = [] }
 
 -- what a draft of a replica doesn't change
-abbrev pub kept_of : Core → Kept
-kept_of core = kept_in (replica_of core)
+abbrev pub fixed_of : Core → FixedParts
+fixed_of core = fixed_in (replica_of core)
 
 -- one replica is as another, but for the room that it has
 pub record IsAlikeCore (one other : Core) : Type 0 where
@@ -112,7 +112,7 @@ abbrev pub Flies : LearnerState → Draft → Type 0
 Flies learns draft = FliesAt (next_slot learns draft) draft.term
 
 -- a draft's flight stands there still, and what is to be stored is as before
-pub record Keeps (learns : LearnerState) (old new : Draft) : Type 0 where
+pub record KeepsLearned (learns : LearnerState) (old new : Draft) : Type 0 where
   pub flies : Flies learns old → Flies learns new
   pub change : new.change ≡ old.change
 
@@ -123,7 +123,7 @@ best_in core draft = unwrap_or draft.best (best_votes core.term)
 -- a draft goes on by the acts that its term asks for
 abbrev pub DoesAsTerm : Core → Draft → Draft → (Term → List Act) → Type 0
 DoesAsTerm core old new acts =
-    (kept : Kept) → IsKept core.acceptor core.learner kept → kept.best ≡ best_votes core.term → drafted kept new ≡ done (acts (drafted kept old).state.term) (drafted kept old)
+    (kept : FixedParts) → IsFixed core.acceptor core.learner kept → kept.best ≡ best_votes core.term → drafted kept new ≡ done (acts (drafted kept old).state.term) (drafted kept old)
 
 -- a step of a replica in which nothing was done yet
 abbrev pub idle_desk : Core → Desk
@@ -131,7 +131,7 @@ idle_desk core = idle_in (replica_of core)
 
 -- a draft does just these acts
 abbrev pub Makes : Core → List Act → Draft → Type 0
-Makes core acts draft = drafted (kept_of core) draft ≡ done acts (idle_desk core)
+Makes core acts draft = drafted (fixed_of core) draft ≡ done acts (idle_desk core)
 
 -- What a replica needs to be at a step so that its numbers fit: the rounds of the ballots that it has tried and seen, the first slot
 -- that it has not learned, and the counts of its rows are within bounds.

@@ -18,7 +18,7 @@ use Rattle.step_law.specs.Step.{Event, IsLaunchTable, Plan, step}
 use Rattle.step_law.specs.Step as told
 use Rattle.replica_draft.specs.Draft.{done, drafted, entries_in}
 use Rattle.replica_draft.specs.Letters.{AreLettersFrom}
-use Rattle.replica_core.specs.Replica.{FliesAt, Makes, ReplicaState, identity_of, idle_in, kept_in, replica_of, state_of, votes_of}
+use Rattle.replica_core.specs.Replica.{FliesAt, Makes, ReplicaState, identity_of, idle_in, fixed_in, replica_of, state_of, votes_of}
 use Rattle.replica_draft.specs.declared.draft.Draft.{Draft}
 use Rattle.replica_core.specs.declared.input.Input.{Input}
 use Rattle.replica_core.specs.declared.input.Input.TheVariants.{Campaign, Tick, Hear, Answer}
@@ -90,7 +90,7 @@ pub record Hears (table : Table) (bytes : List ℕ) (core : Core) (draft : Draft
 
 -- a step is planned that does these acts
 pub record Plans (replica : ReplicaState) (acts : List Act) (planned : Planned) : Type 0 where
-  pub makes : drafted (kept_in replica) planned.draft ≡ done acts (idle_in replica)
+  pub makes : drafted (fixed_in replica) planned.draft ≡ done acts (idle_in replica)
   pub letters : AreLettersFrom replica.identity acts planned.letters
 
 -- a step of the replica at an input is planned

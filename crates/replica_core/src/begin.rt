@@ -2,7 +2,7 @@
 ghost use Rattle.std.specs.Prelude.{◌≡◌, None, []};
 ghost use Rattle.term_core.specs.Term.{best_votes};
 ghost use Rattle.replica_draft.specs.Draft.{drafted, with_best};
-ghost use Rattle.replica_core.specs.Replica.{idle_desk, kept_of};
+ghost use Rattle.replica_core.specs.Replica.{idle_desk, fixed_of};
 
 use crate::parts::Core;
 use paxos_base::VoteList;
@@ -41,7 +41,7 @@ fn outline(alloc: Global, term: &Term) -> Term
 impl Core {
     /// A step in which nothing was done yet.
     pub fn begin(&self) -> Draft
-        ensures idle { drafted (kept_of self.now) result ≡ idle_desk self.now }
+        ensures idle { drafted (fixed_of self.now) result ≡ idle_desk self.now }
         ensures best { result.best ≡ None }
         ensures change { result.change ≡ None }
         ensures call { result.call ≡ None }

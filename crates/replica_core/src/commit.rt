@@ -13,7 +13,7 @@ ghost use Rattle.term_core.specs.Term.{best_votes};
 ghost use Rattle.replica_core.specs.Commit.{kept_by};
 ghost use Rattle.replica_core.specs.Counts.{count_ended, count_of, highest_count};
 ghost use Rattle.replica_draft.specs.Draft.{delta_of, drafted, durable_of, entries_in, with_best};
-ghost use Rattle.replica_core.specs.Replica.{CountsBelow, HasRoomFor, IsAlikeCore, identity_of, kept_of, state_of, votes_of};
+ghost use Rattle.replica_core.specs.Replica.{CountsBelow, HasRoomFor, IsAlikeCore, identity_of, fixed_of, state_of, votes_of};
 
 use crate::out::{LearntList, StepOut};
 use crate::parts::Core;
@@ -109,7 +109,7 @@ impl Core {
         requires few { length draft.learnt.items < 2 ^ 31 }
         requires prefix { prefix_of (state_of self.old) < 2 ^ 62 }
         requires base { self.old.learner.base ≡ self.old.acceptor.base }
-        ensures state { state_of self.new ≡ (drafted (kept_of self.old) draft).state }
+        ensures state { state_of self.new ≡ (drafted (fixed_of self.old) draft).state }
         ensures machine { AppliesAll table.now self.old.machine.rows (entries_in draft.learnt.items) self.new.machine.rows }
         ensures stands { StandsFor table.now self.new.machine }
         ensures identity { identity_of self.new ≡ identity_of self.old }

@@ -10,7 +10,7 @@ ghost use Rattle.step_law.specs.Letters.{is_small, is_small_letter};
 ghost use Rattle.step_law.specs.Step.{asks_change};
 ghost use Rattle.replica_draft.specs.Draft.{Goes, drafted};
 ghost use Rattle.replica_core.specs.Heard.{HearsBy, ballot_named, changes_asked, changes_in, hear_in, line_in, message_in, shows_gap_in};
-ghost use Rattle.replica_core.specs.Replica.{Flies, IsReady, IsSmall, IsWhole, Makes, identity_of, kept_of, state_of};
+ghost use Rattle.replica_core.specs.Replica.{Flies, IsReady, IsSmall, IsWhole, Makes, identity_of, fixed_of, state_of};
 
 use crate::parts::Core;
 use cron_io::OutOfMemory;
@@ -76,7 +76,7 @@ impl Core {
     fn shows_gap(&self, draft: &Draft, packet: &Packet) -> bool
         requires prefix { prefix_of self.now.learner < 2 ^ 62 }
         requires base { self.now.learner.base ≡ self.now.acceptor.base }
-        ensures { result ≡ shows_gap_in packet.now (drafted (kept_of self.now) draft.now).state }
+        ensures { result ≡ shows_gap_in packet.now (drafted (fixed_of self.now) draft.now).state }
     {
         match packet {
             Packet::Known { slot, .. } => self.next_slot(draft) < *slot,

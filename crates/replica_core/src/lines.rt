@@ -8,7 +8,7 @@ ghost use Rattle.step_law.specs.Heard.{vote_in};
 ghost use Rattle.step_law.specs.Hear.{ask_below, on_accept, on_accepted, on_ask, on_known, on_prepare, on_promise};
 ghost use Rattle.replica_draft.specs.Draft.{SendsOnly};
 ghost use Rattle.replica_core.specs.Lines.{Does, cast_vote, tell_vote};
-ghost use Rattle.replica_core.specs.Replica.{DoesAsTerm, Flies, Keeps, best_in, next_slot};
+ghost use Rattle.replica_core.specs.Replica.{DoesAsTerm, Flies, KeepsLearned, best_in, next_slot};
 
 use crate::parts::Core;
 use acceptor_core::{AcceptAnswer, PrepareAnswer};
@@ -104,7 +104,7 @@ impl Core {
         requires few { self.now.members ≤ 7 }
         requires from { from < self.now.members }
         ensures does { OnOk result (DoesAsTerm self.now draft.old draft.new (on_promise self.now.members from ballot slot (flat_map vote_in (take count rest.now)))) }
-        ensures keeps { OnOk result (Keeps self.now.learner draft.old draft.new) }
+        ensures keeps { OnOk result (KeepsLearned self.now.learner draft.old draft.new) }
         ensures learnt { OnOk result (draft.new.learnt.items ≡ draft.old.learnt.items) }
     {
         if !draft.term.has_asked(ballot, slot) {
@@ -197,7 +197,7 @@ impl Core {
         requires prefix { prefix_of self.now.learner < 2 ^ 62 }
         requires flies { Flies self.now.learner draft.old }
         ensures does { OnOk result (DoesAsTerm self.now draft.old draft.new (on_accepted self.now.members from ballot slot)) }
-        ensures keeps { OnOk result (Keeps self.now.learner draft.old draft.new) }
+        ensures keeps { OnOk result (KeepsLearned self.now.learner draft.old draft.new) }
         ensures few { OnOk result (length draft.new.learnt.items ≤ length draft.old.learnt.items + 1) }
     {
         match draft.term.on_accepted(from, ballot, slot, self.members) {
@@ -218,7 +218,7 @@ impl Core {
         requires prefix { prefix_of self.now.learner < 2 ^ 62 }
         requires slot { slot < 2 ^ 62 }
         ensures does { OnOk result (Does self.now.acceptor self.now.learner draft.old draft.new (on_known from slot entry asked)) }
-        ensures keeps { OnOk result (Keeps self.now.learner draft.old draft.new) }
+        ensures keeps { OnOk result (KeepsLearned self.now.learner draft.old draft.new) }
         ensures few { OnOk result (length draft.new.learnt.items ≤ length draft.old.learnt.items + 1) }
     {
         if slot == self.next_slot(draft) {

@@ -18,7 +18,7 @@ use Rattle.step_law.proofs.VoteLemmas.{known-push}
 use Rattle.step_law.specs.Message.{Message, Whom, Only, Known, Promise}
 use Rattle.step_law.specs.State.{State, prefix_of}
 use Rattle.step_law.specs.declared.out.LearntRow.{LearntRow}
-use Rattle.replica_draft.specs.Draft.{Desk, Goes, Kept, LearnsNext, SendsOnly, done, drafted, entries_in, said_by, said_in, said_of, with_best}
+use Rattle.replica_draft.specs.Draft.{Desk, Goes, FixedParts, LearnsNext, SendsOnly, done, drafted, entries_in, said_by, said_in, said_of, with_best}
 use Rattle.replica_draft.specs.declared.draft.Change.TheVariants.{Promised, Voted}
 use Rattle.replica_draft.specs.declared.draft.Draft.{Draft}
 
@@ -41,7 +41,7 @@ with_best-after_advance best prefix (Leader own votes (Some flight)) = refl
 pub done-quiet : (desk : Desk) (state : State) → record { state = state; deltas = desk.deltas ++ []; learnt = desk.learnt ++ []; said = desk.said ++ []; calls = desk.calls ++ [] } ≡ record desk { state = state }
 done-quiet desk state = rw (append-nil desk.deltas, append-nil desk.learnt, append-nil desk.said, append-nil desk.calls) refl
 
-pub drafted-observe : (kept : Kept) (old : Draft) (term : Term) (seen ballot : ℕ) → seen ≡ max old.seen ballot → term ≡ after_ballot ballot old.term
+pub drafted-observe : (kept : FixedParts) (old : Draft) (term : Term) (seen ballot : ℕ) → seen ≡ max old.seen ballot → term ≡ after_ballot ballot old.term
     → drafted kept (record old { seen = seen; term = term }) ≡ done (Observe ballot ∷ []) (drafted kept old)
 unfolding after_act deltas_by learnt_by said_by calls_by
 drafted-observe kept old term seen ballot seen_is term_is =
@@ -55,18 +55,18 @@ drafted-observe kept old term seen ballot seen_is term_is =
       append-nil (drafted kept old).calls,
     ) refl
 
-pub drafted-pledge : (kept : Kept) (old : Draft) (ballot : ℕ) → old.change ≡ None
+pub drafted-pledge : (kept : FixedParts) (old : Draft) (ballot : ℕ) → old.change ≡ None
     → drafted kept (record old { change = Some (Promised ballot) }) ≡ done (Pledge ballot ∷ []) (drafted kept old)
 unfolding after_act deltas_by learnt_by said_by calls_by
 drafted-pledge kept old ballot none = rw (none, append-nil old.learnt.items, append-nil (drafted kept old).said, append-nil (drafted kept old).calls) refl
 
-pub drafted-cast : (kept : Kept) (old : Draft) (vote : Vote) → old.change ≡ None
+pub drafted-cast : (kept : FixedParts) (old : Draft) (vote : Vote) → old.change ≡ None
     → drafted kept (record old { change = Some (Voted vote) }) ≡ done (Cast vote ∷ []) (drafted kept old)
 unfolding after_act deltas_by learnt_by said_by calls_by
 drafted-cast kept old vote none = rw (none, append-nil old.learnt.items, append-nil (drafted kept old).said, append-nil (drafted kept old).calls) refl
 
 -- an entry is learned, where its slot is the first that isn't
-pub drafted-learn : (kept : Kept) (old new : Draft) (slot : ℕ) (entry : Entry) → LearnsNext old new slot entry → slot ≡ prefix_of (drafted kept old).state
+pub drafted-learn : (kept : FixedParts) (old new : Draft) (slot : ℕ) (entry : Entry) → LearnsNext old new slot entry → slot ≡ prefix_of (drafted kept old).state
     → drafted kept new ≡ done (Learn slot entry ∷ []) (drafted kept old)
 unfolding after_act deltas_by learnt_by said_by calls_by
 drafted-learn kept old new slot entry learns at =
@@ -90,7 +90,7 @@ drafted-learn kept old new slot entry learns at =
     ) refl)
 
 -- packets are sent that spell a message
-pub drafted-send : (kept : Kept) (old new : Draft) (whom : Whom) (message : Message) → SendsOnly old new
+pub drafted-send : (kept : FixedParts) (old new : Draft) (whom : Whom) (message : Message) → SendsOnly old new
     → map said_in new.sends.items ≡ map said_in old.sends.items ++ map (λ (packet : Packet). (whom, packet)) (packets_of message)
     → drafted kept new ≡ done (Send whom message ∷ []) (drafted kept old)
 unfolding after_act deltas_by learnt_by said_by calls_by
@@ -170,7 +170,7 @@ map_twice f g [] = refl
 map_twice f g (x ∷ xs) = ap (λ rest. f (g x) ∷ rest) (map_twice f g xs)
 
 -- a promise is sent, and then its votes
-pub promised : (kept : Kept) (old middle new : Draft) (to ballot slot : ℕ) (votes : List Vote) → SendsOnly old middle → SendsOnly middle new
+pub promised : (kept : FixedParts) (old middle new : Draft) (to ballot slot : ℕ) (votes : List Vote) → SendsOnly old middle → SendsOnly middle new
     → map said_in middle.sends.items ≡ map said_in old.sends.items ++ (Only to, packet.Promise ballot slot (length votes)) ∷ []
     → map said_in new.sends.items ≡ map said_in middle.sends.items ++ map (λ vote. (Only to, old_vote ballot vote)) votes
     → drafted kept new ≡ done (Send (Only to) (Promise ballot slot votes) ∷ []) (drafted kept old)

@@ -9,7 +9,7 @@ use Rattle.term_core.specs.declared.term.Term.TheVariants.{Follower, Candidate, 
 use Rattle.cluster_sched.specs.declared.row.SchedRow.{SchedRow}
 use Rattle.step_law.specs.Act.{Call, Propose, Wait, after_act}
 use Rattle.step_law.specs.Folds.{calls_by, deltas_by, learnt_by}
-use Rattle.replica_draft.specs.Draft.{Kept, done, drafted, said_by, with_best}
+use Rattle.replica_draft.specs.Draft.{FixedParts, done, drafted, said_by, with_best}
 use Rattle.replica_draft.specs.declared.draft.Change.TheVariants.{Voted}
 use Rattle.replica_draft.specs.declared.draft.Draft.{Draft}
 
@@ -25,7 +25,7 @@ with_best-after_tick best (Candidate own first heard votes) = refl
 with_best-after_tick best (Leader own votes None) = refl
 with_best-after_tick best (Leader own votes (Some flight)) = refl
 
-pub drafted-launch : (kept : Kept) (old : Draft) (term : Term) (me : ℕ) (vote : Vote) → old.change ≡ None → term ≡ after_proposal vote.slot vote.entry me old.term
+pub drafted-launch : (kept : FixedParts) (old : Draft) (term : Term) (me : ℕ) (vote : Vote) → old.change ≡ None → term ≡ after_proposal vote.slot vote.entry me old.term
     → drafted kept (record old { term = term; change = Some (Voted vote) }) ≡ done (Propose me vote ∷ []) (drafted kept old)
 unfolding after_act deltas_by learnt_by said_by calls_by
 drafted-launch kept old term me vote none is =
@@ -38,7 +38,7 @@ drafted-launch kept old term me vote none is =
       append-nil (drafted kept old).calls,
     ) refl
 
-pub drafted-wait : (kept : Kept) (old : Draft) (term : Term) → term ≡ after_tick old.term
+pub drafted-wait : (kept : FixedParts) (old : Draft) (term : Term) → term ≡ after_tick old.term
     → drafted kept (record old { term = term }) ≡ done (Wait ∷ []) (drafted kept old)
 unfolding after_act deltas_by learnt_by said_by calls_by
 drafted-wait kept old term is =
@@ -51,7 +51,7 @@ drafted-wait kept old term is =
       append-nil (drafted kept old).calls,
     ) refl
 
-pub drafted-call : (kept : Kept) (old : Draft) (row : SchedRow) → old.call ≡ None
+pub drafted-call : (kept : FixedParts) (old : Draft) (row : SchedRow) → old.call ≡ None
     → drafted kept (record old { call = Some row }) ≡ done (Call row ∷ []) (drafted kept old)
 unfolding after_act deltas_by learnt_by said_by calls_by
 drafted-call kept old row none =

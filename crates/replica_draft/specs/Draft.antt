@@ -26,7 +26,7 @@ use Rattle.replica_draft.specs.declared.draft.Target.{Target}
 use Rattle.replica_draft.specs.declared.draft.Target.TheVariants as target
 
 -- what a draft doesn't change: what the replica keeps, has learned, and the votes that bind its term
-pub record Kept : Type 0 where
+pub record FixedParts : Type 0 where
   pub durable : Durable
   pub learned : List Entry
   pub best : List Vote
@@ -90,7 +90,7 @@ abbrev pub entries_in : List LearntRow → List Entry
 entries_in rows = map (λ (row : LearntRow). row.entry) rows
 
 -- what a draft stands for
-abbrev pub drafted : Kept → Draft → Desk
+abbrev pub drafted : FixedParts → Draft → Desk
 drafted kept draft =
     record {
       state = record {
@@ -118,7 +118,7 @@ done acts desk =
 
 -- a draft goes on by these acts, whatever replica it is of
 abbrev pub Goes : Draft → Draft → List Act → Type 0
-Goes old new acts = (kept : Kept) → drafted kept new ≡ done acts (drafted kept old)
+Goes old new acts = (kept : FixedParts) → drafted kept new ≡ done acts (drafted kept old)
 
 -- a draft is as it was, but for what is sent
 pub record SendsOnly (old new : Draft) : Type 0 where

@@ -1,18 +1,18 @@
 -- What the logical lines of an anacrontab come to (anacrontab(5) of cronie).
 use Rattle.std.specs.Prelude.{◌≡◌, ℕ, ◌+◌, List, ◌∷◌, ◌++◌, ⊤}
 use Rattle.std.specs.List.{AllByRecursion, sum_by}
-use Rattle.anacron_text.specs.Answers.{LineAnswer, Said, Broken, IsLineFault, AreAnswersBelow}
+use Rattle.anacron_text.specs.Answers.{AnacronLineAnswer, Said, Broken, IsAnacronLineFault, AreAnswersBelow}
 use Rattle.anacron_text.specs.LogicalLines.{line_count}
 use Rattle.anacron_text.specs.declared.settings.Settings.{Settings}
 
 -- the answer is that the line says something
-abbrev pub IsSaid : LineAnswer → Type 0
+abbrev pub IsSaid : AnacronLineAnswer → Type 0
 IsSaid (Said body) = ⊤
 IsSaid (Broken cause place) = ⊥
 
 -- each of the logical lines says something, the first of them below these settings
 pub record SayAll (settings : Settings) (lines : List (List ℕ)) : Type 0 where
-  pub answers : List LineAnswer
+  pub answers : List AnacronLineAnswer
   pub are : AreAnswersBelow lines settings answers
   pub said : AllByRecursion IsSaid answers
 
@@ -23,5 +23,5 @@ pub record IsFirstBreak (settings : Settings) (lines : List (List ℕ)) (number 
   pub back : List (List ℕ)
   pub parts : lines ≡ front ++ line ∷ back
   pub before : SayAll settings front
-  pub here : IsLineFault line cause place
+  pub here : IsAnacronLineFault line cause place
   pub number_is : number ≡ sum_by line_count front + 1

@@ -3,7 +3,7 @@ ghost use Rattle.std.specs.Prelude.{◌≡◌, ◌≤◌, ◌+◌, ◌<◌, ◌^
 ghost use Rattle.std.specs.List.{AllByRecursion};
 ghost use Rattle.anacron_text.specs.LogicalLines.{logical_lines};
 ghost use Rattle.anacron_text.specs.Settings.{no_settings};
-ghost use Rattle.anacron_text.specs.TableReader.{table_reader as anacron_reader};
+ghost use Rattle.anacron_text.specs.TableReader.{anacron_table_reader};
 ghost use Rattle.crontab_text.specs.Lines.{lines_of};
 ghost use Rattle.crontab_text.specs.TableReader.{table_reader};
 ghost use Rattle.run_text.specs.Anacrontab.{SayAll, IsFirstBreak};
@@ -90,7 +90,7 @@ fn crontab_fault(lines: &mut Lines<'_>) -> Option<LineFault>
 
 // The first logical line of an anacrontab that says nothing.
 fn anacrontab_fault(lines: &mut AnaLines<'_>) -> Option<LineFault>
-    requires { lines.old ≡ anacron_reader lines.old.text }
+    requires { lines.old ≡ anacron_table_reader lines.old.text }
     ensures fault { IfSome result (λ fault. IsFirstBreak no_settings (logical_lines lines.old.text) fault.line fault.cause fault.place) }
     ensures none { IfNone result (SayAll no_settings (logical_lines lines.old.text)) }
     ensures within { IfSome result (λ fault. fault.line ≤ length lines.old.text) }

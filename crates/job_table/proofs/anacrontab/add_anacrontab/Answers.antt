@@ -1,8 +1,8 @@
 use Rattle.std.proofs.Common.{◌+◌, List, map, refl, subst, arith}
 use Rattle.std.specs.Prelude.{IfOk}
 use Rattle.anacron_text.specs.Limits.{IsBodyWithin}
-use Rattle.anacron_text.specs.LineBody.{body_of}
-use Rattle.anacron_text.specs.Reader.{ReadsLine}
+use Rattle.anacron_text.specs.LineBody.{anacron_body_of}
+use Rattle.anacron_text.specs.Reader.{ReadsAnacronLine}
 use Rattle.run_text.specs.Run.{NamedZone, section_of, zone_of}
 use Rattle.job_table.specs.Collect.{RefusesSection, RefusesMarks}
 use Rattle.job_table.specs.Marks.{anacron_mark}
@@ -20,7 +20,7 @@ said-line-requires c =
 
 pub overflow_add-at : goal.overflow_add-at
 overflow_add-at c =
-    let reads = subst (ReadsLine c.lines.lines c.next.new.self) c.said-line.ensures c.in-Some.ensures.line in
+    let reads = subst (ReadsAnacronLine c.lines.lines c.next.new.self) c.said-line.ensures c.in-Some.ensures.line in
     let within = next_within (map zone_of c.args.zones.now) (section_of c.args.section.now) c.args.zone c.args.section.now.text.now c.lines.lines c.next.new.self c.args.jobs.now c.lines.jobs c.said-line.result c.lines.invariant reads in
     omega (arith, within, c.requires.lines)
 
@@ -30,9 +30,9 @@ add_line-requires c = subst (λ r. IfOk r (λ l. IsBodyWithin l.body)) c.said-li
 pub returns-in_err-add_line-clause-refused : goal.returns-in_err-add_line-clause-refused
 returns-in_err-add_line-clause-refused c =
     let zones = map zone_of c.args.zones.now in
-    let reads = subst (ReadsLine c.lines.lines c.next.new.self) c.said-line.ensures c.in-Some.ensures.line in
+    let reads = subst (ReadsAnacronLine c.lines.lines c.next.new.self) c.said-line.ensures c.in-Some.ensures.line in
     handed_on c.from_residual.result c.in_err-add_line.field-0.0
-    (λ refusal. (named : List NamedZone) → RefusesMarks named c.lines.jobs (anacron_mark c.args.section.now.label.now c.args.zone (c.args.section.now.line + c.said-line.result.number) (body_of c.said-line.result.body)) refusal)
+    (λ refusal. (named : List NamedZone) → RefusesMarks named c.lines.jobs (anacron_mark c.args.section.now.label.now c.args.zone (c.args.section.now.line + c.said-line.result.number) (anacron_body_of c.said-line.result.body)) refusal)
     (RefusesSection zones c.args.jobs.now (section_of c.args.section.now)) c.from_residual.ensures.1
     (λ refusal refuses. line_refused zones (section_of c.args.section.now) c.args.zone c.args.section.now.text.now c.lines.lines c.next.new.self (c.args.section.now.line + c.said-line.result.number) c.args.jobs.now c.lines.jobs c.said-line.result refusal
     c.requires.style c.requires.number refl c.lines.invariant reads refl (refuses zones))
@@ -40,7 +40,7 @@ returns-in_err-add_line-clause-refused c =
 
 pub lines-preserved : goal.lines-preserved
 lines-preserved c =
-    let reads = subst (ReadsLine c.lines.lines c.next.new.self) c.said-line.ensures c.in-Some.ensures.line in
+    let reads = subst (ReadsAnacronLine c.lines.lines c.next.new.self) c.said-line.ensures c.in-Some.ensures.line in
     walking_next (map zone_of c.args.zones.now) (section_of c.args.section.now) c.args.zone c.args.section.now.text.now c.lines.lines c.next.new.self (c.args.section.now.line + c.said-line.result.number) c.args.jobs.now c.lines.jobs c.add_line.new.jobs
     c.said-line.result c.lines.invariant reads refl (c.in_ok-add_line.ensures.added (map zone_of c.args.zones.now))
 

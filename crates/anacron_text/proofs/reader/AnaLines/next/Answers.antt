@@ -1,7 +1,7 @@
 use Rattle.std.proofs.Common.{arith}
 use Rattle.std.proofs.lemmas.Result.{IfErr-at_err}
 use Rattle.crontab_text.proofs.ReaderLemmas.{IsLeft}
-use Rattle.anacron_text.specs.Answers.{IsLineBreak}
+use Rattle.anacron_text.specs.Answers.{IsAnacronLineBreak}
 use Rattle.anacron_text.proofs.AnswerLemmas.{line_break_within}
 use Rattle.anacron_text.proofs.ReaderLemmas.{behind_line, reads_line}
 use Rattle.anacron_text.proofs.reader.AnaLines.next.Goals as goal
@@ -9,7 +9,7 @@ use Rattle.anacron_text.proofs.reader.AnaLines.next.Goals as goal
 pub numbered-requires-clause-within : goal.numbered-requires-clause-within
 numbered-requires-clause-within c = λ fault is.
     line_break_within c.in_ok-line.line.now fault.cause fault.left
-    (IfErr-at_err (λ e. IsLineBreak c.in_ok-line.line.now e.cause e.left) is c.read_line.ensures.fault)
+    (IfErr-at_err (λ e. IsAnacronLineBreak c.in_ok-line.line.now e.cause e.left) is c.read_line.ensures.fault)
 
 pub invariant_of-self : goal.invariant_of-self
 invariant_of-self c =
