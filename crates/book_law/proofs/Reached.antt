@@ -34,8 +34,9 @@ use Rattle.step_law.proofs.OutLemmas.{calls_in}
 use Rattle.agree_law.specs.Transition as taken
 use Rattle.agree_law.specs.Transition.{AreTransitions, MayTake, acts_of, after_transition, after_transitions, is_silent}
 use Rattle.agree_law.specs.World.{CastVote, Learning, World, after_all, doings_of, first_world, with_replica}
-use Rattle.book_law.specs.Book.{PostedLetter, Row, Standing, acts_at, after_row, answer_of, is_name, under, with_fact, after_stop, durable_after, first_standing, identity, kept_at, learned_in, post, standing_after, turn_of, votes_in, votes_of}
-use Rattle.book_law.specs.Legal.{IsEventOf, IsLegal, IsMade, MayFollow, StopsWithin, Takes, answered}
+use Rattle.book_law.specs.Book.{PostedLetter, Row, Standing, acts_at, after_row, answer_to, is_name, under, with_fact, after_stop, durable_after, first_standing, kept_at, learned_in, post, standing_after, turn_of, votes_in, votes_of}
+use Rattle.agree_law.specs.Transition.{identity_of}
+use Rattle.book_law.specs.Legal.{IsEventOfCause, IsLegal, IsMade, MayFollow, StopsWithin, TakesTurn, answered}
 use Rattle.book_law.specs.declared.turn.CallRow.{CallRow}
 use Rattle.step_law.specs.Letters.{AreLettersOf, IsHeardAs, IsSpelled, is_small_letter}
 use Rattle.book_law.specs.declared.turn.Cause.{Cause}
@@ -168,7 +169,7 @@ quiet_acts n jobs st votes learned w who event answer acts m = record {
 }
 
 -- acts of a step, with its letters
-step_acts : (n jobs : ℕ) (st : Standing) (votes : List CastVote) (learned : List Learning) (w : World) (who : ℕ) (event : Option Event) (answer : Option Kind) (acts : List Act) (letters : List OutLetter) → AreLettersOf (identity n who) acts letters → Matches n jobs st votes learned w → Matches n jobs (record st { replicas = with_replica who (after_acts acts (st.replicas who)) st.replicas; posted = st.posted ++ post who letters }) (votes ++ cast_rows who (votes_of acts)) (learned ++ learned_rows who (learnt_of acts)) (after_all (doings_of who event answer acts) w)
+step_acts : (n jobs : ℕ) (st : Standing) (votes : List CastVote) (learned : List Learning) (w : World) (who : ℕ) (event : Option Event) (answer : Option Kind) (acts : List Act) (letters : List OutLetter) → AreLettersOf (identity_of n who) acts letters → Matches n jobs st votes learned w → Matches n jobs (record st { replicas = with_replica who (after_acts acts (st.replicas who)) st.replicas; posted = st.posted ++ post who letters }) (votes ++ cast_rows who (votes_of acts)) (learned ++ learned_rows who (learnt_of acts)) (after_all (doings_of who event answer acts) w)
 step_acts n jobs st votes learned w who event answer acts letters spelled m =
     let quiet = quiet_acts n jobs st votes learned w who event answer acts m in
     record {
@@ -182,7 +183,7 @@ step_acts n jobs st votes learned w who event answer acts letters spelled m =
         | inl old ↦ quiet.said letter messages old heard
         | inr now ↦
             let came = map_came _ letters letter now in
-            let beside = zip_beside (IsSpelled n who) (letters_of (identity n who) acts) letters came.of spelled came.has in
+            let beside = zip_beside (IsSpelled n who) (letters_of (identity_of n who) acts) letters came.of spelled came.has in
             new_letter letter messages came.of beside.of came.is beside.has beside.is heard
       ];
       answers = quiet.answers;
@@ -191,15 +192,15 @@ step_acts n jobs st votes learned w who event answer acts letters spelled m =
     w' : World
     w' = after_all (doings_of who event answer acts) w
 
-    new_letter : (letter : PostedLetter) (messages : List Message) (sent : OutLetter) (addressed : Addressed) → record { from = who; to = sent.to; bytes = sent.bytes } ≡ letter → Contains (letters_of (identity n who) acts) addressed → IsSpelled n who addressed sent → IsHeardAs n jobs letter.bytes letter.from messages → AllByRecursion (WasSaid (after_all (doings_of who event answer acts) w).said letter.from) messages
+    new_letter : (letter : PostedLetter) (messages : List Message) (sent : OutLetter) (addressed : Addressed) → record { from = who; to = sent.to; bytes = sent.bytes } ≡ letter → Contains (letters_of (identity_of n who) acts) addressed → IsSpelled n who addressed sent → IsHeardAs n jobs letter.bytes letter.from messages → AllByRecursion (WasSaid (after_all (doings_of who event answer acts) w).said letter.from) messages
     new_letter letter messages sent addressed is there spells heard =
         let posted : PostedLetter = record { from = who; to = sent.to; bytes = sent.bytes } in
         subst (λ (l : PostedLetter). AllByRecursion (WasSaid (after_all (doings_of who event answer acts) w).said l.from) messages) is
         (spelled_said n jobs (after_all (doings_of who event answer acts) w).said who addressed.messages messages sent.bytes spells.spells
-        (λ message has. all_said who event answer acts w message (addressed_sends (identity n who) acts addressed message there has))
+        (λ message has. all_said who event answer acts w message (addressed_sends (identity_of n who) acts addressed message there has))
         (subst (λ (l : PostedLetter). IsHeardAs n jobs l.bytes l.from messages) (sym is) heard))
 
-heard_event : (n : ℕ) (table : Table) (st : Standing) (votes : List CastVote) (learned : List Learning) (w : World) (who : ℕ) (cause : Cause) (event : Event) → Matches n (length table.jobs) st votes learned w → IsEventOf n table st who cause event → TellsWhatWasSaid (record { self = identity n who; table = table; event = Some event; said = w.said; answered = w.answered }) event
+heard_event : (n : ℕ) (table : Table) (st : Standing) (votes : List CastVote) (learned : List Learning) (w : World) (who : ℕ) (cause : Cause) (event : Event) → Matches n (length table.jobs) st votes learned w → IsEventOfCause n table st who cause event → TellsWhatWasSaid (record { self = identity_of n who; table = table; event = Some event; said = w.said; answered = w.answered }) event
 heard_event n table st votes learned w who cause.Campaign event m is = rw is tt
 heard_event n table st votes learned w who (cause.Tick now) event m (inside, plan, is) = rw is tt
 heard_event n table st votes learned w who (cause.Hear number) event m is =
@@ -207,7 +208,7 @@ heard_event n table st votes learned w who (cause.Hear number) event m is =
 heard_event n table st votes learned w who cause.Answer event m is = rw is.is (m.answers who is.row is.waits)
 
 -- what a replica takes in a book it may take in the world
-may_take : (n : ℕ) (table : Table) (st : Standing) (votes : List CastVote) (learned : List Learning) (w : World) (who : ℕ) (cause : Cause) (event : Event) → Matches n (length table.jobs) st votes learned w → Takes n table st who cause event → MayTake n table w who event
+may_take : (n : ℕ) (table : Table) (st : Standing) (votes : List CastVote) (learned : List Learning) (w : World) (who : ℕ) (cause : Cause) (event : Event) → Matches n (length table.jobs) st votes learned w → TakesTurn n table st who cause event → MayTake n table w who event
 may_take n table st votes learned w who cause event m takes = record {
   member = takes.member;
   planned = subst (λ s. IsPlanned table s event) (sym (m.replicas who)) takes.planned;
@@ -226,7 +227,7 @@ kind_of_row None = None
 kind_of_row (Some row) = Some row.kind
 
 abbrev kind_of_answer : Option CallRow → Option Kind
-kind_of_answer made = kind_of_row (answer_of made)
+kind_of_answer made = kind_of_row (answer_to made)
 
 -- a row that is held under a name is of that name
 under_named : (name : Name) (held : List SchedRow) (row : SchedRow) → under name held ≡ Some row → (row.name.job ≡ name.job) × (row.name.at ≡ name.at)
@@ -253,9 +254,9 @@ call_named LostAfter row (Some first) answer named is = absurd cc
 call_named Late row (Some first) answer named is = let same : first ≡ answer = cc in rw (← same) (named first refl)
 
 -- an answer was given to a call that a step asks for, of the same name
-answer_called : (held calls : List SchedRow) (made : Option CallRow) (answer : SchedRow) → IsMade held calls made → answer_of made ≡ Some answer
+answer_called : (held calls : List SchedRow) (made : Option CallRow) (answer : SchedRow) → IsMade held calls made → answer_to made ≡ Some answer
     → (row : SchedRow) × Contains calls row × (answer.name.job ≡ row.name.job) × (answer.name.at ≡ row.name.at)
-answer_called held [] made answer is_made is = absurd (let none : None ≡ Some answer = subst (λ m. answer_of m ≡ Some answer) is_made is in cc)
+answer_called held [] made answer is_made is = absurd (let none : None ≡ Some answer = subst (λ m. answer_to m ≡ Some answer) is_made is in cc)
 answer_called held (row ∷ calls) None answer is_made is = absurd is_made
 answer_called held (row ∷ calls) (Some made) answer (one, called, came) is =
     let named = call_named made.fate row (under row.name held) answer (under_named row.name held) (sym came ∙ is) in
@@ -270,10 +271,10 @@ told_so who event acts w row answer calls jobs ats =
 
 -- the answer that waits for a replica after its step was given, now or before
 answers_after : (n jobs : ℕ) (st : Standing) (votes : List CastVote) (learned : List Learning) (w : World) (who : ℕ) (event : Option Event) (acts : List Act) (made : Option CallRow) → Matches n jobs st votes learned w → IsMade st.held (calls_of acts) made
-    → (q : ℕ) (row : SchedRow) → with_fact who (answer_of made) st.waits q ≡ Some row → Contains (after_all (doings_of who event (kind_of_answer made) acts) w).answered (ending_of q row)
+    → (q : ℕ) (row : SchedRow) → with_fact who (answer_to made) st.waits q ≡ Some row → Contains (after_all (doings_of who event (kind_of_answer made) acts) w).answered (ending_of q row)
 answers_after n jobs st votes learned w who event acts made m is_made q row is = elim (cases_Bool (eqb q who)) [
   | inl here ↦
-      let now : answer_of made ≡ Some row = rw here at is in
+      let now : answer_to made ≡ Some row = rw here at is in
       let same : q ≡ who = eqb-true q who here in
       let called = answer_called st.held (calls_of acts) made row is_made now in
       let kind : kind_of_answer made ≡ Some row.kind = ap kind_of_row now in
@@ -286,7 +287,7 @@ answers_after n jobs st votes learned w who event acts made m is_made q row is =
 did : (n : ℕ) (table : Table) (st : Standing) (votes : List CastVote) (learned : List Learning) (w : World) (who : ℕ) (cause : Cause) (row : Row) (made : Option CallRow) → Matches n (length table.jobs) st votes learned w → MayFollow n table st (Did who cause made) row → Goes n table w (after_row n st (Did who cause made) row.event row.letters) (votes ++ cast_rows who row.votes) (learned ++ learned_rows who row.learnt)
 unfolding after_row
 did n table st votes learned w who cause row made m (takes, brings) =
-    let acts : step (identity n who) row.event (w.replicas who) ≡ acts_at n st who row.event = ap (step (identity n who) row.event) (m.replicas who) in
+    let acts : step (identity_of n who) row.event (w.replicas who) ≡ acts_at n st who row.event = ap (step (identity_of n who) row.event) (m.replicas who) in
     let after = step_acts n (length table.jobs) st votes learned w who (Some row.event) (kind_of_answer made) (acts_at n st who row.event) row.letters brings.letters m in
     let same = matches_as n (length table.jobs) _ (after_row n st (Did who cause made) row.event row.letters) _ (votes ++ cast_rows who row.votes) _ (learned ++ learned_rows who row.learnt) _
     (λ q. refl) refl (answers_after n (length table.jobs) st votes learned w who (Some row.event) (acts_at n st who row.event) made m brings.call)
@@ -327,11 +328,11 @@ stopped n table st votes learned w who row kept m member is no_vote none = recor
     still = quiet_acts n (length table.jobs) st votes learned w who None None (Restart who ∷ []) m
 
 -- a replica that stops within a step, and has kept its change
-stopped_kept : (n : ℕ) (table : Table) (st : Standing) (votes : List CastVote) (learned : List Learning) (w : World) (who : ℕ) (cause : Cause) (row : Row) → Matches n (length table.jobs) st votes learned w → Takes n table st who cause row.event → StopsWithin n st who row true → Goes n table w (after_stop who (kept_at n st who row.event true) st) (votes ++ cast_rows who row.votes) (learned ++ learned_rows who row.learnt)
+stopped_kept : (n : ℕ) (table : Table) (st : Standing) (votes : List CastVote) (learned : List Learning) (w : World) (who : ℕ) (cause : Cause) (row : Row) → Matches n (length table.jobs) st votes learned w → TakesTurn n table st who cause row.event → StopsWithin n st who row true → Goes n table w (after_stop who (kept_at n st who row.event true) st) (votes ++ cast_rows who row.votes) (learned ++ learned_rows who row.learnt)
 unfolding after_act
 stopped_kept n table st votes learned w who cause row m takes within = record {
   turns = taken.Stopped who row.event (front_of acts) (back_of acts) ∷ taken.Restarted who ∷ [];
-  are = ((may_take n table st votes learned w who cause row.event m takes, ap (step (identity n who) row.event) (m.replicas who) ∙ parts_of acts), (takes.member, tt));
+  are = ((may_take n table st votes learned w who cause row.event m takes, ap (step (identity_of n who) row.event) (m.replicas who) ∙ parts_of acts), (takes.member, tt));
   matches = matches_as n (length table.jobs) _ (after_stop who (kept_at n st who row.event true) st) _ (votes ++ cast_rows who row.votes) learned (learned ++ learned_rows who row.learnt) _
       (λ q. with_eq who _ _ st1.replicas st1.replicas q (ap (started who) is_kept) (λ p. refl) ∙ with_twice who (after_acts silent (st.replicas who)) (started who (kept_at n st who row.event true)) st.replicas q)
       refl (λ q answer waits. still.answers q answer (none_waits who st.waits q answer waits)) cast_is (no_learned who learned row.learnt within.learnt)

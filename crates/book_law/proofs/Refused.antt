@@ -9,7 +9,8 @@ use Rattle.step_law.specs.Folds.{calls_of, deltas_of, learnt_of, calls_by, learn
 use Rattle.step_law.specs.Propose.{campaign, tick}
 use Rattle.step_law.specs.Step.{IsPlanned, step}
 use Rattle.step_law.specs.Step as told
-use Rattle.book_law.specs.Book.{PostedLetter, Row, Standing, acts_at, after_row, votes_of, identity, post, standing_after}
+use Rattle.book_law.specs.Book.{PostedLetter, Row, Standing, acts_at, after_row, votes_of, post, standing_after}
+use Rattle.agree_law.specs.Transition.{identity_of}
 use Rattle.book_law.specs.Legal.{IsMade, MayFollow}
 use Rattle.step_law.specs.Letters.{AreLettersOf}
 use Rattle.book_law.specs.Some.{beginning, no_jobs}
@@ -62,9 +63,9 @@ no_votes_of_a_campaign row (takes, brings) =
 pub one_letter_of_a_campaign : (row : Row) → MayFollow 2 no_jobs beginning (Did 0 Campaign None) row → length row.letters ≡ 1
 unfolding step campaign sent_by with_member
 one_letter_of_a_campaign row (takes, brings) =
-    one row.letters (subst (λ event. AreLettersOf (identity 2 0) (acts_at 2 beginning 0 event) row.letters) takes.event_of brings.letters)
+    one row.letters (subst (λ event. AreLettersOf (identity_of 2 0) (acts_at 2 beginning 0 event) row.letters) takes.event_of brings.letters)
   where
-    one : (letters : List OutLetter) → AreLettersOf (identity 2 0) (campaign (identity 2 0) (beginning.replicas 0)) letters → length letters ≡ 1
+    one : (letters : List OutLetter) → AreLettersOf (identity_of 2 0) (campaign (identity_of 2 0) (beginning.replicas 0)) letters → length letters ≡ 1
     one [] zips = absurd zips
     one (letter ∷ []) zips = refl
     one (letter ∷ other ∷ letters) zips = absurd zips.1
@@ -95,13 +96,13 @@ pub no_other_addressee : (first row : Row) (made : Option CallRow) → first.tur
 unfolding step campaign sent_by with_member after_row
 no_other_addressee first row made is may (takes, brings) =
     let began : MayFollow 2 no_jobs beginning (Did 0 Campaign None) first = subst (λ turn. MayFollow 2 no_jobs beginning turn first) is may in
-    let letters : AreLettersOf (identity 2 0) (campaign (identity 2 0) (beginning.replicas 0)) first.letters =
-    subst (λ event. AreLettersOf (identity 2 0) (acts_at 2 beginning 0 event) first.letters) began.0.event_of began.1.letters in
+    let letters : AreLettersOf (identity_of 2 0) (campaign (identity_of 2 0) (beginning.replicas 0)) first.letters =
+    subst (λ event. AreLettersOf (identity_of 2 0) (acts_at 2 beginning 0 event) first.letters) began.0.event_of began.1.letters in
     let there : slice_get (post 0 first.letters) 0 ≡ Some takes.event_of.letter =
     subst (λ turn. slice_get (after_row 2 beginning turn first.event first.letters).posted 0 ≡ Some takes.event_of.letter) is takes.event_of.there in
     to_one first.letters letters takes.event_of.letter there takes.event_of.to
   where
-    to_one : (letters : List OutLetter) → AreLettersOf (identity 2 0) (campaign (identity 2 0) (beginning.replicas 0)) letters → (letter : PostedLetter) → slice_get (post 0 letters) 0 ≡ Some letter → letter.to ≡ 0 → ⊥
+    to_one : (letters : List OutLetter) → AreLettersOf (identity_of 2 0) (campaign (identity_of 2 0) (beginning.replicas 0)) letters → (letter : PostedLetter) → slice_get (post 0 letters) 0 ≡ Some letter → letter.to ≡ 0 → ⊥
     to_one [] zips letter there to = absurd zips
     to_one (sent ∷ letters) zips letter there to =
         let posted : PostedLetter = record { from = 0; to = sent.to; bytes = sent.bytes } in

@@ -16,7 +16,7 @@ use Rattle.step_law.specs.Folds.{calls_of}
 use Rattle.step_law.specs.Step.{Event}
 use Rattle.step_law.specs.Step as told
 use Rattle.step_law.specs.declared.out.OutLetter.{OutLetter}
-use Rattle.book_law.specs.Book.{Row, Standing, acts_at, after_row, answer_of, arriving, held_after, is_name, turn_of, under, with_fact}
+use Rattle.book_law.specs.Book.{Row, Standing, acts_at, after_row, answer_to, arriving, held_after, is_name, turn_of, under, with_fact}
 use Rattle.book_law.specs.Legal.{IsMade, MayFollow, answered}
 use Rattle.book_law.specs.declared.turn.CallRow.{CallRow}
 use Rattle.book_law.specs.declared.turn.Cause.{Cause}
@@ -126,7 +126,7 @@ waits_stopped members standing who cause kept event letters = fact_here who None
 
 pub waits_others : (members : ℕ) (standing : Standing) (turn : Turn) (event : Event) (letters : List OutLetter) (other : ℕ) → other ≢ turn_of turn → (after_row members standing turn event letters).waits other ≡ standing.waits other
 unfolding after_row
-waits_others members standing (Did who cause made) event letters other apart = fact_there who (answer_of made) standing.waits other apart
+waits_others members standing (Did who cause made) event letters other apart = fact_there who (answer_to made) standing.waits other apart
 waits_others members standing (Stopped who cause kept) event letters other apart = fact_there who None standing.waits other apart
 waits_others members standing (Restarted who) event letters other apart = refl
 waits_others members standing (Arrived number) event letters other apart = refl

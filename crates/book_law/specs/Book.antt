@@ -13,9 +13,10 @@ use Rattle.cluster_sched.specs.declared.row.Name.{Name}
 use Rattle.cluster_sched.specs.declared.row.SchedRow.{SchedRow}
 use Rattle.step_law.specs.Act.{Act, Cast, Propose}
 use Rattle.step_law.specs.Folds.{after_acts, deltas_of}
-use Rattle.step_law.specs.State.{Identity, State, started}
+use Rattle.step_law.specs.State.{State, started}
 use Rattle.step_law.specs.Step.{Event, step}
 use Rattle.step_law.specs.declared.out.LearntRow.{LearntRow}
+use Rattle.agree_law.specs.Transition.{identity_of}
 use Rattle.agree_law.specs.World.{CastVote, Learning, fresh, with_replica}
 use Rattle.book_law.specs.declared.turn.CallRow.{CallRow}
 use Rattle.book_law.specs.declared.turn.Turn.{Turn}
@@ -49,10 +50,6 @@ pub record Standing : Type 0 where
   pub late : List SchedRow
   pub arrived : List ℕ
 
--- a replica of so many
-abbrev pub identity : ℕ → ℕ → Identity
-identity members who = record { me = who; members = members }
-
 -- the standing with which a book of so many replicas begins: each of them runs, and has nothing but these rows
 abbrev pub first_standing : ℕ → List JobRow → Standing
 first_standing members rows =
@@ -68,7 +65,7 @@ first_standing members rows =
 
 -- the acts of a replica's step
 abbrev pub acts_at : ℕ → Standing → ℕ → Event → List Act
-acts_at members standing who event = step (identity members who) event (standing.replicas who)
+acts_at members standing who event = step (identity_of members who) event (standing.replicas who)
 
 -- a fact of each replica, with that of one of them changed
 abbrev pub with_fact : {A : Type 0} → ℕ → A → (ℕ → A) → ℕ → A
@@ -98,9 +95,9 @@ late_after None held late = late
 late_after (Some made) held late = late ++ (call made.fate made.row (under made.row.name held)).late
 
 -- the row that answered a call, where one did
-abbrev pub answer_of : Option CallRow → Option SchedRow
-answer_of None = None
-answer_of (Some made) = made.answer
+abbrev pub answer_to : Option CallRow → Option SchedRow
+answer_to None = None
+answer_to (Some made) = made.answer
 
 -- the letters of a replica, in a book
 abbrev pub post : ℕ → List OutLetter → List PostedLetter
@@ -121,7 +118,7 @@ after_step members who event made letters standing =
     record {
       replicas = with_replica who (after_acts (acts_at members standing who event) (standing.replicas who)) standing.replicas;
       runs = standing.runs;
-      waits = with_fact who (answer_of made) standing.waits;
+      waits = with_fact who (answer_to made) standing.waits;
       posted = standing.posted ++ post who letters;
       held = held_after made standing.held;
       late = late_after made standing.held standing.late;

@@ -12,7 +12,8 @@ use Rattle.step_law.specs.Folds.{calls_of, deltas_of, learnt_of}
 use Rattle.step_law.specs.Message.{Message}
 use Rattle.step_law.specs.Step.{Event, IsPlanned, Plan}
 use Rattle.step_law.specs.Step as told
-use Rattle.book_law.specs.Book.{PostedLetter, Row, Standing, acts_at, identity, late_call, standing_after, under, vote_of_delta, votes_of}
+use Rattle.book_law.specs.Book.{PostedLetter, Row, Standing, acts_at, late_call, standing_after, under, vote_of_delta, votes_of}
+use Rattle.agree_law.specs.Transition.{identity_of}
 use Rattle.step_law.specs.Letters.{AreLettersOf, IsHeardAs}
 use Rattle.book_law.specs.declared.turn.CallRow.{CallRow}
 use Rattle.book_law.specs.declared.turn.Cause.{Cause}
@@ -37,18 +38,18 @@ pub record IsAnswered (standing : Standing) (who : ℕ) (event : Event) : Type 0
   pub is : event ≡ told.Answer row.name.job row.name.at row.kind plan.rows
 
 -- what a cause tells the replica: a campaign or a tick at any time, a letter that was sent to it, an answer that waits
-abbrev pub IsEventOf : ℕ → Table → Standing → (who : ℕ) → Cause → Event → Type 0
-IsEventOf members table standing who Campaign event = event ≡ told.Campaign
-IsEventOf members table standing who (Tick now) event =
+abbrev pub IsEventOfCause : ℕ → Table → Standing → (who : ℕ) → Cause → Event → Type 0
+IsEventOfCause members table standing who Campaign event = event ≡ told.Campaign
+IsEventOfCause members table standing who (Tick now) event =
     IsInWindow table.window now.0 × (plan : Plan) × (event ≡ told.Tick now.0 plan)
-IsEventOf members table standing who (Hear number) event = IsHeard members (length table.jobs) standing who number event
-IsEventOf members table standing who Answer event = IsAnswered standing who event
+IsEventOfCause members table standing who (Hear number) event = IsHeard members (length table.jobs) standing who number event
+IsEventOfCause members table standing who Answer event = IsAnswered standing who event
 
 -- the replica runs and takes the cause, of which its launch table says what the event has
-pub record Takes (members : ℕ) (table : Table) (standing : Standing) (who : ℕ) (cause : Cause) (event : Event) : Type 0 where
+pub record TakesTurn (members : ℕ) (table : Table) (standing : Standing) (who : ℕ) (cause : Cause) (event : Event) : Type 0 where
   pub member : who < members
   pub runs : standing.runs who ≡ true
-  pub event_of : IsEventOf members table standing who cause event
+  pub event_of : IsEventOfCause members table standing who cause event
   pub planned : IsPlanned table (standing.replicas who) event
 
 -- the answer of a call, where there is one
@@ -71,7 +72,7 @@ pub record BringsNothing (row : Row) : Type 0 where
 
 -- a turn brought what the step's acts bring, and the call that they ask for
 pub record BringsStep (members : ℕ) (standing : Standing) (who : ℕ) (row : Row) (made : Option CallRow) : Type 0 where
-  pub letters : AreLettersOf (identity members who) (acts_at members standing who row.event) row.letters
+  pub letters : AreLettersOf (identity_of members who) (acts_at members standing who row.event) row.letters
   pub votes : row.votes ≡ votes_of (acts_at members standing who row.event)
   pub learnt : row.learnt ≡ learnt_of (acts_at members standing who row.event)
   pub call : IsMade standing.held (calls_of (acts_at members standing who row.event)) made
@@ -94,7 +95,7 @@ abbrev pub MayStop : ℕ → Table → Standing → (who : ℕ) → Option Cause
 MayStop members table standing who None row kept =
     (who < members) × (standing.runs who ≡ true) × (kept ≡ false) × BringsNothing row
 MayStop members table standing who (Some cause) row kept =
-    Takes members table standing who cause row.event × StopsWithin members standing who row kept
+    TakesTurn members table standing who cause row.event × StopsWithin members standing who row kept
 
 -- a late call that has not arrived yet
 pub record IsLate (standing : Standing) (number : ℕ) : Type 0 where
@@ -105,7 +106,7 @@ pub record IsLate (standing : Standing) (number : ℕ) : Type 0 where
 -- a turn that may come next
 abbrev pub MayFollow : ℕ → Table → Standing → Turn → Row → Type 0
 MayFollow members table standing (Did who cause made) row =
-    Takes members table standing who cause row.event × BringsStep members standing who row made
+    TakesTurn members table standing who cause row.event × BringsStep members standing who row made
 MayFollow members table standing (Stopped who cause kept) row = MayStop members table standing who cause row kept
 MayFollow members table standing (Restarted who) row = (who < members) × (standing.runs who ≡ false) × BringsNothing row
 MayFollow members table standing (Arrived number) row = IsLate standing number × BringsNothing row
