@@ -5,9 +5,10 @@ at its last line, beside `wc -l` of the same file.
 Usage: bench/bench.py [PROGRAM]
 
 PROGRAM is the built binary, crates/cron_cluster/out/cron_cluster by default. Each line has the run, the best time of
-five of the program, its report's lines in a second, and how often `cat` of the report fits into that time. The last line
-has the best time of forty, the program's time for an empty input, which is the start of its process, and how often `wc -l`
-fits into the first; the start of the process is in that of `wc -l` too.
+five of the program, its report's lines in a second, and how often `cat` of the report fits into that time. The last three
+lines have best times of forty: of reading alone, beside the program's time for an empty input, which is the start of its
+process, and how often `wc -l` fits into the first, which starts a process too; the parts of a run of 1,000 jobs that are
+never due; and what 31 zones more take.
 """
 import os
 import subprocess
@@ -20,7 +21,11 @@ PROGRAM = os.path.join(ROOT, "crates", "cron_cluster", "out", "cron_cluster")
 TRIES = 5
 READING_TRIES = 40
 READING_BYTES = 1_048_000
-
+# 400 days, the longest window.
+LONG = ("2024-01-01T00:00Z", "2025-02-04T00:00Z")
+TEN_DAYS = ("2024-01-01T00:00Z", "2024-01-11T00:00Z")
+# Entries that are never due: 31 February.
+NEVER = [f"{k % 60} {k % 24} 31 2 * job {k}" for k in range(1000)]
 
 # TZ rules of POSIX, as the zones of tzdata end.
 RULES = [
@@ -54,25 +59,22 @@ def zone_file(start, end, zones, entries):
 
 def runs():
     """The run files, each with its name."""
-    year = ("2024-01-01T00:00Z", "2025-02-04T00:00Z")
-    ten_days = ("2024-01-01T00:00Z", "2024-01-11T00:00Z")
     busy = ["0,30 * * * * one job of 19,200 launches"]
     # A weekday of four months: 17 or 18 launches.
     many = [f"{k % 60} {k % 24} * 3,4,5,6 {k % 7} job {k}" for k in range(1000)]
     twice_a_day = [f"{k % 60} {k % 12},{k % 12 + 12} * * * job {k}" for k in range(1000)]
-    never = [f"{k % 60} {k % 24} 31 2 * job {k}" for k in range(1000)]
-    yield "400 days, one job of 19,200 launches", run_file(*year, busy)
-    yield "400 days, 1,000 jobs of 17 or 18 launches", run_file(*year, many)
-    yield "10 days, 1,000 jobs of 20 launches", run_file(*ten_days, twice_a_day)
-    yield "10 days, 1,000 jobs that are never due", run_file(*ten_days, never)
+    yield "400 days, one job of 19,200 launches", run_file(*LONG, busy)
+    yield "400 days, 1,000 jobs of 17 or 18 launches", run_file(*LONG, many)
+    yield "10 days, 1,000 jobs of 20 launches", run_file(*TEN_DAYS, twice_a_day)
+    yield "10 days, 1,000 jobs that are never due", run_file(*TEN_DAYS, NEVER)
     # A Monday that is 1 or 29 February: both in 2016.
     leap = ("2016-01-01T00:00Z", "2017-02-04T00:00Z")
     yield "400 days, one job of 2 launches", run_file(*leap, ["0 0 */28 2 mon rare"])
     weekly = [f"{k % 60} {k % 24} * * {k % 7} job {k}" for k in range(340)]
-    yield "400 days, one zone, no job", zone_file(*year, 1, [])
-    yield "400 days, 32 zones, no job", zone_file(*year, 32, [])
-    yield "400 days, 32 zones, 1,000 jobs that are never due", zone_file(*year, 32, never)
-    yield "400 days, 32 zones, 340 weekly jobs of 57 or 58 launches", zone_file(*year, 32, weekly)
+    yield "400 days, one zone, no job", zone_file(*LONG, 1, [])
+    yield "400 days, 32 zones, no job", zone_file(*LONG, 32, [])
+    yield "400 days, 32 zones, 1,000 jobs that are never due", zone_file(*LONG, 32, NEVER)
+    yield "400 days, 32 zones, 340 weekly jobs of 57 or 58 launches", zone_file(*LONG, 32, weekly)
 
 
 def entry(number):
@@ -139,6 +141,30 @@ def measure_reading(program, source, sink):
     print(f"reading alone, {told}: {seconds * 1000:.1f} ms, of nothing {empty * 1000:.1f}, {seconds / count:.1f} times wc -l")
 
 
+def best_of_text(program, text, source, sink, status):
+    """The program's best time for a run file."""
+    with open(source, "w", encoding="utf-8") as file:
+        file.write(text)
+    return best_time([program], source, sink, READING_TRIES, status)
+
+
+def measure_parts(program, source, sink):
+    """What the parts of a run of 1,000 jobs that are never due take: the start of the process, the reading, which is all that
+    is done where a line stands behind the `end`, and what comes after it, where the lines are read once more."""
+    text = run_file(*TEN_DAYS, NEVER)
+    started = best_time([program], os.devnull, sink, READING_TRIES, 2)
+    read = best_of_text(program, text + "# a line too many\n", source, sink, 2)
+    whole = best_of_text(program, text, source, sink, 0)
+    parts = f"start {started * 1000:.2f} ms, reading {(read - started) * 1000:.2f}, the rest {(whole - read) * 1000:.2f}"
+    print(f"the parts of 10 days, 1,000 jobs that are never due: {parts}")
+
+
+def measure_zones(program, source, sink):
+    """What 31 zones by a rule more take, over 400 days."""
+    one, all_of_them = (best_of_text(program, zone_file(*LONG, zones, []), source, sink, 0) for zones in (1, 32))
+    print(f"31 zones more, over 400 days: {(all_of_them - one) * 1000:.2f} ms")
+
+
 def main():
     program = sys.argv[1] if len(sys.argv) > 1 else PROGRAM
     with tempfile.TemporaryDirectory() as folder:
@@ -152,6 +178,8 @@ def main():
                 lines = file.read().count(b"\n")
             print(f"{name}: {seconds * 1000:.1f} ms, {lines / seconds:,.0f} lines a second, {seconds / cat:.1f} times cat")
         measure_reading(program, source, report)
+        measure_parts(program, source, report)
+        measure_zones(program, source, report)
 
 
 if __name__ == "__main__":

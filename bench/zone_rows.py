@@ -1,5 +1,5 @@
 #!/usr/bin/env python3
-"""Prints the rows of due_set's tests of clock changes: a TZ rule, a window, and the due instants of a fixed entry and of a
+"""Prints the rows of calendar_tests' changes of the clocks: a TZ rule, a window, and the due instants of a fixed entry and of a
 frequent one, in minutes from the window's first on.
 
 Usage: bench/zone_rows.py
