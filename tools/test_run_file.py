@@ -140,7 +140,7 @@ class Words(RunFileTest):
         self.assertEqual(self.head("--until", "2024-03-30T00:01Z")[1], "window 2024-03-30T00:00Z 2024-03-30T00:01Z")
         for text, message in (
             ("2024-03-30T00:00Z", "the window is empty: --until isn't behind --from"),
-            ("2025-05-04T00:01Z", "the window is longer than 400 days"),
+            ("2025-05-04T00:01Z", "the window is longer than 400 days of 24 hours"),
             ("2200-01-01T00:01Z", "the window ends behind 2200-01-01T00:00Z"),
             ("tomorrow", "--until: `tomorrow` is no stamp; write it as 2024-03-31T00:00Z"),
         ):

@@ -9,6 +9,9 @@ crontabs     what is wrong with a line of a crontab or of a system table
 anacrontabs  the same of an anacrontab
 fields       the same of a field of an entry
 zones        the zones that are named, and their files
+tzif         what the clock of a zone shows, by its file
+rules        the same by the rule at the file's end
+machine_zone the zone of a machine
 faults       what is told: a fault that ends the command, and the words of a fault
 streams      standard output and standard error
 """

@@ -3,14 +3,15 @@ import os
 
 from .faults import Stop, at, caused, counted, shown, why
 from .labels import label_of
+from .machine_zone import MachineZone, machine_zone, other_zones
 from .options import head_of, parser
 from .places import MOST_BYTES, OPTION, SPOOL, Finder, Root, Table, read_file, read_regular
 from .tables import JobCount, TableReader, end_fault, lines_of, text_fault
-from .zones import ANOTHER, MachineZone, Zones, machine_zone
+from .zones import Zones
 
 
 def run(words, environment, now, streams):
-    """Runs the command, and gives its status."""
+    """Runs the command, and gives its status. `now` is in UTC."""
     try:
         options = parser().parse_args(words)
         if options.help:
@@ -43,8 +44,8 @@ class Command:
 
     def run_file(self, now):
         """The bytes of the run file."""
-        head = head_of(self.options, now)
         zone = self.zone_of_the_tables()
+        head = head_of(self.options, now, self.zones.local_times[zone])
         sections = [line for table in self.tables() for line in self.section(table, zone)]
         script = self.script()
         if self.faults:
@@ -91,14 +92,20 @@ class Command:
 
     def zone_of_the_tables(self):
         """The name of the zone of all sections."""
-        # The variable is that of this machine, and says nothing of a copied file system.
-        variable = self.environment.get("TZ") if self.options.root == "/" else None
         named = self.options.zone
-        zone = machine_zone(self.root, variable) if named is None else MachineZone(named, "--zone", 0)
-        fault = self.zones.fault_of(zone.name)
-        if fault:
-            raise Stop(at(zone.source, zone.line, f"{fault}; {ANOTHER}" if named is None else fault))
-        self.comment(f"the zone of the tables is {zone.name}, by {shown(zone.source)}")
+        if named is None:
+            zone = machine_zone(self.root, self.zones)
+        else:
+            zone = MachineZone(named, "--zone")
+            fault = self.zones.fault_of(named)
+            if fault:
+                raise Stop(at("--zone", 0, fault))
+        self.comment(f"the zone of the tables is {zone.name}, by {zone.source}")
+        if named is None:
+            # The variable is that of this machine, and says nothing of a copied file system.
+            variable = self.environment.get("TZ") if self.options.root == "/" else None
+            for text in other_zones(self.root, self.zones, zone.name, variable):
+                self.comment(text)
         return zone.name
 
     def tables(self):
