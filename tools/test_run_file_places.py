@@ -5,12 +5,13 @@ Usage: tools/test_run_file_places.py [NAME..]
 """
 import os
 import re
+import subprocess
 import unittest
 from unittest import mock
 
 from run_file_lib import labels
 from run_file_lib.faults import Stop
-from test_run_file import LOOP, NO_FILE, NOTHING, RunFileTest
+from test_run_file import LOOP, NO_FILE, NOTHING, TOOL, RunFileTest
 
 
 class Places(RunFileTest):
@@ -94,6 +95,22 @@ class Places(RunFileTest):
         self.write(os.fsdecode(b"var/spool/cron/a\xff\n"), "-5 * * * * x\n")
         fault = self.faults()[0]
         self.assertTrue(fault.startswith(self.file("var/spool/cron/a\\udcff\\n:1: the entry")), fault)
+
+
+class Locales(RunFileTest):
+    """What doesn't depend on the locale."""
+
+    def test_labels(self):
+        self.write(os.fsdecode("var/spool/cron/Zo\u00eb".encode()), "@daily x\n")
+        self.write(os.fsdecode(b"var/spool/cron/Zo\xeb"), "@daily x\n")
+        runs = []
+        for locale, is_utf_8 in (("C.UTF-8", "1"), ("C.UTF-8", "0"), ("C", "0"), ("POSIX", "1")):
+            environment = {**os.environ, "LC_ALL": locale, "PYTHONUTF8": is_utf_8, "PYTHONCOERCECLOCALE": "0"}
+            words = [TOOL, "--root", self.root, "--from", "2024-03-30T00:00Z"]
+            runs.append(subprocess.run(words, stdout=subprocess.PIPE, stderr=subprocess.PIPE, env=environment, check=True).stdout)
+        labels_of_runs = [re.findall(rb"crontab (\S+) UTC", run) for run in runs]
+        self.assertEqual([len(found) for found in labels_of_runs], [2] * 4)
+        self.assertEqual(len({tuple(found) for found in labels_of_runs}), 1, labels_of_runs)
 
 
 class Labels(unittest.TestCase):
