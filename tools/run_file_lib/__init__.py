@@ -3,6 +3,7 @@
 command      reads the words, the tables and the zones, and writes the run file
 options      the words of the command line, and the limits of the first lines of a run file
 places       where a machine has its tables, and how files below a root are read
+users        the users of a machine, and what in a spool is no user's table
 labels       the label of a table, from its path
 tables       a table's lines: which the program takes, and what is wrong with the others
 crontabs     what is wrong with a line of a crontab or of a system table

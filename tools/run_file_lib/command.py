@@ -7,6 +7,7 @@ from .machine_zone import MachineZone, machine_zone, other_zones
 from .options import head_of, parser
 from .places import MOST_BYTES, OPTION, SPOOL, Finder, Root, Table, read_file, read_regular
 from .tables import JobCount, TableReader, end_fault, lines_of, text_fault
+from .users import orphan_note, split_users, users_of
 from .zones import Zones
 
 
@@ -111,10 +112,21 @@ class Command:
     def tables(self):
         """The tables that the options name, or else those of the root."""
         options = self.options
-        named = [("system", options.system), ("crontab", options.user), ("anacrontab", options.anacron)]
-        if any(files for _, files in named):
-            return [Table(kind, file, file, OPTION) for kind, files in named for file in files]
-        return Finder(self.root, self.tell, self.tell_unreadable).tables()
+        if not options.system and not options.user and not options.anacron:
+            return Finder(self.root, self.tell, self.tell_unreadable).tables()
+        system = [Table("system", file, file, OPTION) for file in options.system]
+        anacron = [Table("anacrontab", file, file, OPTION) for file in options.anacron]
+        users = [self.user_table(name, file) for name, file in split_users(options.user)]
+        return [*system, *users, *anacron]
+
+    def user_table(self, name, file):
+        """The table of an option for a user, or for none."""
+        if name is None:
+            return Table("crontab", file, file, OPTION)
+        users = users_of(self.root)
+        if users is not None and name not in users:
+            self.tell(file, orphan_note(self.root, name))
+        return Table("crontab", self.root.spool_path(name), file, OPTION)
 
     def data_of(self, table):
         """The bytes of a table; none where it can't be read, or was read already, which is told."""
