@@ -1,5 +1,6 @@
 #!/usr/bin/env python3
-"""Tests of tools/run_file: its words, the lines of tables, the limits, and its ends.
+"""Tests of tools/run_file: its words, the lines of tables, the limits, and its ends. Those of its places, zones and notes stand in
+files beside this one.
 
 Usage: tools/test_run_file.py [NAME..]
 """
@@ -11,6 +12,7 @@ import subprocess
 import tempfile
 import unittest
 from datetime import datetime
+from pathlib import Path
 from unittest import mock
 
 from run_file_lib.command import Command, run
@@ -19,7 +21,7 @@ from run_file_lib.tables import JobCount, TableReader, lines_of
 
 HERE = os.path.dirname(os.path.abspath(__file__))
 TOOL = os.path.join(HERE, "run_file")
-MANUAL = os.path.join(os.path.dirname(HERE), "docs", "TABLES.md")
+DOCUMENTS = os.path.join(os.path.dirname(HERE), "docs")
 NOW = datetime(2024, 3, 30, 17, 45)
 LOOP = "Too many levels of symbolic links"
 NO_FILE = "No such file or directory"
@@ -266,7 +268,7 @@ class Lines(RunFileTest):
         file = self.table("CRON_TZ=Mars", "@daily a", "CRON_TZ=UTC", "@daily b")
         status, lines, notes = self.ran("--skip")
         self.assertEqual((status, lines[5:9]), (0, ["# left out by run_file"] * 2 + ["CRON_TZ=UTC", "@daily b"]))
-        self.assertEqual(notes[-1], f"{file}:2: left out: it stands below line 1, which can't be taken")
+        self.assertIn(f"{file}:2: left out: it stands below line 1, which can't be taken", notes)
 
     def test_jobs_below_a_setting_that_is_left_out(self):
         lines = ["RANDOM_DELAY=x", "1 5 a x", "RANDOM_DELAY=0"]
@@ -295,9 +297,10 @@ class Lines(RunFileTest):
         self.assertEqual(lines[5:12], kept)
 
     def manual_rows(self):
-        """The rows of the manual about lines of tables: the cause, the table, the line, and what to write."""
-        with open(MANUAL, encoding="utf-8") as manual:
-            rows = [[cell.strip() for cell in row.strip("|\n").split("|")] for row in manual if row.startswith("|")]
+        """The rows of the documents about lines of tables: the cause, the table, the line, and what to write."""
+        texts = [Path(DOCUMENTS, name).read_text(encoding="utf-8") for name in sorted(os.listdir(DOCUMENTS))]
+        lines = [line for text in texts for line in text.split("\n") if line.startswith("|")]
+        rows = [[cell.strip() for cell in line.strip("|").split("|")] for line in lines]
         rows = [row for row in rows if len(row) == 6 and row[0].isdigit() and row[1] in ("crontab", "system", "anacrontab")]
         for cause, kind, line, _, _, instead in rows:
             text = re.match("`([^`]+)`", line)[1]

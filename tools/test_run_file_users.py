@@ -119,6 +119,21 @@ class Options(RunFileTest):
         expected = [f"{missing}: it can't be read: {NO_FILE}", NOTHING.format("1 fault")]
         self.assertEqual(self.faults("--user", f"bob={missing}"), expected)
 
+    def test_values_that_the_label_picks(self):
+        file = self.write("home/mine", "? * * * * a\n@daily ? b\n0 ? * * * c\n0 0 ? * ? d\n0 0 * * * ? e\n")
+        where = "3 lines (1, 3 to 4), whose value is picked by the label"
+        told = f"{file} has a `?` in {where}: --user NAME={file} gives the label that it has as the crontab of NAME"
+        self.assertEqual(self.comments("--user", file)[1:], [told])
+        self.assertEqual(len(self.comments("--user", f"bob={file}")), 1)
+        # In a system table the user of the entry picks the value, and in an anacrontab the identifier.
+        file = self.write("home/all", "? ? * * * root x\n")
+        self.assertEqual(len(self.comments("--system", file)), 1)
+        self.assertEqual(len(self.comments("--anacron", self.write("home/anacron", "1 5 a ? x\n"))), 1)
+
+    def test_no_such_note_of_a_table_of_the_root(self):
+        self.write("var/spool/cron/bob", self.HASHED)
+        self.assertEqual(len(self.comments()), 1)
+
 
 if __name__ == "__main__":
     unittest.main()

@@ -13,6 +13,7 @@ zones        the zones that are named, and their files
 tzif         what the clock of a zone shows, by its file
 rules        the same by the rule at the file's end
 machine_zone the zone of a machine
+origins      where the jobs and the lines of a run file come from
 faults       what is told: a fault that ends the command, and the words of a fault
 streams      standard output and standard error
 """

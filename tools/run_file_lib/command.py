@@ -1,12 +1,13 @@
 """The command: it reads the words, the tables and the zones, and writes the run file."""
 import os
 
-from .faults import Stop, at, caused, counted, shown, why
+from .faults import Stop, at, caused, counted, lines_told, same_in, shown, why
 from .labels import label_of
 from .machine_zone import MachineZone, machine_zone, other_zones
 from .options import head_of, parser
+from .origins import RunFile, Section, lines_of_sections, placed
 from .places import MOST_BYTES, OPTION, SPOOL, Finder, Root, Table, read_file, read_regular
-from .tables import JobCount, TableReader, end_fault, lines_of, text_fault
+from .tables import JobCount, TableReader, end_fault, lines_of, text_fault, told_once
 from .users import orphan_note, split_users, users_of
 from .zones import Zones
 
@@ -18,7 +19,7 @@ def run(words, environment, now, streams):
         if options.help:
             streams.output(parser().format_help().encode())
         else:
-            streams.output(Command(options, environment, streams).run_file(now))
+            streams.output(Command(options, environment, streams).run_file(now).data)
         return 0
     except Stop as stop:
         streams.note(str(stop))
@@ -44,21 +45,22 @@ class Command:
         self.faults = 0
 
     def run_file(self, now):
-        """The bytes of the run file."""
+        """The run file, with the origins of its sections."""
         zone = self.zone_of_the_tables()
         head = head_of(self.options, now, self.zones.local_times[zone])
-        sections = [line for table in self.tables() for line in self.section(table, zone)]
+        read = [self.section(table, zone) for table in self.tables()]
         script = self.script()
         if self.faults:
             raise Stop(f"run_file: nothing is written, for {counted(self.faults, 'fault')}; --skip leaves out what is at fault")
         if not self.labels:
             self.comment("there is no table")
-        lines = [*head, *self.zones.lines(), *sections, "script", *script, "end", ""]
-        data = "\n".join(lines).encode()
+        front = [*head, *self.zones.lines()]
+        sections = list(placed([section for section in read if section], len(front) + 1))
+        data = "\n".join([*front, *lines_of_sections(sections), "script", *script, "end", ""]).encode()
         if len(data) > MOST_BYTES:
             size = f"the run file would have {len(data):,} bytes, and the program takes {MOST_BYTES:,}"
             raise Stop(f"run_file: {caused(33, size)}")
-        return data
+        return RunFile(data, sections)
 
     def comment(self, text):
         """Tells what is no fault."""
@@ -68,20 +70,21 @@ class Command:
         """Tells of a file what is no fault."""
         self.comment(f"{shown(file)} {text}")
 
-    def trouble(self, file, line, text):
-        """Tells a fault: what is at fault is left out by --skip, and stops the command otherwise."""
+    def trouble(self, file, lines, text):
+        """Tells a fault of lines, or of a file: what is at fault is left out by --skip, and stops the command otherwise."""
+        text = text + same_in(lines[1:])
         if self.options.skip:
-            self.streams.note(at(file, line, f"left out: {text}"))
+            self.streams.note(at(file, lines[0], f"left out: {text}"))
         else:
-            self.faults += 1
-            self.streams.note(at(file, line, text))
+            self.faults += len(lines)
+            self.streams.note(at(file, lines[0], text))
 
     def tell_unreadable(self, file, reason, origin):
         """Tells that a file or a folder can't be read. Of users' crontabs that is no fault."""
         if origin == SPOOL:
             self.tell(file, f"can't be read: {reason}")
         else:
-            self.trouble(file, 0, f"it can't be read: {reason}")
+            self.trouble(file, [0], f"it can't be read: {reason}")
 
     def zones_of_the_run(self):
         """The zones, none of them read yet."""
@@ -145,19 +148,34 @@ class Command:
         return data
 
     def section(self, table, zone):
-        """The lines of a table's section."""
+        """The section of a table; none where it can't be read."""
         data = self.data_of(table)
         if data is None:
-            return []
+            return None
         label = label_of(table.path, self.labels)
         self.labels.add(label)
         reader = TableReader(table.kind, self.zones, self.count)
         reader.read(lines_of(data))
-        self.tell(table.file, f"is {label}, {counted(reader.jobs, 'job')}")
-        for trouble in reader.troubles:
-            if self.options.skip or not trouble.follows:
-                self.trouble(table.file, trouble.line, trouble.text)
-        return [f"{table.kind} {label} {zone} {len(reader.kept)}", *reader.kept]
+        section = Section(table.kind, label, zone, table.file, 0, reader.kept, reader.jobs)
+        self.tell(table.file, f"is {label}, {counted(len(reader.jobs), 'job')}")
+        if reader.picked and (table.origin, table.path) == (OPTION, table.file):
+            self.tell_picked(table.file, reader.picked)
+        self.tell_troubles(table.file, reader.troubles)
+        if self.options.skip:
+            for job in reader.jobs:
+                self.comment(f"{shown(label + job.ending)} is {shown(table.file)}:{job.line}")
+        return section
+
+    def tell_picked(self, file, lines):
+        """Tells of a user's table that an option names without the user where it has a `?`."""
+        where = f"{counted(len(lines), 'line')} ({lines_told(lines)}), whose value is picked by the label"
+        self.tell(file, f"has a `?` in {where}: --user NAME={shown(file)} gives the label that it has as the crontab of NAME")
+
+    def tell_troubles(self, file, troubles):
+        """Tells what is wrong with a table. What only stands on a line that is at fault is told where both are left out."""
+        told = [trouble for trouble in troubles if self.options.skip or not trouble.follows]
+        for text, lines in told_once(told):
+            self.trouble(file, lines, text)
 
     def script(self):
         """The lines of the script. The program says what is wrong with them, but for what no line may have."""

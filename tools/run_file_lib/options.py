@@ -20,6 +20,8 @@ where they can be read, and /etc/anacrontab. Standard error says which file beca
 
   tools/run_file --from 2024-03-30T00:00Z --days 3 > machine.run
   crates/cron_cluster/out/cron_cluster < machine.run
+
+docs/MACHINE.md is the manual.
 """
 END = """\
 The status is 0 where the run file was written whole. It is 1 where a word, a table, a zone or an output is at fault: then
@@ -39,7 +41,7 @@ OPTIONS = [
     ("--user", "FILE", "a user's crontab, and no table of the root; NAME=FILE: NAME's; may be repeated", "--user alice=my.tab"),
     ("--system", "FILE", "the same of a system table, whose entries have a user", "--system /etc/cron.d/php"),
     ("--anacron", "FILE", "the same of an anacrontab", "--anacron /etc/anacrontab"),
-    ("--skip", None, "leave out each line that can't be taken, and say so", "--skip"),
+    ("--skip", None, "leave out each line that can't be taken, and tell it, and each job's line", "--skip"),
     ("--help", None, "print this text", "--help"),
 ]
 LISTS = ("--user", "--system", "--anacron")
