@@ -219,6 +219,13 @@ class Words(RunFileTest):
             self.assertTrue(any(line.startswith(f"  {word} ") and line.endswith(text) for line in lines), word)
             self.assertIn(f"for example: {example}", "\n".join(lines))
 
+    def test_options_of_the_manual(self):
+        """The manual's table has each option as the help has it."""
+        manual = Path(DOCUMENTS, "MACHINE.md").read_text(encoding="utf-8")
+        for word, value, text, example in OPTIONS:
+            option = word if value is None else f"{word} {value}"
+            self.assertIn(f"\n| `{option}` | {text} | `{example}` |\n", manual)
+
     def test_other_words(self):
         end = "; --help lists the options"
         for words, message in (
