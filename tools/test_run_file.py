@@ -1,6 +1,6 @@
 #!/usr/bin/env python3
-"""Tests of tools/run_file: its words, the lines of tables, the limits, and its ends. Those of its places, zones and notes stand in
-files beside this one.
+"""Tests of tools/run_file: its words, the lines of tables, the limits, and its ends. Tests of its places, users, zones and
+notes stand beside this file.
 
 Usage: tools/test_run_file.py [NAME..]
 """

@@ -107,7 +107,8 @@ class Locales(RunFileTest):
         for locale, is_utf_8 in (("C.UTF-8", "1"), ("C.UTF-8", "0"), ("C", "0"), ("POSIX", "1")):
             environment = {**os.environ, "LC_ALL": locale, "PYTHONUTF8": is_utf_8, "PYTHONCOERCECLOCALE": "0"}
             words = [TOOL, "--root", self.root, "--from", "2024-03-30T00:00Z"]
-            runs.append(subprocess.run(words, stdout=subprocess.PIPE, stderr=subprocess.PIPE, env=environment, check=True).stdout)
+            done = subprocess.run(words, stdout=subprocess.PIPE, stderr=subprocess.PIPE, env=environment, check=True)
+            runs.append(done.stdout)
         labels_of_runs = [re.findall(rb"crontab (\S+) UTC", run) for run in runs]
         self.assertEqual([len(found) for found in labels_of_runs], [2] * 4)
         self.assertEqual(len({tuple(found) for found in labels_of_runs}), 1, labels_of_runs)

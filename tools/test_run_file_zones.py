@@ -56,6 +56,13 @@ class MachineZone(RunFileTest):
         self.link("etc/alternatives/zone", "../../usr/share/zoneinfo/Europe/Paris")
         self.assertEqual(self.told(), [f"the zone of the tables is Europe/Paris, by {file}"])
 
+    def test_links_stay_below_the_root(self):
+        self.link("etc", "/private")
+        self.link("private/localtime", "/zones/here")
+        self.link("zones", "/private/zones")
+        self.link("private/zones/here", "/usr/share/zoneinfo/Europe/Paris")
+        self.assertEqual(self.zone_of_the_root(), "Europe/Paris")
+
     def test_another_timezone(self):
         self.write("usr/share/zoneinfo/America/New_York", NEW_YORK)
         self.write("usr/share/zoneinfo/Europe/Monaco", PARIS)
@@ -85,10 +92,18 @@ class MachineZone(RunFileTest):
         self.write("etc/timezone", "Etc/UTC\n")
         self.assertEqual(len(self.told()), 1)
 
+    def zones(self):
+        """The zones of the root."""
+        return Zones(self.file("usr/share/zoneinfo"), lambda name: Root(self.root).read(f"/usr/share/zoneinfo/{name}"))
+
+    def zone_of_the_root(self):
+        """The name of the root's zone."""
+        return machine_zone(Root(self.root), self.zones()).name
+
     def test_variable(self):
-        zones = Zones(self.file("usr/share/zoneinfo"), lambda name: Root(self.root).read(f"/usr/share/zoneinfo/{name}"))
+        zones = self.zones()
         self.link("etc/localtime", "/usr/share/zoneinfo/Europe/Paris")
-        self.assertEqual(machine_zone(Root(self.root), zones).name, "Europe/Paris")
+        self.assertEqual(self.zone_of_the_root(), "Europe/Paris")
         for text, name in (
             (None, None),
             ("Europe/Paris", None),
@@ -143,7 +158,9 @@ class ZoneFiles(RunFileTest):
         for data, message in (
             (b"# leap seconds\n", "is no TZif file"),
             (b"TZif", "ends too early"),
-            (good[: len(good) // 2 + 30], "ends too early"),
+            (good[: len(good) // 2], "ends too early"),
+            (good[:60], "ends too early"),
+            (good[:54] + good[58:], "has a header that isn't one"),
             (good[:-1], "has no line at its end"),
             (good[:-7], "has no line at its end"),
             (zone_file([], [], b""), "has a header that isn't one"),

@@ -26,7 +26,9 @@ def assignment_of(text):
 def quoted_name_fault(text, cause):
     """What is wrong with a line that sets a variable whose name stands in quotes; none where it is no such line."""
     found = QUOTED.fullmatch(text)
-    return caused(cause, f"the name {shown(found[2])} of the variable stands in quotes; write it without them") if found else None
+    if not found:
+        return None
+    return caused(cause, f"the name {found[2]} of the variable stands in quotes; write it without them")
 
 
 def split_word(text):

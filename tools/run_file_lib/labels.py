@@ -20,8 +20,8 @@ FOLDERS = {
 def label_of(path, taken):
     """The label of a path; none that is taken.
 
-    A path of the usual places has a label of its folder and its name. Where the name has other characters than a label, or is too
-    long, and for each other path, the label ends with digits of the path's hash. So no label depends on which other tables
+    A path of the usual places has a label of its folder and its name. Where the name has other characters than a label, or is
+    too long, and for each other path, the label ends with digits of the path's hash. So no label depends on which other tables
     there are, but where two hashes begin with the same digits. It is made from the bytes of the path, so it doesn't depend on
     the locale either.
     """

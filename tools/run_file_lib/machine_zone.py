@@ -32,7 +32,10 @@ def machine_zone(root, zones):
 def zone_of_links(root, path):
     """The zone in whose place in a zoneinfo folder a link leads, also by other links; none where it leads elsewhere."""
     for _ in range(MOST_LINKS):
-        file = root.shown(path)
+        try:
+            file = root.place(path)
+        except OSError:
+            return None
         if not os.path.islink(file):
             return None
         target = os.readlink(file)

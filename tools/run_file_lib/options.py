@@ -30,7 +30,7 @@ standard error has a message, and nothing was written, unless the output failed 
 # Each option: its word, what stands behind it, what it does, and an example.
 OPTIONS = [
     ("--root", "DIR", "the file system whose tables are read; the machine's own, /, by default", "--root /mnt/copy"),
-    ("--from", "STAMP", "the first minute, in UTC; by default that of today in the zone of the tables", "--from 2024-03-31T00:00Z"),
+    ("--from", "STAMP", "the first minute, in UTC; by default that of today in the tables' zone", "--from 2024-03-31T00:00Z"),
     ("--days", "N", f"how many days from there on, 1 to {MOST_DAYS}; 1 by default", "--days 3"),
     ("--until", "STAMP", "in place of --days: the minute behind the last one, in UTC", "--until 2024-04-01T12:00Z"),
     ("--grace", "MINUTES", f"how late a launch may be, 0 to {MOST_GRACE} minutes; 0 by default", "--grace 60"),

@@ -3,8 +3,8 @@ from collections import namedtuple
 
 # A run file: its bytes, and its sections in order.
 RunFile = namedtuple("RunFile", "data sections")
-# A section: its kind, label and zone, the file of its table, the line of the run file that is the table's first one, the table's
-# lines as they stand in the run file, and its jobs. In both files the lines of the table have one order.
+# A section: its kind, label and zone, the file of its table, the line of the run file that is the table's first one, the lines
+# of the table as the run file has them, and its jobs. A table has as many lines in the run file as in its own.
 Section = namedtuple("Section", "kind label zone file first lines jobs")
 # A job: what its name has behind the label, `:K` or `/IDENTIFIER`, the line of its table, and its command.
 Job = namedtuple("Job", "ending line command")
@@ -30,7 +30,7 @@ def jobs_of(sections):
 
 
 def origin_of(sections, line):
-    """The file and the line in it that a line of the run file comes from. The line that opens a section comes from line 0; any other
+    """The file and the line in it from which a line of the run file comes; line 0 for the line that opens a section. Each other
     line that is of no table comes from no file."""
     for section in sections:
         place = line - section.first + 1

@@ -69,9 +69,17 @@ class Root:
                 done.append(part)
         return os.path.join(self.folder, *done)
 
+    def place(self, path):
+        """The same, but for a link at the path's own end."""
+        folder, name = os.path.split(path)
+        return os.path.join(self.real(folder), name)
+
     def has(self, path):
-        """Whether something stands at a path, be it a link that leads nowhere."""
-        return os.path.lexists(self.shown(path))
+        """Whether something stands at a path, be it a link that leads nowhere. Where that can't be told, reading it tells why."""
+        try:
+            return os.path.lexists(self.place(path))
+        except OSError:
+            return True
 
     def read(self, path):
         """The bytes of a regular file."""

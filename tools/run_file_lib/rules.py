@@ -54,7 +54,7 @@ def day_function(text):
             raise ValueError("no such day")
         return lambda year: week_day(year, month, week, weekday)
     number = int(text.lstrip("J"))
-    if number > 365 or text == "J0":
+    if number > 365 or (number == 0 and text.startswith("J")):
         raise ValueError("no such day")
     if text.startswith("J"):
         # Day 60 is 1 March in each year: 29 February isn't counted. 2023 had none.

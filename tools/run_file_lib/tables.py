@@ -59,8 +59,8 @@ def told_once(troubles):
 
 
 class TableReader:
-    """Reads one table. `kept` are its lines, with a comment in place of each that can't be taken. `picked` are the lines of entries with
-    a value that the label picks."""
+    """Reads one table. `kept` are its lines, with a comment in place of each that can't be taken. `picked` are the lines of
+    entries with a value that the label picks."""
 
     def __init__(self, kind, zones, count):
         self.judge = AnacronLines() if kind == "anacrontab" else CrontabLines(kind == "system", zones)

@@ -6,8 +6,8 @@ from datetime import datetime, timedelta
 
 from .rules import EPOCH, Rule, offset_by_rule, read_rule
 
-# The local time of a zone: the seconds of its changes since 1970, the offset behind each, the one before all of them, and the rule
-# that holds behind the last one, where there is one.
+# The local time of a zone: the seconds of its changes since 1970, the offset behind each, the one before all of them, and the
+# rule that holds behind the last one, where there is one.
 LocalTime = namedtuple("LocalTime", "changes offsets first rule")
 
 UTC = LocalTime((), (), 0, Rule(0, None))
@@ -28,21 +28,22 @@ class ZoneFault(Exception):
 
 def read_zone(data):
     """The local time of a zone, from the bytes of its file. What is read is judged, and nothing else."""
-    version, parts, rest = read_block(data, ">l", 4)
-    if version == b"\0":
-        return LocalTime(*parts, None)
-    _, parts, rest = read_block(rest, ">q", 8)
-    return LocalTime(*parts, rule_of(rest))
-
-
-def read_block(data, form, size):
-    """The version of a header, the changes, offsets and first offset of the block behind it, and what follows."""
     if not data.startswith(MAGIC):
         raise ZoneFault("is no TZif file")
+    version, parts, rest = read_block(data, 4)
+    if version == b"\0":
+        return LocalTime(*changes_of(parts, ">l"), None)
+    _, parts, rest = read_block(rest, 8)
+    return LocalTime(*changes_of(parts, ">q"), rule_of(rest))
+
+
+def read_block(data, size):
+    """The version in a header, the parts of the block behind it, in which a time has that size, and what follows."""
     if len(data) < HEADER.size:
         raise ZoneFault("ends too early")
     version, universal, standard, leaps, changes, kinds, names = HEADER.unpack_from(data)
-    if not 1 <= kinds <= MOST_KINDS or not names or universal not in (0, kinds) or standard not in (0, kinds):
+    are_counts = 1 <= kinds <= MOST_KINDS and names and universal in (0, kinds) and standard in (0, kinds)
+    if not data.startswith(MAGIC) or not are_counts:
         raise ZoneFault("has a header that isn't one")
     parts, rest = [], data[HEADER.size :]
     for length in (changes * size, changes, kinds * KIND.size, names + leaps * (size + 4) + standard + universal):
@@ -50,13 +51,18 @@ def read_block(data, form, size):
         rest = rest[length:]
         if len(parts[-1]) < length:
             raise ZoneFault("ends too early")
+    return version, parts, rest
+
+
+def changes_of(parts, form):
+    """The changes of a block, the offset behind each, and the one before all of them."""
     seconds = [second for second, in struct.iter_unpack(form, parts[0])]
     offsets = [offset for offset, _, _ in KIND.iter_unpack(parts[2])]
-    if any(index >= kinds for index in parts[1]):
+    if any(index >= len(offsets) for index in parts[1]):
         raise ZoneFault("has a change to a local time that it lacks")
     if seconds != sorted(seconds):
         raise ZoneFault("has its changes out of order")
-    return version, (seconds, [offsets[index] for index in parts[1]], offsets[0]), rest
+    return seconds, [offsets[index] for index in parts[1]], offsets[0]
 
 
 def rule_of(data):
