@@ -3,13 +3,17 @@
 
 Usage: tools/test_run_file_notes.py [NAME..]
 """
+import glob
+import os
+import re
 import unittest
+from pathlib import Path
 
 from run_file_lib.command import Command
 from run_file_lib.faults import lines_told
 from run_file_lib.options import parser
 from run_file_lib.origins import Job, jobs_of, origin_of
-from test_run_file import NOTHING, NOW, Memory, RunFileTest
+from test_run_file import DOCUMENTS, HERE, NOTHING, NOW, Memory, RunFileTest
 
 MINUS = "the entry begins with a `-`, which asks cron for no line in its log; leave the `-` out (cause 1)"
 
@@ -77,6 +81,36 @@ class QuotedNames(RunFileTest):
             self.assertNotIn("stands in quotes", self.faults_of("var/spool/cron/bob", line))
         self.write("var/spool/cron/bob", 'MAILTO="x"\n')
         self.assertEqual(self.ran()[0], 0)
+
+
+class Manual(unittest.TestCase):
+    """The notes and messages of the manual."""
+
+    # What stands for something in a message: a word of capitals, two dots, or a number.
+    PLACE = re.compile(r"\b[A-Z]+\b(?<!TZ)|\.\.|\d[\d,]*")
+
+    def setUp(self):
+        manual = Path(DOCUMENTS, "MACHINE.md").read_text(encoding="utf-8")
+        rows = [line.split(" | ")[0] for line in manual[manual.index("## Notes") :].split("\n") if line.startswith("| `")]
+        self.told = [told for row in rows for told in re.findall(r"(`+) ?(.+?) ?\1(?:, (?=`)|$)", row[2:])]
+        self.told = [re.sub(r" \(cause \w+\)$", "", text) for _, text in self.told]
+
+    def test_messages_are_those_of_the_command(self):
+        """Each piece of a message between such places, colons and semicolons stands in the source."""
+        files = glob.glob(os.path.join(HERE, "run_file_lib", "*.py"))
+        source = "".join(Path(file).read_text(encoding="utf-8") for file in files)
+        parts = [part for text in self.told for part in re.split("[:;] ", text)]
+        pieces = [piece.strip(" ,`") for part in parts for piece in self.PLACE.split(part)]
+        self.assertEqual([piece for piece in pieces if len(piece) > 8 and piece not in source], [])
+        self.assertGreater(len(self.told), 40)
+
+    def test_notes_of_testdata_are_in_the_manual(self):
+        forms = [".+".join(re.escape(piece) for piece in self.PLACE.split(text)) for text in self.told]
+        forms = [re.compile(re.sub("(job|line)s", r"\1s?", form)) for form in forms]
+        for file in glob.glob(os.path.join(HERE, "testdata", "*.notes")):
+            for note in Path(file).read_text(encoding="utf-8").split("\n"):
+                if note.startswith("# "):
+                    self.assertTrue(any(form.fullmatch(note[2:]) for form in forms), note)
 
 
 class Origins(RunFileTest):

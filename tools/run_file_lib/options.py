@@ -38,7 +38,12 @@ OPTIONS = [
     ("--script", "FILE", "the lines between `script` and `end`; none by default", "--script duel.script"),
     ("--zone", "NAME", "the zone of all tables; that of etc/localtime below the root by default", "--zone Europe/Paris"),
     ("--zoneinfo", "DIR", "the folder of zones; usr/share/zoneinfo below the root by default", "--zoneinfo ~/zones"),
-    ("--user", "FILE", "this user's crontab, and no table of the root; NAME=FILE: NAME's own; may be repeated", "--user alice=my.tab"),
+    (
+        "--user",
+        "FILE",
+        "a user's crontab, and no table of the root; NAME=FILE: that of the user NAME; may be repeated",
+        "--user alice=my.crontab",
+    ),
     ("--system", "FILE", "the same of a system table, whose entries have a user", "--system /etc/cron.d/php"),
     ("--anacron", "FILE", "the same of an anacrontab", "--anacron /etc/anacrontab"),
     ("--skip", None, "leave out each line that can't be taken, and tell it, and each job's line", "--skip"),

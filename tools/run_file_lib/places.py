@@ -75,7 +75,8 @@ class Root:
         return os.path.join(self.real(folder), name)
 
     def has(self, path):
-        """Whether something stands at a path, be it a link that leads nowhere. Where that can't be told, reading it tells why."""
+        """Whether something stands at a path, be it a link that leads nowhere. Where that can't be told, the answer is yes, and
+        reading it tells why."""
         try:
             return os.path.lexists(self.place(path))
         except OSError:
