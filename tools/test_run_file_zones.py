@@ -132,6 +132,12 @@ class MachineZone(RunFileTest):
         self.assertEqual(self.told(), [f"the zone of the tables is Europe/Paris, by {file}, which is its file"])
         self.write("etc/localtime", NEW_YORK)
         self.assertIn("is localtime, by", self.told()[0])
+        # UTC is a zone of each run, and has no line.
+        self.write("usr/share/zoneinfo/UTC", NEW_YORK)
+        self.write("etc/timezone", "UTC\n")
+        self.assertEqual(self.told(), [f"the zone of the tables is UTC, by {file}, which is its file"])
+        self.assertEqual(self.lines()[4:], ["script", "end"])
+        self.write("etc/timezone", "Europe/Paris\n")
         self.assertIn("names Europe/Paris", self.told()[1])
 
     def test_faults(self):

@@ -34,7 +34,7 @@ def read_rule(text):
 
 def seconds_of(text, most_hours):
     """The seconds of hours, minutes and seconds, with a sign."""
-    hours, minutes, seconds = (map(int, (text.lstrip("+-") + ":0:0").split(":")[:3]))
+    hours, minutes, seconds = map(int, f"{text.lstrip('+-')}:0:0".split(":")[:3])
     if hours > most_hours:
         raise ValueError("too many hours")
     total = hours * HOUR + minutes * 60 + seconds

@@ -37,7 +37,9 @@ class Zones:
         return self.fault_of_file(name, file, data)
 
     def fault_of_file(self, name, file, data):
-        """What is wrong with a zone's file; where nothing is, the zone is one of the run."""
+        """What is wrong with a zone's file; where nothing is, the zone is one of the run. UTC is one without a file."""
+        if name in self.local_times:
+            return None
         try:
             local_time = read_zone(data)
         except ZoneFault as fault:
