@@ -1,5 +1,6 @@
 #!/usr/bin/env python3
-"""Tests of tools/run_file: its words, the lines of tables, the limits, and its ends.
+"""Tests of tools/run_file: its words, the lines of tables, the limits, and its ends. Tests of its places, users, zones and
+notes stand beside this file.
 
 Usage: tools/test_run_file.py [NAME..]
 """
@@ -11,6 +12,7 @@ import subprocess
 import tempfile
 import unittest
 from datetime import datetime
+from pathlib import Path
 from unittest import mock
 
 from run_file_lib.command import Command, run
@@ -19,7 +21,7 @@ from run_file_lib.tables import JobCount, TableReader, lines_of
 
 HERE = os.path.dirname(os.path.abspath(__file__))
 TOOL = os.path.join(HERE, "run_file")
-MANUAL = os.path.join(os.path.dirname(HERE), "docs", "TABLES.md")
+DOCUMENTS = os.path.join(os.path.dirname(HERE), "docs")
 NOW = datetime(2024, 3, 30, 17, 45)
 LOOP = "Too many levels of symbolic links"
 NO_FILE = "No such file or directory"
@@ -140,7 +142,7 @@ class Words(RunFileTest):
         self.assertEqual(self.head("--until", "2024-03-30T00:01Z")[1], "window 2024-03-30T00:00Z 2024-03-30T00:01Z")
         for text, message in (
             ("2024-03-30T00:00Z", "the window is empty: --until isn't behind --from"),
-            ("2025-05-04T00:01Z", "the window is longer than 400 days"),
+            ("2025-05-04T00:01Z", "the window is longer than 400 days of 24 hours"),
             ("2200-01-01T00:01Z", "the window ends behind 2200-01-01T00:00Z"),
             ("tomorrow", "--until: `tomorrow` is no stamp; write it as 2024-03-31T00:00Z"),
         ):
@@ -217,6 +219,13 @@ class Words(RunFileTest):
             self.assertTrue(any(line.startswith(f"  {word} ") and line.endswith(text) for line in lines), word)
             self.assertIn(f"for example: {example}", "\n".join(lines))
 
+    def test_options_of_the_manual(self):
+        """The manual's table has each option as the help has it."""
+        manual = Path(DOCUMENTS, "MACHINE.md").read_text(encoding="utf-8")
+        for word, value, text, example in OPTIONS:
+            option = word if value is None else f"{word} {value}"
+            self.assertIn(f"\n| `{option}` | {text} | `{example}` |\n", manual)
+
     def test_other_words(self):
         end = "; --help lists the options"
         for words, message in (
@@ -266,7 +275,7 @@ class Lines(RunFileTest):
         file = self.table("CRON_TZ=Mars", "@daily a", "CRON_TZ=UTC", "@daily b")
         status, lines, notes = self.ran("--skip")
         self.assertEqual((status, lines[5:9]), (0, ["# left out by run_file"] * 2 + ["CRON_TZ=UTC", "@daily b"]))
-        self.assertEqual(notes[-1], f"{file}:2: left out: it stands below line 1, which can't be taken")
+        self.assertIn(f"{file}:2: left out: it stands below line 1, which can't be taken", notes)
 
     def test_jobs_below_a_setting_that_is_left_out(self):
         lines = ["RANDOM_DELAY=x", "1 5 a x", "RANDOM_DELAY=0"]
@@ -295,9 +304,10 @@ class Lines(RunFileTest):
         self.assertEqual(lines[5:12], kept)
 
     def manual_rows(self):
-        """The rows of the manual about lines of tables: the cause, the table, the line, and what to write."""
-        with open(MANUAL, encoding="utf-8") as manual:
-            rows = [[cell.strip() for cell in row.strip("|\n").split("|")] for row in manual if row.startswith("|")]
+        """The rows of the documents about lines of tables: the cause, the table, the line, and what to write."""
+        texts = [Path(DOCUMENTS, name).read_text(encoding="utf-8") for name in sorted(os.listdir(DOCUMENTS))]
+        lines = [line for text in texts for line in text.split("\n") if line.startswith("|")]
+        rows = [[cell.strip() for cell in line.strip("|").split("|")] for line in lines]
         rows = [row for row in rows if len(row) == 6 and row[0].isdigit() and row[1] in ("crontab", "system", "anacrontab")]
         for cause, kind, line, _, _, instead in rows:
             text = re.match("`([^`]+)`", line)[1]

@@ -1,17 +1,17 @@
 #!/usr/bin/env python3
-"""Tests of tools/run_file: which tables it takes, their labels, and the zone of a machine.
+"""Tests of tools/run_file: which tables it takes, and their labels.
 
 Usage: tools/test_run_file_places.py [NAME..]
 """
 import os
 import re
+import subprocess
 import unittest
 from unittest import mock
 
 from run_file_lib import labels
-from run_file_lib.command import run
 from run_file_lib.faults import Stop
-from test_run_file import LOOP, NO_FILE, NOTHING, NOW, PARIS, ZONES, Memory, RunFileTest
+from test_run_file import LOOP, NO_FILE, NOTHING, TOOL, RunFileTest
 
 
 class Places(RunFileTest):
@@ -97,6 +97,23 @@ class Places(RunFileTest):
         self.assertTrue(fault.startswith(self.file("var/spool/cron/a\\udcff\\n:1: the entry")), fault)
 
 
+class Locales(RunFileTest):
+    """What doesn't depend on the locale."""
+
+    def test_labels(self):
+        self.write(os.fsdecode("var/spool/cron/Zo\u00eb".encode()), "@daily x\n")
+        self.write(os.fsdecode(b"var/spool/cron/Zo\xeb"), "@daily x\n")
+        runs = []
+        for locale, is_utf_8 in (("C.UTF-8", "1"), ("C.UTF-8", "0"), ("C", "0"), ("POSIX", "1")):
+            environment = {**os.environ, "LC_ALL": locale, "PYTHONUTF8": is_utf_8, "PYTHONCOERCECLOCALE": "0"}
+            words = [TOOL, "--root", self.root, "--from", "2024-03-30T00:00Z"]
+            done = subprocess.run(words, stdout=subprocess.PIPE, stderr=subprocess.PIPE, env=environment, check=True)
+            runs.append(done.stdout)
+        labels_of_runs = [re.findall(rb"crontab (\S+) UTC", run) for run in runs]
+        self.assertEqual([len(found) for found in labels_of_runs], [2] * 4)
+        self.assertEqual(len({tuple(found) for found in labels_of_runs}), 1, labels_of_runs)
+
+
 class Labels(unittest.TestCase):
     """The labels of tables."""
 
@@ -129,63 +146,6 @@ class Labels(unittest.TestCase):
         with self.assertRaises(Stop) as stopped:
             labels.label_of("/a", mock.MagicMock(__contains__=lambda taken, label: True))
         self.assertEqual(str(stopped.exception), "/a: there is no label left for this table")
-
-
-class MachineZone(RunFileTest):
-    """The zone of a machine."""
-
-    def zone(self, **environment):
-        """What is told of the zone, of the root /."""
-        return self.ran(environment=environment)[2][0]
-
-    def test_default(self):
-        told = "# the zone of the tables is UTC, by default: there is no /etc/timezone and no /etc/localtime"
-        self.assertEqual(self.zone(), told)
-
-    def test_timezone(self):
-        file = self.write("etc/timezone", "\n Europe/Paris \n")
-        self.link("etc/localtime", "/usr/share/zoneinfo/UTC")
-        self.assertEqual(self.zone(), f"# the zone of the tables is Europe/Paris, by {file}")
-
-    def test_localtime(self):
-        file = self.link("etc/localtime", "../usr/share/zoneinfo/Europe/Paris")
-        self.assertEqual(self.zone(), f"# the zone of the tables is Europe/Paris, by {file}")
-
-    def test_variable(self):
-        # Of a copied file system the variable of this machine says nothing.
-        self.assertIn("UTC", self.zone(TZ="Europe/Paris"))
-        for text in ("Europe/Paris", ":Europe/Paris", "/usr/share/zoneinfo/Europe/Paris"):
-            streams = Memory()
-            words = ["--zoneinfo", self.file("usr/share/zoneinfo"), "--user", self.write("mine", "@daily x\n")]
-            self.assertEqual(run(words, {"TZ": text}, NOW, streams), 0)
-            self.assertEqual(streams.notes[0], "# the zone of the tables is Europe/Paris, by TZ")
-            self.assertIn(f"zone Europe/Paris tzif {PARIS.hex()}", streams.written.decode().split("\n"))
-
-    def test_faults(self):
-        end = "; name the zone by --zone"
-        file = self.write("etc/timezone", "\nMars\0\n")
-        self.assertEqual(self.faults(), [f"{file}:2: `Mars\\x00` is no zone's name (cause 21){end}"])
-        self.write("etc/timezone", "\n\n")
-        self.assertEqual(self.faults(), [f"{file}: it names no zone{end}"])
-        os.remove(file)
-        os.mkdir(file)
-        self.assertEqual(self.faults(), [f"{file}: it can't be read: it is no regular file{end}"])
-        os.rmdir(file)
-        file = self.write("etc/localtime", PARIS)
-        self.assertEqual(self.faults(), [f"{file}: it is no link, and so names no zone{end}"])
-        os.remove(file)
-        self.link("etc/localtime", "/etc/zone")
-        self.assertEqual(self.faults(), [f"{file}: `/etc/zone` is no zone's name (cause 21){end}"])
-
-
-class Testdata(unittest.TestCase):
-    """The zones of testdata."""
-
-    def test_zones_are_as_they_are_written(self):
-        for folder in ZONES.FOLDERS:
-            for name, rule in ZONES.RULES.items():
-                with open(os.path.join(folder, name), "rb") as file:
-                    self.assertEqual(file.read(), ZONES.zone_bytes(rule))
 
 
 if __name__ == "__main__":

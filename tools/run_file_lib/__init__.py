@@ -3,12 +3,17 @@
 command      reads the words, the tables and the zones, and writes the run file
 options      the words of the command line, and the limits of the first lines of a run file
 places       where a machine has its tables, and how files below a root are read
+users        the users of a machine, and what in a spool is no user's table
 labels       the label of a table, from its path
 tables       a table's lines: which the program takes, and what is wrong with the others
 crontabs     what is wrong with a line of a crontab or of a system table
 anacrontabs  the same of an anacrontab
 fields       the same of a field of an entry
 zones        the zones that are named, and their files
+tzif         what the clock of a zone shows, by its file
+rules        the same by the rule at the file's end
+machine_zone the zone of a machine
+origins      where the jobs and the lines of a run file come from
 faults       what is told: a fault that ends the command, and the words of a fault
 streams      standard output and standard error
 """

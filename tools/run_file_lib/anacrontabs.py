@@ -1,7 +1,7 @@
 """What is wrong with a line of an anacrontab, by the rules of docs/TABLES.md."""
 import re
 
-from .crontabs import assignment_of, command_fault, split_word
+from .crontabs import assignment_of, command_fault, quoted_name_fault, split_word
 from .faults import caused, shown
 
 PERIODS = "@daily @weekly @monthly @yearly @annually".split()
@@ -33,6 +33,17 @@ class AnacronLines:
         """Whether a line that is no comment is a job."""
         return assignment_of(text) is None
 
+    def job_of(self, text, _place):
+        """What the name of a job has behind the label, and its command. The line is good."""
+        _, rest = split_word(text)
+        _, rest = split_word(rest)
+        identifier, command = split_word(rest)
+        return f"/{identifier}", command
+
+    def is_picked_by_label(self, _text):
+        """Whether the label of the table picks a value of a job: nothing but the identifier picks one."""
+        return False
+
     def setting_of(self, text):
         """The name of the variable that a line sets, where the program heeds it."""
         name, _ = assignment_of(text) or ("", "")
@@ -52,6 +63,9 @@ class AnacronLines:
 
     def job_fault(self, text):
         """What is wrong with a job: a period, a delay, an identifier and a command."""
+        fault = quoted_name_fault(text, 16)
+        if fault:
+            return fault
         period, rest = split_word(text)
         delay, rest = split_word(rest)
         identifier, command = split_word(rest)

@@ -1,22 +1,25 @@
 """The command: it reads the words, the tables and the zones, and writes the run file."""
 import os
 
-from .faults import Stop, at, caused, counted, shown, why
+from .faults import Stop, at, caused, counted, lines_told, same_in, shown, why
 from .labels import label_of
+from .machine_zone import MachineZone, machine_zone, other_zones
 from .options import head_of, parser
+from .origins import RunFile, Section, lines_of_sections, placed
 from .places import MOST_BYTES, OPTION, SPOOL, Finder, Root, Table, read_file, read_regular
-from .tables import JobCount, TableReader, end_fault, lines_of, text_fault
-from .zones import ANOTHER, MachineZone, Zones, machine_zone
+from .tables import JobCount, TableReader, end_fault, lines_of, text_fault, told_once
+from .users import orphan_note, split_users, users_of
+from .zones import Zones
 
 
 def run(words, environment, now, streams):
-    """Runs the command, and gives its status."""
+    """Runs the command, and gives its status. `now` is in UTC."""
     try:
         options = parser().parse_args(words)
         if options.help:
             streams.output(parser().format_help().encode())
         else:
-            streams.output(Command(options, environment, streams).run_file(now))
+            streams.output(Command(options, environment, streams).run_file(now).data)
         return 0
     except Stop as stop:
         streams.note(str(stop))
@@ -42,21 +45,22 @@ class Command:
         self.faults = 0
 
     def run_file(self, now):
-        """The bytes of the run file."""
-        head = head_of(self.options, now)
+        """The run file, with the origins of its sections."""
         zone = self.zone_of_the_tables()
-        sections = [line for table in self.tables() for line in self.section(table, zone)]
+        head = head_of(self.options, now, self.zones.local_times[zone])
+        read = [self.section(table, zone) for table in self.tables()]
         script = self.script()
         if self.faults:
             raise Stop(f"run_file: nothing is written, for {counted(self.faults, 'fault')}; --skip leaves out what is at fault")
         if not self.labels:
             self.comment("there is no table")
-        lines = [*head, *self.zones.lines(), *sections, "script", *script, "end", ""]
-        data = "\n".join(lines).encode()
+        front = [*head, *self.zones.lines()]
+        sections = list(placed([section for section in read if section], len(front) + 1))
+        data = "\n".join([*front, *lines_of_sections(sections), "script", *script, "end", ""]).encode()
         if len(data) > MOST_BYTES:
             size = f"the run file would have {len(data):,} bytes, and the program takes {MOST_BYTES:,}"
             raise Stop(f"run_file: {caused(33, size)}")
-        return data
+        return RunFile(data, sections)
 
     def comment(self, text):
         """Tells what is no fault."""
@@ -66,20 +70,21 @@ class Command:
         """Tells of a file what is no fault."""
         self.comment(f"{shown(file)} {text}")
 
-    def trouble(self, file, line, text):
-        """Tells a fault: what is at fault is left out by --skip, and stops the command otherwise."""
+    def trouble(self, file, lines, text):
+        """Tells a fault of lines, or of a file: what is at fault is left out by --skip, and stops the command otherwise."""
+        text = text + same_in(lines[1:])
         if self.options.skip:
-            self.streams.note(at(file, line, f"left out: {text}"))
+            self.streams.note(at(file, lines[0], f"left out: {text}"))
         else:
-            self.faults += 1
-            self.streams.note(at(file, line, text))
+            self.faults += len(lines)
+            self.streams.note(at(file, lines[0], text))
 
     def tell_unreadable(self, file, reason, origin):
         """Tells that a file or a folder can't be read. Of users' crontabs that is no fault."""
         if origin == SPOOL:
             self.tell(file, f"can't be read: {reason}")
         else:
-            self.trouble(file, 0, f"it can't be read: {reason}")
+            self.trouble(file, [0], f"it can't be read: {reason}")
 
     def zones_of_the_run(self):
         """The zones, none of them read yet."""
@@ -91,23 +96,40 @@ class Command:
 
     def zone_of_the_tables(self):
         """The name of the zone of all sections."""
-        # The variable is that of this machine, and says nothing of a copied file system.
-        variable = self.environment.get("TZ") if self.options.root == "/" else None
         named = self.options.zone
-        zone = machine_zone(self.root, variable) if named is None else MachineZone(named, "--zone", 0)
-        fault = self.zones.fault_of(zone.name)
-        if fault:
-            raise Stop(at(zone.source, zone.line, f"{fault}; {ANOTHER}" if named is None else fault))
-        self.comment(f"the zone of the tables is {zone.name}, by {shown(zone.source)}")
+        if named is None:
+            zone = machine_zone(self.root, self.zones)
+        else:
+            zone = MachineZone(named, "--zone")
+            fault = self.zones.fault_of(named)
+            if fault:
+                raise Stop(at("--zone", 0, fault))
+        self.comment(f"the zone of the tables is {zone.name}, by {zone.source}")
+        if named is None:
+            # The variable is that of this machine, and says nothing of a copied file system.
+            variable = self.environment.get("TZ") if self.options.root == "/" else None
+            for text in other_zones(self.root, self.zones, zone.name, variable):
+                self.comment(text)
         return zone.name
 
     def tables(self):
         """The tables that the options name, or else those of the root."""
         options = self.options
-        named = [("system", options.system), ("crontab", options.user), ("anacrontab", options.anacron)]
-        if any(files for _, files in named):
-            return [Table(kind, file, file, OPTION) for kind, files in named for file in files]
-        return Finder(self.root, self.tell, self.tell_unreadable).tables()
+        if not options.system and not options.user and not options.anacron:
+            return Finder(self.root, self.tell, self.tell_unreadable).tables()
+        system = [Table("system", file, file, OPTION) for file in options.system]
+        anacron = [Table("anacrontab", file, file, OPTION) for file in options.anacron]
+        users = [self.user_table(name, file) for name, file in split_users(options.user)]
+        return [*system, *users, *anacron]
+
+    def user_table(self, name, file):
+        """The table of an option for a user, or for none."""
+        if name is None:
+            return Table("crontab", file, file, OPTION)
+        users = users_of(self.root)
+        if users is not None and name not in users:
+            self.tell(file, orphan_note(self.root, name))
+        return Table("crontab", self.root.spool_path(name), file, OPTION)
 
     def data_of(self, table):
         """The bytes of a table; none where it can't be read, or was read already, which is told."""
@@ -126,19 +148,34 @@ class Command:
         return data
 
     def section(self, table, zone):
-        """The lines of a table's section."""
+        """The section of a table; none where it can't be read."""
         data = self.data_of(table)
         if data is None:
-            return []
+            return None
         label = label_of(table.path, self.labels)
         self.labels.add(label)
         reader = TableReader(table.kind, self.zones, self.count)
         reader.read(lines_of(data))
-        self.tell(table.file, f"is {label}, {counted(reader.jobs, 'job')}")
-        for trouble in reader.troubles:
-            if self.options.skip or not trouble.follows:
-                self.trouble(table.file, trouble.line, trouble.text)
-        return [f"{table.kind} {label} {zone} {len(reader.kept)}", *reader.kept]
+        section = Section(table.kind, label, zone, table.file, 0, reader.kept, reader.jobs)
+        self.tell(table.file, f"is {label}, {counted(len(reader.jobs), 'job')}")
+        if reader.picked and (table.origin, table.path) == (OPTION, table.file):
+            self.tell_picked(table.file, reader.picked)
+        self.tell_troubles(table.file, reader.troubles)
+        if self.options.skip:
+            for job in reader.jobs:
+                self.comment(f"{shown(label + job.ending)} is {shown(table.file)}:{job.line}")
+        return section
+
+    def tell_picked(self, file, lines):
+        """Tells of a user's table that an option names without the user where it has a `?`."""
+        where = f"{counted(len(lines), 'line')} ({lines_told(lines)}), whose value is picked by the label"
+        self.tell(file, f"has a `?` in {where}: --user NAME={shown(file)} gives the label that it has as the crontab of NAME")
+
+    def tell_troubles(self, file, troubles):
+        """Tells what is wrong with a table. What only stands on a line that is at fault is told where both are left out."""
+        told = [trouble for trouble in troubles if self.options.skip or not trouble.follows]
+        for text, lines in told_once(told):
+            self.trouble(file, lines, text)
 
     def script(self):
         """The lines of the script. The program says what is wrong with them, but for what no line may have."""

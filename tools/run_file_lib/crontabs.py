@@ -6,6 +6,8 @@ from .fields import KINDS, field_fault
 
 BLANKS = re.compile("[ \t]+")
 ASSIGNMENT = re.compile("([A-Za-z_][A-Za-z0-9_]*)[ \t]*=(.*)", re.DOTALL)
+# A name in quotes, which cronie takes and the program doesn't.
+QUOTED = re.compile("([\"'])([A-Za-z_][A-Za-z0-9_]*)\\1[ \t]*=.*", re.DOTALL)
 USER = re.compile("[A-Za-z_][A-Za-z0-9_.-]{0,31}")
 NICKNAMES = "@yearly @annually @monthly @weekly @daily @midnight @hourly @reboot".split()
 MOST_BYTES_OF_A_COMMAND = 1000
@@ -19,6 +21,14 @@ def assignment_of(text):
     value = found[2].strip(" \t")
     is_quoted = len(value) > 1 and value[0] == value[-1] and value[0] in "\"'"
     return found[1], value[1:-1] if is_quoted else value
+
+
+def quoted_name_fault(text, cause):
+    """What is wrong with a line that sets a variable whose name stands in quotes; none where it is no such line."""
+    found = QUOTED.fullmatch(text)
+    if not found:
+        return None
+    return caused(cause, f"the name {found[2]} of the variable stands in quotes; write it without them")
 
 
 def split_word(text):
@@ -55,6 +65,19 @@ class CrontabLines:
         """Whether a line that is no comment is an entry."""
         return assignment_of(text) is None
 
+    def job_of(self, text, place):
+        """What the name of a job has behind the label, and its command. The entry is good, and that place is its own."""
+        rest = text
+        for _ in [None] if text.startswith("@") else KINDS:
+            _, rest = split_word(rest)
+        return f":{place}", split_word(rest)[1] if self.is_system else rest
+
+    def is_picked_by_label(self, text):
+        """Whether an entry has a `?`, whose value the label of the table picks. In a system table the user picks it."""
+        if self.is_system or text.startswith("@"):
+            return False
+        return "?" in BLANKS.split(text, len(KINDS))[: len(KINDS)]
+
     def setting_of(self, text):
         """The name of the variable that a line sets, where the program heeds it."""
         name, _ = assignment_of(text) or ("", "")
@@ -79,8 +102,12 @@ class CrontabLines:
 
     def entry_fault(self, text):
         """What is wrong with an entry of five fields."""
-        if text.startswith("-") and "~" not in split_word(text)[0]:
+        has_tilde = "~" in split_word(text)[0]
+        if text.startswith("-") and not has_tilde:
             return caused(1, "the entry begins with a `-`, which asks cron for no line in its log; leave the `-` out")
+        fault = quoted_name_fault(text, 8 if has_tilde else 9)
+        if fault:
+            return fault
         rest = text
         for kind in KINDS:
             word, rest = split_word(rest)

@@ -20,9 +20,10 @@ FOLDERS = {
 def label_of(path, taken):
     """The label of a path; none that is taken.
 
-    A path of the usual places has a label of its folder and its name. Where the name has other characters than a label, or is too
-    long, and for each other path, the label ends with digits of the path's hash. So no label depends on which other tables
-    there are, but where two hashes begin with the same digits.
+    A path of the usual places has a label of its folder and its name. Where the name has other characters than a label, or is
+    too long, and for each other path, the label ends with digits of the path's hash. So no label depends on which other tables
+    there are, but where two hashes begin with the same digits. It is made from the bytes of the path, so it doesn't depend on
+    the locale either.
     """
     name = usual_name(path)
     if name and LABEL.fullmatch(name) and name not in taken:
@@ -50,6 +51,6 @@ def other_name(path):
 
 
 def spelled(name):
-    """A name in the letters of a label."""
-    name = re.sub("[^a-z0-9_-]", "-", name.lower()).lstrip("-0123456789")
-    return name or "table"
+    """A name in the letters of a label: a `-` stands for each other byte."""
+    name = re.sub(b"[^a-z0-9_-]", b"-", os.fsencode(name).lower()).lstrip(b"-0123456789")
+    return name.decode("ascii") or "table"

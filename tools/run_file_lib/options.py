@@ -4,6 +4,7 @@ import re
 from datetime import datetime, timedelta
 
 from .faults import Stop, counted, shown
+from .tzif import beginning_of, clock_at
 
 MOST_REPLICAS = 1
 MOST_GRACE = 525_600
@@ -19,6 +20,8 @@ where they can be read, and /etc/anacrontab. Standard error says which file beca
 
   tools/run_file --from 2024-03-30T00:00Z --days 3 > machine.run
   crates/cron_cluster/out/cron_cluster < machine.run
+
+docs/MACHINE.md is the manual.
 """
 END = """\
 The status is 0 where the run file was written whole. It is 1 where a word, a table, a zone or an output is at fault: then
@@ -27,18 +30,23 @@ standard error has a message, and nothing was written, unless the output failed 
 # Each option: its word, what stands behind it, what it does, and an example.
 OPTIONS = [
     ("--root", "DIR", "the file system whose tables are read; the machine's own, /, by default", "--root /mnt/copy"),
-    ("--from", "STAMP", "the first minute, in UTC; today at 00:00Z by default", "--from 2024-03-31T00:00Z"),
+    ("--from", "STAMP", "the first minute, in UTC; by default that of today in the tables' zone", "--from 2024-03-31T00:00Z"),
     ("--days", "N", f"how many days from there on, 1 to {MOST_DAYS}; 1 by default", "--days 3"),
-    ("--until", "STAMP", "in place of --days: the minute behind the last one", "--until 2024-04-01T12:00Z"),
+    ("--until", "STAMP", "in place of --days: the minute behind the last one, in UTC", "--until 2024-04-01T12:00Z"),
     ("--grace", "MINUTES", f"how late a launch may be, 0 to {MOST_GRACE} minutes; 0 by default", "--grace 60"),
     ("--replicas", "N", f"how many replicas there are; the program takes {MOST_REPLICAS} so far", "--replicas 1"),
     ("--script", "FILE", "the lines between `script` and `end`; none by default", "--script duel.script"),
-    ("--zone", "NAME", "the zone of all tables; the machine's own by default", "--zone Europe/Paris"),
+    ("--zone", "NAME", "the zone of all tables; that of etc/localtime below the root by default", "--zone Europe/Paris"),
     ("--zoneinfo", "DIR", "the folder of zones; usr/share/zoneinfo below the root by default", "--zoneinfo ~/zones"),
-    ("--user", "FILE", "this user's crontab, and no table of the root; may be repeated", "--user my.crontab"),
+    (
+        "--user",
+        "FILE",
+        "a user's crontab, and no table of the root; NAME=FILE: that of the user NAME; may be repeated",
+        "--user alice=my.crontab",
+    ),
     ("--system", "FILE", "the same of a system table, whose entries have a user", "--system /etc/cron.d/php"),
     ("--anacron", "FILE", "the same of an anacrontab", "--anacron /etc/anacrontab"),
-    ("--skip", None, "leave out each line that can't be taken, and say so", "--skip"),
+    ("--skip", None, "leave out each line that can't be taken, and tell it, and each job's line", "--skip"),
     ("--help", None, "print this text", "--help"),
 ]
 LISTS = ("--user", "--system", "--anacron")
@@ -100,32 +108,32 @@ def stamp_of(instant):
     return instant.strftime("%Y-%m-%dT%H:%MZ")
 
 
-def window_of(options, now):
-    """The line of the window."""
+def window_of(options, now, zone):
+    """The line of the window. Without --from its days are those of a zone, from today on."""
     if options.days is not None and options.until is not None:
         raise Stop("run_file: --days and --until say the same; take one of them")
-    today = datetime(now.year, now.month, now.day)
-    first = today if options.first is None else instant_of("--from", options.first)
+    today = clock_at(zone, now).date()
+    first = beginning_of(zone, today) if options.first is None else instant_of("--from", options.first)
     if not FIRST <= first < LAST:
         raise Stop(f"run_file: --from: {first.year} isn't within the years 1971 to 2199")
-    if options.until is None:
-        days = 1 if options.days is None else number_of("--days", options.days, 1, MOST_DAYS)
-        last = first + timedelta(days=days)
-    else:
+    days = timedelta(days=1 if options.days is None else number_of("--days", options.days, 1, MOST_DAYS))
+    if options.until is not None:
         last = instant_of("--until", options.until)
+    else:
+        last = beginning_of(zone, today + days) if options.first is None else first + days
     if last > LAST:
         raise Stop(f"run_file: the window ends behind {stamp_of(LAST)}")
     if last <= first:
         raise Stop("run_file: the window is empty: --until isn't behind --from")
     if last - first > timedelta(minutes=MOST_MINUTES):
-        raise Stop(f"run_file: the window is longer than {counted(MOST_DAYS, 'day')}")
+        raise Stop(f"run_file: the window is longer than {counted(MOST_DAYS, 'day')} of 24 hours")
     return f"window {stamp_of(first)} {stamp_of(last)}"
 
 
-def head_of(options, now):
-    """The first four lines of the run file."""
+def head_of(options, now, zone):
+    """The first four lines of the run file. `now` is in UTC, and the zone is that of the tables."""
     replicas = number_of("--replicas", options.replicas, 1, 7)
     if replicas > MOST_REPLICAS:
         raise Stop(f"run_file: --replicas: the program takes {counted(MOST_REPLICAS, 'replica')} so far")
     grace = number_of("--grace", options.grace, 0, MOST_GRACE)
-    return ["cronrun 1", f"replicas {replicas}", window_of(options, now), f"grace {grace}"]
+    return ["cronrun 1", f"replicas {replicas}", window_of(options, now, zone), f"grace {grace}"]

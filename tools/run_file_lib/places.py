@@ -6,9 +6,10 @@ import stat
 from collections import namedtuple
 
 from .faults import Stop, shown, why
+from .users import orphan_note, users_of, why_passed_over
 
 # A table: its kind, its path in the file system that it is of, the file on this machine, and what it is named by: an option, a
-# usual place, or a spool of users' crontabs.
+# usual place, or a spool of users' crontabs. An option's path is the file, or the place in a spool that the file is meant for.
 Table = namedtuple("Table", "kind path file origin")
 OPTION, PLACE, SPOOL = "option", "place", "spool"
 
@@ -18,6 +19,7 @@ MOST_LINKS = 40
 TAKEN_NAME = re.compile("[A-Za-z0-9_-]+")
 # The folders of users' crontabs: of Debian, of SUSE, and of Red Hat, where the two above may stand too.
 SPOOLS = ["/var/spool/cron/crontabs", "/var/spool/cron/tabs", "/var/spool/cron"]
+NULL = "/dev/null"
 
 
 def read_file(file):
@@ -67,9 +69,18 @@ class Root:
                 done.append(part)
         return os.path.join(self.folder, *done)
 
+    def place(self, path):
+        """The same, but for a link at the path's own end."""
+        folder, name = os.path.split(path)
+        return os.path.join(self.real(folder), name)
+
     def has(self, path):
-        """Whether something stands at a path, be it a link that leads nowhere."""
-        return os.path.lexists(self.shown(path))
+        """Whether something stands at a path, be it a link that leads nowhere. Where that can't be told, the answer is yes, and
+        reading it tells why."""
+        try:
+            return os.path.lexists(self.place(path))
+        except OSError:
+            return True
 
     def read(self, path):
         """The bytes of a regular file."""
@@ -82,6 +93,20 @@ class Root:
         except (FileNotFoundError, NotADirectoryError):
             return []
 
+    def is_null(self, path):
+        """Whether a path leads to /dev/null."""
+        try:
+            return self.real(path) == self.real(NULL)
+        except OSError:
+            return False
+
+    def spool_path(self, user):
+        """The path of a user's crontab: where there is one, or in the first spool that there is."""
+        paths = [f"{spool}/{user}" for spool in SPOOLS]
+        there = [path for path in paths if self.has(path)]
+        there += [path for path, spool in zip(paths, SPOOLS) if self.has(spool)]
+        return [*there, *paths][0]
+
 
 class Finder:
     """Looks for the tables of a file system. What it passes over is told."""
@@ -90,6 +115,7 @@ class Finder:
         self.root = root
         self.tell = tell
         self.tell_unreadable = tell_unreadable
+        self.users = users_of(root)
 
     def tables(self):
         """Each table, in order: of the system, of users, and of anacron."""
@@ -101,7 +127,7 @@ class Finder:
 
     def single(self, kind, path):
         """The table at a path, if it is there."""
-        if self.root.has(path):
+        if self.root.has(path) and not self.is_masked(path):
             yield Table(kind, path, self.root.shown(path), PLACE)
 
     def packaged(self, folder):
@@ -109,8 +135,8 @@ class Finder:
         for name in self.names_in(folder, PLACE):
             path = f"{folder}/{name}"
             if not TAKEN_NAME.fullmatch(name):
-                self.tell(self.root.shown(path), "is passed over: cron takes names of letters, digits, `_` and `-`")
-            elif self.is_file(path):
+                self.pass_over(path, "cron takes names of letters, digits, `_` and `-`")
+            elif self.is_file(path) and not self.is_masked(path):
                 yield Table("system", path, self.root.shown(path), PLACE)
 
     def spooled(self, folder):
@@ -119,9 +145,13 @@ class Finder:
             path = f"{folder}/{name}"
             if path in SPOOLS:
                 continue
-            if name.startswith("."):
-                self.tell(self.root.shown(path), "is passed over: cron takes no name that begins with a dot")
-            elif self.is_file(path):
+            is_user = self.users is not None and name in self.users
+            reason = why_passed_over(name, is_user)
+            if reason:
+                self.pass_over(path, reason)
+            elif self.is_file(path) and not self.is_masked(path):
+                if self.users is not None and not is_user:
+                    self.tell(self.root.shown(path), orphan_note(self.root, name))
                 yield Table("crontab", path, self.root.shown(path), SPOOL)
 
     def names_in(self, folder, origin):
@@ -139,5 +169,16 @@ class Finder:
         except OSError:
             is_folder = False
         if is_folder:
-            self.tell(self.root.shown(path), "is passed over: it is a folder")
+            self.pass_over(path, "it is a folder")
         return not is_folder
+
+    def is_masked(self, path):
+        """Whether a path is a link to /dev/null, which is told: so a table of a package is switched off."""
+        is_null = self.root.is_null(path)
+        if is_null:
+            self.pass_over(path, "it is a link to /dev/null, which has no jobs")
+        return is_null
+
+    def pass_over(self, path, reason):
+        """Tells why there is no table at a path."""
+        self.tell(self.root.shown(path), f"is passed over: {reason}")

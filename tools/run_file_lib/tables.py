@@ -4,6 +4,7 @@ from collections import namedtuple
 from .anacrontabs import AnacronLines
 from .crontabs import CrontabLines
 from .faults import caused
+from .origins import Job
 
 # What is wrong at a line. Where the line itself is good but stands on another one that isn't, it follows from that.
 Trouble = namedtuple("Trouble", "line text follows")
@@ -49,15 +50,25 @@ class JobCount:
         return None
 
 
+def told_once(troubles):
+    """Each text of the troubles of a table, with the lines that it is told of."""
+    lines = {}
+    for trouble in troubles:
+        lines.setdefault(trouble.text, []).append(trouble.line)
+    return lines.items()
+
+
 class TableReader:
-    """Reads one table. `kept` are its lines, with a comment in place of each that can't be taken."""
+    """Reads one table. `kept` are its lines, with a comment in place of each that can't be taken. `picked` are the lines of
+    entries with a value that the label picks."""
 
     def __init__(self, kind, zones, count):
         self.judge = AnacronLines() if kind == "anacrontab" else CrontabLines(kind == "system", zones)
         self.count = count
         self.kept = []
         self.troubles = []
-        self.jobs = 0
+        self.jobs = []
+        self.picked = []
         # The line of each variable in force that can't be taken.
         self.bad_settings = {}
 
@@ -99,5 +110,12 @@ class TableReader:
             return Trouble(number, f"it stands below line {line}, which can't be taken", True)
         fault = self.count.fault_of_one_more()
         if not fault:
-            self.jobs += 1
+            self.add_job(number, text)
         return Trouble(number, fault, False) if fault else None
+
+    def add_job(self, number, text):
+        """Adds the job of a line."""
+        ending, command = self.judge.job_of(text, len(self.jobs) + 1)
+        self.jobs.append(Job(ending, number, command))
+        if self.judge.is_picked_by_label(text):
+            self.picked.append(number)

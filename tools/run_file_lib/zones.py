@@ -1,16 +1,15 @@
 """The zones that are named, and their TZif files."""
+import errno
 import os
 import re
-from collections import namedtuple
 
-from .faults import Stop, at, caused, shown, why
-
-# The machine's own zone, and what says so: a file, a variable or an option, and a line of it or 0.
-MachineZone = namedtuple("MachineZone", "name source line")
+from .faults import caused, shown, why
+from .tzif import UTC, ZoneFault, read_zone
 
 NAME = re.compile("[A-Za-z0-9/_+-]{1,64}")
 MOST_ZONES = 32
-ANOTHER = "name the zone by --zone"
+# Why there is no zone of a name: there is no such file, or it is a folder or the like. All else is wrong with the file.
+NO_ZONE = (errno.ENOENT, errno.ENOTDIR, errno.EINVAL)
 
 
 class Zones:
@@ -20,60 +19,54 @@ class Zones:
         self.folder = folder
         self.read = read
         self.files = {}
+        self.local_times = {"UTC": UTC}
 
     def fault_of(self, name):
         """What is wrong with a zone's name; where nothing is, the zone is one of the run."""
-        if name == "UTC" or name in self.files:
+        if name in self.local_times:
             return None
-        if not NAME.fullmatch(name) or "" in name.split("/"):
+        if not is_name(name):
             return caused(21, f"`{shown(name)}` is no zone's name")
         file = os.path.join(self.folder, name)
         try:
             data = self.read(name)
         except OSError as fault:
-            return caused(21, f"there is no zone {name}: {shown(file)}: {why(fault)}")
-        if not data.startswith(b"TZif"):
-            return caused(32, f"the zone {name} can't be taken: {shown(file)} is no TZif file")
+            if fault.errno in NO_ZONE:
+                return caused(21, f"there is no zone {name}: {shown(file)}: {why(fault)}")
+            return caused(32, f"the zone {name} can't be taken: {shown(file)}: {why(fault)}")
+        return self.fault_of_file(name, file, data)
+
+    def fault_of_file(self, name, file, data):
+        """What is wrong with a zone's file; where nothing is, the zone is one of the run. UTC is one without a file."""
+        if name in self.local_times:
+            return None
+        try:
+            local_time = read_zone(data)
+        except ZoneFault as fault:
+            return caused(32, f"the zone {name} can't be taken: {shown(file)} {fault}")
         if len(self.files) == MOST_ZONES:
             return caused(34, f"the zone {name} is one too many: a run has at most {MOST_ZONES}")
         self.files[name] = data
+        self.local_times[name] = local_time
         return None
+
+    def bytes_of(self, name):
+        """The bytes of a zone's file, which needn't be one of the run; none where it can't be read."""
+        try:
+            return self.read(name) if is_name(name) else None
+        except OSError:
+            return None
+
+    def are_the_same(self, one, other):
+        """Whether two names are those of one zone: they are the same, or their files are."""
+        data = self.bytes_of(one)
+        return one == other or (data is not None and data == self.bytes_of(other))
 
     def lines(self):
         """The lines of the zones, by name."""
         return [f"zone {name} tzif {data.hex()}" for name, data in sorted(self.files.items())]
 
 
-def machine_zone(root, variable):
-    """The zone of a machine: by the variable TZ, /etc/timezone, or the target of /etc/localtime. Without them it is UTC."""
-    if variable:
-        return MachineZone(zone_of_path(variable[1:] if variable.startswith(":") else variable), "TZ", 0)
-    for path, reader in (("/etc/timezone", zone_in_file), ("/etc/localtime", zone_of_link)):
-        if root.has(path):
-            try:
-                return reader(root, path)
-            except OSError as fault:
-                raise Stop(at(root.shown(path), 0, f"it can't be read: {why(fault)}; {ANOTHER}")) from fault
-    return MachineZone("UTC", "default: there is no /etc/timezone and no /etc/localtime", 0)
-
-
-def zone_in_file(root, path):
-    """The zone that the first line of a file names which isn't empty."""
-    lines = root.read(path).decode("utf-8", "surrogateescape").split("\n")
-    for number, line in enumerate(lines, 1):
-        if line.strip():
-            return MachineZone(line.strip(), root.shown(path), number)
-    raise Stop(at(root.shown(path), 0, f"it names no zone; {ANOTHER}"))
-
-
-def zone_of_link(root, path):
-    """The zone that a link leads to."""
-    file = root.shown(path)
-    if not os.path.islink(file):
-        raise Stop(at(file, 0, f"it is no link, and so names no zone; {ANOTHER}"))
-    return MachineZone(zone_of_path(os.readlink(file)), file, 0)
-
-
-def zone_of_path(path):
-    """The zone of a path below a zoneinfo folder. Any other path is left as it is."""
-    return path.rpartition("zoneinfo/")[2]
+def is_name(text):
+    """Whether a text may be a zone's name."""
+    return bool(NAME.fullmatch(text)) and "" not in text.split("/")
