@@ -143,7 +143,7 @@ class Origins(RunFileTest):
             "etc-crontab:1": (self.all, Job(":1", 4, "echo b ")),
             "spool-bob:1": (self.mine, Job(":1", 2, "water the plants")),
             "spool-bob:2": (self.mine, Job(":2", 3, "mail%Joe")),
-            "etc-anacrontab/disks": (self.slow, Job("/disks", 2, "make a backup")),
+            "etc-anacrontab/disks": (self.slow, Job("/disks", 2, "make a backup", "once a day, from 00:05 on and before 24:00")),
         }
         self.assertEqual(jobs_of(self.run_file().sections), expected)
 
@@ -151,6 +151,7 @@ class Origins(RunFileTest):
         made = self.run_file()
         lines = made.data.decode().split("\n")
         found = [origin_of(made.sections, number) for number in range(1, len(lines) + 1)]
+        found = [origin and (origin[0].file, origin[1]) for origin in found]
         # Four lines of the head, one of a zone, and three sections.
         expected = [None] * 5 + [(self.all, number) for number in range(5)] + [(self.mine, number) for number in range(4)]
         expected += [(self.slow, number) for number in range(5)] + [None] * 3

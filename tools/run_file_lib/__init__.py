@@ -1,6 +1,6 @@
 """The parts of tools/run_file, which writes a run file from the tables of a machine.
 
-command      reads the words, the tables and the zones, and writes the run file
+command      reads the words, the tables and the zones, and writes the run file, or what the program answers to it
 options      the words of the command line, and the limits of the first lines of a run file
 places       where a machine has its tables, and how files below a root are read
 users        the users of a machine, and what in a spool is no user's table
@@ -14,6 +14,10 @@ tzif         what the clock of a zone shows, by its file
 rules        the same by the rule at the file's end
 machine_zone the zone of a machine
 origins      where the jobs and the lines of a run file come from
+program      the built program, and its refusals
+due_list     the due list of the program, with where each line comes from
+findings     what is wrong with the tables, by the script and by the program
+causes       the causes for which the program refuses a line or a run file
 faults       what is told: a fault that ends the command, and the words of a fault
 streams      standard output and standard error
 """

@@ -4,10 +4,18 @@ import re
 from .crontabs import assignment_of, command_fault, quoted_name_fault, split_word
 from .faults import caused, shown
 
-PERIODS = "@daily @weekly @monthly @yearly @annually".split()
+# The periods that have names, in words.
+PERIODS = {
+    "@daily": "once a day",
+    "@weekly": "once in 7 days",
+    "@monthly": "once a month",
+    "@yearly": "once a year",
+    "@annually": "once a year",
+}
 NUMBER = re.compile("0|[1-9][0-9]{0,3}")
 HOURS = re.compile("(0|[1-9][0-9]?)-(0|[1-9][0-9]?)")
 MOST_BYTES_OF_AN_IDENTIFIER = 64
+FNV_BASE, FNV_PRIME = 0xCBF29CE484222325, 0x100000001B3
 
 
 class AnacronLines:
@@ -15,6 +23,9 @@ class AnacronLines:
 
     def __init__(self):
         self.identifiers = set()
+        # What the variables in force say: the hours in which jobs start, and how many minutes may be added to a delay.
+        self.hours = (0, 24)
+        self.most_added = 0
 
     def group(self, lines):
         """The lines that are read together: one that ends with a backslash goes on in the next."""
@@ -40,6 +51,16 @@ class AnacronLines:
         identifier, command = split_word(rest)
         return f"/{identifier}", command
 
+    def when_of(self, text):
+        """When a job is launched, in words. The line is good."""
+        period, rest = split_word(text)
+        delay, rest = split_word(rest)
+        first, last = (60 * hour for hour in self.hours)
+        first += int(delay) + fnv(split_word(rest)[0].encode()) % (self.most_added + 1)
+        if first >= last:
+            return f"never, since its first minute would be {clock(first)}, and its hours end at {clock(last)}"
+        return f"{period_in_words(period)}, from {clock(first)} on and before {clock(last)}"
+
     def is_picked_by_label(self, _text):
         """Whether the label of the table picks a value of a job: nothing but the identifier picks one."""
         return False
@@ -54,11 +75,18 @@ class AnacronLines:
         assignment = assignment_of(text)
         if assignment is None:
             return self.job_fault(text)
-        name, value = assignment
-        if name == "START_HOURS_RANGE" and not are_hours(value):
-            return caused(19, "START_HOURS_RANGE isn't two hours from 0 to 24 that rise, as in 3-22")
-        if name == "RANDOM_DELAY" and not NUMBER.fullmatch(value):
-            return caused(20, "RANDOM_DELAY isn't 0 to 9999 minutes")
+        return self.setting_fault(*assignment)
+
+    def setting_fault(self, name, value):
+        """What is wrong with a line that sets a variable. What it sets holds from there on."""
+        if name == "START_HOURS_RANGE":
+            if not are_hours(value):
+                return caused(19, "START_HOURS_RANGE isn't two hours from 0 to 24 that rise, as in 3-22")
+            self.hours = tuple(map(int, value.split("-")))
+        if name == "RANDOM_DELAY":
+            if not NUMBER.fullmatch(value):
+                return caused(20, "RANDOM_DELAY isn't 0 to 9999 minutes")
+            self.most_added = int(value)
         return None
 
     def job_fault(self, text):
@@ -93,3 +121,23 @@ def are_hours(text):
     """Whether a text is two hours from 0 to 24 that rise."""
     found = HOURS.fullmatch(text)
     return bool(found) and int(found[1]) < int(found[2]) <= 24
+
+
+def period_in_words(period):
+    """A period, from one launch to the next."""
+    if period in PERIODS:
+        return PERIODS[period]
+    return PERIODS["@daily"] if period == "1" else f"once in {period} days"
+
+
+def clock(minute):
+    """A minute of the day, as a clock shows it."""
+    return f"{minute // 60:02}:{minute % 60:02}"
+
+
+def fnv(data):
+    """FNV-1a of 64 bits, by which the program picks how many minutes are added to a delay."""
+    value = FNV_BASE
+    for byte in data:
+        value = (value ^ byte) * FNV_PRIME % 2**64
+    return value

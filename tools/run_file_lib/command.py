@@ -1,10 +1,12 @@
-"""The command: it reads the words, the tables and the zones, and writes the run file."""
+"""The command: it reads the words, the tables and the zones, and writes the run file, or what the program answers to it."""
 import os
 
+from .due_list import due_lines
 from .faults import Stop, at, caused, counted, lines_told, same_in, shown, why
+from .findings import Findings
 from .labels import label_of
 from .machine_zone import MachineZone, machine_zone, other_zones
-from .options import head_of, parser
+from .options import head_of, options_of, parser
 from .origins import RunFile, Section, lines_of_sections, placed
 from .places import MOST_BYTES, OPTION, SPOOL, Finder, Root, Table, read_file, read_regular
 from .tables import JobCount, TableReader, end_fault, lines_of, text_fault, told_once
@@ -15,14 +17,14 @@ from .zones import Zones
 def run(words, environment, now, streams):
     """Runs the command, and gives its status. `now` is in UTC."""
     try:
-        options = parser().parse_args(words)
+        options = options_of(words)
         if options.help:
             streams.output(parser().format_help().encode())
-        else:
-            streams.output(Command(options, environment, streams).run_file(now).data)
-        return 0
+            return 0
+        return Command(options, environment, streams).run(now)
     except Stop as stop:
         streams.note(str(stop))
+        return stop.status
     except MemoryError:
         streams.note("run_file: out of memory")
     except KeyboardInterrupt:
@@ -43,6 +45,24 @@ class Command:
         self.labels = set()
         self.files = {}
         self.faults = 0
+        self.findings = Findings() if options.check else None
+
+    def run(self, now):
+        """Writes what the options ask for, and gives the status."""
+        made = self.run_file(now)
+        if self.options.list:
+            self.output_lines(due_lines(self.options.program, made))
+        elif self.findings:
+            self.findings.add_answer(self.options.program, made)
+            self.output_lines(self.findings.lines())
+            return 0 if self.findings.are_none() else 1
+        else:
+            self.streams.output(made.data)
+        return 0
+
+    def output_lines(self, lines):
+        """Writes lines to standard output, in one piece."""
+        self.streams.output("".join(f"{line}\n" for line in lines).encode("utf-8", "backslashreplace"))
 
     def run_file(self, now):
         """The run file, with the origins of its sections."""
@@ -71,7 +91,11 @@ class Command:
         self.comment(f"{shown(file)} {text}")
 
     def trouble(self, file, lines, text):
-        """Tells a fault of lines, or of a file: what is at fault is left out by --skip, and stops the command otherwise."""
+        """Tells a fault of lines, or of a file: what is at fault is left out by --skip, told by --check at the end, and stops the
+        command otherwise."""
+        if self.findings:
+            self.findings.add(file, lines, text)
+            return
         text = text + same_in(lines[1:])
         if self.options.skip:
             self.streams.note(at(file, lines[0], f"left out: {text}"))
@@ -154,12 +178,14 @@ class Command:
             return None
         label = label_of(table.path, self.labels)
         self.labels.add(label)
-        reader = TableReader(table.kind, self.zones, self.count)
+        reader = TableReader(table.kind, self.zones, self.count, keeps_faults=self.options.check)
         reader.read(lines_of(data))
         section = Section(table.kind, label, zone, table.file, 0, reader.kept, reader.jobs)
         self.tell(table.file, f"is {label}, {counted(len(reader.jobs), 'job')}")
         if reader.picked and (table.origin, table.path) == (OPTION, table.file):
             self.tell_picked(table.file, reader.picked)
+        if self.findings:
+            self.findings.begin(table.file)
         self.tell_troubles(table.file, reader.troubles)
         if self.options.skip:
             for job in reader.jobs:

@@ -72,6 +72,10 @@ class CrontabLines:
             _, rest = split_word(rest)
         return f":{place}", split_word(rest)[1] if self.is_system else rest
 
+    def when_of(self, _text):
+        """When a job is launched, in words: of an entry the program tells it."""
+        return ""
+
     def is_picked_by_label(self, text):
         """Whether an entry has a `?`, whose value the label of the table picks. In a system table the user picks it."""
         if self.is_system or text.startswith("@"):

@@ -1,10 +1,20 @@
 """What is told of a fault."""
+import re
 
 MOST_RANGES = 20
+CAUSE = re.compile(r" \(cause (\d+)\)\Z")
 
 
 class Stop(Exception):
     """A fault that ends the command: its message is told, and nothing is written to standard output."""
+
+    status = 1
+
+
+class NoAnswer(Stop):
+    """The program can't be run, or fails, or its answer is none."""
+
+    status = 2
 
 
 def caused(cause, text):
@@ -12,14 +22,25 @@ def caused(cause, text):
     return f"{text} (cause {cause})"
 
 
+def cause_of(text):
+    """The number of the cause that stands at the end of a message; none where it has none."""
+    found = CAUSE.search(text)
+    return int(found[1]) if found else None
+
+
 def shown(text):
     """A text for a message: what can't be printed stands as an escape, so that a message stays one line."""
     return "".join(mark if mark.isprintable() else ascii(mark)[1:-1] for mark in text)
 
 
-def at(file, line, text):
-    """A message with its file, and its line where it has one."""
-    return f"{shown(file)}:{line}: {text}" if line else f"{shown(file)}: {text}"
+def place(file, line, column=0):
+    """A file with the line and the column in it, where it has them."""
+    return ":".join([shown(file), *(str(number) for number in (line, column) if number)])
+
+
+def at(file, line, text, column=0):
+    """A message with its file, and its line and its column where it has them."""
+    return f"{place(file, line, column)}: {text}"
 
 
 def why(fault):

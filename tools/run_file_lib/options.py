@@ -21,11 +21,17 @@ where they can be read, and /etc/anacrontab. Standard error says which file beca
   tools/run_file --from 2024-03-30T00:00Z --days 3 > machine.run
   crates/cron_cluster/out/cron_cluster < machine.run
 
+With --list or --check it hands the run file to the program, and shows the answer with the lines of the tables.
+
+  tools/run_file --list --days 7
+  tools/run_file --check --user alice=my.crontab
+
 docs/MACHINE.md is the manual.
 """
 END = """\
-The status is 0 where the run file was written whole. It is 1 where a word, a table, a zone or an output is at fault: then
-standard error has a message, and nothing was written, unless the output failed in the midst.
+The status is 0 where the run file or the list was written whole, or the check found no fault. It is 1 where a word, a table, a
+zone or an output is at fault: then standard error has a message, or the check has told the fault, and nothing else was written,
+unless the output failed in the midst. It is 2 where the program can't be run or fails.
 """
 # Each option: its word, what stands behind it, what it does, and an example.
 OPTIONS = [
@@ -47,6 +53,9 @@ OPTIONS = [
     ("--system", "FILE", "the same of a system table, whose entries have a user", "--system /etc/cron.d/php"),
     ("--anacron", "FILE", "the same of an anacrontab", "--anacron /etc/anacrontab"),
     ("--skip", None, "leave out each line that can't be taken, and tell it, and each job's line", "--skip"),
+    ("--list", None, "in place of the run file: when each entry is due, with its line and its command", "--list --days 7"),
+    ("--check", None, "in place of the run file: each line at fault, as the program finds it", "--check"),
+    ("--program", "PATH", "the program of --list and --check; the built one by default", "--program ~/bin/cron_cluster"),
     ("--help", None, "print this text", "--help"),
 ]
 LISTS = ("--user", "--system", "--anacron")
@@ -82,6 +91,16 @@ def parser():
             name = "first" if word == "--from" else word[2:]
             group.add_argument(word, dest=name, default=DEFAULTS.get(word), metavar=value, help=text)
     return made
+
+
+def options_of(words):
+    """The options that words are."""
+    options = parser().parse_args(words)
+    if options.check and options.list:
+        raise Stop("run_file: --list and --check are two answers; take one of them")
+    if options.check and options.skip:
+        raise Stop("run_file: --check tells each line at fault, and --skip leaves it out; take one of them")
+    return options
 
 
 def number_of(word, text, least, most):

@@ -6,8 +6,9 @@ RunFile = namedtuple("RunFile", "data sections")
 # A section: its kind, label and zone, the file of its table, the line of the run file that is the table's first one, the lines
 # of the table as the run file has them, and its jobs. A table has as many lines in the run file as in its own.
 Section = namedtuple("Section", "kind label zone file first lines jobs")
-# A job: what its name has behind the label, `:K` or `/IDENTIFIER`, the line of its table, and its command.
-Job = namedtuple("Job", "ending line command")
+# A job: what its name has behind the label, `:K` or `/IDENTIFIER`, the line of its table, its command, and for one of an
+# anacrontab when it is launched, in words.
+Job = namedtuple("Job", "ending line command when", defaults=[""])
 
 
 def placed(sections, first):
@@ -30,10 +31,23 @@ def jobs_of(sections):
 
 
 def origin_of(sections, line):
-    """The file and the line in it from which a line of the run file comes; line 0 for the line that opens a section. Each other
-    line that is of no table comes from no file."""
+    """The section, and the line of its table, from which a line of the run file comes; line 0 for the line that opens the section.
+    Each other line that is of no table comes from no section."""
     for section in sections:
         place = line - section.first + 1
         if 0 <= place <= len(section.lines):
-            return section.file, place
+            return section, place
     return None
+
+
+def place_of(section, line, before):
+    """Where in a table a byte stands, by how many bytes are before it from the beginning of a line on: its line and its column,
+    which counts bytes from 1. In an anacrontab a line may go on in the next one; the newline between them counts as a byte."""
+    texts = section.lines[line - 1 :] if section.kind == "anacrontab" else []
+    for text in texts:
+        size = len(text.encode()) + 1
+        if before < size or not text.endswith("\\"):
+            break
+        before -= size
+        line += 1
+    return line, before + 1

@@ -59,12 +59,13 @@ def told_once(troubles):
 
 
 class TableReader:
-    """Reads one table. `kept` are its lines, with a comment in place of each that can't be taken. `picked` are the lines of
-    entries with a value that the label picks."""
+    """Reads one table. `kept` are its lines, with a comment in place of each that can't be taken; where the lines at fault are
+    kept too, in place of each that is no text. `picked` are the lines of entries with a value that the label picks."""
 
-    def __init__(self, kind, zones, count):
+    def __init__(self, kind, zones, count, keeps_faults=False):
         self.judge = AnacronLines() if kind == "anacrontab" else CrontabLines(kind == "system", zones)
         self.count = count
+        self.keeps_faults = keeps_faults
         self.kept = []
         self.troubles = []
         self.jobs = []
@@ -88,7 +89,8 @@ class TableReader:
         trouble = self.text_trouble(number, text) if says_nothing else self.trouble_of(number, text)
         if trouble:
             self.troubles.append(trouble)
-        self.kept += [LEFT_OUT] * len(group) if trouble else group
+        is_left_out = text_fault(text) if self.keeps_faults else trouble
+        self.kept += [LEFT_OUT] * len(group) if is_left_out else group
 
     def text_trouble(self, number, text):
         """What is wrong with an empty line or a comment."""
@@ -116,6 +118,6 @@ class TableReader:
     def add_job(self, number, text):
         """Adds the job of a line."""
         ending, command = self.judge.job_of(text, len(self.jobs) + 1)
-        self.jobs.append(Job(ending, number, command))
+        self.jobs.append(Job(ending, number, command, self.judge.when_of(text)))
         if self.judge.is_picked_by_label(text):
             self.picked.append(number)
