@@ -5,7 +5,8 @@ ghost use Rattle.run_text.specs.Run.{Run};
 ghost use Rattle.run_text.specs.Sound.{IsSoundRun};
 ghost use Rattle.run_text.specs.declared.refusal.Refusal.{Refusal};
 
-use crate::read::pass_run;
+use crate::read::pass_file;
+use crate::table::Tables;
 
 /// A law: a text is a run file in one way at most, or refused in one way at most, and never both.
 pub fn a_text_has_one_reading()
@@ -19,7 +20,7 @@ pub fn a_text_has_a_reading(text: &str)
     requires { length text.now < 2 ^ 32 }
     ensures { HasReading text.now }
 {
-    let _ = pass_run(text);
+    let _ = pass_file(text, Tables::Judged);
 }
 
 /// A law: what holds of each run that is read. Its window and its grace are within the limits, each line of its tables says

@@ -16,6 +16,6 @@ mod words;
 mod zone;
 
 pub use laws::{a_text_has_a_reading, a_text_has_one_reading, each_run_is_sound};
-pub use read::read_run;
+pub use read::{read_frame, read_run};
 pub use refusal::{Refusal, RunFault};
 pub use run::{RunFile, Section, SectionKind, ZoneLine, ZoneText};
