@@ -35,11 +35,11 @@ Good number (Table run section left) = IsSoundRun number run × SoFar (style_of 
 Good number (Script run) = IsSoundRun number run
 Good number (End run) = IsSoundRun number run
 
-all_next : (P Q : Section → Type 0) (xs : List Section) → ((x : Section) → P x → Q x) → AllByRecursion P xs → AllByRecursion Q xs
+pub all_next : (P Q : Section → Type 0) (xs : List Section) → ((x : Section) → P x → Q x) → AllByRecursion P xs → AllByRecursion Q xs
 all_next P Q [] f all = tt
 all_next P Q (x ∷ xs) f all = (f x all.0, all_next P Q xs f all.1)
 
-all_push : {X : Type 0} (P : X → Type 0) (xs : List X) (x : X) → AllByRecursion P xs → P x → AllByRecursion P (xs ++ x ∷ [])
+pub all_push : {X : Type 0} (P : X → Type 0) (xs : List X) (x : X) → AllByRecursion P xs → P x → AllByRecursion P (xs ++ x ∷ [])
 all_push P [] x all px = (px, tt)
 all_push P (y ∷ ys) x all px = (all.0, all_push P ys x all.1 px)
 
