@@ -1,6 +1,7 @@
 pub mod AnacrontabLemmas
 pub mod CountLemmas
 mod CutLemmas
+pub mod FrameLemmas
 mod ListLemmas
 mod PhraseLemmas
 mod PartLemmas

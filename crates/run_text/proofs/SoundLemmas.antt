@@ -15,6 +15,7 @@ use Rattle.run_text.specs.Sound.{IsSoundSection, IsSoundSource, IsSoundZone, Are
 use Rattle.run_text.specs.Table.{Says, AreSaid}
 use Rattle.run_text.specs.Zones.{IsSourceText, fixed, posix, tzif, AddsZone, names_of}
 use Rattle.run_text.specs.declared.run.SectionKind.{SectionKind}
+use Rattle.run_text.specs.declared.table.Tables.TheVariants.{Judged}
 use Rattle.run_text.proofs.AnacrontabLemmas.{say_none}
 use Rattle.run_text.proofs.OffsetLemmas.{offset_in_range}
 
@@ -34,11 +35,11 @@ Good number (Table run section left) = IsSoundRun number run × SoFar (style_of 
 Good number (Script run) = IsSoundRun number run
 Good number (End run) = IsSoundRun number run
 
-all_next : (P Q : Section → Type 0) (xs : List Section) → ((x : Section) → P x → Q x) → AllByRecursion P xs → AllByRecursion Q xs
+pub all_next : (P Q : Section → Type 0) (xs : List Section) → ((x : Section) → P x → Q x) → AllByRecursion P xs → AllByRecursion Q xs
 all_next P Q [] f all = tt
 all_next P Q (x ∷ xs) f all = (f x all.0, all_next P Q xs f all.1)
 
-all_push : {X : Type 0} (P : X → Type 0) (xs : List X) (x : X) → AllByRecursion P xs → P x → AllByRecursion P (xs ++ x ∷ [])
+pub all_push : {X : Type 0} (P : X → Type 0) (xs : List X) (x : X) → AllByRecursion P xs → P x → AllByRecursion P (xs ++ x ∷ [])
 all_push P [] x all px = (px, tt)
 all_push P (y ∷ ys) x all px = (all.0, all_push P ys x all.1 px)
 
@@ -108,18 +109,18 @@ good_start number line run kind label zone zero below sound =
 good_start number line run kind label zone (suc count) below sound = (sound, far_none (style_of kind) label, omega arith)
 
 -- one line more of a section, which is its last or isn't
-far_next : (style : Option Style) (section : Section) (left : ℕ) (line : List ℕ) → SoFar style section.label section.lines → MayStandIn style section (suc left) line
+far_next : (style : Option Style) (section : Section) (left : ℕ) (line : List ℕ) → SoFar style section.label section.lines → MayStandIn Judged style section (suc left) line
     → SoFar style section.label (with_line section line).lines
 far_next (Some style) section left line so_far may = all_push (Says style section.label) section.lines line so_far may
 far_next None section left line so_far may = tt
 
-said_last : (style : Option Style) (section : Section) (line : List ℕ) → SoFar style section.label section.lines → MayStandIn style section 0 line
+said_last : (style : Option Style) (section : Section) (line : List ℕ) → SoFar style section.label section.lines → MayStandIn Judged style section 0 line
     → AreSaid style section.label (with_line section line).lines
 said_last (Some style) section line so_far may = all_push (Says style section.label) section.lines line so_far may
 said_last None section line so_far may = may
 
 good_line : (number : ℕ) (run : Run) (section : Section) (left : ℕ) (line : List ℕ) → IsSoundRun number run → SoFar (style_of section.kind) section.label section.lines
-    → section.line + length section.lines + 1 < number → MayStandIn (style_of section.kind) section left line → Good number (inside run (with_line section line) left)
+    → section.line + length section.lines + 1 < number → MayStandIn Judged (style_of section.kind) section left line → Good number (inside run (with_line section line) left)
 good_line number run section zero line sound so_far below may =
     let longer : length (section.lines ++ line ∷ []) ≡ length section.lines + 1 = length-append section.lines (line ∷ []) in
     with_one_more number run (with_line section line) sound
@@ -128,7 +129,7 @@ good_line number run section (suc left) line sound so_far below may =
     let longer : length (section.lines ++ line ∷ []) ≡ length section.lines + 1 = length-append section.lines (line ∷ []) in
     (sound, far_next (style_of section.kind) section left line so_far may, omega arith)
 
-good_next : (number behind : ℕ) (above next : Above) (line : List ℕ) → Good number above → MayStandBelow number behind above line next → Good (number + 1) next
+good_next : (number behind : ℕ) (above next : Above) (line : List ℕ) → Good number above → MayStandBelow Judged number behind above line next → Good (number + 1) next
 good_next number behind Nothing next line good may = subst (Good (number + 1)) (sym may.1) tt
 good_next number behind Version next line good may = subst (Good (number + 1)) (sym may.1) tt
 good_next number behind (Replicas members) next line good (window, is, next_is) = subst (Good (number + 1)) (sym next_is) is.limits
@@ -146,7 +147,7 @@ good_next number behind (Table run section left) next line good (may, next_is) =
 good_next number behind (Script run) next line good may = subst (Good (number + 1)) (sym may.1) (later_run number (number + 1) run (omega arith) good)
 good_next number behind (End run) next line good may = absurd may
 
-good_end : (number : ℕ) (above : Above) (lines : List (List ℕ)) (run : Run) → Good number above → ReadsFrom number above lines run → IsSoundRun (number + length lines) run
+good_end : (number : ℕ) (above : Above) (lines : List (List ℕ)) (run : Run) → Good number above → ReadsFrom Judged number above lines run → IsSoundRun (number + length lines) run
 good_end number above [] run good is = later_run number (number + length {A = List ℕ} []) run (omega arith) (subst (Good number) is good)
 good_end number above (line ∷ lines) run good (next, may, reads) =
     let far = good_end (number + 1) next lines run (good_next number (length lines) above next line good may) reads in

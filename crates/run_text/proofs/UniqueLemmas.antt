@@ -11,6 +11,8 @@ use Rattle.run_text.specs.Reading.{ReadsFrom, RefusesFrom}
 use Rattle.run_text.specs.Run.{Run, Section, with_line}
 use Rattle.run_text.specs.declared.refusal.Refusal.{Refusal}
 use Rattle.run_text.specs.declared.run.SectionKind.TheVariants.{User, System, Anacron}
+use Rattle.run_text.specs.declared.table.Tables.{Tables}
+use Rattle.run_text.specs.declared.table.Tables.TheVariants.{Judged, Counted}
 use Rattle.run_text.proofs.AnacrontabLemmas as anacrontab
 use Rattle.run_text.proofs.PhraseLemmas.{one_replicas_line, one_grace_line, one_opening, opening_word}
 use Rattle.run_text.proofs.WindowLemmas.{one_window_line}
@@ -77,45 +79,47 @@ next_of_name number run line x y first second =
     let same = one_zone line first.name second.name first.source second.source first.adds.is second.adds.is in
     first.next_is ∙ rw (same.0, same.1) (sym second.next_is)
 
-pub one_next : (number behind : ℕ) (above : Above) (line : List ℕ) (x y : Above) → MayStandBelow number behind above line x → MayStandBelow number behind above line y → x ≡ y
-one_next number behind Nothing line x y p q = p.1 ∙ sym q.1
-one_next number behind Version line x y p q = p.1 ∙ sym q.1
-one_next number behind (Replicas members) line x y (a, is, next) (b, other, same) = next ∙ rw (one_window_line line a b is other) (sym same)
-one_next number behind (Times members window) line x y (a, is, next) (b, other, same) = next ∙ rw (one_grace_line line a b is other) (sym same)
-one_next number behind (Sections run) line x y (inl p) (inl q) = p.1 ∙ sym q.1
-one_next number behind (Sections run) line x y (inl p) (inr (inl q)) = absurd (script_no_name number run line y p.0 q)
-one_next number behind (Sections run) line x y (inl p) (inr (inr q)) = absurd (script_no_start number behind run line y p.0 q)
-one_next number behind (Sections run) line x y (inr (inl p)) (inl q) = absurd (script_no_name number run line x q.0 p)
-one_next number behind (Sections run) line x y (inr (inl p)) (inr (inl q)) = next_of_name number run line x y p q
-one_next number behind (Sections run) line x y (inr (inl p)) (inr (inr q)) = absurd (name_no_start number behind run line x y p q)
-one_next number behind (Sections run) line x y (inr (inr p)) (inl q) = absurd (script_no_start number behind run line x q.0 p)
-one_next number behind (Sections run) line x y (inr (inr p)) (inr (inl q)) = absurd (name_no_start number behind run line y x q p)
-one_next number behind (Sections run) line x y (inr (inr p)) (inr (inr q)) = next_of_start number behind run line x y p q
-one_next number behind (Table run section left) line x y p q = p.1 ∙ sym q.1
-one_next number behind (Script run) line x y p q = p.1 ∙ sym q.1
-one_next number behind (End run) line x y p q = absurd p
+pub one_next : (tables : Tables) (number behind : ℕ) (above : Above) (line : List ℕ) (x y : Above) → MayStandBelow tables number behind above line x → MayStandBelow tables number behind above line y → x ≡ y
+one_next tables number behind Nothing line x y p q = p.1 ∙ sym q.1
+one_next tables number behind Version line x y p q = p.1 ∙ sym q.1
+one_next tables number behind (Replicas members) line x y (a, is, next) (b, other, same) = next ∙ rw (one_window_line line a b is other) (sym same)
+one_next tables number behind (Times members window) line x y (a, is, next) (b, other, same) = next ∙ rw (one_grace_line line a b is other) (sym same)
+one_next tables number behind (Sections run) line x y (inl p) (inl q) = p.1 ∙ sym q.1
+one_next tables number behind (Sections run) line x y (inl p) (inr (inl q)) = absurd (script_no_name number run line y p.0 q)
+one_next tables number behind (Sections run) line x y (inl p) (inr (inr q)) = absurd (script_no_start number behind run line y p.0 q)
+one_next tables number behind (Sections run) line x y (inr (inl p)) (inl q) = absurd (script_no_name number run line x q.0 p)
+one_next tables number behind (Sections run) line x y (inr (inl p)) (inr (inl q)) = next_of_name number run line x y p q
+one_next tables number behind (Sections run) line x y (inr (inl p)) (inr (inr q)) = absurd (name_no_start number behind run line x y p q)
+one_next tables number behind (Sections run) line x y (inr (inr p)) (inl q) = absurd (script_no_start number behind run line x q.0 p)
+one_next tables number behind (Sections run) line x y (inr (inr p)) (inr (inl q)) = absurd (name_no_start number behind run line y x q p)
+one_next tables number behind (Sections run) line x y (inr (inr p)) (inr (inr q)) = next_of_start number behind run line x y p q
+one_next tables number behind (Table run section left) line x y p q = p.1 ∙ sym q.1
+one_next tables number behind (Script run) line x y p q = p.1 ∙ sym q.1
+one_next tables number behind (End run) line x y p q = absurd p
 
 -- a line of a table
-said_or_broken : (style : Option Style) (number : ℕ) (section : Section) (left : ℕ) (line : List ℕ) (refusal : Refusal) → MayStandIn style section left line → RefusesInTable style number section left line refusal → ⊥
-said_or_broken (Some style) number section left line refusal may refused =
+said_or_broken : (tables : Tables) (style : Option Style) (number : ℕ) (section : Section) (left : ℕ) (line : List ℕ) (refusal : Refusal) → MayStandIn tables style section left line → RefusesInTable tables style number section left line refusal → ⊥
+said_or_broken Counted style number section left line refusal may refused = refused
+said_or_broken Judged (Some style) number section left line refusal may refused =
     let same : ◌≡◌ {A = LineAnswer} (Said may.0) (Broken refusal.cause refusal.place) = same_answer style section.label line (Said may.0) (Broken refusal.cause refusal.place) may.1 refused.0 in cc
-said_or_broken None number section zero line refusal may refused =
+said_or_broken Judged None number section zero line refusal may refused =
     anacrontab.said_or_broken no_settings (joined (with_line section line).lines) refused.0 refusal.cause refusal.place may refused.1
-said_or_broken None number section (suc left) line refusal may refused = refused
+said_or_broken Judged None number section (suc left) line refusal may refused = refused
 
 same_refusal : (a b : Refusal) → a.line ≡ b.line → a.cause ≡ b.cause → a.place ≡ b.place → a ≡ b
 same_refusal a b line cause place = rw (line, cause, place) refl
 
-one_break : (style : Option Style) (number : ℕ) (section : Section) (left : ℕ) (line : List ℕ) (a b : Refusal) → RefusesInTable style number section left line a → RefusesInTable style number section left line b → a ≡ b
-one_break (Some style) number section left line a b first second =
+one_break : (tables : Tables) (style : Option Style) (number : ℕ) (section : Section) (left : ℕ) (line : List ℕ) (a b : Refusal) → RefusesInTable tables style number section left line a → RefusesInTable tables style number section left line b → a ≡ b
+one_break Counted style number section left line a b first second = absurd first
+one_break Judged (Some style) number section left line a b first second =
     let same : ◌≡◌ {A = LineAnswer} (Broken a.cause a.place) (Broken b.cause b.place) = same_answer style section.label line (Broken a.cause a.place) (Broken b.cause b.place) first.0 second.0 in
     let cause : a.cause ≡ b.cause = cc in
     let place : a.place ≡ b.place = cc in
     same_refusal a b (first.1 ∙ sym second.1) cause place
-one_break None number section zero line a b first second =
+one_break Judged None number section zero line a b first second =
     let same = anacrontab.one_first_break no_settings (joined (with_line section line).lines) first.0 second.0 a.cause b.cause a.place b.place first.1 second.1 in
     same_refusal a b (first.2 ∙ ap (λ n. section.line + n) same.0 ∙ sym second.2) same.1 same.2
-one_break None number section (suc left) line a b first second = absurd first
+one_break Judged None number section (suc left) line a b first second = absurd first
 
 -- a line that may stand there isn't refused
 start_not_refused : (number behind : ℕ) (known : List (List ℕ)) (run : Run) (line : List ℕ) (next : Above) (fault : ℕ)
@@ -137,10 +141,10 @@ script_not_refused behind known line fault is (inl refused) = script_no_section 
 script_not_refused behind known line fault is (inr (inl refused)) = script_no_zone (subst HasZoneWord is refused.0)
 script_not_refused behind known line fault is (inr (inr refused)) = refused.2 is
 
-not_refused_before_script : (number behind : ℕ) (run : Run) (line : List ℕ) (next : Above) (fault : ℕ) → MayStandBelow number behind (Sections run) line next → RefusesBeforeScript behind (names_of run.zones) line fault → ⊥
-not_refused_before_script number behind run line next fault (inl p) refused = script_not_refused behind (names_of run.zones) line fault p.0 refused
-not_refused_before_script number behind run line next fault (inr (inl p)) refused = name_not_refused number behind run line next fault p refused
-not_refused_before_script number behind run line next fault (inr (inr p)) refused = start_not_refused number behind (names_of run.zones) run line next fault p refused
+not_refused_before_script : (tables : Tables) (number behind : ℕ) (run : Run) (line : List ℕ) (next : Above) (fault : ℕ) → MayStandBelow tables number behind (Sections run) line next → RefusesBeforeScript behind (names_of run.zones) line fault → ⊥
+not_refused_before_script tables number behind run line next fault (inl p) refused = script_not_refused behind (names_of run.zones) line fault p.0 refused
+not_refused_before_script tables number behind run line next fault (inr (inl p)) refused = name_not_refused number behind run line next fault p refused
+not_refused_before_script tables number behind run line next fault (inr (inr p)) refused = start_not_refused number behind (names_of run.zones) run line next fault p refused
 
 not_refused_replicas : (line : List ℕ) (fault : ℕ) → line ≡ replicas_line 1 → RefusesReplicas line fault → ⊥
 not_refused_replicas line fault is (inl refused) = refused.0 1 (omega arith) (omega arith) is
@@ -151,15 +155,15 @@ not_refused_in_script : (line : List ℕ) (fault : ℕ) → line ≡ codes "end"
 not_refused_in_script line fault is (inl refused) = end_no_command (subst (λ l. IsCommandWord (first_word l)) is refused.0)
 not_refused_in_script line fault is (inr refused) = refused.1 is
 
-pub not_refused : (number behind : ℕ) (above : Above) (line : List ℕ) (next : Above) (refusal : Refusal) → MayStandBelow number behind above line next → Refuses number behind above line refusal → ⊥
-not_refused number behind Nothing line next refusal p refused = refused.0 p.0
-not_refused number behind Version line next refusal p refused = not_refused_replicas line refusal.cause p.0 refused.0
-not_refused number behind (Replicas members) line next refusal p refused = refused.0 p.0 p.1
-not_refused number behind (Times members window) line next refusal p refused = refused.0 p.0 p.1
-not_refused number behind (Sections run) line next refusal p refused = not_refused_before_script number behind run line next refusal.cause p refused.0
-not_refused number behind (Table run section left) line next refusal p refused = said_or_broken (style_of section.kind) number section left line refusal p.0 refused
-not_refused number behind (Script run) line next refusal p refused = not_refused_in_script line refusal.cause p.0 refused.0
-not_refused number behind (End run) line next refusal p refused = absurd p
+pub not_refused : (tables : Tables) (number behind : ℕ) (above : Above) (line : List ℕ) (next : Above) (refusal : Refusal) → MayStandBelow tables number behind above line next → Refuses tables number behind above line refusal → ⊥
+not_refused tables number behind Nothing line next refusal p refused = refused.0 p.0
+not_refused tables number behind Version line next refusal p refused = not_refused_replicas line refusal.cause p.0 refused.0
+not_refused tables number behind (Replicas members) line next refusal p refused = refused.0 p.0 p.1
+not_refused tables number behind (Times members window) line next refusal p refused = refused.0 p.0 p.1
+not_refused tables number behind (Sections run) line next refusal p refused = not_refused_before_script tables number behind run line next refusal.cause p refused.0
+not_refused tables number behind (Table run section left) line next refusal p refused = said_or_broken tables (style_of section.kind) number section left line refusal p.0 refused
+not_refused tables number behind (Script run) line next refusal p refused = not_refused_in_script line refusal.cause p.0 refused.0
+not_refused tables number behind (End run) line next refusal p refused = absurd p
 
 -- what a refused line is refused for
 one_replicas_fault : (line : List ℕ) (f g : ℕ) → RefusesReplicas line f → RefusesReplicas line g → f ≡ g
@@ -189,15 +193,15 @@ one_fault_in_script line f g (inr p) (inr q) = p.2 ∙ sym q.2
 one_of_line : (number : ℕ) (a b : Refusal) → a.cause ≡ b.cause → IsOfLine number a → IsOfLine number b → a ≡ b
 one_of_line number a b cause first second = same_refusal a b (first.0 ∙ sym second.0) cause (first.1 ∙ sym second.1)
 
-pub one_fault : (number behind : ℕ) (above : Above) (line : List ℕ) (a b : Refusal) → Refuses number behind above line a → Refuses number behind above line b → a ≡ b
-one_fault number behind Nothing line a b p q = one_of_line number a b (p.1 ∙ sym q.1) p.2 q.2
-one_fault number behind Version line a b p q = one_of_line number a b (one_replicas_fault line a.cause b.cause p.0 q.0) p.1 q.1
-one_fault number behind (Replicas members) line a b p q = one_of_line number a b (p.1 ∙ sym q.1) p.2 q.2
-one_fault number behind (Times members window) line a b p q = one_of_line number a b (p.1 ∙ sym q.1) p.2 q.2
-one_fault number behind (Sections run) line a b p q = one_of_line number a b (one_fault_before_script behind (names_of run.zones) line a.cause b.cause p.0 q.0) p.1 q.1
-one_fault number behind (Table run section left) line a b p q = one_break (style_of section.kind) number section left line a b p q
-one_fault number behind (Script run) line a b p q = one_of_line number a b (one_fault_in_script line a.cause b.cause p.0 q.0) p.1 q.1
-one_fault number behind (End run) line a b p q = one_of_line number a b (p.0 ∙ sym q.0) p.1 q.1
+pub one_fault : (tables : Tables) (number behind : ℕ) (above : Above) (line : List ℕ) (a b : Refusal) → Refuses tables number behind above line a → Refuses tables number behind above line b → a ≡ b
+one_fault tables number behind Nothing line a b p q = one_of_line number a b (p.1 ∙ sym q.1) p.2 q.2
+one_fault tables number behind Version line a b p q = one_of_line number a b (one_replicas_fault line a.cause b.cause p.0 q.0) p.1 q.1
+one_fault tables number behind (Replicas members) line a b p q = one_of_line number a b (p.1 ∙ sym q.1) p.2 q.2
+one_fault tables number behind (Times members window) line a b p q = one_of_line number a b (p.1 ∙ sym q.1) p.2 q.2
+one_fault tables number behind (Sections run) line a b p q = one_of_line number a b (one_fault_before_script behind (names_of run.zones) line a.cause b.cause p.0 q.0) p.1 q.1
+one_fault tables number behind (Table run section left) line a b p q = one_break tables (style_of section.kind) number section left line a b p q
+one_fault tables number behind (Script run) line a b p q = one_of_line number a b (one_fault_in_script line a.cause b.cause p.0 q.0) p.1 q.1
+one_fault tables number behind (End run) line a b p q = one_of_line number a b (p.0 ∙ sym q.0) p.1 q.1
 
 -- the cause of a line that is missing
 one_miss : (above : Above) (c d : ℕ) → Misses above c → Misses above d → c ≡ d
@@ -213,23 +217,34 @@ one_miss (End run) c d p q = absurd p
 end_no_miss : (above : Above) (run : Run) (cause : ℕ) → above ≡ End run → Misses above cause → ⊥
 end_no_miss above run cause is misses = subst (λ a. Misses a cause) is misses
 
--- some lines say one run, or are refused for one reason, and never both
-pub one_run : (number : ℕ) (above : Above) (lines : List (List ℕ)) (a b : Run) → ReadsFrom number above lines a → ReadsFrom number above lines b → a ≡ b
-one_run number above [] a b p q = let same : End a ≡ End b = sym p ∙ q in cc
-one_run number above (line ∷ lines) a b (x, may, reads) (y, other, more) =
-    one_run (number + 1) y lines a b (subst (λ t. ReadsFrom (number + 1) t lines a) (one_next number (length lines) above line x y may other) reads) more
+-- Some lines say one run, or are refused for one reason, and never both, in whichever way the lines of tables are read.
+module _ (tables : Tables) where
+  pub one_run_by : (number : ℕ) (above : Above) (lines : List (List ℕ)) (a b : Run) → ReadsFrom tables number above lines a → ReadsFrom tables number above lines b → a ≡ b
+  one_run_by number above [] a b p q = let same : End a ≡ End b = sym p ∙ q in cc
+  one_run_by number above (line ∷ lines) a b (x, may, reads) (y, other, more) =
+      one_run_by (number + 1) y lines a b (subst (λ t. ReadsFrom tables (number + 1) t lines a) (one_next tables number (length lines) above line x y may other) reads) more
 
-pub never_both : (number : ℕ) (above : Above) (lines : List (List ℕ)) (run : Run) (refusal : Refusal) → ReadsFrom number above lines run → RefusesFrom number above lines refusal → ⊥
-never_both number above [] run refusal is refused = end_no_miss above run refusal.cause is refused.0
-never_both number above (line ∷ lines) run refusal (x, may, reads) (inl refused) =
-    not_refused number (length lines) above line x refusal may refused
-never_both number above (line ∷ lines) run refusal (x, may, reads) (inr (y, other, refused)) =
-    never_both (number + 1) y lines run refusal (subst (λ t. ReadsFrom (number + 1) t lines run) (one_next number (length lines) above line x y may other) reads) refused
+  pub never_both_by : (number : ℕ) (above : Above) (lines : List (List ℕ)) (run : Run) (refusal : Refusal) → ReadsFrom tables number above lines run → RefusesFrom tables number above lines refusal → ⊥
+  never_both_by number above [] run refusal is refused = end_no_miss above run refusal.cause is refused.0
+  never_both_by number above (line ∷ lines) run refusal (x, may, reads) (inl refused) =
+      not_refused tables number (length lines) above line x refusal may refused
+  never_both_by number above (line ∷ lines) run refusal (x, may, reads) (inr (y, other, refused)) =
+      never_both_by (number + 1) y lines run refusal (subst (λ t. ReadsFrom tables (number + 1) t lines run) (one_next tables number (length lines) above line x y may other) reads) refused
 
-pub one_refusal : (number : ℕ) (above : Above) (lines : List (List ℕ)) (a b : Refusal) → RefusesFrom number above lines a → RefusesFrom number above lines b → a ≡ b
-one_refusal number above [] a b p q = one_of_line number a b (one_miss above a.cause b.cause p.0 q.0) p.1 q.1
-one_refusal number above (line ∷ lines) a b (inl p) (inl q) = one_fault number (length lines) above line a b p q
-one_refusal number above (line ∷ lines) a b (inl p) (inr (y, may, q)) = absurd (not_refused number (length lines) above line y a may p)
-one_refusal number above (line ∷ lines) a b (inr (x, may, p)) (inl q) = absurd (not_refused number (length lines) above line x b may q)
-one_refusal number above (line ∷ lines) a b (inr (x, may, p)) (inr (y, other, q)) =
-    one_refusal (number + 1) y lines a b (subst (λ t. RefusesFrom (number + 1) t lines a) (one_next number (length lines) above line x y may other) p) q
+  pub one_refusal_by : (number : ℕ) (above : Above) (lines : List (List ℕ)) (a b : Refusal) → RefusesFrom tables number above lines a → RefusesFrom tables number above lines b → a ≡ b
+  one_refusal_by number above [] a b p q = one_of_line number a b (one_miss above a.cause b.cause p.0 q.0) p.1 q.1
+  one_refusal_by number above (line ∷ lines) a b (inl p) (inl q) = one_fault tables number (length lines) above line a b p q
+  one_refusal_by number above (line ∷ lines) a b (inl p) (inr (y, may, q)) = absurd (not_refused tables number (length lines) above line y a may p)
+  one_refusal_by number above (line ∷ lines) a b (inr (x, may, p)) (inl q) = absurd (not_refused tables number (length lines) above line x b may q)
+  one_refusal_by number above (line ∷ lines) a b (inr (x, may, p)) (inr (y, other, q)) =
+      one_refusal_by (number + 1) y lines a b (subst (λ t. RefusesFrom tables (number + 1) t lines a) (one_next tables number (length lines) above line x y may other) p) q
+
+-- and where they are judged
+pub one_run : (number : ℕ) (above : Above) (lines : List (List ℕ)) (a b : Run) → ReadsFrom Judged number above lines a → ReadsFrom Judged number above lines b → a ≡ b
+one_run = one_run_by Judged
+
+pub never_both : (number : ℕ) (above : Above) (lines : List (List ℕ)) (run : Run) (refusal : Refusal) → ReadsFrom Judged number above lines run → RefusesFrom Judged number above lines refusal → ⊥
+never_both = never_both_by Judged
+
+pub one_refusal : (number : ℕ) (above : Above) (lines : List (List ℕ)) (a b : Refusal) → RefusesFrom Judged number above lines a → RefusesFrom Judged number above lines b → a ≡ b
+one_refusal = one_refusal_by Judged

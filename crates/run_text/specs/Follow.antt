@@ -15,6 +15,8 @@ use Rattle.run_text.specs.Zones.{AddsZone, AddsNone, HasZoneWord, names_of}
 use Rattle.run_text.specs.declared.refusal.Refusal.{Refusal}
 use Rattle.run_text.specs.declared.run.SectionKind.{SectionKind}
 use Rattle.run_text.specs.declared.run.SectionKind.TheVariants.{User, System, Anacron}
+use Rattle.run_text.specs.declared.table.Tables.{Tables}
+use Rattle.run_text.specs.declared.table.Tables.TheVariants.{Judged, Counted}
 use Rattle.cron_fields.specs.Cause.{cause_number}
 use Rattle.cron_fields.specs.declared.cause.Cause.TheVariants.{BadHeader, BadReplicas, BadWindow, BadGrace, BadSection, BadScript, MissingLine, BadZoneLine, NoFormYet}
 
@@ -48,12 +50,14 @@ style_of User = Some style.User
 style_of System = Some style.System
 style_of Anacron = None
 
--- The line may stand in a section, with so many lines of it left behind. A crontab's line says something. An anacrontab's may
--- go on in the next one, so its lines are judged together, at the last.
-abbrev pub MayStandIn : Option Style → Section → (left : ℕ) → List ℕ → Type 0
-MayStandIn (Some style) section left line = Says style section.label line
-MayStandIn None section zero line = SayAll no_settings (joined (with_line section line).lines)
-MayStandIn None section (suc left) line = ⊤
+-- The line may stand in a section, with so many lines of it left behind: any line, where lines are only counted. Where they are
+-- judged, a crontab's line says something. An anacrontab's may go on in the next one, so its lines are judged together, at the
+-- last.
+abbrev pub MayStandIn : Tables → Option Style → Section → (left : ℕ) → List ℕ → Type 0
+MayStandIn Counted style section left line = ⊤
+MayStandIn Judged (Some style) section left line = Says style section.label line
+MayStandIn Judged None section zero line = SayAll no_settings (joined (with_line section line).lines)
+MayStandIn Judged None section (suc left) line = ⊤
 
 -- The line opens a section of so many lines, which are all there: so many lines are behind it.
 pub record Opens (behind : ℕ) (line : List ℕ) (kind : SectionKind) (label zone : List ℕ) (count : ℕ) : Type 0 where
@@ -81,18 +85,18 @@ pub record NamesZone (number : ℕ) (run : Run) (line : List ℕ) (next : Above)
   pub next_is : next ≡ Sections (with_zone run (record { line = number; name = name; source = source }))
 
 -- The line of that number, with so many lines behind it, may stand below these, and what stands above the next one then.
-abbrev pub MayStandBelow : (number behind : ℕ) → Above → List ℕ → Above → Type 0
-MayStandBelow number behind Nothing line next = (line ≡ codes "cronrun 1") × (next ≡ Version)
-MayStandBelow number behind Version line next = (line ≡ replicas_line 1) × (next ≡ Replicas 1)
-MayStandBelow number behind (Replicas members) line next = (window : Window) × IsWindowLine line window × (next ≡ Times members window)
-MayStandBelow number behind (Times members window) line next =
+abbrev pub MayStandBelow : Tables → (number behind : ℕ) → Above → List ℕ → Above → Type 0
+MayStandBelow tables number behind Nothing line next = (line ≡ codes "cronrun 1") × (next ≡ Version)
+MayStandBelow tables number behind Version line next = (line ≡ replicas_line 1) × (next ≡ Replicas 1)
+MayStandBelow tables number behind (Replicas members) line next = (window : Window) × IsWindowLine line window × (next ≡ Times members window)
+MayStandBelow tables number behind (Times members window) line next =
     (grace : ℕ) × IsGraceLine line grace × (next ≡ Sections (run_with members window grace))
-MayStandBelow number behind (Sections run) line next =
+MayStandBelow tables number behind (Sections run) line next =
     ((line ≡ codes "script") × (next ≡ Script run)) ⊎ (NamesZone number run line next ⊎ StartsSection number behind run line next)
-MayStandBelow number behind (Table run section left) line next =
-    MayStandIn (style_of section.kind) section left line × (next ≡ inside run (with_line section line) left)
-MayStandBelow number behind (Script run) line next = (line ≡ codes "end") × (next ≡ End run)
-MayStandBelow number behind (End run) line next = ⊥
+MayStandBelow tables number behind (Table run section left) line next =
+    MayStandIn tables (style_of section.kind) section left line × (next ≡ inside run (with_line section line) left)
+MayStandBelow tables number behind (Script run) line next = (line ≡ codes "end") × (next ≡ End run)
+MayStandBelow tables number behind (End run) line next = ⊥
 
 -- the line of that number is refused as a whole
 abbrev pub IsOfLine : (number : ℕ) → Refusal → Type 0
@@ -119,25 +123,28 @@ RefusesInScript line cause =
     ⊎ ((IsCommandWord (first_word line) → ⊥) × (line ≢ codes "end") × (cause ≡ cause_number BadScript))
 
 -- In a section, with so many lines of it left behind: the line breaks a rule of crontabs; or it is the last of an anacrontab,
--- and the refusal is of the first of its logical lines that breaks a rule, at the first line of that one.
-abbrev pub RefusesInTable : Option Style → (number : ℕ) → Section → (left : ℕ) → List ℕ → Refusal → Type 0
-RefusesInTable (Some style) number section left line refusal = IsLineFault style line refusal.cause refusal.place × (refusal.line ≡ number)
-RefusesInTable None number section zero line refusal =
+-- and the refusal is of the first of its logical lines that breaks a rule, at the first line of that one. A line that is only
+-- counted isn't refused.
+abbrev pub RefusesInTable : Tables → Option Style → (number : ℕ) → Section → (left : ℕ) → List ℕ → Refusal → Type 0
+RefusesInTable Counted style number section left line refusal = ⊥
+RefusesInTable Judged (Some style) number section left line refusal =
+    IsLineFault style line refusal.cause refusal.place × (refusal.line ≡ number)
+RefusesInTable Judged None number section zero line refusal =
     (first : ℕ) × IsFirstBreak no_settings (joined (with_line section line).lines) first refusal.cause refusal.place × (refusal.line ≡ section.line + first)
-RefusesInTable None number section (suc left) line refusal = ⊥
+RefusesInTable Judged None number section (suc left) line refusal = ⊥
 
 -- The line of that number, with so many lines behind it, may not stand below these, and is refused so.
-abbrev pub Refuses : (number behind : ℕ) → Above → List ℕ → Refusal → Type 0
-Refuses number behind Nothing line refusal = (line ≢ codes "cronrun 1") × (refusal.cause ≡ cause_number BadHeader) × IsOfLine number refusal
-Refuses number behind Version line refusal = RefusesReplicas line refusal.cause × IsOfLine number refusal
-Refuses number behind (Replicas members) line refusal =
+abbrev pub Refuses : Tables → (number behind : ℕ) → Above → List ℕ → Refusal → Type 0
+Refuses tables number behind Nothing line refusal = (line ≢ codes "cronrun 1") × (refusal.cause ≡ cause_number BadHeader) × IsOfLine number refusal
+Refuses tables number behind Version line refusal = RefusesReplicas line refusal.cause × IsOfLine number refusal
+Refuses tables number behind (Replicas members) line refusal =
     ((window : Window) → IsWindowLine line window → ⊥) × (refusal.cause ≡ cause_number BadWindow) × IsOfLine number refusal
-Refuses number behind (Times members window) line refusal =
+Refuses tables number behind (Times members window) line refusal =
     ((grace : ℕ) → IsGraceLine line grace → ⊥) × (refusal.cause ≡ cause_number BadGrace) × IsOfLine number refusal
-Refuses number behind (Sections run) line refusal = RefusesBeforeScript behind (names_of run.zones) line refusal.cause × IsOfLine number refusal
-Refuses number behind (Table run section left) line refusal = RefusesInTable (style_of section.kind) number section left line refusal
-Refuses number behind (Script run) line refusal = RefusesInScript line refusal.cause × IsOfLine number refusal
-Refuses number behind (End run) line refusal = (refusal.cause ≡ cause_number BadScript) × IsOfLine number refusal
+Refuses tables number behind (Sections run) line refusal = RefusesBeforeScript behind (names_of run.zones) line refusal.cause × IsOfLine number refusal
+Refuses tables number behind (Table run section left) line refusal = RefusesInTable tables (style_of section.kind) number section left line refusal
+Refuses tables number behind (Script run) line refusal = RefusesInScript line refusal.cause × IsOfLine number refusal
+Refuses tables number behind (End run) line refusal = (refusal.cause ≡ cause_number BadScript) × IsOfLine number refusal
 
 -- the file ends where a line is missing, and for this cause
 abbrev pub Misses : Above → ℕ → Type 0

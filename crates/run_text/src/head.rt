@@ -5,6 +5,7 @@ ghost use Rattle.run_text.specs.Follow.{Version, Replicas, Times, Sections};
 ghost use Rattle.run_text.specs.Grammar.{replicas_line, IsWindowLine, IsGraceLine};
 ghost use Rattle.run_text.specs.Run.{run_with};
 ghost use Rattle.run_text.specs.Steps.{place_of, start, LeadsTo, RefusedFrom, HasRoom};
+ghost use Rattle.run_text.specs.declared.table.Tables.{Tables};
 
 use crate::reader::Reader;
 use crate::refusal::Refusal;
@@ -31,8 +32,9 @@ pub struct Head {
 /// Reads the head.
 pub fn read_head(text: &str) -> Result<(Head, Reader<'_>), Refusal>
     requires { length text.now < 2 ^ 32 }
-    ensures read { IfOk result (λ read. LeadsTo (start text.now) (place_of read.1 (Sections (run_with read.0.members read.0.window read.0.grace)))) }
-    ensures refused { IfErr result (RefusedFrom (start text.now)) }
+    ensures read { IfOk result (λ read. (tables : Tables)
+        → LeadsTo tables (start text.now) (place_of read.1 (Sections (run_with read.0.members read.0.window read.0.grace)))) }
+    ensures refused { IfErr result (λ refusal. (tables : Tables) → RefusedFrom tables (start text.now) refusal) }
     ensures room { IfOk result (λ read. HasRoom read.1) }
     ensures shorter { IfOk result (λ read. length read.1.rest.now ≤ length text.now) }
 {
@@ -51,8 +53,8 @@ pub fn read_head(text: &str) -> Result<(Head, Reader<'_>), Refusal>
 // Reads the first line.
 fn read_version(text: &str) -> Result<Reader<'_>, Refusal>
     requires { length text.now < 2 ^ 32 }
-    ensures read { IfOk result (λ reader. LeadsTo (start text.now) (place_of reader Version)) }
-    ensures refused { IfErr result (RefusedFrom (start text.now)) }
+    ensures read { IfOk result (λ reader. (tables : Tables) → LeadsTo tables (start text.now) (place_of reader Version)) }
+    ensures refused { IfErr result (λ refusal. (tables : Tables) → RefusedFrom tables (start text.now) refusal) }
     ensures room { IfOk result HasRoom }
     ensures shorter { IfOk result (λ reader. length reader.rest.now ≤ length text.now) }
 {
@@ -68,9 +70,9 @@ fn read_version(text: &str) -> Result<Reader<'_>, Refusal>
 // Reads the number of replicas. There is one so far.
 fn read_replicas(reader: &mut Reader<'_>) -> Result<u8, Refusal>
     requires { HasRoom reader.old }
-    ensures read { IfOk result (λ members. LeadsTo (place_of reader.old Version) (place_of reader.new (Replicas members))) }
+    ensures read { IfOk result (λ members. (tables : Tables) → LeadsTo tables (place_of reader.old Version) (place_of reader.new (Replicas members))) }
     ensures one { IfOk result (λ members. members ≡ 1) }
-    ensures refused { IfErr result (RefusedFrom (place_of reader.old Version)) }
+    ensures refused { IfErr result (λ refusal. (tables : Tables) → RefusedFrom tables (place_of reader.old Version) refusal) }
     ensures room { OnOk result (HasRoom reader.new) }
     ensures shorter { OnOk result (length reader.new.rest.now ≤ length reader.old.rest.now) }
 {
@@ -87,8 +89,8 @@ fn read_replicas(reader: &mut Reader<'_>) -> Result<u8, Refusal>
 // Reads the window.
 fn read_window(reader: &mut Reader<'_>) -> Result<Window, Refusal>
     requires { HasRoom reader.old }
-    ensures read { IfOk result (λ window. (members : ℕ) → LeadsTo (place_of reader.old (Replicas members)) (place_of reader.new (Times members window))) }
-    ensures refused { IfErr result (λ refusal. (members : ℕ) → RefusedFrom (place_of reader.old (Replicas members)) refusal) }
+    ensures read { IfOk result (λ window. (tables : Tables) (members : ℕ) → LeadsTo tables (place_of reader.old (Replicas members)) (place_of reader.new (Times members window))) }
+    ensures refused { IfErr result (λ refusal. (tables : Tables) (members : ℕ) → RefusedFrom tables (place_of reader.old (Replicas members)) refusal) }
     ensures room { OnOk result (HasRoom reader.new) }
     ensures shorter { OnOk result (length reader.new.rest.now ≤ length reader.old.rest.now) }
 {
@@ -104,9 +106,9 @@ fn read_window(reader: &mut Reader<'_>) -> Result<Window, Refusal>
 // Reads the minutes of grace.
 fn read_grace(reader: &mut Reader<'_>) -> Result<u32, Refusal>
     requires { HasRoom reader.old }
-    ensures read { IfOk result (λ grace. (members : ℕ) (window : Window)
-        → LeadsTo (place_of reader.old (Times members window)) (place_of reader.new (Sections (run_with members window grace)))) }
-    ensures refused { IfErr result (λ refusal. (members : ℕ) (window : Window) → RefusedFrom (place_of reader.old (Times members window)) refusal) }
+    ensures read { IfOk result (λ grace. (tables : Tables) (members : ℕ) (window : Window)
+        → LeadsTo tables (place_of reader.old (Times members window)) (place_of reader.new (Sections (run_with members window grace)))) }
+    ensures refused { IfErr result (λ refusal. (tables : Tables) (members : ℕ) (window : Window) → RefusedFrom tables (place_of reader.old (Times members window)) refusal) }
     ensures room { OnOk result (HasRoom reader.new) }
     ensures shorter { OnOk result (length reader.new.rest.now ≤ length reader.old.rest.now) }
 {

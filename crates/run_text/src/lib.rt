@@ -15,7 +15,11 @@ mod table;
 mod words;
 mod zone;
 
-pub use laws::{a_text_has_a_reading, a_text_has_one_reading, each_run_is_sound};
-pub use read::read_run;
+pub use laws::{
+    a_frame_without_faults_is_a_run, a_text_has_a_frame, a_text_has_a_reading,
+    a_text_has_one_frame, a_text_has_one_reading, each_frame_has_its_lines, each_run_is_its_frame,
+    each_run_is_sound,
+};
+pub use read::{read_frame, read_run};
 pub use refusal::{Refusal, RunFault};
 pub use run::{RunFile, Section, SectionKind, ZoneLine, ZoneText};

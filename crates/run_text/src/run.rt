@@ -37,7 +37,8 @@ pub struct Section<'a> {
     pub label: &'a str,
     /// The name of the zone of its entries.
     pub zone: &'a str,
-    /// Its lines, each of which has a reading. An anacrontab's may go on in the next line of the text, but in none behind it.
+    /// Its lines, each of which has a reading where the run was read by `read_run`. An anacrontab's may go on in the next line of
+    /// the text, but in none behind it.
     pub text: &'a str,
 }
 
@@ -61,7 +62,7 @@ pub struct ZoneLine<'a> {
     pub source: ZoneText<'a>,
 }
 
-/// What a run file says. Its texts are parts of the file's text.
+/// What a run file says, or its frame, if it was read by `read_frame`. Its texts are parts of the file's text.
 #[derive(Debug, Drop)]
 pub struct RunFile<'a> {
     /// How many replicas there are.

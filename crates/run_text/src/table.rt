@@ -19,11 +19,24 @@ use anacron_text::AnaLines;
 use cron_fields::Cause;
 use crontab_text::{LineFault, Lines};
 
+/// How the lines of tables are read.
+#[derive(Clone, Copy, Debug, PartialEq, Eq)]
+pub enum Tables {
+    /// Each line is judged by the rules of its table.
+    Judged,
+    /// Lines are only counted, whatever they say.
+    Counted,
+}
+
 /// Reads the lines of a section. The reader stands at the line that opened it.
-pub fn read_table<'a>(reader: &mut Reader<'a>, opening: Opening<'a>) -> Result<Section<'a>, Refusal>
+pub fn read_table<'a>(
+    reader: &mut Reader<'a>,
+    opening: Opening<'a>,
+    tables: Tables,
+) -> Result<Section<'a>, Refusal>
     requires { HasRoom reader.old }
-    ensures read { IfOk result (PassesTable reader.old reader.new opening.entry) }
-    ensures refused { IfErr result (RefusesTable reader.old opening.entry) }
+    ensures read { IfOk result (PassesTable tables reader.old reader.new opening.entry) }
+    ensures refused { IfErr result (RefusesTable tables reader.old opening.entry) }
     ensures room { OnOk result (HasRoom reader.new) }
     ensures shorter { OnOk result (length reader.new.rest.now ≤ length reader.old.rest.now) }
     ensures part { IfOk result (λ section. length section.text.now ≤ length reader.old.rest.now) }
@@ -31,7 +44,7 @@ pub fn read_table<'a>(reader: &mut Reader<'a>, opening: Opening<'a>) -> Result<S
     let Some((text, rest)) = cut_lines(reader.rest, opening.count) else {
         return Err(Refusal::of_line(reader.number, Cause::BadSection));
     };
-    if let Some(fault) = first_fault(text, &opening) {
+    if let Some(fault) = judged_fault(text, &opening, tables) {
         return Err(refusal_of(reader.number, fault));
     }
     let line = reader.number;
@@ -57,6 +70,20 @@ fn refusal_of(above: u32, fault: LineFault) -> Refusal
         line: above + fault.line,
         cause: fault.cause,
         place: fault.place,
+    }
+}
+
+// The first line of a section's text that says nothing, where lines are judged.
+fn judged_fault(text: &str, opening: &Opening<'_>, tables: Tables) -> Option<LineFault>
+    requires { length text.now < 2 ^ 32 }
+    ensures judged { IfSome result (λ fault. tables ≡ Tables.Judged) }
+    ensures fault { IfSome result (IsTableFault (style_of opening.now.kind) opening.now.label.now (lines_of text.now)) }
+    ensures none { IfNone result (tables ≡ Tables.Judged → AreSaid (style_of opening.now.kind) opening.now.label.now (lines_of text.now)) }
+    ensures within { IfSome result (λ fault. fault.line ≤ length text.now) }
+{
+    match tables {
+        Tables::Judged => first_fault(text, opening),
+        Tables::Counted => None,
     }
 }
 

@@ -16,6 +16,8 @@ mod due_tests;
 #[cfg(test)]
 mod field_tests;
 #[cfg(test)]
+mod frame_tests;
+#[cfg(test)]
 mod job_tests;
 #[cfg(test)]
 mod match_tests;
