@@ -1,5 +1,5 @@
 -- The check of a frame, as a text: each line of its tables that breaks a rule.
-use Rattle.std.specs.Prelude.{◌≡◌, ℕ, ◌+◌, ◌<◌, ◌^◌, List, [], ◌∷◌, ◌++◌, length, map, flat_map, zip, codes, decimal, Option, None, Some}
+use Rattle.std.specs.Prelude.{◌≡◌, ℕ, ◌+◌, List, [], ◌∷◌, ◌++◌, length, map, flat_map, zip, codes, decimal, Option, None, Some}
 use Rattle.std.specs.List.{AllZip}
 use Rattle.crontab_text.specs.Answers.{LineAnswer, Said as CrontabSaid, Broken as CrontabBroken, IsAnswer}
 use Rattle.crontab_text.specs.declared.answer.Style.{Style}
@@ -8,9 +8,7 @@ use Rattle.anacron_text.specs.LogicalLines.{joined, line_count}
 use Rattle.anacron_text.specs.Settings.{no_settings}
 use Rattle.anacron_text.specs.declared.settings.Settings.{Settings}
 use Rattle.run_text.specs.Follow.{style_of}
-use Rattle.run_text.specs.Reading.{ArePartsOf}
 use Rattle.run_text.specs.Run.{Run, Section}
-use Rattle.run_text.specs.declared.run.RunFile.{RunFile}
 use Rattle.due_list.specs.Lines.{text_of_lines}
 use Rattle.due_list.specs.declared.fault.TableFault.{TableFault}
 
@@ -60,12 +58,6 @@ pub record AreFaultsIn (sections : List Section) (faults : List TableFault) : Ty
 -- line L cause C at P
 abbrev pub fault_line : TableFault → List ℕ
 fault_line fault = codes "line " ++ decimal fault.line ++ codes " cause " ++ decimal fault.cause ++ codes " at " ++ decimal fault.place
-
--- the texts of a file's sections are parts of a text that is short enough to be read, as those of each run and each frame are
-pub record HasShortParts (run : RunFile) : Type 0 where
-  pub size : ℕ
-  pub short : size < 2 ^ 32
-  pub parts : ArePartsOf size run.sections.items
 
 -- the lines of a check that tells these faults
 abbrev pub check_lines : List TableFault → List (List ℕ)

@@ -1,8 +1,9 @@
 //! The check of a frame.
 ghost use Rattle.std.specs.Prelude.{◌≡◌, ◌++◌, ◌∷◌, [], map, IfOk, OnOk, string_bytes};
 ghost use Rattle.due_list.specs.Lines.{text_of_lines};
+ghost use Rattle.run_text.specs.Reading.{IsReadFrame};
 ghost use Rattle.run_text.specs.Run.{run_of};
-ghost use Rattle.due_list.specs.CheckText.{HasShortParts, IsCheckText, check_lines, fault_line};
+ghost use Rattle.due_list.specs.CheckText.{IsCheckText, check_lines, fault_line};
 ghost use Rattle.due_list.specs.Listing.{WritesListing};
 
 use crate::fault::{ListFault, TableFault};
@@ -50,7 +51,7 @@ fn check_text(alloc: Global, faults: &[TableFault]) -> Result<String, OutOfMemor
 ///
 /// `WriteFault` only where a write failed: then some front of the check may be written. `OutOfMemory`: then nothing is written.
 pub fn write_check<K: Sink>(alloc: Global, sink: &mut K, run: &RunFile<'_>) -> Result<(), ListFault>
-    requires { HasShortParts run.now }
+    requires { IsReadFrame run.now }
     ensures { WritesListing (K.seen sink.old) (K.seen sink.new) result (IsCheckText (run_of run.now)) }
 {
     let faults = faults_of(alloc, &run.sections)?;

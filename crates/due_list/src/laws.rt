@@ -1,8 +1,9 @@
 //! Laws of due lists and of checks. Each is the contract of a function that does nothing.
-ghost use Rattle.std.specs.Prelude.{◌≡◌, ℕ, ℤ, List};
+ghost use Rattle.std.specs.Prelude.{◌≡◌, ℕ, ℤ, List, []};
 ghost use Rattle.due_set.specs.Table.{Table, IsJobDue, IsSound};
+ghost use Rattle.run_text.specs.Reading.{IsFrameText, IsRunText};
 ghost use Rattle.run_text.specs.Run.{Run};
-ghost use Rattle.due_list.specs.CheckText.{IsCheckText};
+ghost use Rattle.due_list.specs.CheckText.{AreFaultsIn, IsCheckText};
 ghost use Rattle.due_list.specs.DueText.{HasLine, IsDueText, due_line};
 
 /// Each table has one due list.
@@ -21,4 +22,9 @@ pub fn a_due_list_has_each_due_instant()
 pub fn a_frame_has_one_check()
     ensures some { (run : Run) → (text : List ℕ) × IsCheckText run text }
     ensures one { (run : Run) (a b : List ℕ) → IsCheckText run a → IsCheckText run b → a ≡ b }
+{}
+
+/// A frame whose check tells no fault is a run.
+pub fn a_frame_without_a_fault_is_a_run()
+    ensures { (text : List ℕ) (run : Run) → IsFrameText text run → AreFaultsIn run.sections [] → IsRunText text run }
 {}

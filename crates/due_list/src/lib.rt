@@ -12,4 +12,7 @@ mod write;
 pub use check::write_check;
 pub use due::write_due;
 pub use fault::ListFault;
-pub use laws::{a_due_list_has_each_due_instant, a_frame_has_one_check, a_table_has_one_due_list};
+pub use laws::{
+    a_due_list_has_each_due_instant, a_frame_has_one_check, a_frame_without_a_fault_is_a_run,
+    a_table_has_one_due_list,
+};

@@ -10,7 +10,7 @@ use Rattle.due_list.proofs.check.write_check.Goals as goal
 
 pub faults_of-requires : goal.faults_of-requires
 faults_of-requires g c =
-    subst (λ (l : List SectionText). All (λ section. length section.text.now < 2 ^ 32) l) (sym c.deref.ensures.value) (short_texts c.requires.size c.args.run.now.sections.items c.requires.short c.requires.parts)
+    subst (λ (l : List SectionText). All (λ section. length section.text.now < 2 ^ 32) l) (sym c.deref.ensures.value) (short_texts (length c.requires.text) c.args.run.now.sections.items c.requires.short c.requires.parts)
 
 pub returns-in_err-faults : goal.returns-in_err-faults
 returns-in_err-faults g c = writes_no_memory _ c.from_residual.result (IsCheckText (run_of c.args.run.now)) c.from_residual.ensures.1
