@@ -26,6 +26,16 @@ fn date_of(zone: &ZoneRuns, now: Minute) -> i64
     day_of(zone.local(now))
 }
 
+/// The local time that the zone's clock shows at an instant, in minutes since 1970-01-01T00:00.
+pub fn local_at(zone: &ZoneRuns, at: Minute) -> i64
+    requires since { zone.now.from ≤ℤ at.0 }
+    requires before { at.0 <ℤ zone.now.until }
+    ensures local { (z : TimeZone) → IsReadAs zone.now.source z → result ≡ local_of z at.0 }
+    ensures calendar { IsCalendarMinute result }
+{
+    zone.local(at)
+}
+
 /// Whether the launch's instant has come; of an anacron job, its date.
 pub fn has_come(kind: &JobKind, zone: &ZoneRuns, at: i64, now: Minute) -> bool
     requires since { zone.now.from ≤ℤ now.0 }

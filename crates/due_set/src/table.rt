@@ -1,12 +1,14 @@
 ghost use Rattle.std.specs.Prelude.{◌≡◌, ◌<◌, ◌≤◌, ◌↔◌, ℤ, List, [], ◌∷◌, length, map, All, IsTrue, IsSomeAnd, IfSome, IfNone, IfOk, slice_get, Some};
 ghost use Rattle.jiff.specs.Types.{TimeZone};
+ghost use Rattle.zone_minutes.specs.Civil.{IsCalendarMinute};
 ghost use Rattle.zone_minutes.specs.Window.{IsInWindow, IsWithinLimits};
+ghost use Rattle.zone_minutes.specs.Zone.{local_of};
 ghost use Rattle.due_set.specs.Anacron.{IsFirstOpening, IsJobOpen};
 ghost use Rattle.due_set.specs.Calls.{HasCome, IsOnTime};
 ghost use Rattle.due_set.specs.Table.{Job, Table, job_of, instant_of, IsAfter, IsBuiltFor, IsJobDue, IsJobIn, IsJobRead, IsNextDue, IsRunByPeriod, IsShare, IsSound, AreNamesDistinct, AreZonesBelow, days_counted, utc_over};
 
 use crate::anacron::{Opening, first_opening, open_date};
-use crate::call::{Kind2, has_come, is_on_time};
+use crate::call::{Kind2, has_come, is_on_time, local_at};
 use crate::job::{JobKind, JobSpec};
 use crate::{due, scan};
 use cron_io::OutOfMemory;
@@ -262,6 +264,19 @@ impl JobTable {
         let spec = self.spec(job);
         let opening = Opening::of(&spec.kind, last, cursor)?;
         first_opening(&opening, self.zone(spec.zone), self.window())
+    }
+
+    /// The local time that the clock of the job's zone shows at an instant of the window, in minutes since 1970-01-01T00:00.
+    pub fn local(&self, job: u32, t: Minute) -> i64
+        requires job { job < length self.now.jobs }
+        requires inside { IsInWindow self.now.window t.0 }
+        ensures local { (j : Job) (zone : TimeZone) → IsJobIn self.now job j zone → result ≡ local_of zone t.0 }
+        ensures read { IsJobRead self.now job }
+        ensures calendar { IsCalendarMinute result }
+        ensures sound { IsSound self.now }
+    {
+        let spec = self.spec(job);
+        local_at(self.zone(spec.zone), t)
     }
 
     /// Whether the job's launch of the instant has come; of an anacron job, whether its date has.
