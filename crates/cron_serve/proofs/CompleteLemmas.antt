@@ -1,5 +1,5 @@
 -- When an input has to end with its report, and when it has to be refused.
-use Rattle.std.proofs.Common.{◌≡◌, ◌≢◌, ◌⊎◌, inl, inr, ℕ, ◌<◌, ◌≤◌, ◌+◌, List, length, Option, Some, None, sym, ap, ◌∙◌, subst, arith, length-append}
+use Rattle.std.proofs.Common.{◌≡◌, ◌⊎◌, inl, inr, ℕ, ◌≤◌, ◌+◌, List, length, Option, Some, None, sym, ap, ◌∙◌, subst, arith, length-append}
 use Rattle.std.specs.Prelude.{IsSomeAnd}
 use Rattle.std.specs.Io.KnownBytes.{Consumes}
 use Rattle.cron_io.specs.Faults.{Rose}
@@ -95,7 +95,7 @@ suits_or_memory : (output : Output) (source source' : SourceView) (sink sink' : 
 suits_or_memory output source source' sink sink' bytes read end told to_end e =
     let same = read_whole source source' bytes read told to_end in
     let by : (end.status ≡ 0) ⊎ (end.status ≡ 4) → Suits output bytes ⊎ (end.status ≡ 5) =
-        λ is. let t = e.told is in inl (subst (λ (b : List ℕ). Suits output b) same (suits_text output read end.log end.ledger.held t.text t.is)) in
+    λ is. let t = e.told is in inl (subst (λ (b : List ℕ). Suits output b) same (suits_text output read end.log end.ledger.held t.text t.is)) in
     elim e.statuses [
       | inl none ↦ by (inl none)
       | inr (inl four) ↦ by (inr four)

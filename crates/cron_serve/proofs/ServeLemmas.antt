@@ -28,7 +28,7 @@ use Rattle.cron_serve.specs.Ends.{Ends, EndsUnread}
 use Rattle.cron_serve.specs.Serve.{IsRefused, IsReportOf, IsRunOf, IsTextOf, LeavesNoRun}
 use Rattle.cron_serve.specs.Input.{IsRefusedBytes}
 use Rattle.cron_serve.specs.Stop.{StopsFor, refusal_of, status_of, stop_of_run}
-use Rattle.cron_serve.specs.Written.{EndsWriting, WritesAtStatus, WritesTextOf, status_of_listing}
+use Rattle.cron_serve.specs.Written.{EndsWriting, WritesAtStatus, status_of_listing}
 use Rattle.cron_serve.specs.declared.words.Output.{Output}
 use Rattle.cron_serve.specs.declared.words.Output.TheVariants.{Report}
 use Rattle.run_text.specs.Steps.{IfRefused}
@@ -216,7 +216,7 @@ ends_text output source source' sink sink' bytes end read read_on e =
           (t.text, record { bytes = bytes; read = read; is = t.is }, t.written.front);
       memory = λ is. elim (e.memory is) [
         | inl same ↦ inl same
-        | inr some ↦ inr (some.0, some.1, some.2.text, record { bytes = bytes; read = read; is = some.2.is }, some.2.written.front)
+        | inr some ↦ inr (some.0, some.1, (some.2.text, record { bytes = bytes; read = read; is = some.2.is }, some.2.written.front))
       ];
       statuses = omega (arith, statuses);
       nothing = λ least most. absurd (omega (arith, statuses));

@@ -1,6 +1,6 @@
 -- What words ask for.
-use Rattle.std.proofs.Common.{◌≡◌, ◌≢◌, ℕ, zero, suc, List, [], ◌∷◌, length, map, Option, None, Some, refl, sym, ap, ◌∙◌, arith}
-use Rattle.std.specs.Prelude.{AllPairs, String, codes, string_bytes}
+use Rattle.std.proofs.Common.{◌≡◌, ◌≢◌, ℕ, zero, suc, List, [], ◌∷◌, Option, None, Some, refl, sym, ap, ◌∙◌, arith}
+use Rattle.std.specs.Prelude.{AllPairs, IfNone, String, codes}
 use Rattle.std.specs.Vec.Iter.{into_iter_items, into_iter_len, into_iter_steps}
 use Rattle.std.specs.declared.alloc.Global.{Global}
 use Rattle.std.specs.declared.vec.IntoIter.{IntoIter}
@@ -74,3 +74,8 @@ pub behind_first : (old new : IntoIter (String Global) Global) (name : Option (S
     → texts_of (into_iter_items new) ≡ behind_name (texts_of (into_iter_items old))
 behind_first old new None steps = no_word_left new steps.1 ∙ sym (ap behind_name (no_word_left old steps.0))
 behind_first old new (Some name) steps = ap (λ words. behind_name (texts_of words)) (sym steps.0)
+
+-- what holds anyway holds where there is none
+pub if_none : {T P : Type 0} (r : Option T) → P → IfNone r P
+if_none None p = p
+if_none (Some x) p = tt

@@ -48,12 +48,7 @@ fn answer<S: Source, K: Sink>(
 }
 
 // Reads the input, and writes what is asked for of it, or stops.
-fn serve<S: Source, K: Sink>(
-    alloc: Global,
-    output: Output,
-    source: &mut S,
-    sink: &mut K,
-) -> RunEnd
+fn serve<S: Source, K: Sink>(alloc: Global, output: Output, source: &mut S, sink: &mut K) -> RunEnd
     ensures ends { Ends output (S.seen source.old) (S.seen source.new) (K.seen sink.old) (K.seen sink.new) result }
     ensures words { result.status ≢ 1 }
     ensures complete { Completes output (S.seen source.old) (S.seen source.new) (K.seen sink.old) (K.seen sink.new) result }

@@ -1,4 +1,4 @@
-use Rattle.std.proofs.Common.{◌≡◌, ◌≢◌, ◌⊎◌, inl, inr, ℕ, List, [], refl, arith}
+use Rattle.std.proofs.Common.{◌≢◌, inl, inr, ℕ, List, refl}
 use Rattle.std.proofs.lemmas.Bool.Decides.{eqb_tells}
 use Rattle.cron_io.specs.Views.{SourceView, SinkView}
 use Rattle.paxos_base.specs.declared.entry.Entry.{Entry}
