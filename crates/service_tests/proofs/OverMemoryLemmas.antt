@@ -12,16 +12,18 @@ use Rattle.run_text.specs.Run.{Run}
 use Rattle.run_text.specs.declared.refusal.Refusal.{Refusal}
 use Rattle.cron_serve.specs.Input.{IsTaken}
 use Rattle.service_tests.specs.OverMemory.{IsReportOfJobs, FitsRoom, IsBeyondRoom}
-use Rattle.cron_serve.specs.Serve.{IsRefused, IsReportOfInput, IsWholeRun}
+use Rattle.cron_serve.specs.Serve.{IsRefused, IsTextOfInput, IsWholeRun}
+use Rattle.cron_serve.specs.declared.words.Output.TheVariants.{Report}
 use Rattle.cron_serve.specs.declared.run_end.RunEnd.{RunEnd}
-use Rattle.cron_serve.proofs.CompleteLemmas.{not_refused, read_whole}
-use Rattle.cron_serve.proofs.VerdictLemmas.{one_taken}
+use Rattle.cron_serve.proofs.CompleteLemmas.{read_whole, refused_input}
+use Rattle.cron_serve.proofs.VerdictLemmas.{one_taken, suits_or_refused}
 
 -- a report of the input is one of its jobs
 report_is : (source source' : SourceView) (bytes text : List ℕ) (run : Run) (table : Table) (log : List Entry) (held : List SchedRow) → source.left ≡ Some bytes
-    → IsTaken bytes run table → IsReportOfInput source source' log held text → IsReportOfJobs table text
-report_is source source' bytes text run table log held told taken report =
-    let read : report.run.bytes ≡ bytes = read_whole source source' bytes report.run.bytes told report.run.read in
+    → IsTaken bytes run table → IsTextOfInput Report source source' log held text → IsReportOfJobs table text
+report_is source source' bytes text run table log held told taken input =
+    let report = input.is in
+    let read : input.bytes ≡ bytes = read_whole source source' bytes input.bytes told input.read in
     let given = subst (λ (bs : List ℕ). IsTaken bs report.run.run report.table) read report.run.taken in
     let same : report.table ≡ table = (one_taken bytes report.run.run run report.table table given taken).1 in
     record {
@@ -44,9 +46,10 @@ are_left (suc (suc (suc (suc zero)))) small a b c = inl (inr (omega arith))
 are_left (suc (suc (suc (suc (suc k))))) small a b c = inr (omega arith)
 
 no_refusal : (source source' : SourceView) (bytes : List ℕ) (run : Run) (table : Table) (refusal : Option Refusal) → source.left ≡ Some bytes → IsTaken bytes run table
-    → IsSomeAnd refusal (IsRefused source source') → ⊥
+    → IsSomeAnd refusal (IsRefused Report source source') → ⊥
 no_refusal source source' bytes run table None told taken refused = absurd refused
-no_refusal source source' bytes run table (Some refusal) told taken refused = not_refused source source' bytes run table refusal told taken refused
+no_refusal source source' bytes run table (Some refusal) told taken refused =
+    suits_or_refused Report bytes refusal (run, table, taken) (refused_input Report source source' bytes refusal told refused)
 
 -- an end over a source that is reliable and tells its bytes, and a sink that tells its room
 pub record EndsOverMemory (source source' : SourceView) (sink sink' : SinkView) (bytes : List ℕ) (room : ℕ) (end : RunEnd) : Type 0 where
@@ -54,7 +57,7 @@ pub record EndsOverMemory (source source' : SourceView) (sink sink' : SinkView) 
   pub has_room : sink.room ≡ Some room
   pub usage : end.status ≢ 1
   pub reliable : end.status ≢ 3
-  pub ends : Ends source source' sink sink' end
+  pub ends : Ends Report source source' sink sink' end
 
 module _ (source source' : SourceView) (sink sink' : SinkView) (bytes : List ℕ) (room : ℕ) (end : RunEnd)
     (over : EndsOverMemory source source' sink sink' bytes room end) (run : Run) (table : Table) (taken : IsTaken bytes run table) where
@@ -68,7 +71,7 @@ module _ (source source' : SourceView) (sink sink' : SinkView) (bytes : List ℕ
     | inl (inl whole) ↦ inl whole
     | inl (inr failed) ↦
         (let lacks = over.ends.exceeds failed room over.has_room in
-        let size = enough lacks.text (report_is source source' bytes lacks.text run table end.log end.ledger.held over.has taken lacks.report) in
+        let size = enough lacks.text (report_is source source' bytes lacks.text run table end.log end.ledger.held over.has taken lacks.of_input) in
         let beyond = lacks.beyond in
         absurd (omega arith))
     | inr memory ↦ inr memory
@@ -79,7 +82,7 @@ module _ (source source' : SourceView) (sink sink' : SinkView) (bytes : List ℕ
   ends_cut small = elim left_of_run [
     | inl (inl whole) ↦
         (let has = over.ends.fits whole room over.has_room in
-        let size = small has.text (report_is source source' bytes has.text run table end.log end.ledger.held over.has taken has.report) in
+        let size = small has.text (report_is source source' bytes has.text run table end.log end.ledger.held over.has taken has.of_input) in
         let enough = has.taken.fits in
         absurd (omega arith))
     | inl (inr failed) ↦ inl failed
@@ -96,7 +99,7 @@ refused_some : {T : Type 0} (o : Option T) (P : T → Type 0) → IsSomeAnd o P 
 refused_some None P some = absurd some
 refused_some (Some x) P some = refl
 
-pub ends_refused : (source source' : SourceView) (sink sink' : SinkView) (end : RunEnd) (P : Refusal → Type 0) → Ends source source' sink sink' end
+pub ends_refused : (source source' : SourceView) (sink sink' : SinkView) (end : RunEnd) (P : Refusal → Type 0) → Ends Report source source' sink sink' end
     → IsSomeAnd end.refusal P ⊎ (end.status ≡ 5) → (end.status ≡ 2) ⊎ (end.status ≡ 5)
 ends_refused source source' sink sink' end P ends (inl some) = inl (ends.refusal.0 (refused_some end.refusal P some))
 ends_refused source source' sink sink' end P ends (inr five) = inr five

@@ -3,7 +3,8 @@ ghost use Rattle.std.specs.Prelude.{◌≡◌, ◌⊎◌, IfOk};
 ghost use Rattle.due_set.specs.Table.{Table};
 ghost use Rattle.run_text.specs.Run.{Run};
 ghost use Rattle.service_tests.specs.OverMemory.{FitsRoom, IsBeyondRoom};
-ghost use Rattle.cron_serve.specs.Input.{IsTaken, TakesNone};
+ghost use Rattle.cron_serve.specs.Input.{IsTaken, Suits};
+ghost use Rattle.cron_serve.specs.declared.words.Output.{Output};
 
 use cron_io::{MemSink, MemSource, OutOfMemory};
 use cron_serve::cron_cluster;
@@ -21,7 +22,7 @@ fn status_in_memory(
         → (status ≡ 0) ⊎ (status ≡ 5)) }
     ensures exceeds { IfOk result (λ status. (run : Run) (table : Table) → IsTaken bytes.items run table → IsBeyondRoom table room
         → (status ≡ 4) ⊎ (status ≡ 5)) }
-    ensures refused { IfOk result (λ status. TakesNone bytes.items → (status ≡ 2) ⊎ (status ≡ 5)) }
+    ensures refused { IfOk result (λ status. (Suits Output.Report bytes.items → ⊥) → (status ≡ 2) ⊎ (status ≡ 5)) }
 {
     let mut source = MemSource::new(bytes, Vec::new(alloc));
     let mut sink = MemSink::new(alloc, room, Vec::new(alloc))?;

@@ -1,20 +1,31 @@
-use Rattle.std.proofs.Common.{arith}
-use Rattle.std.proofs.lemmas.Bool.Decides.{nat_tests}
+use Rattle.std.proofs.Common.{◌∙◌, ap, subst, sym}
+use Rattle.cron_serve.specs.Complete.{Completes}
+use Rattle.cron_serve.specs.Ends.{Ends}
 use Rattle.cron_serve.proofs.ServeLemmas.{ends_unread}
+use Rattle.cron_serve.proofs.WordLemmas.{asks_one}
 use Rattle.cron_serve.proofs.serve.cron_cluster.Goals as goal
-use Rattle.cron_serve.proofs.serve.cron_cluster.Goals.{then-len-eq0, else-len-eq0}
+use Rattle.cron_serve.proofs.serve.cron_cluster.Goals.{in-Some, in-None}
 
 pub returns-clause-ends : goal.returns-clause-ends
-returns-clause-ends g c =
-    elim c.if-len-eq0.branch [
-      | then-len-eq0 w ↦ rw w.end-is (rw w.source-is (rw w.sink-is w.serve-end.ensures.ends))
-      | else-len-eq0 w ↦ rw w.end-is (rw w.source-is (rw w.sink-is (ends_unread _ _ w.stopped-end.result
-          (record { status = w.stopped-end.ensures.status; refusal = w.stopped-end.ensures.refusal; no_run = w.stopped-end.ensures.no_run }))))
+returns-clause-ends g c = λ output asked.
+    elim c.match-read_words.branch [
+      | in-Some w ↦ rw w.end-is (rw w.source-is (rw w.sink-is
+          (subst (λ o. Ends o (g.S.Source.seen c.args.source.now) (g.S.Source.seen w.serve-end.new.source) (g.K.Sink.seen c.args.sink.now) (g.K.Sink.seen w.serve-end.new.sink) w.serve-end.result) (asks_one _ w.in-Some.output output w.in-Some.ensures.asks asked) w.serve-end.ensures.ends)))
+      | in-None w ↦ absurd (w.in-None.ensures.none asked.0 asked.1)
     ]
 
 pub returns-clause-complete : goal.returns-clause-complete
-returns-clause-complete g c = λ none.
-    elim c.if-len-eq0.branch [
-      | then-len-eq0 w ↦ rw w.end-is (rw w.source-is (rw w.sink-is w.serve-end.ensures.complete))
-      | else-len-eq0 w ↦ absurd (grind (arith, nat_tests, none, c.len.ensures, w.if-len-eq0.false))
+returns-clause-complete g c = λ output asked.
+    elim c.match-read_words.branch [
+      | in-Some w ↦ rw w.end-is (rw w.source-is (rw w.sink-is
+          (subst (λ o. Completes o (g.S.Source.seen c.args.source.now) (g.S.Source.seen w.serve-end.new.source) (g.K.Sink.seen c.args.sink.now) (g.K.Sink.seen w.serve-end.new.sink) w.serve-end.result) (asks_one _ w.in-Some.output output w.in-Some.ensures.asks asked) w.serve-end.ensures.complete)))
+      | in-None w ↦ absurd (w.in-None.ensures.none asked.0 asked.1)
+    ]
+
+pub returns-clause-unread : goal.returns-clause-unread
+returns-clause-unread g c = λ one.
+    elim c.match-read_words.branch [
+      | in-Some w ↦ absurd (w.serve-end.ensures.words (sym (ap (λ end. end.status) w.end-is) ∙ one))
+      | in-None w ↦ rw w.end-is (rw w.source-is (rw w.sink-is (ends_unread _ _ w.stopped-end.result
+          (record { status = w.stopped-end.ensures.status; refusal = w.stopped-end.ensures.refusal; no_run = w.stopped-end.ensures.no_run }))))
     ]

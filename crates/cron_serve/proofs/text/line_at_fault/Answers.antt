@@ -1,5 +1,4 @@
-use Rattle.std.proofs.Common.{◌⊎◌, ◌≡◌, [], ◌+◌, ◌<◌, length, arith}
-use Rattle.cron_serve.specs.Text.{PassesText, BeginsWithNoText}
+use Rattle.std.proofs.Common.{arith}
 use Rattle.cron_serve.proofs.TextLemmas.{passed_more, first_at_fault}
 use Rattle.cron_serve.proofs.VariantLemmas.{at_none}
 use Rattle.cron_serve.proofs.text.line_at_fault.Goals as goal

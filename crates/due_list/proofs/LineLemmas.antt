@@ -1,0 +1,203 @@
+-- The lines of a due list and of a check, appended to a text.
+use Rattle.std.proofs.Common.{◌≡◌, ℕ, ◌+◌, ◌-◌, ◌<◌, List, [], ◌∷◌, ◌++◌, length, map, take, get_or, flat_map, codes, decimal, ℤ, refl, sym, ap, ◌∙◌, subst, arith, append_assoc, append-nil, length-append}
+use Rattle.std.specs.Prelude.{IsSomeAnd, slice_get, slice_index}
+use Rattle.std.specs.List.{range_with_len}
+use Rattle.std.proofs.lemmas.List.{take_at, get_or_at, length-map}
+use Rattle.std.proofs.lemmas.Option.{slice_get_within}
+use Rattle.jiff.specs.Types.{TimeZone}
+use Rattle.zone_minutes.specs.Stamp.{stamp_text}
+use Rattle.zone_minutes.specs.declared.minute.Minute.{Minute}
+use Rattle.due_set.specs.Table.{Job, Table, IsAnacron, IsJobDue, IsJobDueList, IsJobIn, IsJobRead, IsRunByPeriod, IsSound}
+use Rattle.due_set.specs.declared.job.JobKind.{JobKind}
+use Rattle.due_set.specs.declared.job.JobKind.TheVariants.{Crontab, Anacron, Never}
+use Rattle.due_set.proofs.SoundLemmas.{zone_is_read}
+use Rattle.due_set.proofs.TableLemmas.{IsRunByPeriod-kind}
+use Rattle.cluster_sched.specs.Names.{IsNameIn, IsTimeNear, job_kind, kind_of}
+use Rattle.cluster_sched.specs.declared.row.Name.{Name}
+use Rattle.report_text.specs.Lines.{text_of_lines}
+use Rattle.due_list.specs.CheckText.{check_lines, fault_line}
+use Rattle.due_list.specs.DueText.{AreEntryLines, AreLinesBy, AreLinesOfJob, IsDueText, anacron_line, due_line, job_line, local_text}
+use Rattle.due_list.specs.Parts.{AppendsJobs, AppendsLines, instants_of}
+use Rattle.due_list.specs.declared.fault.TableFault.{TableFault}
+use Rattle.due_list.proofs.ListLemmas.{parts_push, range_more, text_append, zip_push}
+
+-- a stamp ends with its `Z`
+stamp_is : (minute : ℤ) → stamp_text minute ≡ local_text minute ++ 90 ∷ []
+unfolding stamp_text
+stamp_is minute = refl
+
+-- a text without its last byte, which was a `Z`
+last_cut : (front stamped cut : List ℕ) (len : ℕ) → stamped ≡ front ++ 90 ∷ [] → len ≡ length stamped
+    → (0 < len → slice_index stamped (len - 1) < 128 → cut ≡ take (len - 1) stamped) → cut ≡ front
+last_cut front stamped cut len whole len_is cut_is = cut_is some ascii ∙ ap (take (len - 1)) whole ∙ take_at front (90 ∷ []) (len - 1) place
+  where
+    size : len ≡ length front + 1
+    size = len_is ∙ ap length whole ∙ length-append front (90 ∷ [])
+
+    some : 0 < len
+    some = omega (arith, size)
+
+    place : length front ≡ len - 1
+    place = omega (arith, size)
+
+    last : slice_index stamped (len - 1) ≡ 90
+    last = ap (λ (l : List ℕ). get_or l (len - 1) 0) whole ∙ get_or_at front 90 [] 0 (len - 1) place
+
+    ascii : slice_index stamped (len - 1) < 128
+    ascii = omega (arith, last)
+
+pub local_is : (old stamped cut : List ℕ) (len : ℕ) (minute : ℤ) → stamped ≡ old ++ stamp_text minute → len ≡ length stamped
+    → (0 < len → slice_index stamped (len - 1) < 128 → cut ≡ take (len - 1) stamped) → cut ≡ old ++ local_text minute
+local_is old stamped cut len minute stamped_is len_is cut_is = last_cut (old ++ local_text minute) stamped cut len whole len_is cut_is
+  where
+    whole : stamped ≡ (old ++ local_text minute) ++ 90 ∷ []
+    whole = stamped_is ∙ ap (λ (l : List ℕ). old ++ l) (stamp_is minute) ∙ sym (append_assoc old (local_text minute) (90 ∷ []))
+
+-- a due instant is one of a launch
+kind_near : (table : Table) (number : ℕ) (due_at : ℤ) (due : IsJobDue table number due_at) → job_kind table number ≡ Crontab due.fields
+kind_near table number at due = ap kind_of due.is_in.is_job ∙ due.kind
+
+pub name_in : (table : Table) (number : ℕ) (at : ℤ) → IsJobDue table number at → let name : Name = record { job = number; at = at } in IsNameIn table name
+name_in table number at due = record {
+  job = slice_get_within table.jobs number due.job due.is_in.is_job;
+  inside = subst (λ (k : JobKind). IsTimeNear table.window k at) (sym (kind_near table number at due)) due.inside;
+}
+
+-- the five parts of a due line
+pub due_parts : (old a b c d e : List ℕ) (name local : List ℕ) → a ≡ old ++ codes "due " → b ≡ a ++ name → c ≡ b ++ 32 ∷ [] → d ≡ c ++ local → e ≡ d ++ 10 ∷ []
+    → e ≡ old ++ ((codes "due " ++ name ++ 32 ∷ local) ++ 10 ∷ [])
+due_parts old a b c d e name local p q r s t =
+    t ∙ ap (λ (l : List ℕ). l ++ 10 ∷ []) (s ∙ ap (λ (l : List ℕ). l ++ local) (r ∙ ap (λ (l : List ℕ). l ++ 32 ∷ []) (q ∙ ap (λ (l : List ℕ). l ++ name) p)))
+    ∙ joined
+  where
+    joined : (((((old ++ codes "due ") ++ name) ++ 32 ∷ []) ++ local) ++ 10 ∷ []) ≡ old ++ ((codes "due " ++ name ++ 32 ∷ local) ++ 10 ∷ [])
+    joined = simp append_assoc
+
+-- the lines of an entry
+pub entry_lines : (table : Table) (number : ℕ) (job : Job) (zone : TimeZone) (dues : List Minute) (old mid new name : List ℕ) (count : ℕ) → IsJobDueList table number (instants_of dues)
+    → count ≡ length dues → name ≡ job.name → mid ≡ old ++ (job_line name count ++ 10 ∷ []) → new ≡ mid ++ text_of_lines (map (λ at. due_line table number zone at.0) dues)
+    → AppendsLines old new (AreEntryLines table number job zone)
+entry_lines table number job zone dues old mid new name count list count_is name_is mid_is new_is =
+    let at_of : Minute → ℤ = λ minute. minute.0 in
+    let instants = instants_of dues in
+    let first = job_line job.name (length instants) in
+    let rest = map (due_line table number zone) instants in
+    let size : count ≡ length instants = count_is ∙ sym (length-map dues at_of) in
+    let head : job_line name count ≡ first = ap (λ (n : List ℕ). job_line n count) name_is ∙ ap (job_line job.name) size in
+    record {
+      lines = first ∷ rest;
+      are = record { instants = instants; are_due = list; lines_are = refl };
+      new_is = new_is
+          ∙ ap (λ (l : List ℕ). l ++ text_of_lines (map (λ at. due_line table number zone at.0) dues)) (mid_is ∙ ap (λ (l : List ℕ). old ++ (l ++ 10 ∷ [])) head)
+          ∙ ap (λ (l : List (List ℕ)). (old ++ (first ++ 10 ∷ [])) ++ text_of_lines l) (through dues)
+          ∙ append_assoc old (first ++ 10 ∷ []) (text_of_lines rest);
+    }
+  where
+    through : (minutes : List Minute) → map (λ (at : Minute). due_line table number zone at.0) minutes ≡ map (due_line table number zone) (instants_of minutes)
+    through [] = refl
+    through (minute ∷ minutes) = ap (λ (l : List (List ℕ)). due_line table number zone minute.0 ∷ l) (through minutes)
+
+by_period : (kind : JobKind) (table : Table) (number : ℕ) (job : Job) (zone : TimeZone) → IsAnacron kind → AreLinesBy kind table number job zone (anacron_line job.name ∷ [])
+by_period (Crontab fields) table number job zone is = absurd is
+by_period (Anacron period first last) table number job zone is = refl
+by_period Never table number job zone is = absurd is
+
+by_instants : (kind : JobKind) (table : Table) (number : ℕ) (job : Job) (zone : TimeZone) (lines : List (List ℕ)) → (IsAnacron kind → ⊥) → AreEntryLines table number job zone lines
+    → AreLinesBy kind table number job zone lines
+by_instants (Crontab fields) table number job zone lines plain are = are
+by_instants (Anacron period first last) table number job zone lines plain are = absurd (plain tt)
+by_instants Never table number job zone lines plain are = are
+
+-- the name of a job of the table
+pub name_is : (table : Table) (number : ℕ) (job : Job) (zone : TimeZone) (name : List ℕ) → IsJobIn table number job zone → IsSomeAnd (slice_get table.jobs number) (λ j. name ≡ j.name)
+    → name ≡ job.name
+name_is table number job zone name is_in known = subst (λ o. IsSomeAnd o (λ (j : Job). name ≡ j.name)) is_in.is_job known
+
+-- the line of a job that runs by its period
+pub period_lines : (table : Table) (number : ℕ) (old new name : List ℕ) → IsSound table → number < length table.jobs → IsRunByPeriod table number
+    → IsSomeAnd (slice_get table.jobs number) (λ j. name ≡ j.name) → new ≡ old ++ (anacron_line name ++ 10 ∷ []) → AppendsLines old new (AreLinesOfJob table number)
+period_lines table number old new name sound below by known new_is =
+    let read : IsJobRead table number = zone_is_read table number sound below in
+    let job = read.0 in
+    let zone = read.1 in
+    let is_in : IsJobIn table number job zone = read.2 in
+    record {
+      lines = anacron_line job.name ∷ [];
+      are = record {
+        job = job;
+        zone = zone;
+        is_in = is_in;
+        are = by_period job.kind table number job zone (IsRunByPeriod-kind table number job is_in.is_job by);
+      };
+      new_is = new_is ∙ ap (λ (n : List ℕ). old ++ (anacron_line n ++ 10 ∷ [])) (name_is table number job zone name is_in known)
+          ∙ ap (λ (l : List ℕ). old ++ l) (sym (append-nil (anacron_line job.name ++ 10 ∷ [])));
+    }
+
+-- the lines of any other job
+pub instant_lines : (table : Table) (number : ℕ) (old new : List ℕ) → IsSound table → number < length table.jobs → (IsRunByPeriod table number → ⊥)
+    → ((job : Job) (zone : TimeZone) → IsJobIn table number job zone → AppendsLines old new (AreEntryLines table number job zone)) → AppendsLines old new (AreLinesOfJob table number)
+instant_lines table number old new sound below plain known =
+    let read : IsJobRead table number = zone_is_read table number sound below in
+    let job = read.0 in
+    let zone = read.1 in
+    let is_in : IsJobIn table number job zone = read.2 in
+    let added : AppendsLines old new (AreEntryLines table number job zone) = known job zone is_in in
+    record {
+      lines = added.lines;
+      are = record {
+        job = job;
+        zone = zone;
+        is_in = is_in;
+        are = by_instants job.kind table number job zone added.lines (λ is. plain (job, is_in.is_job, is)) added.are;
+      };
+      new_is = added.new_is;
+    }
+
+-- no job yet
+pub jobs_none : (table : Table) (text : List ℕ) → AppendsJobs table [] text text
+jobs_none table text = record { parts = []; are = tt; new_is = sym (append-nil text) }
+
+-- one job more
+pub jobs_more : (table : Table) (number : ℕ) (old mid new : List ℕ) → AppendsJobs table (range_with_len 0 number) old mid → AppendsLines mid new (AreLinesOfJob table number)
+    → AppendsJobs table (range_with_len 0 (number + 1)) old new
+jobs_more table number old mid new known added =
+    let at : 0 + number ≡ number = omega arith in
+    let numbers : range_with_len 0 (number + 1) ≡ range_with_len 0 number ++ number ∷ [] = range_more 0 number ∙ ap (λ (n : ℕ). range_with_len 0 number ++ n ∷ []) at in
+    let whole = flat_map (λ (part : List (List ℕ)). part) known.parts in
+    subst (λ (l : List ℕ). AppendsJobs table l old new) (sym numbers)
+    (record {
+      parts = known.parts ++ added.lines ∷ [];
+      are = zip_push (AreLinesOfJob table) (range_with_len 0 number) known.parts number added.lines known.are added.are;
+      new_is = added.new_is ∙ ap (λ (l : List ℕ). l ++ text_of_lines added.lines) known.new_is
+          ∙ append_assoc old (text_of_lines whole) (text_of_lines added.lines)
+          ∙ ap (λ (l : List ℕ). old ++ l) (sym (ap text_of_lines (parts_push known.parts added.lines) ∙ text_append whole added.lines));
+    })
+
+-- the whole due list
+pub due_text_is : (table : Table) (first mid last : List ℕ) → first ≡ codes "cron due 1\n" → AppendsJobs table (range_with_len 0 (length table.jobs)) first mid
+    → last ≡ mid ++ codes "end\n" → IsDueText table last
+due_text_is table first mid last first_is known last_is =
+    let whole = flat_map (λ (part : List (List ℕ)). part) known.parts in
+    let end = codes "end" ∷ [] in
+    record {
+      parts = known.parts;
+      are = known.are;
+      text_is = last_is ∙ ap (λ (l : List ℕ). l ++ codes "end\n") (known.new_is ∙ ap (λ (l : List ℕ). l ++ text_of_lines whole) first_is)
+          ∙ append_assoc (codes "cron due 1\n") (text_of_lines whole) (codes "end\n")
+          ∙ ap (λ (l : List ℕ). codes "cron due 1\n" ++ l) (sym (text_append whole end));
+    }
+
+-- the whole check
+pub check_text_is : (faults : List TableFault) (first mid last : List ℕ) (count : ℕ) → first ≡ codes "cron check 1\n" → mid ≡ first ++ text_of_lines (map fault_line faults)
+    → count ≡ length faults → last ≡ mid ++ (codes "faults " ++ decimal count ++ codes "\nend\n") → last ≡ text_of_lines (check_lines faults)
+check_text_is faults first mid last count first_is mid_is count_is last_is =
+    let lines = map fault_line faults in
+    let tail = (codes "faults " ++ decimal (length faults)) ∷ codes "end" ∷ [] in
+    last_is ∙ ap (λ (n : ℕ). mid ++ (codes "faults " ++ decimal n ++ codes "\nend\n")) count_is
+    ∙ ap (λ (l : List ℕ). l ++ (codes "faults " ++ decimal (length faults) ++ codes "\nend\n")) (mid_is ∙ ap (λ (l : List ℕ). l ++ text_of_lines lines) first_is)
+    ∙ append_assoc (codes "cron check 1\n") (text_of_lines lines) (codes "faults " ++ decimal (length faults) ++ codes "\nend\n")
+    ∙ ap (λ (l : List ℕ). codes "cron check 1\n" ++ (text_of_lines lines ++ l)) (ends (decimal (length faults)))
+    ∙ ap (λ (l : List ℕ). codes "cron check 1\n" ++ l) (sym (text_append lines tail))
+  where
+    ends : (digits : List ℕ) → codes "faults " ++ digits ++ codes "\nend\n" ≡ text_of_lines ((codes "faults " ++ digits) ∷ codes "end" ∷ [])
+    ends digits = sym (append_assoc (codes "faults " ++ digits) (10 ∷ []) (codes "end\n") ∙ append_assoc (codes "faults ") digits (codes "\nend\n"))

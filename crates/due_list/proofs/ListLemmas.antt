@@ -1,0 +1,109 @@
+-- Lists that go on, and the members of lists of parts.
+use Rattle.std.proofs.Common.{◌≡◌, ℕ, zero, suc, ◌+◌, ◌<◌, List, [], ◌∷◌, ◌++◌, length, map, take, get_or, inl, inr, refl, sym, ap, ◌∙◌, subst, arith, append_assoc, append-nil}
+use Rattle.std.specs.Prelude.{Contains, flat_map}
+use Rattle.std.specs.List.{AllZip, range_with_len}
+use Rattle.std.proofs.lemmas.Grind.{flat_map-append}
+use Rattle.std.proofs.lemmas.List.{map-append, take_more}
+use Rattle.std.proofs.lemmas.List.Elements.{Contains-append_left, Contains-append_right}
+use Rattle.due_set.proofs.Rising.{Contains-head, Contains-tail, Contains-cases, Contains-none}
+use Rattle.report_text.specs.Lines.{text_of_lines}
+
+-- one number more
+pub range_more : (a n : ℕ) → range_with_len a (n + 1) ≡ range_with_len a n ++ (a + n) ∷ []
+range_more a n = ap (range_with_len a) plus ∙ by_steps a n
+  where
+    plus : n + 1 ≡ suc n
+    plus = omega arith
+
+    by_steps : (a n : ℕ) → range_with_len a (suc n) ≡ range_with_len a n ++ (a + n) ∷ []
+    by_steps a zero = let e : a ≡ a + 0 = omega arith in ap (λ (x : ℕ). x ∷ []) e
+    by_steps a (suc n) =
+        let e : (a + 1) + n ≡ a + suc n = omega arith in
+        ap (λ (l : List ℕ). a ∷ l) (by_steps (a + 1) n ∙ ap (λ (x : ℕ). range_with_len (a + 1) n ++ x ∷ []) e)
+
+pub text_append : (a b : List (List ℕ)) → text_of_lines (a ++ b) ≡ text_of_lines a ++ text_of_lines b
+text_append a b = flat_map-append (λ (line : List ℕ). line ++ 10 ∷ []) a b
+
+-- the items before a place, and the one there
+take_push : {X : Type 0} (xs : List X) (i : ℕ) (x : X) → i < length xs → x ≡ get_or xs i x → take (i + 1) xs ≡ take i xs ++ x ∷ []
+take_push xs i x lt is = take_more xs i x lt ∙ ap (λ y. take i xs ++ y ∷ []) (sym is)
+
+-- a text that was gathered from lines, and one line more
+pub lines_more : {X : Type 0} (f : X → List ℕ) (xs : List X) (i : ℕ) (x : X) (old now new : List ℕ) → i < length xs → x ≡ get_or xs i x
+    → now ≡ old ++ text_of_lines (map f (take i xs)) → new ≡ now ++ (f x ++ 10 ∷ []) → new ≡ old ++ text_of_lines (map f (take (i + 1) xs))
+lines_more f xs i x old now new lt x_is known new_is =
+    let lines : text_of_lines (map f (take (i + 1) xs)) ≡ text_of_lines (map f (take i xs)) ++ (f x ++ 10 ∷ []) =
+    ap (λ l. text_of_lines (map f l)) (take_push xs i x lt x_is) ∙ ap text_of_lines (map-append f (take i xs) (x ∷ []))
+    ∙ text_append (map f (take i xs)) (f x ∷ []) ∙ ap (λ (l : List ℕ). text_of_lines (map f (take i xs)) ++ l) (append-nil (f x ++ 10 ∷ [])) in
+    new_is ∙ ap (λ (l : List ℕ). l ++ (f x ++ 10 ∷ [])) known ∙ append_assoc old (text_of_lines (map f (take i xs))) (f x ++ 10 ∷ []) ∙ ap (λ (l : List ℕ). old ++ l) (sym lines)
+
+-- the items before a place, through a function
+pub map_push : {X Y : Type 0} (f : X → Y) (xs : List X) (i : ℕ) (x : X) → i < length xs → x ≡ get_or xs i x → map f (take (i + 1) xs) ≡ map f (take i xs) ++ f x ∷ []
+map_push f xs i x lt is = ap (map f) (take_push xs i x lt is) ∙ map-append f (take i xs) (x ∷ [])
+
+-- one part more
+pub parts_push : {X : Type 0} (parts : List (List X)) (part : List X) → flat_map (λ p. p) (parts ++ part ∷ []) ≡ flat_map (λ p. p) parts ++ part
+parts_push parts part = flat_map-append (λ p. p) parts (part ∷ []) ∙ ap (λ l. flat_map (λ p. p) parts ++ l) (append-nil part)
+
+pub zip_push : {X Y : Type 0} (R : X → Y → Type 0) (xs : List X) (ys : List Y) (x : X) (y : Y) → AllZip R xs ys → R x y → AllZip R (xs ++ x ∷ []) (ys ++ y ∷ [])
+zip_push R [] [] x y all here = (here, tt)
+zip_push R [] (b ∷ ys) x y all here = absurd all
+zip_push R (a ∷ xs) [] x y all here = absurd all
+zip_push R (a ∷ xs) (b ∷ ys) x y all here = (all.0, zip_push R xs ys x y all.1 here)
+
+-- where each item has a partner, each list has one
+pub some_zip : {X Y : Type 0} (R : X → Y → Type 0) → ((x : X) → (y : Y) × R x y) → (xs : List X) → (ys : List Y) × AllZip R xs ys
+some_zip R some [] = ([], tt)
+some_zip R some (x ∷ xs) =
+    let first = some x in
+    let rest = some_zip R some xs in
+    (first.0 ∷ rest.0, (first.1, rest.1))
+
+pub same_zip : {X Y : Type 0} (R : X → Y → Type 0) → ((x : X) (a b : Y) → R x a → R x b → a ≡ b) → (xs : List X) (as' bs : List Y) → AllZip R xs as' → AllZip R xs bs → as' ≡ bs
+same_zip R same [] [] [] p q = refl
+same_zip R same [] [] (b ∷ bs) p q = absurd q
+same_zip R same [] (a ∷ as') bs p q = absurd p
+same_zip R same (x ∷ xs) [] bs p q = absurd p
+same_zip R same (x ∷ xs) (a ∷ as') [] p q = absurd q
+same_zip R same (x ∷ xs) (a ∷ as') (b ∷ bs) p q =
+    let head : a ≡ b = same x a b p.0 q.0 in
+    let tails : as' ≡ bs = same_zip R same xs as' bs p.1 q.1 in
+    cc
+
+-- the partner of an item
+pub zip_member : {X Y : Type 0} (R : X → Y → Type 0) (xs : List X) (ys : List Y) (x : X) → AllZip R xs ys → Contains xs x → (y : Y) × Contains ys y × R x y
+zip_member R [] ys x all h = absurd (Contains-none x h)
+zip_member R (a ∷ xs) [] x all h = absurd all
+zip_member R (a ∷ xs) (b ∷ ys) x all h = elim (Contains-cases a xs x h) [
+  | inl e ↦ (b, Contains-head b ys, subst (λ z. R z b) e all.0)
+  | inr more ↦ (let rest = zip_member R xs ys x all.1 more in (rest.0, Contains-tail b ys rest.0 rest.1, rest.2))
+]
+
+pub Contains-parts : {X : Type 0} (parts : List (List X)) (part : List X) (x : X) → Contains parts part → Contains part x → Contains (flat_map (λ p. p) parts) x
+Contains-parts [] part x h member = absurd (Contains-none part h)
+Contains-parts (first ∷ parts) part x h member = elim (Contains-cases first parts part h) [
+  | inl e ↦ Contains-append_left first (flat_map (λ p. p) parts) x (subst (λ p. Contains p x) (sym e) member)
+  | inr more ↦ Contains-append_right first (flat_map (λ p. p) parts) x (Contains-parts parts part x more member)
+]
+
+pub Contains-map : {X Y : Type 0} (f : X → Y) (xs : List X) (x : X) → Contains xs x → Contains (map f xs) (f x)
+Contains-map f [] x h = absurd (Contains-none x h)
+Contains-map f (first ∷ xs) x h = elim (Contains-cases first xs x h) [
+  | inl e ↦ subst (λ y. Contains (f first ∷ map f xs) (f y)) e (Contains-head (f first) (map f xs))
+  | inr more ↦ Contains-tail (f first) (map f xs) (f x) (Contains-map f xs x more)
+]
+
+-- what stands before a member, and behind it
+pub cut_at : {X : Type 0} (xs : List X) (x : X) → Contains xs x → (front : List X) × (back : List X) × (xs ≡ front ++ x ∷ back)
+cut_at [] x h = absurd (Contains-none x h)
+cut_at (first ∷ xs) x h = elim (Contains-cases first xs x h) [
+  | inl e ↦ ([], xs, ap (λ y. y ∷ xs) e)
+  | inr more ↦ (let rest = cut_at xs x more in (first ∷ rest.0, rest.1, ap (λ l. first ∷ l) rest.2))
+]
+
+pub range_member : (a n k : ℕ) → k < n → Contains (range_with_len a n) (a + k)
+range_member a zero k lt = absurd (omega arith)
+range_member a (suc n) zero lt = let e : a ≡ a + 0 = omega arith in subst (Contains (range_with_len a (suc n))) e (Contains-head a (range_with_len (a + 1) n))
+range_member a (suc n) (suc k) lt =
+    let e : (a + 1) + k ≡ a + suc k = omega arith in
+    Contains-tail a (range_with_len (a + 1) n) (a + suc k) (subst (Contains (range_with_len (a + 1) n)) e (range_member (a + 1) n k (omega arith)))

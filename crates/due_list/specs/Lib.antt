@@ -1,0 +1,4 @@
+pub mod CheckText
+pub mod DueText
+pub mod Listing
+pub mod Parts
