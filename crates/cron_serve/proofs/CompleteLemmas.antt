@@ -6,17 +6,18 @@ use Rattle.cron_io.specs.Faults.{Rose}
 use Rattle.cron_io.specs.Reading.{IsReadToEnd}
 use Rattle.cron_io.specs.Views.{SourceView, SinkView}
 use Rattle.paxos_base.specs.declared.entry.Entry.{Entry}
-use Rattle.due_set.specs.Table.{Table}
 use Rattle.cluster_sched.specs.declared.row.SchedRow.{SchedRow}
 use Rattle.cron_io.proofs.LawLemmas.{taken_all}
 use Rattle.cron_serve.specs.Complete.{Completes}
-use Rattle.run_text.specs.Run.{Run}
 use Rattle.run_text.specs.declared.refusal.Refusal.{Refusal}
-use Rattle.cron_serve.specs.Input.{IsTaken, TakesNone, IsRefusedBytes, IsRefusedInput}
-use Rattle.cron_serve.specs.Serve.{IsRefused, IsRunOfInput}
+use Rattle.cron_serve.specs.Input.{IsRefusedBytes, IsRefusedInput, Suits}
+use Rattle.cron_serve.specs.Serve.{IsRefused, IsTextOf}
+use Rattle.cron_serve.specs.Written.{EndsWriting}
+use Rattle.cron_serve.specs.declared.words.Output.{Output}
+use Rattle.cron_serve.specs.declared.words.Output.TheVariants.{Report, DueList, Check}
 use Rattle.cron_serve.specs.Stop.{StopsFor, refusal_of, status_of}
 use Rattle.cron_serve.specs.declared.run_end.RunEnd.{RunEnd}
-use Rattle.cron_serve.proofs.VerdictLemmas.{one_input, taken_or_refused}
+use Rattle.cron_serve.proofs.VerdictLemmas.{one_input, suits_or_refused}
 use Rattle.cron_serve.specs.declared.stop.Stop.{Stop}
 use Rattle.cron_serve.specs.declared.stop.Stop.TheVariants.{Usage, Refused, ReadFault, OutOfMemory}
 
@@ -34,75 +35,87 @@ pub read_whole : (source source' : SourceView) (bytes taken : List ℕ) → sour
 read_whole source source' bytes taken told h = (taken_all source source' bytes taken told h).0
 
 -- the refusal of an input is that of the bytes that the source told
-pub refused_input : (source source' : SourceView) (bytes : List ℕ) (refusal : Refusal) → source.left ≡ Some bytes → IsRefused source source' refusal → IsRefusedInput bytes refusal
-refused_input source source' bytes refusal told (inl large) =
+pub refused_input : (output : Output) (source source' : SourceView) (bytes : List ℕ) (refusal : Refusal) → source.left ≡ Some bytes
+    → IsRefused output source source' refusal → IsRefusedInput output bytes refusal
+refused_input output source source' bytes refusal told (inl large) =
     let beyond = consumed source.left source'.left bytes large.taken.0 told large.taken.1 in
     let size = large.taken.2 in
     inl (omega arith, large.is)
-refused_input source source' bytes refusal told (inr other) =
+refused_input output source source' bytes refusal told (inr other) =
     let read = read_whole source source' bytes other.bytes told other.read in
-    inr (subst (λ (b : List ℕ). length b ≤ 1_048_576) read other.short, subst (λ (b : List ℕ). IsRefusedBytes b refusal) read other.refused)
+    inr (subst (λ (b : List ℕ). length b ≤ 1_048_576) read other.short, subst (λ (b : List ℕ). IsRefusedBytes output b refusal) read other.refused)
 
--- a run that is taken isn't refused
-pub not_refused : (source source' : SourceView) (bytes : List ℕ) (run : Run) (table : Table) (refusal : Refusal) → source.left ≡ Some bytes
-    → IsTaken bytes run table → IsRefused source source' refusal → ⊥
-not_refused source source' bytes run table refusal told taken refused =
-    taken_or_refused bytes run table refusal taken (refused_input source source' bytes refusal told refused)
-
--- a run that is taken stops only for want of memory, where no read failed
-stops_for_memory : (source source' : SourceView) (stop : Stop) (status : ℕ) (bytes : List ℕ) (run : Run) (table : Table)
-    → status ≡ status_of stop → StopsFor source source' stop → source.left ≡ Some bytes → IsTaken bytes run table → ¬ Rose source.faults source'.faults
+-- an input that suits stops the program only for want of memory, where no read failed
+stops_for_memory : (output : Output) (source source' : SourceView) (stop : Stop) (status : ℕ) (bytes : List ℕ)
+    → status ≡ status_of stop → StopsFor output source source' stop → source.left ≡ Some bytes → Suits output bytes → ¬ Rose source.faults source'.faults
     → (status ≡ 0) ⊎ (status ≡ 5)
-stops_for_memory source source' Usage status bytes run table is why told taken quiet = absurd why
-stops_for_memory source source' (Refused refusal) status bytes run table is why told taken quiet = absurd (not_refused source source' bytes run table refusal told taken why)
-stops_for_memory source source' ReadFault status bytes run table is why told taken quiet = absurd (quiet why)
-stops_for_memory source source' OutOfMemory status bytes run table is why told taken quiet = inr is
+stops_for_memory output source source' Usage status bytes is why told suits quiet = absurd why
+stops_for_memory output source source' (Refused refusal) status bytes is why told suits quiet =
+    absurd (suits_or_refused output bytes refusal suits (refused_input output source source' bytes refusal told why))
+stops_for_memory output source source' ReadFault status bytes is why told suits quiet = absurd (quiet why)
+stops_for_memory output source source' OutOfMemory status bytes is why told suits quiet = inr is
 
 -- a stop is a refusal or want of memory, where no read failed
-stops_refused : (source source' : SourceView) (stop : Stop) (status : ℕ) (refusal : Option Refusal) (bytes : List ℕ)
-    → status ≡ status_of stop → refusal ≡ refusal_of stop → StopsFor source source' stop → source.left ≡ Some bytes → ¬ Rose source.faults source'.faults
-    → IsSomeAnd refusal (IsRefusedInput bytes) ⊎ (status ≡ 5)
-stops_refused source source' Usage status refusal bytes is given why told quiet = absurd why
-stops_refused source source' (Refused found) status refusal bytes is given why told quiet =
-    inl (subst (λ (r : Option Refusal). IsSomeAnd r (IsRefusedInput bytes)) (sym given) (refused_input source source' bytes found told why))
-stops_refused source source' ReadFault status refusal bytes is given why told quiet = absurd (quiet why)
-stops_refused source source' OutOfMemory status refusal bytes is given why told quiet = inr is
+stops_refused : (output : Output) (source source' : SourceView) (stop : Stop) (status : ℕ) (refusal : Option Refusal) (bytes : List ℕ)
+    → status ≡ status_of stop → refusal ≡ refusal_of stop → StopsFor output source source' stop → source.left ≡ Some bytes → ¬ Rose source.faults source'.faults
+    → IsSomeAnd refusal (IsRefusedInput output bytes) ⊎ (status ≡ 5)
+stops_refused output source source' Usage status refusal bytes is given why told quiet = absurd why
+stops_refused output source source' (Refused found) status refusal bytes is given why told quiet =
+    inl (subst (λ (r : Option Refusal). IsSomeAnd r (IsRefusedInput output bytes)) (sym given) (refused_input output source source' bytes found told why))
+stops_refused output source source' ReadFault status refusal bytes is given why told quiet = absurd (quiet why)
+stops_refused output source source' OutOfMemory status refusal bytes is given why told quiet = inr is
 
 -- a stop is this refusal, where the input is refused for it
-stops_with : (source source' : SourceView) (stop : Stop) (status : ℕ) (refusal : Option Refusal) (bytes : List ℕ) (found : Refusal)
-    → status ≡ status_of stop → refusal ≡ refusal_of stop → StopsFor source source' stop → source.left ≡ Some bytes → IsRefusedInput bytes found
-    → ¬ Rose source.faults source'.faults → (refusal ≡ Some found) ⊎ (status ≡ 5)
-stops_with source source' Usage status refusal bytes found is given why told refused quiet = absurd why
-stops_with source source' (Refused other) status refusal bytes found is given why told refused quiet =
-    inl (given ∙ ap Some (one_input bytes other found (refused_input source source' bytes other told why) refused))
-stops_with source source' ReadFault status refusal bytes found is given why told refused quiet = absurd (quiet why)
-stops_with source source' OutOfMemory status refusal bytes found is given why told refused quiet = inr is
+stops_with : (output : Output) (source source' : SourceView) (stop : Stop) (status : ℕ) (refusal : Option Refusal) (bytes : List ℕ) (found : Refusal)
+    → status ≡ status_of stop → refusal ≡ refusal_of stop → StopsFor output source source' stop → source.left ≡ Some bytes
+    → IsRefusedInput output bytes found → ¬ Rose source.faults source'.faults → (refusal ≡ Some found) ⊎ (status ≡ 5)
+stops_with output source source' Usage status refusal bytes found is given why told refused quiet = absurd why
+stops_with output source source' (Refused other) status refusal bytes found is given why told refused quiet =
+    inl (given ∙ ap Some (one_input output bytes other found (refused_input output source source' bytes other told why) refused))
+stops_with output source source' ReadFault status refusal bytes found is given why told refused quiet = absurd (quiet why)
+stops_with output source source' OutOfMemory status refusal bytes found is given why told refused quiet = inr is
 
-pub completes_stopped : (source source' : SourceView) (sink : SinkView) (stop : Stop) (end : RunEnd) → end.status ≡ status_of stop
-    → end.refusal ≡ refusal_of stop → StopsFor source source' stop → Completes source source' sink sink end
-completes_stopped source source' sink stop end is given why = record {
-  taken = λ bytes run table told taken quiet kept. stops_for_memory source source' stop end.status bytes run table is why told taken quiet;
-  refused = λ bytes found told refused quiet. stops_with source source' stop end.status end.refusal bytes found is given why told refused quiet;
-  others = λ bytes told none quiet. stops_refused source source' stop end.status end.refusal bytes is given why told quiet;
+pub completes_stopped : (output : Output) (source source' : SourceView) (sink : SinkView) (stop : Stop) (end : RunEnd) → end.status ≡ status_of stop
+    → end.refusal ≡ refusal_of stop → StopsFor output source source' stop → Completes output source source' sink sink end
+completes_stopped output source source' sink stop end is given why = record {
+  taken = λ bytes told suits quiet kept. stops_for_memory output source source' stop end.status bytes is why told suits quiet;
+  refused = λ bytes found told refused quiet. stops_with output source source' stop end.status end.refusal bytes found is given why told refused quiet;
+  others = λ bytes told none quiet. stops_refused output source source' stop end.status end.refusal bytes is given why told quiet;
 }
 
--- a run that was read is taken
-is_taken : (source source' : SourceView) (table : Table) (log : List Entry) (held : List SchedRow) (bytes : List ℕ)
-    → (run : IsRunOfInput source source' table log held) → source.left ≡ Some bytes → IsTaken bytes run.run table
-is_taken source source' table log held bytes run told =
-    subst (λ (bs : List ℕ). IsTaken bs run.run table) (read_whole source source' bytes run.bytes told run.read) run.taken
+-- an input of which a text was to be written suits it
+suits_text : (output : Output) (bytes : List ℕ) (log : List Entry) (held : List SchedRow) (text : List ℕ) → IsTextOf output bytes log held text → Suits output bytes
+suits_text Report bytes log held text is = (is.run.run, is.table, is.run.taken)
+suits_text DueList bytes log held text is = (is.1.run, is.1.table, is.1.taken)
+suits_text Check bytes log held text is = (is.1.run, is.1.frame)
 
-pub completes_report : (source source' : SourceView) (sink sink' : SinkView) (table : Table) (log : List Entry) (held : List SchedRow) (end : RunEnd)
-    → IsRunOfInput source source' table log held → (end.status ≡ 4 → Rose sink.faults sink'.faults) → (end.status ≡ 0) ⊎ (end.status ≡ 4) ⊎ (end.status ≡ 5)
-    → Completes source source' sink sink' end
-completes_report source source' sink sink' table log held end run rose statuses = record {
-  taken = λ bytes other table' told taken quiet kept. not_cut end.status (λ four. kept (rose four)) statuses;
-  refused = λ bytes found told refused quiet.
-      absurd (taken_or_refused bytes run.run table found (is_taken source source' table log held bytes run told) refused);
-  others = λ bytes told none quiet. absurd (none run.run table (is_taken source source' table log held bytes run told));
+-- the text was written of the bytes that the source told, or memory ran out
+suits_or_memory : (output : Output) (source source' : SourceView) (sink sink' : SinkView) (bytes read : List ℕ) (end : RunEnd)
+    → source.left ≡ Some bytes → IsReadToEnd source source' read → EndsWriting output read sink sink' end → Suits output bytes ⊎ (end.status ≡ 5)
+suits_or_memory output source source' sink sink' bytes read end told to_end e =
+    let same = read_whole source source' bytes read told to_end in
+    let by : (end.status ≡ 0) ⊎ (end.status ≡ 4) → Suits output bytes ⊎ (end.status ≡ 5) =
+        λ is. let t = e.told is in inl (subst (λ (b : List ℕ). Suits output b) same (suits_text output read end.log end.ledger.held t.text t.is)) in
+    elim e.statuses [
+      | inl none ↦ by (inl none)
+      | inr (inl four) ↦ by (inr four)
+      | inr (inr five) ↦ inr five
+    ]
+
+pub completes_text : (output : Output) (source source' : SourceView) (sink sink' : SinkView) (read : List ℕ) (end : RunEnd)
+    → IsReadToEnd source source' read → EndsWriting output read sink sink' end → Completes output source source' sink sink' end
+completes_text output source source' sink sink' read end to_end e = record {
+  taken = λ bytes told suits quiet kept. elim e.statuses [
+    | inl none ↦ inl none
+    | inr (inl four) ↦ absurd (kept ((e.told (inr four)).written.fault four))
+    | inr (inr five) ↦ inr five
+  ];
+  refused = λ bytes found told refused quiet. elim (suits_or_memory output source source' sink sink' bytes read end told to_end e) [
+    | inl suits ↦ absurd (suits_or_refused output bytes found suits refused)
+    | inr five ↦ inr five
+  ];
+  others = λ bytes told none quiet. elim (suits_or_memory output source source' sink sink' bytes read end told to_end e) [
+    | inl suits ↦ absurd (none suits)
+    | inr five ↦ inr five
+  ];
 }
-  where
-    not_cut : (status : ℕ) → (status ≢ 4) → (status ≡ 0) ⊎ (status ≡ 4) ⊎ (status ≡ 5) → (status ≡ 0) ⊎ (status ≡ 5)
-    not_cut status whole (inl none) = inl none
-    not_cut status whole (inr (inl four)) = absurd (whole four)
-    not_cut status whole (inr (inr five)) = inr five

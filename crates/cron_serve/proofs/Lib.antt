@@ -5,3 +5,4 @@ pub mod TextLemmas
 pub mod VariantLemmas
 pub mod VerdictLemmas
 pub mod WholeLemmas
+pub mod WordLemmas

@@ -3,21 +3,24 @@ use Rattle.std.proofs.Common.{◌≡◌, ◌⊎◌, inl, inr, ℕ, ◌<◌, ◌�
 use Rattle.crontab_text.specs.Lines.{lines_of}
 use Rattle.due_set.specs.Table.{Table}
 use Rattle.run_text.specs.Follow.{Nothing}
-use Rattle.run_text.specs.Reading.{IsRunText, IsRefusedText}
+use Rattle.run_text.specs.declared.table.Tables.TheVariants.{Judged, Counted}
+use Rattle.run_text.specs.Reading.{IsRunText, IsRefusedText, IsFrameText, IsRefusedFrame}
 use Rattle.run_text.specs.Run.{Run}
 use Rattle.run_text.specs.declared.refusal.Refusal.{Refusal}
 use Rattle.run_text.proofs.UniqueLemmas as reading
 use Rattle.job_table.specs.Table.{IsTableOf, IsRefusedRun}
-use Rattle.cron_serve.specs.Input.{IsTaken, IsRefusedTable, IsRefusedRunFile, IsRefusedBytes, IsRefusedInput}
+use Rattle.cron_serve.specs.Input.{IsTaken, IsTakenFrame, IsRefusedTable, IsRefusedRunFile, IsRefusedFrameFile, IsRefusedAsRun, IsRefusedAsFrame, IsRefusedBytes, IsRefusedInput, Suits}
+use Rattle.cron_serve.specs.declared.words.Output.{Output}
+use Rattle.cron_serve.specs.declared.words.Output.TheVariants.{Report, DueList, Check}
 use Rattle.cron_serve.specs.Text.{AreTexts, IsNotText}
 use Rattle.cron_serve.proofs.TextLemmas.{never_both, one_fault}
 use Rattle.job_table.proofs.UniqueLemmas.{one_table, one_refused_run, not_refused_run}
 
 same_run : (bytes : List ℕ) (a b : Run) → IsRunText bytes a → IsRunText bytes b → a ≡ b
-same_run bytes a b first second = reading.one_run 1 Nothing (lines_of bytes) a b first second
+same_run bytes a b first second = reading.one_run Judged 1 Nothing (lines_of bytes) a b first second
 
 no_reading : (bytes : List ℕ) (run : Run) (refusal : Refusal) → IsRunText bytes run → IsRefusedText bytes refusal → ⊥
-no_reading bytes run refusal says refused = reading.never_both 1 Nothing (lines_of bytes) run refusal says refused
+no_reading bytes run refusal says refused = reading.never_both Judged 1 Nothing (lines_of bytes) run refusal says refused
 
 -- an input is taken in one way
 pub one_taken : (bytes : List ℕ) (run other : Run) (table table' : Table) → IsTaken bytes run table → IsTaken bytes other table' → (run ≡ other) × (table ≡ table')
@@ -28,7 +31,7 @@ one_taken bytes run other table table' first second =
 one_run_file : (bytes : List ℕ) (a b : Refusal) → IsRefusedRunFile bytes a → IsRefusedRunFile bytes b → a ≡ b
 one_run_file bytes a b first second = elim first.why [
   | inl text ↦ elim second.why [
-    | inl other ↦ reading.one_refusal 1 Nothing (lines_of bytes) a b text other
+    | inl other ↦ reading.one_refusal Judged 1 Nothing (lines_of bytes) a b text other
     | inr (run, says, refused) ↦ absurd (no_reading bytes run a says text)
   ]
   | inr (run, says, refused) ↦ elim second.why [
@@ -38,18 +41,29 @@ one_run_file bytes a b first second = elim first.why [
   ]
 ]
 
-one_refused : (bytes : List ℕ) (a b : Refusal) → IsRefusedBytes bytes a → IsRefusedBytes bytes b → a ≡ b
-one_refused bytes a b (inl first) (inl second) = one_fault bytes a b first second
-one_refused bytes a b (inl first) (inr second) = absurd (never_both bytes a second.texts first)
-one_refused bytes a b (inr first) (inl second) = absurd (never_both bytes b first.texts second)
-one_refused bytes a b (inr first) (inr second) = one_run_file bytes a b first second
+one_refused_run_file : (bytes : List ℕ) (a b : Refusal) → IsRefusedAsRun bytes a → IsRefusedAsRun bytes b → a ≡ b
+one_refused_run_file bytes a b (inl first) (inl second) = one_fault bytes a b first second
+one_refused_run_file bytes a b (inl first) (inr second) = absurd (never_both bytes a second.texts first)
+one_refused_run_file bytes a b (inr first) (inl second) = absurd (never_both bytes b first.texts second)
+one_refused_run_file bytes a b (inr first) (inr second) = one_run_file bytes a b first second
+
+one_refused_frame : (bytes : List ℕ) (a b : Refusal) → IsRefusedAsFrame bytes a → IsRefusedAsFrame bytes b → a ≡ b
+one_refused_frame bytes a b (inl first) (inl second) = one_fault bytes a b first second
+one_refused_frame bytes a b (inl first) (inr second) = absurd (never_both bytes a second.texts first)
+one_refused_frame bytes a b (inr first) (inl second) = absurd (never_both bytes b first.texts second)
+one_refused_frame bytes a b (inr first) (inr second) = reading.one_refusal Counted 1 Nothing (lines_of bytes) a b first.why second.why
+
+one_refused : (output : Output) (bytes : List ℕ) (a b : Refusal) → IsRefusedBytes output bytes a → IsRefusedBytes output bytes b → a ≡ b
+one_refused Report bytes a b first second = one_refused_run_file bytes a b first second
+one_refused DueList bytes a b first second = one_refused_run_file bytes a b first second
+one_refused Check bytes a b first second = one_refused_frame bytes a b first second
 
 -- an input is refused for one thing
-pub one_input : (bytes : List ℕ) (a b : Refusal) → IsRefusedInput bytes a → IsRefusedInput bytes b → a ≡ b
-one_input bytes a b (inl (large, is)) (inl (also, other)) = is ∙ sym other
-one_input bytes a b (inl (large, is)) (inr (short, why)) = absurd (omega arith)
-one_input bytes a b (inr (short, why)) (inl (large, is)) = absurd (omega arith)
-one_input bytes a b (inr (short, why)) (inr (also, other)) = one_refused bytes a b why other
+pub one_input : (output : Output) (bytes : List ℕ) (a b : Refusal) → IsRefusedInput output bytes a → IsRefusedInput output bytes b → a ≡ b
+one_input output bytes a b (inl (large, is)) (inl (also, other)) = is ∙ sym other
+one_input output bytes a b (inl (large, is)) (inr (short, why)) = absurd (omega arith)
+one_input output bytes a b (inr (short, why)) (inl (large, is)) = absurd (omega arith)
+one_input output bytes a b (inr (short, why)) (inr (also, other)) = one_refused output bytes a b why other
 
 not_refused_file : (bytes : List ℕ) (run : Run) (table : Table) (refusal : Refusal) → IsTaken bytes run table → IsRefusedRunFile bytes refusal → ⊥
 not_refused_file bytes run table refusal taken refused = elim refused.why [
@@ -58,8 +72,31 @@ not_refused_file bytes run table refusal taken refused = elim refused.why [
       not_refused_run run table refusal taken.table_is (subst (λ (r : Run). IsRefusedRun r refusal) (same_run bytes other run says taken.says) why)
 ]
 
--- an input that is taken isn't refused
-pub taken_or_refused : (bytes : List ℕ) (run : Run) (table : Table) (refusal : Refusal) → IsTaken bytes run table → IsRefusedInput bytes refusal → ⊥
-taken_or_refused bytes run table refusal taken (inl (large, is)) = let short = taken.short in omega arith
-taken_or_refused bytes run table refusal taken (inr (short, inl fault)) = never_both bytes refusal taken.texts fault
-taken_or_refused bytes run table refusal taken (inr (short, inr refused)) = not_refused_file bytes run table refusal taken refused
+-- a run that is taken isn't refused
+taken_or_refused : (bytes : List ℕ) (run : Run) (table : Table) (refusal : Refusal) → IsTaken bytes run table → IsRefusedAsRun bytes refusal → ⊥
+taken_or_refused bytes run table refusal taken (inl fault) = never_both bytes refusal taken.texts fault
+taken_or_refused bytes run table refusal taken (inr refused) = not_refused_file bytes run table refusal taken refused
+
+-- a frame that is taken isn't refused
+frame_or_refused : (bytes : List ℕ) (run : Run) (refusal : Refusal) → IsTakenFrame bytes run → IsRefusedAsFrame bytes refusal → ⊥
+frame_or_refused bytes run refusal taken (inl fault) = never_both bytes refusal taken.texts fault
+frame_or_refused bytes run refusal taken (inr refused) = reading.never_both Counted 1 Nothing (lines_of bytes) run refusal taken.says refused.why
+
+suits_or_refused_bytes : (output : Output) (bytes : List ℕ) (refusal : Refusal) → Suits output bytes → IsRefusedBytes output bytes refusal → ⊥
+suits_or_refused_bytes Report bytes refusal suits refused = taken_or_refused bytes suits.0 suits.1 refusal suits.2 refused
+suits_or_refused_bytes DueList bytes refusal suits refused = taken_or_refused bytes suits.0 suits.1 refusal suits.2 refused
+suits_or_refused_bytes Check bytes refusal suits refused = frame_or_refused bytes suits.0 refusal suits.1 refused
+
+suits_short : (output : Output) (bytes : List ℕ) → Suits output bytes → length bytes ≤ 1_048_576
+suits_short Report bytes suits = suits.2.short
+suits_short DueList bytes suits = suits.2.short
+suits_short Check bytes suits = suits.1.short
+
+-- an input that suits what is to be written isn't refused
+pub suits_or_refused : (output : Output) (bytes : List ℕ) (refusal : Refusal) → Suits output bytes → IsRefusedInput output bytes refusal → ⊥
+suits_or_refused output bytes refusal suits (inl (large, is)) = let short = suits_short output bytes suits in omega arith
+suits_or_refused output bytes refusal suits (inr (short, why)) = suits_or_refused_bytes output bytes refusal suits why
+
+-- an input is taken as one frame
+pub one_frame : (bytes : List ℕ) (run other : Run) → IsTakenFrame bytes run → IsTakenFrame bytes other → run ≡ other
+one_frame bytes run other first second = reading.one_run Counted 1 Nothing (lines_of bytes) run other first.says second.says

@@ -1,12 +1,14 @@
--- Which inputs the program takes, and for what it refuses the others.
+-- Which inputs the program takes, by what it is asked to write, and for what it refuses the others.
 use Rattle.std.specs.Prelude.{◌≡◌, ◌⊎◌, ℕ, ◌<◌, ◌≤◌, List, length}
 use Rattle.crontab_text.specs.Lines.{lines_of}
 use Rattle.due_set.specs.Table.{Table}
-use Rattle.run_text.specs.Reading.{IsRunText, IsRefusedText}
+use Rattle.run_text.specs.Reading.{IsRunText, IsRefusedText, IsFrameText, IsRefusedFrame}
 use Rattle.run_text.specs.Run.{Run}
 use Rattle.run_text.specs.declared.refusal.Refusal.{Refusal}
 use Rattle.job_table.specs.Table.{IsTableOf, IsRefusedRun, whole_run}
 use Rattle.cron_serve.specs.Text.{AreTexts, IsNotText}
+use Rattle.cron_serve.specs.declared.words.Output.{Output}
+use Rattle.cron_serve.specs.declared.words.Output.TheVariants.{Report, DueList, Check}
 use Rattle.cron_fields.specs.declared.cause.Cause.TheVariants.{TooLarge}
 
 -- the input is the text of this run, whose jobs have this table
@@ -16,9 +18,17 @@ pub record IsTaken (bytes : List ℕ) (run : Run) (table : Table) : Type 0 where
   pub says : IsRunText bytes run
   pub table_is : IsTableOf run table
 
--- no run has this text and a table
-abbrev pub TakesNone : List ℕ → Type 0
-TakesNone bytes = (run : Run) (table : Table) → IsTaken bytes run table → ⊥
+-- the input is the text of this run, whose tables may have lines that break a rule
+pub record IsTakenFrame (bytes : List ℕ) (run : Run) : Type 0 where
+  pub short : length bytes ≤ 1_048_576
+  pub texts : AreTexts (lines_of bytes)
+  pub says : IsFrameText bytes run
+
+-- the input is one of which this can be written: of a run with a table, and the check of any run
+abbrev pub Suits : Output → List ℕ → Type 0
+Suits Report bytes = (run : Run) × (table : Table) × IsTaken bytes run table
+Suits DueList bytes = (run : Run) × (table : Table) × IsTaken bytes run table
+Suits Check bytes = (run : Run) × IsTakenFrame bytes run
 
 -- the text of a run is refused for the run's tables
 abbrev pub IsRefusedTable : List ℕ → Refusal → Type 0
@@ -29,12 +39,27 @@ pub record IsRefusedRunFile (bytes : List ℕ) (refusal : Refusal) : Type 0 wher
   pub texts : AreTexts (lines_of bytes)
   pub why : IsRefusedText bytes refusal ⊎ IsRefusedTable bytes refusal
 
+-- the bytes are text, and are refused as a run file, whatever the lines of its tables say
+pub record IsRefusedFrameFile (bytes : List ℕ) (refusal : Refusal) : Type 0 where
+  pub texts : AreTexts (lines_of bytes)
+  pub why : IsRefusedFrame bytes refusal
+
 -- the bytes are refused for what they say: they are no text, or else no run that is taken
-abbrev pub IsRefusedBytes : List ℕ → Refusal → Type 0
-IsRefusedBytes bytes refusal = IsNotText bytes refusal ⊎ IsRefusedRunFile bytes refusal
+abbrev pub IsRefusedAsRun : List ℕ → Refusal → Type 0
+IsRefusedAsRun bytes refusal = IsNotText bytes refusal ⊎ IsRefusedRunFile bytes refusal
+
+-- the bytes are refused by a check: they are no text, or else not the text of a run
+abbrev pub IsRefusedAsFrame : List ℕ → Refusal → Type 0
+IsRefusedAsFrame bytes refusal = IsNotText bytes refusal ⊎ IsRefusedFrameFile bytes refusal
+
+-- for what the bytes are refused, where this is to be written
+abbrev pub IsRefusedBytes : Output → List ℕ → Refusal → Type 0
+IsRefusedBytes Report bytes refusal = IsRefusedAsRun bytes refusal
+IsRefusedBytes DueList bytes refusal = IsRefusedAsRun bytes refusal
+IsRefusedBytes Check bytes refusal = IsRefusedAsFrame bytes refusal
 
 -- the input is refused: it has more than 1,048,576 bytes, or else it is refused for what it says
-abbrev pub IsRefusedInput : List ℕ → Refusal → Type 0
-IsRefusedInput bytes refusal =
+abbrev pub IsRefusedInput : Output → List ℕ → Refusal → Type 0
+IsRefusedInput output bytes refusal =
     ((1_048_576 < length bytes) × (refusal ≡ whole_run TooLarge))
-    ⊎ ((length bytes ≤ 1_048_576) × IsRefusedBytes bytes refusal)
+    ⊎ ((length bytes ≤ 1_048_576) × IsRefusedBytes output bytes refusal)

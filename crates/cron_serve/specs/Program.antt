@@ -2,12 +2,19 @@
 use Rattle.std.specs.Prelude.{◌≡◌, ℕ}
 use Rattle.cron_io.specs.Views.{SourceView, SinkView}
 use Rattle.cron_serve.specs.Ends.{Ends}
-use Rattle.cron_serve.specs.Serve.{note_text, IsNoted}
+use Rattle.cron_serve.specs.Serve.{note_text, status_note, IsNoted}
 use Rattle.cron_serve.specs.declared.run_end.RunEnd.{RunEnd}
+use Rattle.cron_serve.specs.declared.words.Output.{Output}
 
--- a run ended with this status, and its note was written
-pub record EndsProgram (source source' : SourceView) (sink sink' notes notes' : SinkView) (status : ℕ) : Type 0 where
+-- the program was asked for this and ended with this status, and the note of its end was written
+pub record EndsProgram (output : Output) (source source' : SourceView) (sink sink' notes notes' : SinkView) (status : ℕ) : Type 0 where
   pub end : RunEnd
-  pub ends : Ends source source' sink sink' end
+  pub ends : Ends output source source' sink sink' end
   pub note : IsNoted notes notes' (note_text end.status end.refusal)
   pub status_is : status ≡ end.status
+
+-- the program stopped before anything was read, and the note of its status was written, and nothing else
+pub record StopsProgram (source source' : SourceView) (sink sink' notes notes' : SinkView) (status : ℕ) : Type 0 where
+  pub unread : source' ≡ source
+  pub unwritten : sink' ≡ sink
+  pub note : IsNoted notes notes' (status_note status)

@@ -6,6 +6,8 @@ use Rattle.cron_io.specs.Views.{SourceView, SinkView}
 use Rattle.cron_io.specs.Writing.{HasGained, HasGainedPrefix}
 use Rattle.paxos_base.specs.declared.entry.Entry.{Entry}
 use Rattle.due_set.specs.Table.{Table}
+use Rattle.due_list.specs.CheckText.{IsCheckText}
+use Rattle.due_list.specs.DueText.{IsDueText}
 use Rattle.cluster_sched.specs.declared.row.SchedRow.{SchedRow}
 use Rattle.launch_clerk.specs.Book.{AreInTheirMinutes}
 use Rattle.launch_law.specs.Fits.{Fits, AreAllEffective}
@@ -15,7 +17,9 @@ use Rattle.report_text.specs.Report.{IsReport}
 use Rattle.run_text.specs.Run.{Run}
 use Rattle.run_text.specs.declared.refusal.Refusal.{Refusal}
 use Rattle.job_table.specs.Table.{whole_run}
-use Rattle.cron_serve.specs.Input.{IsTaken, IsRefusedBytes}
+use Rattle.cron_serve.specs.Input.{IsTaken, IsTakenFrame, IsRefusedBytes}
+use Rattle.cron_serve.specs.declared.words.Output.{Output}
+use Rattle.cron_serve.specs.declared.words.Output.TheVariants.{Report, DueList, Check}
 use Rattle.cron_fields.specs.declared.cause.Cause.TheVariants.{TooLarge}
 
 -- more than 1,048,576 bytes came
@@ -24,15 +28,15 @@ pub record IsTooLarge (old new : SourceView) (refusal : Refusal) : Type 0 where
   pub is : refusal ≡ whole_run TooLarge
 
 -- the input was read to its end, isn't too large, and is refused for what it says
-pub record IsReadAndRefused (old new : SourceView) (refusal : Refusal) : Type 0 where
+pub record IsReadAndRefused (output : Output) (old new : SourceView) (refusal : Refusal) : Type 0 where
   pub bytes : List ℕ
   pub read : IsReadToEnd old new bytes
   pub short : length bytes ≤ 1_048_576
-  pub refused : IsRefusedBytes bytes refusal
+  pub refused : IsRefusedBytes output bytes refusal
 
--- why the input was refused
-abbrev pub IsRefused : (old new : SourceView) → Refusal → Type 0
-IsRefused old new refusal = IsTooLarge old new refusal ⊎ IsReadAndRefused old new refusal
+-- why the input was refused, where this was to be written
+abbrev pub IsRefused : Output → (old new : SourceView) → Refusal → Type 0
+IsRefused output old new refusal = IsTooLarge old new refusal ⊎ IsReadAndRefused output old new refusal
 
 -- The log and the rows that the ledger holds are those of a run of these jobs, up to the last minute of the window.
 pub record IsWholeRun (table : Table) (log : List Entry) (held : List SchedRow) : Type 0 where
@@ -47,39 +51,62 @@ pub record IsWholeRun (table : Table) (log : List Entry) (held : List SchedRow) 
   -- each launch is called at the instant of its start: that at which it is due, or one of its date
   pub in_time : AreInTheirMinutes table log held
 
--- the input was read to its end and is a run that is taken, of these jobs, with this log and these rows
-pub record IsRunOfInput (old new : SourceView) (table : Table) (log : List Entry) (held : List SchedRow) : Type 0 where
-  pub bytes : List ℕ
-  pub read : IsReadToEnd old new bytes
+-- the bytes are a run that is taken, of these jobs, with this log and these rows
+pub record IsRunOf (bytes : List ℕ) (table : Table) (log : List Entry) (held : List SchedRow) : Type 0 where
   pub run : Run
   pub taken : IsTaken bytes run table
   pub whole : IsWholeRun table log held
 
--- the input is such a run, and this is the report of its rows: there is one replica
-pub record IsReportOfInput (old new : SourceView) (log : List Entry) (held : List SchedRow) (text : List ℕ) : Type 0 where
+-- the bytes are such a run, and this is the report of its rows: there is one replica
+pub record IsReportOf (bytes : List ℕ) (log : List Entry) (held : List SchedRow) (text : List ℕ) : Type 0 where
   pub table : Table
-  pub run : IsRunOfInput old new table log held
+  pub run : IsRunOf bytes table log held
   pub report : IsReport table 1 held text
 
--- the report of the input was written
-abbrev pub WritesReport : (source source' : SourceView) (sink sink' : SinkView) → List Entry → List SchedRow → Type 0
-WritesReport source source' sink sink' log held =
-    (text : List ℕ) × IsReportOfInput source source' log held text × HasGained sink sink' text
+-- the bytes are a run that is taken, and these are the due instants of its jobs
+pub record IsDueListOf (bytes text : List ℕ) : Type 0 where
+  pub run : Run
+  pub table : Table
+  pub taken : IsTaken bytes run table
+  pub list : IsDueText table text
 
--- a front of the report of the input was written
-abbrev pub WritesSome : (source source' : SourceView) (sink sink' : SinkView) → List Entry → List SchedRow → Type 0
-WritesSome source source' sink sink' log held =
-    (text : List ℕ) × IsReportOfInput source source' log held text × HasGainedPrefix sink sink' text
-
--- a front of the report of some run of the input was written
-abbrev pub WritesSomeOfRun : (source source' : SourceView) (sink sink' : SinkView) → Type 0
-WritesSomeOfRun source source' sink sink' =
-    (log : List Entry) × (held : List SchedRow) × WritesSome source source' sink sink' log held
+-- the bytes are the text of a run, and this is the check of its tables
+pub record IsCheckOf (bytes text : List ℕ) : Type 0 where
+  pub run : Run
+  pub frame : IsTakenFrame bytes run
+  pub check : IsCheckText run text
 
 -- there is no log, and nothing is held
 pub record LeavesNoRun (log : List Entry) (held : List SchedRow) : Type 0 where
   pub no_entry : log ≡ []
   pub no_row : held ≡ []
+
+-- This is to be written of the bytes, and this log and these rows are left: only the report is of a run that was made.
+abbrev pub IsTextOf : Output → List ℕ → List Entry → List SchedRow → (text : List ℕ) → Type 0
+IsTextOf Report bytes log held text = IsReportOf bytes log held text
+IsTextOf DueList bytes log held text = LeavesNoRun log held × IsDueListOf bytes text
+IsTextOf Check bytes log held text = LeavesNoRun log held × IsCheckOf bytes text
+
+-- the input was read to its end, and this is to be written of it
+pub record IsTextOfInput (output : Output) (old new : SourceView) (log : List Entry) (held : List SchedRow) (text : List ℕ) : Type 0 where
+  pub bytes : List ℕ
+  pub read : IsReadToEnd old new bytes
+  pub is : IsTextOf output bytes log held text
+
+-- the text of the input was written
+abbrev pub WritesText : Output → (source source' : SourceView) (sink sink' : SinkView) → List Entry → List SchedRow → Type 0
+WritesText output source source' sink sink' log held =
+    (text : List ℕ) × IsTextOfInput output source source' log held text × HasGained sink sink' text
+
+-- a front of the text of the input was written
+abbrev pub WritesSome : Output → (source source' : SourceView) (sink sink' : SinkView) → List Entry → List SchedRow → Type 0
+WritesSome output source source' sink sink' log held =
+    (text : List ℕ) × IsTextOfInput output source source' log held text × HasGainedPrefix sink sink' text
+
+-- a front of the text of the input was written, of a run of which nothing may be left
+abbrev pub WritesSomeOfRun : Output → (source source' : SourceView) (sink sink' : SinkView) → Type 0
+WritesSomeOfRun output source source' sink sink' =
+    (log : List Entry) × (held : List SchedRow) × WritesSome output source source' sink sink' log held
 
 -- the note of a refusal
 abbrev pub refusal_note : Refusal → List ℕ
@@ -90,7 +117,7 @@ refusal_note refusal =
 -- the note of a status
 abbrev pub status_note : ℕ → List ℕ
 status_note status =
-    if status == 1 then codes "cron_cluster: usage: cron_cluster [--journal] [--lanes N] [--make SEED]" ++ 10 ∷ []
+    if status == 1 then codes "cron_cluster: usage: cron_cluster [--journal] [--lanes N] [--make SEED] [--list] [--check]" ++ 10 ∷ []
     else (if status == 3 then codes "cron_cluster: read fault" ++ 10 ∷ []
     else (if status == 4 then codes "cron_cluster: write fault" ++ 10 ∷ []
     else (if status == 5 then codes "cron_cluster: out of memory" ++ 10 ∷ [] else [])))

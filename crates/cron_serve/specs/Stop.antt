@@ -9,6 +9,7 @@ use Rattle.run_text.specs.declared.refusal.RunFault.{RunFault}
 use Rattle.run_text.specs.declared.refusal.RunFault.TheVariants as run
 use Rattle.job_table.specs.Table.{whole_run}
 use Rattle.cron_serve.specs.Serve.{IsRefused}
+use Rattle.cron_serve.specs.declared.words.Output.{Output}
 use Rattle.cron_serve.specs.declared.stop.Stop.{Stop}
 use Rattle.cron_serve.specs.declared.stop.Stop.TheVariants.{Usage, Refused, ReadFault, OutOfMemory}
 use Rattle.cron_fields.specs.declared.cause.Cause.TheVariants.{TooLarge}
@@ -43,9 +44,9 @@ StopsAtOnce (Refused refusal) = ⊥
 StopsAtOnce ReadFault = ⊥
 StopsAtOnce OutOfMemory = ⊤
 
--- why a run stopped: the input was refused, a read failed, or memory ran out
-abbrev pub StopsFor : (source source' : SourceView) → Stop → Type 0
-StopsFor source source' Usage = ⊥
-StopsFor source source' (Refused refusal) = IsRefused source source' refusal
-StopsFor source source' ReadFault = Rose source.faults source'.faults
-StopsFor source source' OutOfMemory = ⊤
+-- why the program stopped that was asked for this: the input was refused, a read failed, or memory ran out
+abbrev pub StopsFor : Output → (source source' : SourceView) → Stop → Type 0
+StopsFor output source source' Usage = ⊥
+StopsFor output source source' (Refused refusal) = IsRefused output source source' refusal
+StopsFor output source source' ReadFault = Rose source.faults source'.faults
+StopsFor output source source' OutOfMemory = ⊤

@@ -1,8 +1,15 @@
--- What the writing of a report did, by the status that it led to.
-use Rattle.std.specs.Prelude.{◌≡◌, ℕ, ◌<◌, ◌≤◌, List, length, Some}
+-- What the writing of a text did, by the status that it led to.
+use Rattle.std.specs.Prelude.{◌≡◌, ◌⊎◌, ℕ, ◌<◌, ◌≤◌, List, length, None, Some, Result, Ok, Err}
 use Rattle.cron_io.specs.Faults.{Rose}
 use Rattle.cron_io.specs.Views.{SinkView}
 use Rattle.cron_io.specs.Writing.{HasGained, HasGainedPrefix, HasTakenAll}
+use Rattle.paxos_base.specs.declared.entry.Entry.{Entry}
+use Rattle.cluster_sched.specs.declared.row.SchedRow.{SchedRow}
+use Rattle.due_list.specs.declared.fault.ListFault.{ListFault}
+use Rattle.due_list.specs.declared.fault.ListFault.TheVariants.{WriteFault, OutOfMemory}
+use Rattle.cron_serve.specs.Serve.{IsTextOf, LeavesNoRun}
+use Rattle.cron_serve.specs.declared.run_end.RunEnd.{RunEnd}
+use Rattle.cron_serve.specs.declared.words.Output.{Output}
 
 -- At status 0 the sink gained the text, and otherwise a front of it; status 4 comes only where a write failed. Where the sink told
 -- its room, all of the text found room at status 0, and it is longer at status 4.
@@ -13,3 +20,24 @@ pub record WritesAtStatus (old new : SinkView) (status : ℕ) (text : List ℕ) 
   pub fault : status ≡ 4 → Rose old.faults new.faults
   pub taken : status ≡ 0 → (room : ℕ) → old.room ≡ Some room → HasTakenAll room old new text
   pub beyond : status ≡ 4 → (room : ℕ) → old.room ≡ Some room → room < length text
+
+-- the status of the end of a listing
+abbrev pub status_of_listing : Result (Unit {0}) ListFault → ℕ
+status_of_listing (Ok done) = 0
+status_of_listing (Err WriteFault) = 4
+status_of_listing (Err OutOfMemory) = 5
+
+-- the text of the bytes was written, as this status tells, and this log and these rows are left
+pub record WritesTextOf (output : Output) (bytes : List ℕ) (sink sink' : SinkView) (status : ℕ) (log : List Entry) (held : List SchedRow) : Type 0 where
+  pub text : List ℕ
+  pub is : IsTextOf output bytes log held text
+  pub written : WritesAtStatus sink sink' status text
+
+-- The end of the program that wrote the text of the bytes: it is told at status 0 and 4. At status 5 memory ran out: no run is left.
+pub record EndsWriting (output : Output) (bytes : List ℕ) (sink sink' : SinkView) (end : RunEnd) : Type 0 where
+  pub statuses : (end.status ≡ 0) ⊎ (end.status ≡ 4) ⊎ (end.status ≡ 5)
+  pub no_refusal : end.refusal ≡ None
+  pub later : sink.faults ≤ sink'.faults
+  pub told : (end.status ≡ 0) ⊎ (end.status ≡ 4) → WritesTextOf output bytes sink sink' end.status end.log end.ledger.held
+  pub memory : end.status ≡ 5 → (sink' ≡ sink) ⊎ ((log : List Entry) × (held : List SchedRow) × WritesTextOf output bytes sink sink' end.status log held)
+  pub no_run : end.status ≡ 5 → LeavesNoRun end.log end.ledger.held

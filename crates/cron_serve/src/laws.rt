@@ -1,5 +1,5 @@
 //! Laws of the program's ends. Each is the contract of a function that does nothing.
-ghost use Rattle.std.specs.Prelude.{◌≡◌, ◌⊎◌, ◌≤◌, [], ℕ, ℤ, ◌<ℤ◌, List, Some, IsSomeAnd, Contains, slice_get};
+ghost use Rattle.std.specs.Prelude.{◌≡◌, ◌≢◌, ◌⊎◌, ◌≤◌, [], ◌∷◌, ℕ, ℤ, ◌<ℤ◌, List, Some, IsSomeAnd, Contains, codes, slice_get};
 ghost use Rattle.cron_io.specs.Faults.{Rose};
 ghost use Rattle.cron_io.specs.Reading.{HasTaken};
 ghost use Rattle.cron_io.specs.Views.{SourceView, SinkView};
@@ -20,23 +20,39 @@ ghost use Rattle.run_text.specs.Run.{Run};
 ghost use Rattle.run_text.specs.declared.refusal.Refusal.{Refusal};
 ghost use Rattle.cron_serve.specs.Complete.{EndsUndisturbed};
 ghost use Rattle.cron_serve.specs.Ends.{Ends};
-ghost use Rattle.cron_serve.specs.Input.{IsTaken, IsRefusedInput, TakesNone};
-ghost use Rattle.cron_serve.specs.Serve.{IsNoted, IsRefused, IsReportOfInput, IsWholeRun};
+ghost use Rattle.cron_serve.specs.Input.{IsTaken, IsTakenFrame, IsRefusedInput, Suits};
+ghost use Rattle.cron_serve.specs.Serve.{IsNoted, IsRefused, IsTextOfInput, IsWholeRun};
+ghost use Rattle.cron_serve.specs.Words.{Asks, AsksNothing};
+ghost use Rattle.cron_serve.specs.declared.words.Output.{Output};
 ghost use Rattle.cron_serve.specs.declared.run_end.RunEnd.{RunEnd};
 
-/// An input is taken as one run with one table at most, or is refused for one thing at most, and never both.
+/// Words ask for one text at most: without a word for the report, by `--list` for the due instants, by `--check` for the check of the
+/// tables. Both together ask for nothing, nor does any other word.
+pub fn words_ask_for_one_text()
+    ensures one { (words : List (List ℕ)) (a b : Output) → Asks words a → Asks words b → a ≡ b }
+    ensures none { (words : List (List ℕ)) (output : Output) → Asks words output → AsksNothing words → ⊥ }
+    ensures report { Asks [] Output.Report }
+    ensures list { Asks (codes "--list" ∷ []) Output.DueList }
+    ensures check { Asks (codes "--check" ∷ []) Output.Check }
+    ensures alone { (word other : List ℕ) (words : List (List ℕ)) → AsksNothing (word ∷ other ∷ words) }
+    ensures others { (word : List ℕ) → word ≢ codes "--list" → word ≢ codes "--check" → AsksNothing (word ∷ []) }
+{}
+
+/// An input is taken as one run with one table at most, and as one frame at most; it is refused for one thing at most; and it isn't
+/// both what is to be written of, and refused.
 pub fn an_input_has_one_verdict()
     ensures one_run { (bytes : List ℕ) (run other : Run) (table table' : Table) → IsTaken bytes run table
         → IsTaken bytes other table' → (run ≡ other) × (table ≡ table') }
-    ensures one_refusal { (bytes : List ℕ) (a b : Refusal) → IsRefusedInput bytes a → IsRefusedInput bytes b → a ≡ b }
-    ensures not_both { (bytes : List ℕ) (run : Run) (table : Table) (refusal : Refusal) → IsTaken bytes run table
-        → IsRefusedInput bytes refusal → ⊥ }
+    ensures one_frame { (bytes : List ℕ) (run other : Run) → IsTakenFrame bytes run → IsTakenFrame bytes other → run ≡ other }
+    ensures one_refusal { (output : Output) (bytes : List ℕ) (a b : Refusal) → IsRefusedInput output bytes a → IsRefusedInput output bytes b → a ≡ b }
+    ensures not_both { (output : Output) (bytes : List ℕ) (refusal : Refusal) → Suits output bytes
+        → IsRefusedInput output bytes refusal → ⊥ }
 {}
 
 /// Where the source tells its bytes, a refusal of the input that was read is the one of these bytes.
 pub fn a_refusal_is_that_of_the_bytes()
-    ensures { (old new : SourceView) (refusal : Refusal) (bytes : List ℕ) → IsRefused old new refusal → old.left ≡ Some bytes
-        → IsRefusedInput bytes refusal }
+    ensures { (output : Output) (old new : SourceView) (refusal : Refusal) (bytes : List ℕ) → IsRefused output old new refusal
+        → old.left ≡ Some bytes → IsRefusedInput output bytes refusal }
 {}
 
 /// Of a whole run each due instant of each job was started, was ended as a launch, and is held as one; no launch is held twice;
@@ -70,25 +86,33 @@ pub fn a_whole_run_makes_each_date()
 
 /// At status 1, 2 and 3 nothing is written, and no run is left. At 5 no run is left either.
 pub fn an_early_end_leaves_nothing()
-    ensures nothing { (source source' : SourceView) (sink sink' : SinkView) (end : RunEnd) → Ends source source' sink sink' end
-        → (end.status ≡ 1) ⊎ (end.status ≡ 2) ⊎ (end.status ≡ 3) → sink' ≡ sink }
-    ensures no_run { (source source' : SourceView) (sink sink' : SinkView) (end : RunEnd) → Ends source source' sink sink' end
+    ensures nothing { (output : Output) (source source' : SourceView) (sink sink' : SinkView) (end : RunEnd)
+        → Ends output source source' sink sink' end → (end.status ≡ 1) ⊎ (end.status ≡ 2) ⊎ (end.status ≡ 3) → sink' ≡ sink }
+    ensures no_run { (output : Output) (source source' : SourceView) (sink sink' : SinkView) (end : RunEnd)
+        → Ends output source source' sink sink' end
         → (end.status ≡ 1) ⊎ (end.status ≡ 2) ⊎ (end.status ≡ 3) ⊎ (end.status ≡ 5) → (end.log ≡ []) × (end.ledger.held ≡ []) }
 {}
 
-/// At status 4 and 5 a front of the report of the input's run was written at most, and nothing else.
+/// At status 4 and 5 a front of the input's text was written at most, and nothing else.
 pub fn a_late_end_leaves_a_front()
-    ensures { (source source' : SourceView) (sink sink' : SinkView) (end : RunEnd) → Ends source source' sink sink' end
+    ensures { (output : Output) (source source' : SourceView) (sink sink' : SinkView) (end : RunEnd)
+        → Ends output source source' sink sink' end
         → (end.status ≡ 4) ⊎ (end.status ≡ 5) → (sink' ≡ sink) ⊎ ((log : List Entry) × (held : List SchedRow) × (text : List ℕ)
-        × IsReportOfInput source source' log held text × HasGainedPrefix sink sink' text) }
+        × IsTextOfInput output source source' log held text × HasGainedPrefix sink sink' text) }
+{}
+
+/// Where a due list or a check is asked for, no run is made and none is left, whatever the end.
+pub fn a_listing_leaves_no_run()
+    ensures { (output : Output) (source source' : SourceView) (sink sink' : SinkView) (end : RunEnd) → output ≢ Output.Report
+        → Ends output source source' sink sink' end → (end.log ≡ []) × (end.ledger.held ≡ []) }
 {}
 
 /// At each end what is left of the source is a back part of what was, and no count of faults falls.
 pub fn no_end_takes_back()
-    ensures taken { (source source' : SourceView) (sink sink' : SinkView) (end : RunEnd) → Ends source source' sink sink' end
-        → HasTaken source source' }
-    ensures faults { (source source' : SourceView) (sink sink' : SinkView) (end : RunEnd) → Ends source source' sink sink' end
-        → (source.faults ≤ source'.faults) × (sink.faults ≤ sink'.faults) }
+    ensures taken { (output : Output) (source source' : SourceView) (sink sink' : SinkView) (end : RunEnd)
+        → Ends output source source' sink sink' end → HasTaken source source' }
+    ensures faults { (output : Output) (source source' : SourceView) (sink sink' : SinkView) (end : RunEnd)
+        → Ends output source source' sink sink' end → (source.faults ≤ source'.faults) × (sink.faults ≤ sink'.faults) }
 {}
 
 /// A note is whole unless a write of the notes failed.
@@ -98,13 +122,15 @@ pub fn a_note_is_whole_unless_it_fails()
     ensures faults { (old new : SinkView) (text : List ℕ) → IsNoted old new text → old.faults ≤ new.faults }
 {}
 
-/// Where the source told its bytes, and no read and no write failed, they decide the end, unless memory ran out: a run that is taken
-/// ends with its report, and any other input is refused, for the one thing that it is refused for.
+/// Where the source told its bytes, and no read and no write failed, they decide the end, unless memory ran out: an input that suits
+/// what is asked for ends with its text, and any other is refused, for the one thing that it is refused for.
 pub fn the_bytes_decide_the_end()
-    ensures report { (source source' : SourceView) (sink sink' : SinkView) (end : RunEnd) (bytes : List ℕ) (run : Run) (table : Table)
-        → EndsUndisturbed source source' sink sink' end bytes → IsTaken bytes run table → (end.status ≡ 0) ⊎ (end.status ≡ 5) }
-    ensures refusal { (source source' : SourceView) (sink sink' : SinkView) (end : RunEnd) (bytes : List ℕ) (refusal : Refusal)
-        → EndsUndisturbed source source' sink sink' end bytes → IsRefusedInput bytes refusal → (end.refusal ≡ Some refusal) ⊎ (end.status ≡ 5) }
-    ensures others { (source source' : SourceView) (sink sink' : SinkView) (end : RunEnd) (bytes : List ℕ)
-        → EndsUndisturbed source source' sink sink' end bytes → TakesNone bytes → IsSomeAnd end.refusal (IsRefusedInput bytes) ⊎ (end.status ≡ 5) }
+    ensures text { (output : Output) (source source' : SourceView) (sink sink' : SinkView) (end : RunEnd) (bytes : List ℕ)
+        → EndsUndisturbed output source source' sink sink' end bytes → Suits output bytes → (end.status ≡ 0) ⊎ (end.status ≡ 5) }
+    ensures refusal { (output : Output) (source source' : SourceView) (sink sink' : SinkView) (end : RunEnd) (bytes : List ℕ) (refusal : Refusal)
+        → EndsUndisturbed output source source' sink sink' end bytes → IsRefusedInput output bytes refusal
+        → (end.refusal ≡ Some refusal) ⊎ (end.status ≡ 5) }
+    ensures others { (output : Output) (source source' : SourceView) (sink sink' : SinkView) (end : RunEnd) (bytes : List ℕ)
+        → EndsUndisturbed output source source' sink sink' end bytes → (Suits output bytes → ⊥)
+        → IsSomeAnd end.refusal (IsRefusedInput output bytes) ⊎ (end.status ≡ 5) }
 {}

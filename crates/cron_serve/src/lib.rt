@@ -1,6 +1,7 @@
-//! A run, from its file to its report.
+//! The program, from the bytes of a run file to what is asked for of it.
 #![tactic(auto)]
 
+mod answer;
 mod input;
 mod laws;
 mod note;
@@ -9,13 +10,15 @@ mod run_end;
 mod serve;
 mod stop;
 mod text;
+mod words;
 
 pub use laws::{
-    a_late_end_leaves_a_front, a_note_is_whole_unless_it_fails, a_refusal_is_that_of_the_bytes,
+    a_late_end_leaves_a_front, a_listing_leaves_no_run, a_note_is_whole_unless_it_fails, a_refusal_is_that_of_the_bytes,
     a_whole_run_makes_each_date, a_whole_run_makes_each_launch, an_early_end_leaves_nothing,
-    an_input_has_one_verdict, no_end_takes_back, the_bytes_decide_the_end,
+    an_input_has_one_verdict, no_end_takes_back, the_bytes_decide_the_end, words_ask_for_one_text,
 };
 pub use program::run;
 pub use run_end::RunEnd;
 pub use run_text::Refusal;
 pub use serve::cron_cluster;
+pub use words::{Choice, Output};

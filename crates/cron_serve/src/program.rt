@@ -1,10 +1,12 @@
 //! The whole program, over what the system hands to it.
-ghost use Rattle.std.specs.Prelude.{◌≡◌, ◌≢◌, ◌↔◌, ◌<◌, IfOk, IfErr};
+ghost use Rattle.std.specs.Prelude.{◌≡◌, ◌≢◌, ◌↔◌, IfOk, IfErr};
 ghost use Rattle.cron_io.specs.Views.{SourceView, SinkView};
 ghost use Rattle.std.specs.IoError.{error_kind};
-ghost use Rattle.std.specs.Vec.Iter.{into_iter_len};
-ghost use Rattle.cron_serve.specs.Program.{EndsProgram};
+ghost use Rattle.std.specs.Vec.Iter.{into_iter_items};
+ghost use Rattle.cron_serve.specs.Program.{EndsProgram, StopsProgram};
 ghost use Rattle.cron_serve.specs.Stop.{StopsAtOnce, status_of};
+ghost use Rattle.cron_serve.specs.Words.{Asks, AsksNothing, behind_name, texts_of};
+ghost use Rattle.cron_serve.specs.declared.words.Output.{Output};
 
 use crate::note::write_note;
 use crate::run_end::RunEnd;
@@ -24,15 +26,21 @@ pub fn run<S: Source, K: Sink, E: Sink>(
     sink: &mut K,
     notes: &mut E,
 ) -> u8
-    // The status, the report and the note are those of one end.
-    ensures ends { EndsProgram (S.seen source.old) (S.seen source.new) (K.seen sink.old) (K.seen sink.new)
+    // The status, the text that the words behind the name ask for, and the note are those of one end.
+    ensures ends { IfOk args (λ args. (output : Output) → Asks (behind_name (texts_of (into_iter_items args))) output
+        → EndsProgram output (S.seen source.old) (S.seen source.new) (K.seen sink.old) (K.seen sink.new)
+        (E.seen notes.old) (E.seen notes.new) result) }
+
+    // Status 1: the words behind the name ask for nothing, or one of them is no text. Then nothing is read or written.
+    ensures words { IfOk args (λ args. (result ≡ 1) ↔ AsksNothing (behind_name (texts_of (into_iter_items args)))) }
+    ensures no_text { IfErr args (λ error. error_kind error ≡ ErrorKind.InvalidData → result ≡ 1) }
+    ensures usage { result ≡ 1 → StopsProgram (S.seen source.old) (S.seen source.new) (K.seen sink.old) (K.seen sink.new)
         (E.seen notes.old) (E.seen notes.new) result }
 
-    // Status 1: there is a word behind the name, or one that is no text. Then nothing is read.
-    ensures words { IfOk args (λ args. (result ≡ 1) ↔ (1 < into_iter_len args)) }
-    ensures no_text { IfErr args (λ error. error_kind error ≡ ErrorKind.InvalidData → result ≡ 1) }
+    // Where the arguments can't be had, it stops with status 1 or 5, and nothing is read or written either.
     ensures no_memory { IfErr args (λ error. error_kind error ≢ ErrorKind.InvalidData → result ≡ 5) }
-    ensures unread { result ≡ 1 → S.seen source.new ≡ S.seen source.old }
+    ensures stops { IfErr args (λ error. StopsProgram (S.seen source.old) (S.seen source.new) (K.seen sink.old) (K.seen sink.new)
+        (E.seen notes.old) (E.seen notes.new) result) }
 {
     match args {
         Ok(args) => run_behind_name(alloc, args, source, sink, notes),
@@ -48,10 +56,12 @@ fn run_behind_name<S: Source, K: Sink, E: Sink>(
     sink: &mut K,
     notes: &mut E,
 ) -> u8
-    ensures ends { EndsProgram (S.seen source.old) (S.seen source.new) (K.seen sink.old) (K.seen sink.new)
+    ensures ends { (output : Output) → Asks (behind_name (texts_of (into_iter_items args))) output
+        → EndsProgram output (S.seen source.old) (S.seen source.new) (K.seen sink.old) (K.seen sink.new)
         (E.seen notes.old) (E.seen notes.new) result }
-    ensures words { (result ≡ 1) ↔ (1 < into_iter_len args) }
-    ensures unread { result ≡ 1 → S.seen source.new ≡ S.seen source.old }
+    ensures words { (result ≡ 1) ↔ AsksNothing (behind_name (texts_of (into_iter_items args))) }
+    ensures usage { result ≡ 1 → StopsProgram (S.seen source.old) (S.seen source.new) (K.seen sink.old) (K.seen sink.new)
+        (E.seen notes.old) (E.seen notes.new) result }
 {
     let _name = args.next();
     cron_cluster(alloc, args, source, sink, notes).status
@@ -72,7 +82,7 @@ fn stop_of(error: &io::Error) -> Stop
 // Stops the program before anything is read, with its note.
 fn stop_at_once<E: Sink>(alloc: Global, stop: Stop, notes: &mut E) -> u8
     requires { StopsAtOnce stop }
-    ensures ends { (source : SourceView) (sink : SinkView) → EndsProgram source source sink sink (E.seen notes.old) (E.seen notes.new) result }
+    ensures stops { (source : SourceView) (sink : SinkView) → StopsProgram source source sink sink (E.seen notes.old) (E.seen notes.new) result }
     ensures status { result ≡ status_of stop }
 {
     let end = RunEnd::stopped(alloc, stop);

@@ -11,14 +11,14 @@ use std::alloc::Global;
 /// How the program ended, and what it leaves.
 #[derive(Debug, Drop)]
 pub struct RunEnd {
-    /// The exit status: 0 for a report that was written whole, 1 for a faulty command line, 2 for an input that was
+    /// The exit status: 0 for a text that was written whole, 1 for a faulty command line, 2 for an input that was
     /// refused, 3 for a read fault, 4 for a write fault, 5 for want of memory.
     pub status: u8,
     /// Why the input was refused, at status 2.
     pub refusal: Option<Refusal>,
-    /// The launch starts and ends of the run, in order, at status 0 and 4. Otherwise there are none.
+    /// The launch starts and ends of the run, in order, at status 0 and 4 where its report was asked for. Otherwise there are none.
     pub log: EntryList,
-    /// What the scheduler holds after the run, at status 0 and 4. Otherwise it is empty.
+    /// What the scheduler holds after the run, at status 0 and 4 where its report was asked for. Otherwise it is empty.
     pub ledger: Ledger,
 }
 
@@ -35,6 +35,15 @@ impl RunEnd {
             Stop::ReadFault => (3, None),
             Stop::OutOfMemory => (5, None),
         };
+        RunEnd::without_run(alloc, status, refusal)
+    }
+
+    /// The end of a program that leaves no run.
+    pub fn without_run(alloc: Global, status: u8, refusal: Option<Refusal>) -> RunEnd
+        ensures status { result.status ≡ status }
+        ensures refusal { result.refusal ≡ refusal }
+        ensures no_run { LeavesNoRun result.log result.ledger.held }
+    {
         RunEnd {
             status,
             refusal,

@@ -1,5 +1,8 @@
 //! The program by its arguments.
-use crate::runs::{THREE_LAUNCHES, THREE_LAUNCHES_REPORT, USAGE};
+use crate::runs::{
+    NO_FAULTS_CHECK, SKIPPED_HOUR, SKIPPED_HOUR_LIST, THREE_LAUNCHES, THREE_LAUNCHES_LIST,
+    THREE_LAUNCHES_REPORT, TWO_FAULTS, TWO_FAULTS_CHECK, USAGE,
+};
 use cron_io::{MemSink, MemSource};
 use cron_serve::run;
 use std::alloc::Global;
@@ -15,9 +18,9 @@ struct Left {
     notes: MemSink,
 }
 
-// What the program leaves of three launches, with these arguments.
-fn play(alloc: Global, args: io::Result<Args>) -> Result<Left, Fail> {
-    let bytes = THREE_LAUNCHES.as_bytes().to_vec(alloc)?;
+// What the program leaves of an input, with these arguments.
+fn play(alloc: Global, args: io::Result<Args>, input: &str) -> Result<Left, Fail> {
+    let bytes = input.as_bytes().to_vec(alloc)?;
     let mut source = MemSource::new(bytes, Vec::new(alloc));
     let mut report = MemSink::new(alloc, 1 << 10, Vec::new(alloc))?;
     let mut notes = MemSink::new(alloc, 100, Vec::new(alloc))?;
@@ -41,25 +44,79 @@ fn args_of(alloc: Global, words: &[&str]) -> Result<Args, Fail> {
 
 #[test]
 fn a_name_alone(rt: HostRuntime) -> Result<(), Fail> {
-    let left = play(rt.alloc(), Ok(args_of(rt.alloc(), &[])?))?;
+    let left = play(rt.alloc(), Ok(args_of(rt.alloc(), &[])?), THREE_LAUNCHES)?;
     assert_eq!(rt; left.status, 0);
     assert_eq!(rt; left.report.bytes(), THREE_LAUNCHES_REPORT.as_bytes());
     Ok(())
 }
 
+// Words, an input, and what is written of it.
+struct Listed {
+    words: &'static [&'static str],
+    input: &'static str,
+    text: &'static str,
+}
+
+const LISTED: &[Listed] = &[
+    Listed {
+        words: &["--list"],
+        input: THREE_LAUNCHES,
+        text: THREE_LAUNCHES_LIST,
+    },
+    Listed {
+        words: &["--list"],
+        input: SKIPPED_HOUR,
+        text: SKIPPED_HOUR_LIST,
+    },
+    Listed {
+        words: &["--check"],
+        input: THREE_LAUNCHES,
+        text: NO_FAULTS_CHECK,
+    },
+    Listed {
+        words: &["--check"],
+        input: TWO_FAULTS,
+        text: TWO_FAULTS_CHECK,
+    },
+];
+
 #[test]
-fn a_word(rt: HostRuntime) -> Result<(), Fail> {
-    let left = play(rt.alloc(), Ok(args_of(rt.alloc(), &["--help"])?))?;
-    assert_eq!(rt; left.status, 1);
-    assert_eq!(rt; left.notes.bytes(), USAGE.as_bytes());
+fn lists_and_checks(rt: HostRuntime) -> Result<(), Fail> {
+    for row in LISTED {
+        let args = args_of(rt.alloc(), row.words)?;
+        let left = play(rt.alloc(), Ok(args), row.input)?;
+        assert_eq!(rt; left.status, 0);
+        assert_eq!(rt; left.report.bytes(), row.text.as_bytes());
+    }
+    Ok(())
+}
+
+const FAULTY: &[&[&str]] = &[
+    &["--help"],
+    &["--list", "--check"],
+    &["--list", "--list"],
+    &["--lists"],
+    &[""],
+];
+
+#[test]
+fn faulty_words(rt: HostRuntime) -> Result<(), Fail> {
+    for words in FAULTY {
+        let args = args_of(rt.alloc(), words)?;
+        let left = play(rt.alloc(), Ok(args), THREE_LAUNCHES)?;
+        assert_eq!(rt; left.status, 1);
+        assert_eq!(rt; left.notes.bytes(), USAGE.as_bytes());
+    }
     Ok(())
 }
 
 #[test]
 fn arguments_at_fault(rt: HostRuntime) -> Result<(), Fail> {
-    let left = play(rt.alloc(), Err(io::Error::from(ErrorKind::InvalidData)))?;
+    let fault = io::Error::from(ErrorKind::InvalidData);
+    let left = play(rt.alloc(), Err(fault), THREE_LAUNCHES)?;
     assert_eq!(rt; left.status, 1);
-    let left = play(rt.alloc(), Err(io::Error::from(ErrorKind::OutOfMemory)))?;
+    let fault = io::Error::from(ErrorKind::OutOfMemory);
+    let left = play(rt.alloc(), Err(fault), THREE_LAUNCHES)?;
     assert_eq!(rt; left.status, 5);
     Ok(())
 }

@@ -21,6 +21,59 @@ launch alice:1@20240331T0040Z
 end
 ";
 
+pub const THREE_LAUNCHES_LIST: &str = "cron due 1
+job alice:1 version 0 count 3
+due alice:1@20240331T0000Z 2024-03-31T00:00
+due alice:1@20240331T0020Z 2024-03-31T00:20
+due alice:1@20240331T0040Z 2024-03-31T00:40
+end
+";
+
+// An hour that is skipped in Paris.
+pub const SKIPPED_HOUR: &str = "cronrun 1
+replicas 1
+window 2024-03-31T00:00Z 2024-03-31T04:00Z
+grace 0
+zone Europe/Paris posix CET-1CEST,M3.5.0,M10.5.0/3
+crontab alice UTC 2
+CRON_TZ=Europe/Paris
+30 2 * * * x
+script
+end
+";
+
+pub const SKIPPED_HOUR_LIST: &str = "cron due 1
+job alice:1 version 0 count 1
+due alice:1@20240331T0100Z 2024-03-31T03:00
+end
+";
+
+// Two lines at fault, beside one that isn't.
+pub const TWO_FAULTS: &str = "cronrun 1
+replicas 1
+window 2024-03-31T00:00Z 2024-03-31T01:00Z
+grace 0
+crontab alice UTC 4
+# a
+60 * * * * x
+5/2 * * * * x
+0 1 * * * x
+script
+end
+";
+
+pub const TWO_FAULTS_CHECK: &str = "cron check 1
+line 7 cause 3 at 0
+line 8 cause 7 at 2
+faults 2
+end
+";
+
+pub const NO_FAULTS_CHECK: &str = "cron check 1
+faults 0
+end
+";
+
 pub const NO_SECTION: &str = "cronrun 1
 replicas 1
 window 2024-03-31T00:00Z 2024-03-31T01:00Z
@@ -188,7 +241,7 @@ end
 
 pub const TOO_LARGE: &str = "cron_cluster: line 0: cause 33 at 0\n";
 
-pub const USAGE: &str = "cron_cluster: usage: cron_cluster [--journal] [--lanes N] [--make SEED]\n";
+pub const USAGE: &str = "cron_cluster: usage: cron_cluster [--journal] [--lanes N] [--make SEED] [--list] [--check]\n";
 
 /// The first byte of its second line is none of UTF-8.
 pub const NOT_TEXT: &[u8] = b"cronrun 1\n\xff\n";

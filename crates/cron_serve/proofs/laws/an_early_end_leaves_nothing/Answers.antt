@@ -9,8 +9,8 @@ others status is = (λ none. omega (arith, is), λ four. omega (arith, is))
 
 pub returns : goal.returns
 returns c = record {
-  nothing = λ source source' sink sink' end ends is. ends.nothing (few end.status is).0 (few end.status is).1;
-  no_run = λ source source' sink sink' end ends is.
+  nothing = λ output source source' sink sink' end ends is. ends.nothing (few end.status is).0 (few end.status is).1;
+  no_run = λ output source source' sink sink' end ends is.
       let none = ends.no_run (others end.status is).0 (others end.status is).1 in
       (none.no_entry, none.no_row);
 }

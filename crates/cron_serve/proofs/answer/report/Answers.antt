@@ -4,8 +4,8 @@ use Rattle.cluster_sched.specs.Names.{IsNameIn}
 use Rattle.cluster_sched.specs.declared.row.SchedRow.{SchedRow}
 use Rattle.report_text.specs.Report.{IsReport}
 use Rattle.cron_serve.proofs.ServeLemmas.{written_whole, written_front}
-use Rattle.cron_serve.proofs.serve.report.Goals as goal
-use Rattle.cron_serve.proofs.serve.report.Goals.{in-Ok, in-Err-WriteFault}
+use Rattle.cron_serve.proofs.answer.report.Goals as goal
+use Rattle.cron_serve.proofs.answer.report.Goals.{in-Ok, in-Err-WriteFault}
 
 pub write_report-requires : goal.write_report-requires
 write_report-requires g c =
