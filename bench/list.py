@@ -16,8 +16,8 @@ import tempfile
 ROOT = os.path.dirname(os.path.dirname(os.path.abspath(__file__)))
 PROGRAM = os.path.join(ROOT, "crates", "cron_cluster", "out", "cron_cluster")
 TRIES = 40
-# A Monday that is 29 February: in 2016.
-WINDOW = "2016-01-01T00:00Z 2017-02-04T00:00Z"
+# 400 days, in which of the days 1 and 29 of February one alone is a Monday: the 29th, in 2016.
+WINDOW = "2016-02-02T00:00Z 2017-03-08T00:00Z"
 TABLES = [
     ("each week", "30 7 * * mon"),
     ("each month", "30 7 1 * *"),

@@ -18,11 +18,11 @@ struct Left {
     notes: MemSink,
 }
 
-// What the program leaves of an input, with these arguments.
-fn play(alloc: Global, args: io::Result<Args>, input: &str) -> Result<Left, Fail> {
+// What the program leaves of an input, with these arguments, where these writes of the report fail.
+fn play(alloc: Global, args: io::Result<Args>, input: &str, writes: &[u64]) -> Result<Left, Fail> {
     let bytes = input.as_bytes().to_vec(alloc)?;
     let mut source = MemSource::new(bytes, Vec::new(alloc));
-    let mut report = MemSink::new(alloc, 1 << 10, Vec::new(alloc))?;
+    let mut report = MemSink::new(alloc, 1 << 10, writes.to_vec(alloc)?)?;
     let mut notes = MemSink::new(alloc, 100, Vec::new(alloc))?;
     let status = run(alloc, args, &mut source, &mut report, &mut notes);
     Ok(Left {
@@ -44,16 +44,23 @@ fn args_of(alloc: Global, words: &[&str]) -> Result<Args, Fail> {
 
 #[test]
 fn a_name_alone(rt: HostRuntime) -> Result<(), Fail> {
-    let left = play(rt.alloc(), Ok(args_of(rt.alloc(), &[])?), THREE_LAUNCHES)?;
+    let left = play(
+        rt.alloc(),
+        Ok(args_of(rt.alloc(), &[])?),
+        THREE_LAUNCHES,
+        &[],
+    )?;
     assert_eq!(rt; left.status, 0);
     assert_eq!(rt; left.report.bytes(), THREE_LAUNCHES_REPORT.as_bytes());
     Ok(())
 }
 
-// Words, an input, and what is written of it.
+// Words, an input, the writes that fail, and the status and the text that come of it.
 struct Listed {
     words: &'static [&'static str],
     input: &'static str,
+    writes: &'static [u64],
+    status: u8,
     text: &'static str,
 }
 
@@ -61,22 +68,58 @@ const LISTED: &[Listed] = &[
     Listed {
         words: &["--list"],
         input: THREE_LAUNCHES,
+        writes: &[],
+        status: 0,
         text: THREE_LAUNCHES_LIST,
     },
     Listed {
         words: &["--list"],
         input: SKIPPED_HOUR,
+        writes: &[],
+        status: 0,
         text: SKIPPED_HOUR_LIST,
     },
     Listed {
         words: &["--check"],
         input: THREE_LAUNCHES,
+        writes: &[],
+        status: 0,
         text: NO_FAULTS_CHECK,
     },
     Listed {
         words: &["--check"],
         input: TWO_FAULTS,
+        writes: &[],
+        status: 0,
         text: TWO_FAULTS_CHECK,
+    },
+    Listed {
+        words: &["--list"],
+        input: TWO_FAULTS,
+        writes: &[],
+        status: 2,
+        text: "",
+    },
+    Listed {
+        words: &["--check"],
+        input: "cronrun 2",
+        writes: &[],
+        status: 2,
+        text: "",
+    },
+    Listed {
+        words: &["--list"],
+        input: THREE_LAUNCHES,
+        writes: &[0],
+        status: 4,
+        text: "",
+    },
+    Listed {
+        words: &["--check"],
+        input: TWO_FAULTS,
+        writes: &[0],
+        status: 4,
+        text: "",
     },
 ];
 
@@ -84,8 +127,8 @@ const LISTED: &[Listed] = &[
 fn lists_and_checks(rt: HostRuntime) -> Result<(), Fail> {
     for row in LISTED {
         let args = args_of(rt.alloc(), row.words)?;
-        let left = play(rt.alloc(), Ok(args), row.input)?;
-        assert_eq!(rt; left.status, 0);
+        let left = play(rt.alloc(), Ok(args), row.input, row.writes)?;
+        assert_eq!(rt; left.status, row.status);
         assert_eq!(rt; left.report.bytes(), row.text.as_bytes());
     }
     Ok(())
@@ -103,7 +146,7 @@ const FAULTY: &[&[&str]] = &[
 fn faulty_words(rt: HostRuntime) -> Result<(), Fail> {
     for words in FAULTY {
         let args = args_of(rt.alloc(), words)?;
-        let left = play(rt.alloc(), Ok(args), THREE_LAUNCHES)?;
+        let left = play(rt.alloc(), Ok(args), THREE_LAUNCHES, &[])?;
         assert_eq!(rt; left.status, 1);
         assert_eq!(rt; left.notes.bytes(), USAGE.as_bytes());
     }
@@ -113,10 +156,10 @@ fn faulty_words(rt: HostRuntime) -> Result<(), Fail> {
 #[test]
 fn arguments_at_fault(rt: HostRuntime) -> Result<(), Fail> {
     let fault = io::Error::from(ErrorKind::InvalidData);
-    let left = play(rt.alloc(), Err(fault), THREE_LAUNCHES)?;
+    let left = play(rt.alloc(), Err(fault), THREE_LAUNCHES, &[])?;
     assert_eq!(rt; left.status, 1);
     let fault = io::Error::from(ErrorKind::OutOfMemory);
-    let left = play(rt.alloc(), Err(fault), THREE_LAUNCHES)?;
+    let left = play(rt.alloc(), Err(fault), THREE_LAUNCHES, &[])?;
     assert_eq!(rt; left.status, 5);
     Ok(())
 }
