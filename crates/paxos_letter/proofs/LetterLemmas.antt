@@ -1,5 +1,5 @@
 -- Letters and their bytes.
-use Rattle.std.proofs.Common.{◌≡◌, ◌≢◌, ℕ, suc, ◌+◌, ◌*◌, ◌/◌, ◌%◌, Bool, true, false, not, eqb, cond, List, [], ◌∷◌, length, map, Option, Some, None, refl, sym, ap, subst, ◌∙◌, arith}
+use Rattle.std.proofs.Common.{◌≡◌, ◌≢◌, ℕ, suc, ◌+◌, ◌*◌, ◌/◌, ◌%◌, Bool, true, false, not, eqb, cond, List, [], ◌∷◌, length, map, Option, Some, None, Result, Ok, refl, sym, ap, subst, ◌∙◌, arith}
 use Rattle.std.specs.List.{flat_map, AllByRecursion}
 use Rattle.std.specs.Prelude.{IsTrue}
 use Rattle.std.specs.Simd.{first_chunks}
@@ -14,13 +14,14 @@ use Rattle.paxos_letter.specs.declared.group.Group.{Group}
 use Rattle.paxos_letter.specs.declared.packet.Packet.{Packet}
 use Rattle.paxos_letter.specs.declared.packet.Packet.TheVariants.{Prepare, Promise, OldVote, Accept, Accepted, Nack, Known, AskFrom, Snap, SnapRow, Lead}
 use Rattle.paxos_letter.specs.Fields.{bytes_of, fields_in, all_in, FitPacketFields}
+use Rattle.paxos_letter.specs.Decoding.{LetterContents, packets_in}
 use Rattle.paxos_letter.specs.Spelling.{fields_of, packet_bytes, spelling, AllFit}
 use Rattle.paxos_letter.specs.Rules.{keeps_kind, keeps_zeros, keeps_members}
 use Rattle.paxos_letter.specs.Groups.{no_group, is_filled, keeps_group, after, keep_groups}
 use Rattle.paxos_letter.specs.Letters.{IsLetter, Spells, LettersHavePackets, LettersBreakNoRule, fault_at, or_later, fault_from, has_bad_length, sender_of, fault_of}
 use Rattle.paxos_letter.proofs.FieldLemmas.{AreBytes, spelled_so, all_fit, read_again}
 use Rattle.paxos_letter.proofs.PacketBack.{same_packets, fields_of-zeros}
-use Rattle.paxos_letter.proofs.ReadLemmas.{fault_at-none}
+use Rattle.paxos_letter.proofs.ReadLemmas.{fault_at-none, later_none, fields_of-packets}
 
 abbrev all_fields_of : ℕ → List Packet → List Fields
 all_fields_of from packets = map (fields_of from) packets
@@ -48,10 +49,6 @@ fields-AllFit from [] fits = tt
 fields-AllFit from (p ∷ ps) fits = (fits.0, fields-AllFit from ps fits.1)
 
 -- ---- faults
-
-later_none : (first later : Option LetterFault) → or_later first later ≡ None → (first ≡ None) × (later ≡ None)
-later_none None later e = (refl, e)
-later_none (Some fault) later e = absurd cc
 
 filled : (is : Bool) (fault : LetterFault) → cond is None (Some fault) ≡ None → is ≡ true
 filled true fault e = refl
@@ -107,7 +104,7 @@ spelled_back from bytes packets fits long e =
     sym (spelled_so (length bytes / 56) bytes long fits) ∙ ap (flat_map bytes_of) (sym e) ∙ sym (spelling-fields from packets)
 
 -- packets that were read from bytes without a fault
-pub found : (members from : ℕ) (bytes : List ℕ) (packets : List Packet) → AreBytes bytes → length bytes ≢ 0 → length bytes ≡ length bytes / 56 * 56 → all_fields_of from packets ≡ all_in bytes
+found : (members from : ℕ) (bytes : List ℕ) (packets : List Packet) → AreBytes bytes → length bytes ≢ 0 → length bytes ≡ length bytes / 56 * 56 → all_fields_of from packets ≡ all_in bytes
     → fault_from members from no_group 0 (all_in bytes) ≡ None → Spells members from packets bytes
 found members from bytes packets fits some long e none =
     let sound = none-Sound members from no_group 0 packets (ap (fault_from members from no_group 0) e ∙ none) in
@@ -202,11 +199,47 @@ pub no_fault_of_letter : (members from : ℕ) (packets : List Packet) (bytes : L
 no_fault_of_letter members from packets bytes fault spells is =
     absurd (none_some fault (sym (letter_none members from packets bytes spells) ∙ is))
 
-pub same_letter : (members from sender : ℕ) (packets items : List Packet) (bytes : List ℕ) → Spells members from packets bytes
+same_letter : (members from sender : ℕ) (packets items : List Packet) (bytes : List ℕ) → Spells members from packets bytes
     → all_fields_of sender items ≡ all_in bytes → (sender_of bytes ≡ from) × (items ≡ packets)
 same_letter members from sender packets items bytes spells found =
     let again = letter_again members from packets bytes spells in
     (again.sender, same_packets sender from items packets (found ∙ again.fields))
+
+-- ---- pieces of 56 bytes
+
+pub record IsCut (bytes : List ℕ) (pieces : List (List ℕ)) : Type 0 where
+  pub fits : AreBytes bytes
+  pub some : length bytes ≢ 0
+  pub long : length bytes ≡ length bytes / 56 * 56
+  pub pieces_are : pieces ≡ first_chunks 56 (length bytes / 56) bytes
+
+-- pieces that break no rule have the fields of the packets that they are
+pieces_back : (members : ℕ) (bytes : List ℕ) (pieces : List (List ℕ)) → IsCut bytes pieces → fault_from members (sender_of bytes) no_group 0 (map fields_in pieces) ≡ None
+    → all_fields_of (sender_of bytes) (packets_in pieces) ≡ all_in bytes
+pieces_back members bytes pieces cut none =
+    fields_of-packets members (sender_of bytes) no_group 0 (map fields_in pieces) none ∙ ap (map fields_in) cut.pieces_are
+
+-- pieces that break no rule are the packets of a letter
+pub pieces_found : (members : ℕ) (bytes : List ℕ) (pieces : List (List ℕ)) → IsCut bytes pieces → fault_from members (sender_of bytes) no_group 0 (map fields_in pieces) ≡ None
+    → Spells members (sender_of bytes) (packets_in pieces) bytes
+pieces_found members bytes pieces cut none =
+    found members (sender_of bytes) bytes (packets_in pieces) cut.fits cut.some cut.long (pieces_back members bytes pieces cut none)
+    (ap (λ (ps : List (List ℕ)). fault_from members (sender_of bytes) no_group 0 (map fields_in ps)) (sym cut.pieces_are) ∙ none)
+
+-- and of no other letter
+pub pieces_only : (members from : ℕ) (packets : List Packet) (bytes : List ℕ) (pieces : List (List ℕ)) → IsCut bytes pieces → fault_from members (sender_of bytes) no_group 0 (map fields_in pieces) ≡ None
+    → Spells members from packets bytes → (sender_of bytes ≡ from) × (packets_in pieces ≡ packets)
+pieces_only members from packets bytes pieces cut none spells =
+    same_letter members from (sender_of bytes) packets (packets_in pieces) bytes spells (pieces_back members bytes pieces cut none)
+
+abbrev contents : ℕ → List Packet → LetterContents
+contents from packets = record { from = from; packets = packets }
+
+abbrev ok : LetterContents → Result LetterContents LetterFault
+ok letter = Ok letter
+
+pub same_contents : {from other : ℕ} {packets others : List Packet} → from ≡ other → packets ≡ others → ok (contents from packets) ≡ ok (contents other others)
+same_contents a b = cc
 
 -- ---- laws
 

@@ -1,4 +1,5 @@
 pub mod CallerLemmas
+pub mod DecodeLemmas
 pub mod FieldLemmas
 pub mod LetterLemmas
 pub mod PacketBack

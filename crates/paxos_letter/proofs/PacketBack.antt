@@ -1,54 +1,20 @@
 -- A packet by its fields: no two packets have the same, and each keeps its zeros.
-use Rattle.std.proofs.Common.{◌≡◌, ℕ, ℤ, true, eqb, if◌then◌else◌, List, [], ◌∷◌, map, Option, Some, None, refl, sym, ap, ◌∙◌}
-use Rattle.std.specs.Int.{bit_at}
-use Rattle.paxos_base.specs.declared.entry.Entry.{Entry}
+use Rattle.std.proofs.Common.{◌≡◌, ℕ, ℤ, true, List, [], ◌∷◌, map, Option, Some, None, refl, sym, ap, ◌∙◌}
 use Rattle.paxos_base.specs.declared.entry.Entry.TheVariants.{Noop, Start, End}
 use Rattle.paxos_base.specs.declared.entry.Kind.TheVariants.{Launch, Void}
 use Rattle.paxos_base.specs.declared.rows.JobRow.{JobRow}
-use Rattle.paxos_letter.specs.declared.fields.Fields.{Fields}
 use Rattle.paxos_letter.specs.declared.packet.Packet.{Packet}
 use Rattle.paxos_letter.specs.declared.packet.Packet.TheVariants.{Prepare, Promise, OldVote, Accept, Accepted, Nack, Known, AskFrom, Snap, SnapRow, Lead}
+use Rattle.paxos_letter.specs.Decoding.{packet_of}
 use Rattle.paxos_letter.specs.Rules.{keeps_zeros}
 use Rattle.paxos_letter.specs.Spelling.{fields_of}
-
-abbrev entry_of : Fields → Entry
-entry_of fields =
-    if eqb fields.tag 0 then Noop else if eqb fields.tag 1 then Start fields.job fields.at fields.moment else if eqb fields.tag 2 then End fields.job fields.at Launch else End fields.job fields.at Void
-
-abbrev minute_if : ℕ → ℤ → Option ℤ
-minute_if bit minute = if eqb bit 1 then Some minute else None
-
-abbrev row_of : Fields → JobRow
-row_of fields =
-    record {
-      job = fields.job;
-      cursor = minute_if (bit_at fields.tag 0) fields.at;
-      open_now = minute_if (bit_at fields.tag 1) fields.moment;
-      last = minute_if (bit_at fields.tag 2) fields.last;
-      launched = fields.ballot;
-      voided = fields.old;
-    }
-
--- the packet that has the fields
-abbrev packet_of : Fields → Packet
-packet_of fields =
-    if eqb fields.kind 1 then Prepare fields.ballot fields.slot
-    else if eqb fields.kind 2 then Promise fields.ballot fields.slot fields.old
-    else if eqb fields.kind 3 then OldVote fields.ballot fields.slot fields.old (entry_of fields)
-    else if eqb fields.kind 4 then Accept fields.ballot fields.slot (entry_of fields)
-    else if eqb fields.kind 5 then Accepted fields.ballot fields.slot
-    else if eqb fields.kind 6 then Nack fields.ballot fields.old
-    else if eqb fields.kind 7 then Known fields.slot (entry_of fields)
-    else if eqb fields.kind 8 then AskFrom fields.slot
-    else if eqb fields.kind 9 then Snap fields.slot fields.old
-    else if eqb fields.kind 10 then SnapRow fields.slot (row_of fields)
-    else Lead fields.ballot fields.slot
 
 abbrev row_from : ℕ → ℕ → ℕ → Option ℤ → Option ℤ → Option ℤ → JobRow
 row_from job launched voided cursor started last =
     record { job = job; cursor = cursor; open_now = started; last = last; launched = launched; voided = voided }
 
 row_back : (from slot job launched voided : ℕ) (cursor started last : Option ℤ) → packet_of (fields_of from (SnapRow slot (row_from job launched voided cursor started last))) ≡ SnapRow slot (row_from job launched voided cursor started last)
+unfolding packet_of
 row_back from slot job launched voided None None None = refl
 row_back from slot job launched voided None None (Some l) = refl
 row_back from slot job launched voided None (Some o) None = refl
@@ -58,7 +24,9 @@ row_back from slot job launched voided (Some a) None (Some l) = refl
 row_back from slot job launched voided (Some a) (Some o) None = refl
 row_back from slot job launched voided (Some a) (Some o) (Some l) = refl
 
-packet_of-fields_of : (from : ℕ) (packet : Packet) → packet_of (fields_of from packet) ≡ packet
+-- what was spelled is read again
+pub packet_of-fields_of : (from : ℕ) (packet : Packet) → packet_of (fields_of from packet) ≡ packet
+unfolding packet_of
 packet_of-fields_of from (Prepare ballot slot) = refl
 packet_of-fields_of from (Promise ballot slot count) = refl
 packet_of-fields_of from (OldVote ballot slot cast Noop) = refl

@@ -1,18 +1,20 @@
--- Reading packets one after another, as a loop does.
-use Rattle.std.proofs.Common.{◌≡◌, ℕ, ◌+◌, ◌/◌, ◌%◌, ◌<◌, ◌≤◌, Bool, true, false, not, ◌&&◌, ◌||◌, eqb, leb, ltb, cond, List, [], ◌∷◌, ◌++◌, length, get_or, map, take, drop, Option, Some, None, refl, sym, ap, ◌∙◌, arith}
+-- Packets that are tried one after another, as a loop does, and what follows where they break no rule.
+use Rattle.std.proofs.Common.{◌≡◌, ℕ, ◌+◌, ◌/◌, ◌%◌, ◌<◌, ◌≤◌, Bool, true, false, not, ◌&&◌, ◌||◌, eqb, leb, ltb, cond, List, [], ◌∷◌, length, get_or, map, drop, Option, Some, None, refl, sym, ap, ◌∙◌, arith}
+use Rattle.std.specs.List.{AllByRecursion}
 use Rattle.std.proofs.lemmas.Bool.{and_parts, and_from, eqb-true, eq-eqb, ltb-true, lt-ltb}
-use Rattle.std.proofs.lemmas.List.{map_push, take_more, drop_more}
+use Rattle.std.proofs.lemmas.List.{drop_more}
 use Rattle.paxos_base.specs.Ballot.{is_ballot_of}
 use Rattle.paxos_letter.specs.declared.fault.LetterFault.{LetterFault}
 use Rattle.paxos_letter.specs.declared.fault.LetterFault.TheVariants.{BadKind, NotZero, BadMember, BadGroup}
 use Rattle.paxos_letter.specs.declared.fields.Fields.{Fields}
 use Rattle.paxos_letter.specs.declared.group.Group.{Group}
-use Rattle.paxos_letter.specs.declared.packet.Packet.{Packet}
 use Rattle.paxos_letter.specs.Fields.{fields_in}
+use Rattle.paxos_letter.specs.Decoding.{packet_of}
 use Rattle.paxos_letter.specs.Spelling.{fields_of}
-use Rattle.paxos_letter.specs.Rules.{keeps_kind, keeps_zeros, keeps_members, has_ballot, has_old_ballot}
+use Rattle.paxos_letter.specs.Rules.{keeps_kind, keeps_zeros, keeps_members, has_ballot, has_old_ballot, KeepsRules}
 use Rattle.paxos_letter.specs.Groups.{no_group, keeps_group, after}
 use Rattle.paxos_letter.specs.Letters.{fault_at, or_later, fault_from}
+use Rattle.paxos_letter.proofs.DecodeLemmas.{fields_of-packet_of}
 
 pub record KeepsAll (members sender : ℕ) (group : Group) (fields : Fields) : Type 0 where
   pub kind : keeps_kind fields ≡ true
@@ -77,37 +79,38 @@ Testing-next members sender group number at packets packet fields lt is none t =
       fault = sym (first_left members sender group number at packets packet fields lt is ∙ ap (λ (fault : Option LetterFault). or_later fault rest) none) ∙ t.fault;
     }
 
--- so many packets of a letter were read, and those that are left break no rule behind them
-pub record Reading (members sender at : ℕ) (packets : List (List ℕ)) (items : List Packet) : Type 0 where
-  pub group : Group
-  pub none : fault_from members sender group at (map fields_in (drop at packets)) ≡ None
-  pub found : map (fields_of sender) items ≡ map fields_in (take at packets)
+-- ---- what breaks no rule
 
-pub Reading-first : (members sender : ℕ) (packets : List (List ℕ)) → fault_from members sender no_group 0 (map fields_in packets) ≡ None → Reading members sender 0 packets []
-Reading-first members sender packets none = record { group = no_group; none = none; found = refl }
-
-later_none : (first later : Option LetterFault) → or_later first later ≡ None → (first ≡ None) × (later ≡ None)
+pub later_none : (first later : Option LetterFault) → or_later first later ≡ None → (first ≡ None) × (later ≡ None)
 later_none None later e = (refl, e)
 later_none (Some fault) later e = absurd cc
 
--- the next packet keeps each rule
-pub Reading-keeps : (members sender at : ℕ) (packets : List (List ℕ)) (items : List Packet) (packet : List ℕ) (fields : Fields) → at < length packets
-    → fields ≡ fields_in (get_or packets at packet) → (r : Reading members sender at packets items) → KeepsAll members sender r.group fields
-Reading-keeps members sender at packets items packet fields lt is r =
-    fault_at-none members sender r.group at fields (later_none _ _ (sym (first_left members sender r.group at at packets packet fields lt is) ∙ r.none)).0
+-- the first of the fields keeps each rule, and the others break none
+first_none : (members sender : ℕ) (group : Group) (number : ℕ) (first : Fields) (rest : List Fields) → fault_from members sender group number (first ∷ rest) ≡ None
+    → KeepsAll members sender group first × (fault_from members sender (after group first) (number + 1) rest ≡ None)
+first_none members sender group number first rest none =
+    let both = later_none (fault_at members sender group number first) (fault_from members sender (after group first) (number + 1) rest) none in
+    (fault_at-none members sender group number first both.0, both.1)
 
-pub Reading-next : (members sender at : ℕ) (packets : List (List ℕ)) (items : List Packet) (packet : List ℕ) (fields : Fields) (item : Packet) → at < length packets
-    → fields ≡ fields_in (get_or packets at packet) → fields_of fields.from item ≡ fields
-    → Reading members sender at packets items → Reading members sender (at + 1) packets (items ++ item ∷ [])
-Reading-next members sender at packets items packet fields item lt is item-is r =
-    let keeps = Reading-keeps members sender at packets items packet fields lt is r in
-    let same : fields_of sender item ≡ fields_in (get_or packets at packet) =
-    ap (λ (from : ℕ). fields_of from item) (sym (keeps_members-sender members sender fields keeps.members_keep)) ∙ item-is ∙ is in
-    record {
-      group = after r.group fields;
-      none = (later_none _ _ (sym (first_left members sender r.group at at packets packet fields lt is) ∙ r.none)).1;
-      found = map_push (fields_of sender) items item
-          ∙ ap (λ (front : List Fields). front ++ fields_of sender item ∷ []) r.found
-          ∙ ap (λ (f : Fields). map fields_in (take at packets) ++ f ∷ []) same
-          ∙ sym (ap (map fields_in) (take_more packets at packet lt) ∙ map_push fields_in (take at packets) (get_or packets at packet));
-    }
+-- fields that break no rule are those of the packets that they spell
+pub fields_of-packets : (members sender : ℕ) (group : Group) (number : ℕ) (fields : List Fields) → fault_from members sender group number fields ≡ None
+    → map (fields_of sender) (map packet_of fields) ≡ fields
+fields_of-packets members sender group number [] none = refl
+fields_of-packets members sender group number (first ∷ rest) none =
+    let both = first_none members sender group number first rest none in
+    let keeps = both.0 in
+    let same : fields_of sender (packet_of first) ≡ first =
+    ap (λ (from : ℕ). fields_of from (packet_of first)) (sym (keeps_members-sender members sender first keeps.members_keep)) ∙ fields_of-packet_of first keeps.kind keeps.zeros in
+    ap (λ (f : Fields). f ∷ map (fields_of sender) (map packet_of rest)) same
+    ∙ ap (λ (fs : List Fields). first ∷ fs) (fields_of-packets members sender (after group first) (number + 1) rest both.1)
+
+-- fields that break no rule keep those of a packet by itself
+pub all_keep : (members sender : ℕ) (group : Group) (number : ℕ) (fields : List Fields) → members ≤ 7 → fault_from members sender group number fields ≡ None
+    → AllByRecursion (λ f. KeepsRules 7 f.from f) fields
+all_keep members sender group number [] few none = tt
+all_keep members sender group number (first ∷ rest) few none =
+    let both = first_none members sender group number first rest none in
+    let keeps = both.0 in (
+      record { kind = keeps.kind; zeros = keeps.zeros; members_keep = keeps_members-seven members sender first few keeps.members_keep },
+      all_keep members sender (after group first) (number + 1) rest few both.1,
+    )

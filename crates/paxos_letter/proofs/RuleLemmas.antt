@@ -7,11 +7,11 @@ use Rattle.std.proofs.lemmas.Bool.{and_parts, or_cases, eqb-true, eq-eqb, leb-tr
 use Rattle.std.proofs.lemmas.Bool.Decides.{Decides-int_eq}
 use Rattle.paxos_base.specs.Packet.{TagField, ZeroField, JobField, BallotField, SlotField, OldField, AtField, NowField, LastField}
 use Rattle.paxos_base.specs.EntryFields.{entry_numbers, HasStrayNumbers}
-use Rattle.paxos_base.specs.declared.rows.JobRow.{JobRow}
 use Rattle.paxos_base.specs.declared.wire.EntryFault.{EntryFault}
 use Rattle.paxos_base.specs.declared.wire.EntryFault.TheVariants.{Tag, NotZero}
 use Rattle.paxos_letter.specs.declared.fields.Fields.{Fields}
 use Rattle.paxos_letter.specs.declared.packet.Packet.TheVariants.{SnapRow}
+use Rattle.paxos_letter.specs.Decoding.{row_of}
 use Rattle.paxos_letter.specs.Rules.{has_entry, has_row, has_cursor, is_open, has_last, keeps_row, keeps_kind, uses, keeps_zero, keeps_zeros}
 use Rattle.paxos_letter.specs.Spelling.{fields_of, row_tag, minute_or_zero}
 
@@ -106,16 +106,16 @@ keeps_kind-row fields h e =
 -- ---- entries
 
 -- a Noop uses no job and no minute
-noop_uses : (e r z : Bool) → z ≡ true → r ≡ false → ((e && not z) || r) ≡ false
+pub noop_uses : (e r z : Bool) → z ≡ true → r ≡ false → ((e && not z) || r) ≡ false
 noop_uses true r z p q = rw (p, q) refl
 noop_uses false r z p q = q
 
-noop_row : (e r z bit : Bool) → z ≡ true → r ≡ false → ((e && not z) || (r && bit)) ≡ false
+pub noop_row : (e r z bit : Bool) → z ≡ true → r ≡ false → ((e && not z) || (r && bit)) ≡ false
 noop_row true r z bit p q = rw (p, q) refl
 noop_row false r z bit p q = rw q refl
 
 -- only a Start uses now
-start_uses : (e r one bit : Bool) → one ≡ false → r ≡ false → ((e && one) || (r && bit)) ≡ false
+pub start_uses : (e r one bit : Bool) → one ≡ false → r ≡ false → ((e && one) || (r && bit)) ≡ false
 start_uses true r one bit p q = rw (p, q) refl
 start_uses false r one bit p q = rw q refl
 
@@ -165,28 +165,17 @@ minute-then_some : (b : Bool) (z : ℤ) → (b ≡ false → z ≡ pos 0) → mi
 minute-then_some true z h = refl
 minute-then_some false z h = sym (h refl)
 
-abbrev row_from : Fields → JobRow
-row_from fields =
-    record {
-      job = fields.job;
-      cursor = then_some (has_cursor fields) fields.at;
-      open_now = then_some (is_open fields) fields.moment;
-      last = then_some (has_last fields) fields.last;
-      launched = fields.ballot;
-      voided = fields.old;
-    }
-
 pub same_fields : {kind kind' from from' tag tag' zero zero' job job' ballot ballot' slot slot' old old' : ℕ} {at at' moment moment' last last' : ℤ} → kind ≡ kind' → from ≡ from' → tag ≡ tag' → zero ≡ zero' → job ≡ job' → ballot ≡ ballot' → slot ≡ slot' → old ≡ old' → at ≡ at' → moment ≡ moment' → last ≡ last'
     → fields_from kind from tag zero job ballot slot old at moment last ≡ fields_from kind' from' tag' zero' job' ballot' slot' old' at' moment' last'
 same_fields a b c d e f g h i j k = cc
 
-pub row_again : (fields : Fields) → fields.kind ≡ 10 → keeps_kind fields ≡ true → keeps_zeros fields ≡ true → fields_of fields.from (SnapRow fields.slot (row_from fields)) ≡ fields
+pub row_again : (fields : Fields) → fields.kind ≡ 10 → keeps_kind fields ≡ true → keeps_zeros fields ≡ true → fields_of fields.from (SnapRow fields.slot (row_of fields)) ≡ fields
 row_again fields is kind zeros =
     let clean = keeps_zeros-Clean fields zeros in
     let row : has_row fields ≡ true = eq-eqb _ _ is in
     let below = keeps_kind-row fields kind row in
     let entry : has_entry fields ≡ false = rw is refl in
-    let tag : row_tag (row_from fields) ≡ fields.tag = rw (is_some-then_some (has_cursor fields) fields.at, is_some-then_some (is_open fields) fields.moment, is_some-then_some (has_last fields) fields.last) (bits_of-tag fields.tag below) in
+    let tag : row_tag (row_of fields) ≡ fields.tag = rw (is_some-then_some (has_cursor fields) fields.at, is_some-then_some (is_open fields) fields.moment, is_some-then_some (has_last fields) fields.last) (bits_of-tag fields.tag below) in
     same_fields (sym is) refl tag (sym clean.zero) refl refl refl refl
     (minute-then_some (has_cursor fields) fields.at (λ off. clean.at (rw (is, off) refl)))
     (minute-then_some (is_open fields) fields.moment (λ off. clean.moment (rw (is, off) refl)))

@@ -5,7 +5,7 @@ use Rattle.paxos_letter.specs.declared.fields.Fields.{Fields}
 use Rattle.paxos_letter.specs.declared.packet.Packet.{Packet}
 use Rattle.paxos_letter.specs.Fields.{bytes_of, fields_in, FitPacketFields}
 use Rattle.paxos_letter.specs.Letters.{SpellsPacket}
-use Rattle.paxos_letter.specs.Rules.{keeps_kind, keeps_zeros, keeps_members}
+use Rattle.paxos_letter.specs.Rules.{keeps_kind, keeps_zeros, keeps_members, KeepsRules}
 use Rattle.paxos_letter.specs.Spelling.{fields_of}
 use Rattle.paxos_letter.proofs.FieldLemmas.{bytes_of-fields_in, fields_in-bytes_of, fields_in-fit}
 use Rattle.paxos_letter.proofs.PacketBack.{same_packets, fields_of-zeros}
@@ -38,11 +38,6 @@ same_packet members sender packet found bytes s is =
     cc same
 
 -- the bytes of a packet break none of its rules
-pub record KeepsRules (members sender : ℕ) (fields : Fields) : Type 0 where
-  pub kind : keeps_kind fields ≡ true
-  pub zeros : keeps_zeros fields ≡ true
-  pub members_keep : keeps_members members sender fields ≡ true
-
 pub keeps_rules : (members sender : ℕ) (packet : Packet) (bytes : List ℕ) → SpellsPacket members sender packet bytes → KeepsRules members sender (fields_in bytes)
 keeps_rules members sender packet bytes s =
     let same = fields_again members sender packet bytes s in

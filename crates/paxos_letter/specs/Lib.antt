@@ -1,4 +1,5 @@
 pub mod Copies
+pub mod Decoding
 pub mod Fields
 pub mod Groups
 pub mod Kinds

@@ -1,5 +1,5 @@
 -- The rules that each packet keeps by itself, as tests of its fields.
-use Rattle.std.specs.Prelude.{ℕ, pos, ◌^◌, Bool, true, false, not, ◌&&◌, ◌||◌, ◌==◌, nat_lt, nat_le}
+use Rattle.std.specs.Prelude.{ℕ, pos, ◌^◌, Bool, true, false, not, ◌&&◌, ◌||◌, ◌==◌, nat_lt, nat_le, IsTrue}
 use Rattle.std.specs.Int.{bit_at}
 use Rattle.std.specs.List.{list_all}
 use Rattle.std.specs.Ordering.{int_eq}
@@ -93,3 +93,9 @@ has_old_ballot fields = (fields.kind == old_vote) || (fields.kind == nack)
 abbrev pub keeps_members : ℕ → ℕ → Fields → Bool
 keeps_members members sender fields =
     (nat_lt fields.from members && (fields.from == sender)) && ((not (has_ballot fields) || is_ballot_of members fields.ballot) && (not (has_old_ballot fields) || is_ballot_of members fields.old))
+
+-- the fields break no rule that a packet of the sender keeps by itself
+pub record KeepsRules (members sender : ℕ) (fields : Fields) : Type 0 where
+  pub kind : IsTrue (keeps_kind fields)
+  pub zeros : IsTrue (keeps_zeros fields)
+  pub members_keep : IsTrue (keeps_members members sender fields)

@@ -23,6 +23,7 @@
 //! order the rules are tested.
 #![tactic(auto)]
 
+mod checking;
 mod decoding;
 mod encoding;
 mod fault;
@@ -30,6 +31,7 @@ mod fields;
 mod group;
 mod kinds;
 mod laws;
+mod letter;
 mod packet;
 mod reading;
 mod rules;
@@ -40,6 +42,7 @@ pub use fault::{LetterFault, OwnedFault};
 pub use laws::{
     copies_are_letters, letters_break_no_rule, letters_differ_in_their_bytes, letters_have_packets,
 };
+pub use letter::{Letter, Packets};
 pub use packet::{LetterBytes, OwnedLetter, Packet, PacketList};
 pub use reading::read_letter;
 pub use single::{packet_bytes, packet_in};

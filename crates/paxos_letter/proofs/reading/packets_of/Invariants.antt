@@ -1,6 +1,5 @@
-use Rattle.paxos_letter.proofs.ReadLemmas.{Reading}
+use Rattle.std.proofs.Common.{◌≡◌, ◌++◌}
 use Rattle.paxos_letter.proofs.reading.packets_of.Given as goal
 
 abbrev pub invariant-loop-packet : goal.invariant-loop-packet
-invariant-loop-packet l =
-    Reading l.members l.sender l.packet-index l.packets l.items.items
+invariant-loop-packet l = l.items.items ++ l.packet-iterator ≡ l.letter.packets

@@ -1,5 +1,5 @@
 use Rattle.paxos_letter.proofs.ReadLemmas.{Testing}
-use Rattle.paxos_letter.proofs.reading.first_fault.Given as goal
+use Rattle.paxos_letter.proofs.checking.first_fault.Given as goal
 
 abbrev pub invariant-loop-packet : goal.invariant-loop-packet
 invariant-loop-packet l =

@@ -1,6 +1,6 @@
 use Rattle.std.proofs.Common.{sym, ◌∙◌}
 use Rattle.paxos_letter.proofs.ReadLemmas.{fault_at-none, Testing-next}
-use Rattle.paxos_letter.proofs.reading.first_fault.Goals as goal
+use Rattle.paxos_letter.proofs.checking.first_fault.Goals as goal
 
 pub after-group-requires : goal.after-group-requires
 after-group-requires c =
