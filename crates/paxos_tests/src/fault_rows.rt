@@ -96,6 +96,21 @@ pub const REFUSED: &[Refused] = &[
     Refused {
         packets: &[
             Changed {
+                bytes: PREPARE,
+                place: 3,
+                byte: 0,
+            },
+            Changed {
+                bytes: PREPARE,
+                place: 3,
+                byte: 0,
+            },
+        ],
+        fault: LetterFault::BadGroup { packet: 1 },
+    },
+    Refused {
+        packets: &[
+            Changed {
                 bytes: ACCEPTED,
                 place: 3,
                 byte: 0,

@@ -1,10 +1,10 @@
 //! Packets and letters, read and written.
+ghost use Rattle.std.specs.Prelude.{◌≡◌, IfOk};
+
 use crate::fault_rows::{Changed, REFUSED, STRANGE};
 use crate::letter_rows::{ACCEPT, BYTES, Bytes, LETTERS, OLD_VOTE, PREPARE, PROMISE, VECTORS};
 use paxos_base::PACKET_BYTES;
-use paxos_letter::{
-    LetterFault, OwnedFault, Packet, packet_bytes, packet_in, read_letter, write_letter,
-};
+use paxos_letter::{Letter, LetterFault, Packet, packet_bytes, packet_in, write_letter};
 use std::alloc::{AllocError, Global};
 use std::test::*;
 
@@ -42,20 +42,20 @@ fn packets_of_others_are_none(rt: HostRuntime) {
     }
 }
 
-// The only packet of a letter to three replicas, or the fault.
-fn only_packet(alloc: Global, bytes: &[u8]) -> Result<Packet, OwnedFault> {
-    let letter = read_letter(alloc, bytes, 3)?;
-    match letter.packets.items.as_slice() {
-        [packet] => Ok(*packet),
-        _ => Err(OwnedFault::OutOfMemory),
-    }
+// The first packet of a letter to three replicas, or the fault.
+fn first_packet(bytes: &[u8]) -> Result<Packet, LetterFault> {
+    let letter = Letter::read(bytes, 3)?;
+    letter
+        .packets()
+        .next()
+        .ok_or(LetterFault::BadLength { packet: 0 })
 }
 
 #[test]
 fn each_byte_has_its_field(rt: HostRuntime) -> Result<(), Fail> {
     for row in BYTES {
         let bytes = with_byte(*ACCEPT, row.place, 255);
-        let found = only_packet(rt.alloc(), &bytes);
+        let found = first_packet(&bytes);
         let text = format!(in rt.alloc(); "{found:?}")?;
         assert_eq!(rt; text.as_str(), row.text);
     }
@@ -63,36 +63,48 @@ fn each_byte_has_its_field(rt: HostRuntime) -> Result<(), Fail> {
 }
 
 // The fault of a letter to three replicas.
-fn fault_of(alloc: Global, packets: &[Changed]) -> Result<Option<OwnedFault>, AllocError> {
+fn fault_of(alloc: Global, packets: &[Changed]) -> Result<Option<LetterFault>, AllocError> {
     let mut bytes = Vec::new(alloc);
     for packet in packets {
         bytes.extend_from_slice(&change(packet))?;
     }
-    Ok(read_letter(alloc, &bytes, 3).err())
+    Ok(Letter::read(&bytes, 3).err())
 }
 
 #[test]
 fn letters_that_break_a_rule_are_refused(rt: HostRuntime) -> Result<(), Fail> {
     for row in REFUSED {
-        let (packets, want) = (row.packets, OwnedFault::Letter(row.fault));
+        let packets = row.packets;
         let fault = fault_of(rt.alloc(), packets)?;
-        assert_eq!(rt; fault, Some(want), "{packets:?}");
+        assert_eq!(rt; fault, Some(row.fault), "{packets:?}");
     }
     Ok(())
 }
 
 #[test]
 fn letters_have_whole_packets(rt: HostRuntime) {
-    let want = Err(OwnedFault::Letter(LetterFault::BadLength { packet: 0 }));
-    assert_eq!(rt; only_packet(rt.alloc(), &[]), want);
-    assert_eq!(rt; only_packet(rt.alloc(), &PREPARE[..55]), want);
+    let want = Some(LetterFault::BadLength { packet: 0 });
+    assert_eq!(rt; Letter::read(&[], 3).err(), want);
+    assert_eq!(rt; Letter::read(&PREPARE[..55], 3).err(), want);
+}
+
+// The packets of a letter, each as it comes.
+fn packets_of(alloc: Global, letter: &Letter<'_>) -> Result<Vec<Packet>, Fail>
+    ensures { IfOk result (λ items. items.items ≡ letter.now.packets) }
+{
+    let mut items = Vec::with_capacity(alloc, letter.count())?;
+    for packet in letter.packets() {
+        items.push(packet)?;
+    }
+    Ok(items)
 }
 
 // What is read of a letter's bytes, written again behind what stands there.
 fn rewrite(alloc: Global, bytes: &[u8], into: &mut Vec<u8>) -> Result<usize, Fail> {
-    let letter = read_letter(alloc, bytes, 7).ok().ok_or("no letter")?;
-    write_letter(letter.from, &letter.packets.items, into)?;
-    Ok(letter.packets.items.len())
+    let letter = Letter::read(bytes, 7).ok().ok_or("no letter")?;
+    let packets = packets_of(alloc, &letter)?;
+    write_letter(letter.from(), &packets, into)?;
+    Ok(letter.count())
 }
 
 fn joined(alloc: Global, packets: &[&Bytes]) -> Result<Vec<u8>, AllocError> {
@@ -112,6 +124,18 @@ fn letters_are_read_and_written(rt: HostRuntime) -> Result<(), Fail> {
         assert_eq!(rt; written.first(), Some(&9));
         assert_eq!(rt; written.get(1..), Some(bytes.as_slice()));
     }
+    Ok(())
+}
+
+#[test]
+fn a_copy_leaves_the_packets_to_come(rt: HostRuntime) -> Result<(), Fail> {
+    let bytes = joined(rt.alloc(), &[PROMISE, OLD_VOTE])?;
+    let letter = Letter::read(&bytes, 3).ok().ok_or("no letter")?;
+    let mut packets = letter.packets();
+    for packet in packets.copy() {
+        assert_eq!(rt; packets.next(), Some(packet));
+    }
+    assert_eq!(rt; packets.next(), None);
     Ok(())
 }
 

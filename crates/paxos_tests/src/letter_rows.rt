@@ -133,19 +133,19 @@ pub struct Byte {
 pub const BYTES: &[Byte] = &[
     Byte {
         place: 0,
-        text: "Err(Letter(BadKind { packet: 0 }))",
+        text: "Err(BadKind { packet: 0 })",
     },
     Byte {
         place: 1,
-        text: "Err(Letter(BadMember { packet: 0 }))",
+        text: "Err(BadMember { packet: 0 })",
     },
     Byte {
         place: 2,
-        text: "Err(Letter(BadKind { packet: 0 }))",
+        text: "Err(BadKind { packet: 0 })",
     },
     Byte {
         place: 3,
-        text: "Err(Letter(NotZero { packet: 0 }))",
+        text: "Err(NotZero { packet: 0 })",
     },
     Byte {
         place: 4,
@@ -173,7 +173,7 @@ pub const BYTES: &[Byte] = &[
     },
     Byte {
         place: 15,
-        text: "Err(Letter(BadMember { packet: 0 }))",
+        text: "Err(BadMember { packet: 0 })",
     },
     Byte {
         place: 16,
@@ -185,11 +185,11 @@ pub const BYTES: &[Byte] = &[
     },
     Byte {
         place: 24,
-        text: "Err(Letter(NotZero { packet: 0 }))",
+        text: "Err(NotZero { packet: 0 })",
     },
     Byte {
         place: 31,
-        text: "Err(Letter(NotZero { packet: 0 }))",
+        text: "Err(NotZero { packet: 0 })",
     },
     Byte {
         place: 32,
@@ -217,11 +217,11 @@ pub const BYTES: &[Byte] = &[
     },
     Byte {
         place: 48,
-        text: "Err(Letter(NotZero { packet: 0 }))",
+        text: "Err(NotZero { packet: 0 })",
     },
     Byte {
         place: 55,
-        text: "Err(Letter(NotZero { packet: 0 }))",
+        text: "Err(NotZero { packet: 0 })",
     },
 ];
 
@@ -229,6 +229,7 @@ pub const BYTES: &[Byte] = &[
 pub const LETTERS: &[&[&Bytes]] = &[
     &[PREPARE],
     &[PROMISE, OLD_VOTE],
+    &[ACCEPT],
     &[SNAP, SNAP_ROW],
-    &[KNOWN, ACCEPTED, LEAD],
+    &[KNOWN, ACCEPTED, NACK, ASK_FROM, LEAD],
 ];
