@@ -1,5 +1,5 @@
 -- The rules that each packet keeps by itself, as tests of its fields.
-use Rattle.std.specs.Prelude.{ℕ, pos, ◌^◌, Bool, true, false, not, ◌&&◌, ◌||◌, ◌==◌, nat_lt, nat_le, IsTrue}
+use Rattle.std.specs.Prelude.{ℕ, pos, ◌^◌, List, [], ◌∷◌, Bool, true, false, not, ◌&&◌, ◌||◌, ◌==◌, nat_lt, nat_le, IsTrue}
 use Rattle.std.specs.Int.{bit_at}
 use Rattle.std.specs.List.{list_all}
 use Rattle.std.specs.Ordering.{int_eq}
@@ -78,6 +78,14 @@ keeps_zero fields field = uses fields field || is_zero fields field
 -- each field is
 abbrev pub keeps_zeros : Fields → Bool
 keeps_zeros fields = list_all (keeps_zero fields) all_fields
+
+-- the fields of ballots, counts and slots
+abbrev pub number_fields : List Field
+number_fields = BallotField ∷ SlotField ∷ OldField ∷ []
+
+-- the fields of an entry, and those that a row has beside its numbers
+abbrev pub other_fields : List Field
+other_fields = TagField ∷ JobField ∷ AtField ∷ NowField ∷ LastField ∷ []
 
 -- ---- the sender and the ballots are of the members
 

@@ -1,33 +1,36 @@
-ghost use Rattle.std.specs.Prelude.{◌≡◌, map};
+ghost use Rattle.std.specs.Prelude.{◌≡◌, map, Some, None, IfOk, IfErr};
 ghost use Rattle.paxos_letter.specs.Fields.{fields_in};
-ghost use Rattle.paxos_letter.specs.Groups.{no_group};
+ghost use Rattle.paxos_letter.specs.Groups.{no_group, after};
 ghost use Rattle.paxos_letter.specs.Letters.{fault_at, fault_from};
 
 use crate::fault::LetterFault;
-use crate::fields::{Fields, fields_at};
+use crate::fields::{FieldsAt, fields_at};
 use crate::group::Group;
 use paxos_base::layout::PACKET_BYTES;
 
-// The first rule that the packet of a number breaks.
-fn fault_at(
+// What is owed after the packet of a number, or the first rule that it breaks.
+fn group_after(
     members: u8,
     sender: u8,
     group: &Group,
     number: u64,
-    fields: &Fields,
-) -> Option<LetterFault>
-    ensures { result ≡ fault_at members sender group.now number fields.now }
+    fields: &FieldsAt<'_>,
+) -> Result<Group, LetterFault>
+    ensures ok { IfOk result (λ next.
+        (fault_at members sender group.now number fields.now ≡ None) × (next ≡ after group.now fields.now)) }
+    ensures err { IfErr result (λ fault. fault_at members sender group.now number fields.now ≡ Some fault) }
 {
     if !fields.keeps_kind() {
-        Some(LetterFault::BadKind { packet: number })
+        Err(LetterFault::BadKind { packet: number })
     } else if !fields.keeps_zeros() {
-        Some(LetterFault::NotZero { packet: number })
+        Err(LetterFault::NotZero { packet: number })
     } else if !fields.keeps_members(members, sender) {
-        Some(LetterFault::BadMember { packet: number })
-    } else if !group.takes(fields) {
-        Some(LetterFault::BadGroup { packet: number })
+        Err(LetterFault::BadMember { packet: number })
     } else {
-        None
+        match group.after(fields) {
+            Some(next) => Ok(next),
+            None => Err(LetterFault::BadGroup { packet: number }),
+        }
     }
 }
 
@@ -42,11 +45,10 @@ pub(crate) fn first_fault(
     let mut group = Group::none();
     let mut number = 0;
     for packet in packets {
-        let fields = fields_at(packet);
-        if let Some(fault) = fault_at(members, sender, &group, number, &fields) {
-            return Some(fault);
+        match group_after(members, sender, &group, number, &fields_at(packet)) {
+            Ok(next) => group = next,
+            Err(fault) => return Some(fault),
         }
-        group = group.after(&fields);
         number += 1;
     }
     if group.is_filled() {

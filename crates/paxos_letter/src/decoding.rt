@@ -5,7 +5,7 @@ ghost use Rattle.paxos_letter.specs.declared.packet.Packet.TheVariants.{SnapRow}
 ghost use Rattle.paxos_letter.specs.Rules.{has_entry, has_ballot, keeps_kind, keeps_zeros, keeps_members};
 ghost use Rattle.paxos_letter.specs.Spelling.{fields_of};
 
-use crate::fields::Fields;
+use crate::fields::FieldsAt;
 use crate::kinds::{
     ACCEPT, ACCEPTED, ASK_FROM, KNOWN, LEAD, NACK, OLD_VOTE, PREPARE, PROMISE, SNAP, SNAP_ROW,
 };
@@ -24,56 +24,56 @@ fn ballot_of(number: u64) -> Ballot
 }
 
 // The entry of a packet that has one.
-fn entry_in(fields: &Fields) -> Entry
+fn entry_in(fields: &FieldsAt<'_>) -> Entry
     requires kind { has_entry fields.now ≡ true }
     requires tag { keeps_kind fields.now ≡ true }
     requires zeros { keeps_zeros fields.now ≡ true }
     ensures { numbers_of result ≡ entry_numbers fields.now.tag fields.now.job fields.now.at fields.now.moment }
 {
-    match entry_of(fields.tag, fields.job, fields.at, fields.moment) {
+    match entry_of(fields.tag(), fields.job(), fields.at(), fields.moment()) {
         Ok(entry) => entry,
         Err(_) => unreachable!(),
     }
 }
 
 // The row of a packet that has one.
-fn row_in(fields: &Fields) -> JobRow
+fn row_in(fields: &FieldsAt<'_>) -> JobRow
     requires kind { fields.now.kind ≡ SNAP_ROW }
     requires row { keeps_kind fields.now ≡ true }
     requires zeros { keeps_zeros fields.now ≡ true }
     ensures { fields_of fields.now.from (SnapRow fields.now.slot result) ≡ fields.now }
 {
     JobRow {
-        job: fields.job,
-        cursor: fields.has_cursor().then_some(fields.at),
-        open_now: fields.is_open().then_some(fields.moment),
-        last: fields.has_last().then_some(fields.last),
-        launched: fields.ballot as u32,
-        voided: fields.old as u32,
+        job: fields.job(),
+        cursor: fields.has_cursor().then_some(fields.at()),
+        open_now: fields.is_open().then_some(fields.moment()),
+        last: fields.has_last().then_some(fields.last()),
+        launched: fields.ballot() as u32,
+        voided: fields.old() as u32,
     }
 }
 
 // The packet of these fields, of a kind with a ballot.
-fn packet_in_ballot(fields: &Fields) -> Packet
+fn packet_in_ballot(fields: &FieldsAt<'_>) -> Packet
     requires ballot { has_ballot fields.now ≡ true }
     requires kind { keeps_kind fields.now ≡ true }
     requires zeros { keeps_zeros fields.now ≡ true }
     requires members { keeps_members 7 fields.now.from fields.now ≡ true }
     ensures { fields_of fields.now.from result ≡ fields.now }
 {
-    let ballot = ballot_of(fields.ballot);
-    let slot = fields.slot;
-    match fields.kind {
+    let ballot = ballot_of(fields.ballot());
+    let slot = fields.slot();
+    match fields.kind() {
         PREPARE => Packet::Prepare { ballot, slot },
         PROMISE => Packet::Promise {
             ballot,
             slot,
-            count: fields.old,
+            count: fields.old(),
         },
         OLD_VOTE => Packet::OldVote {
             ballot,
             slot,
-            cast: ballot_of(fields.old),
+            cast: ballot_of(fields.old()),
             entry: entry_in(fields),
         },
         ACCEPT => Packet::Accept {
@@ -84,7 +84,7 @@ fn packet_in_ballot(fields: &Fields) -> Packet
         ACCEPTED => Packet::Accepted { ballot, slot },
         NACK => Packet::Nack {
             ballot,
-            promised: ballot_of(fields.old),
+            promised: ballot_of(fields.old()),
         },
         LEAD => Packet::Lead { ballot, slot },
         _ => unreachable!(),
@@ -92,14 +92,14 @@ fn packet_in_ballot(fields: &Fields) -> Packet
 }
 
 // The packet of these fields, which keep each rule of a packet by itself.
-pub(crate) fn packet_of(fields: &Fields) -> Packet
+pub(crate) fn packet_of(fields: &FieldsAt<'_>) -> Packet
     requires kind { keeps_kind fields.now ≡ true }
     requires zeros { keeps_zeros fields.now ≡ true }
     requires members { keeps_members 7 fields.now.from fields.now ≡ true }
     ensures { fields_of fields.now.from result ≡ fields.now }
 {
-    let slot = fields.slot;
-    match fields.kind {
+    let slot = fields.slot();
+    match fields.kind() {
         KNOWN => Packet::Known {
             slot,
             entry: entry_in(fields),
@@ -107,7 +107,7 @@ pub(crate) fn packet_of(fields: &Fields) -> Packet
         ASK_FROM => Packet::AskFrom { slot },
         SNAP => Packet::Snap {
             slot,
-            count: fields.old,
+            count: fields.old(),
         },
         SNAP_ROW => Packet::SnapRow {
             slot,

@@ -1,7 +1,7 @@
-ghost use Rattle.std.specs.Prelude.{◌≡◌, true};
+ghost use Rattle.std.specs.Prelude.{◌≡◌, Some, None, if◌then◌else◌};
 ghost use Rattle.paxos_letter.specs.Groups.{no_group, is_filled, asks, keeps_group, after};
 
-use crate::fields::Fields;
+use crate::fields::FieldsAt;
 use crate::kinds::{ACCEPT, OLD_VOTE, PREPARE, PROMISE, SNAP, SNAP_ROW};
 
 // What the packets so far say of those to come.
@@ -16,10 +16,10 @@ pub(crate) struct Group {
     asked: bool,
 }
 
-fn asks(fields: &Fields) -> bool
+fn asks(fields: &FieldsAt<'_>) -> bool
     ensures { result ≡ asks fields.now }
 {
-    matches!(fields.kind, PREPARE | ACCEPT | SNAP)
+    matches!(fields.kind(), PREPARE | ACCEPT | SNAP)
 }
 
 impl Group {
@@ -42,42 +42,28 @@ impl Group {
         self.votes == 0 && self.rows == 0
     }
 
-    // Whether the packet may follow.
-    pub(crate) fn takes(&self, fields: &Fields) -> bool
-        ensures { result ≡ keeps_group self.now fields.now }
+    // What is owed after the packet: None where it may not follow.
+    pub(crate) fn after(&self, fields: &FieldsAt<'_>) -> Option<Group>
+        ensures { result ≡ (if keeps_group self.now fields.now then Some (after self.now fields.now) else None) }
     {
-        match fields.kind {
-            OLD_VOTE => self.votes > 0,
-            SNAP_ROW => self.rows > 0 && u64::from(fields.job) == self.job,
-            _ => self.is_filled() && !(self.asked && asks(fields)),
-        }
-    }
-
-    // What is owed after the packet.
-    pub(crate) fn after(&self, fields: &Fields) -> Group
-        requires { keeps_group self.now fields.now ≡ true }
-        ensures { result ≡ after self.now fields.now }
-    {
-        match fields.kind {
-            OLD_VOTE => Group {
+        match fields.kind() {
+            OLD_VOTE if self.votes > 0 => Some(Group {
                 votes: self.votes - 1,
                 ..*self
-            },
-            SNAP_ROW => Group {
+            }),
+            SNAP_ROW if self.rows > 0 && u64::from(fields.job()) == self.job => Some(Group {
                 rows: self.rows - 1,
                 job: self.job + 1,
                 ..*self
-            },
-            _ => Group {
-                votes: if fields.kind == PROMISE {
-                    fields.old
-                } else {
-                    0
-                },
-                rows: if fields.kind == SNAP { fields.old } else { 0 },
+            }),
+            OLD_VOTE | SNAP_ROW => None,
+            kind if self.is_filled() && !(self.asked && asks(fields)) => Some(Group {
+                votes: if kind == PROMISE { fields.old() } else { 0 },
+                rows: if kind == SNAP { fields.old() } else { 0 },
                 job: 0,
                 asked: self.asked || asks(fields),
-            },
+            }),
+            _ => None,
         }
     }
 }

@@ -1,10 +1,10 @@
-ghost use Rattle.std.specs.Prelude.{◌≡◌, ◌<◌, ◌==◌, [], ◌∷◌};
+ghost use Rattle.std.specs.Prelude.{◌≡◌, ◌<◌, ◌==◌};
 ghost use Rattle.std.specs.Int.{bit_at};
 ghost use Rattle.std.specs.List.{list_all};
-ghost use Rattle.paxos_letter.specs.Rules.{has_entry, has_row, has_cursor, is_open, has_last, keeps_row, keeps_kind, keeps_zero, keeps_zeros, has_ballot, has_old_ballot, keeps_members, uses};
-ghost use Rattle.paxos_base.specs.Packet.{BallotField, OldField, AtField, NowField, LastField};
+ghost use Rattle.paxos_letter.specs.Rules.{has_entry, has_row, has_cursor, is_open, has_last, keeps_row, keeps_kind, keeps_zero, keeps_zeros, has_ballot, has_old_ballot, keeps_members, uses, number_fields, other_fields};
+ghost use Rattle.paxos_base.specs.Packet.{BallotField, OldField};
 
-use crate::fields::Fields;
+use crate::fields::FieldsAt;
 use crate::kinds::{
     ACCEPT, ASK_FROM, KNOWN, LEAD, NACK, OLD_VOTE, PREPARE, PROMISE, SNAP, SNAP_ROW,
 };
@@ -24,93 +24,103 @@ fn has_bit(tag: u8, bit: u8) -> bool
     tag >> bit & 1 == 1
 }
 
-impl Fields {
+impl<'a> FieldsAt<'a> {
     pub(crate) fn has_entry(&self) -> bool
         ensures { result ≡ has_entry self.now }
     {
-        matches!(self.kind, OLD_VOTE | ACCEPT | KNOWN)
+        matches!(self.kind(), OLD_VOTE | ACCEPT | KNOWN)
     }
 
     pub(crate) fn has_row(&self) -> bool
         ensures { result ≡ has_row self.now }
     {
-        self.kind == SNAP_ROW
+        self.kind() == SNAP_ROW
     }
 
     pub(crate) fn has_cursor(&self) -> bool
         ensures { result ≡ has_cursor self.now }
     {
-        has_bit(self.tag, CURSOR_BIT)
+        has_bit(self.tag(), CURSOR_BIT)
     }
 
     pub(crate) fn is_open(&self) -> bool
         ensures { result ≡ is_open self.now }
     {
-        has_bit(self.tag, OPEN_BIT)
+        has_bit(self.tag(), OPEN_BIT)
     }
 
     pub(crate) fn has_last(&self) -> bool
         ensures { result ≡ has_last self.now }
     {
-        has_bit(self.tag, LAST_BIT)
+        has_bit(self.tag(), LAST_BIT)
     }
 
     // An open job has a cursor, and counts have 32 bits.
     fn keeps_row(&self) -> bool
         ensures { result ≡ keeps_row self.now }
     {
-        self.tag < 8
+        self.tag() < 8
             && (!self.is_open() || self.has_cursor())
-            && self.ballot <= u64::from(u32::MAX)
-            && self.old <= u64::from(u32::MAX)
+            && self.ballot() <= u64::from(u32::MAX)
+            && self.old() <= u64::from(u32::MAX)
     }
 
     // The kind is known, and so are the tag and the counts.
     pub(crate) fn keeps_kind(&self) -> bool
         ensures { result ≡ keeps_kind self.now }
     {
-        (PREPARE..=LEAD).contains(&self.kind)
-            && (!self.has_entry() || self.tag <= 3)
+        (PREPARE..=LEAD).contains(&self.kind())
+            && (!self.has_entry() || self.tag() <= 3)
             && (!self.has_row() || self.keeps_row())
     }
 
     fn uses_ballot(&self) -> bool
         ensures { result ≡ uses self.now BallotField }
     {
-        !matches!(self.kind, KNOWN | ASK_FROM | SNAP)
+        !matches!(self.kind(), KNOWN | ASK_FROM | SNAP)
     }
 
     fn uses_old(&self) -> bool
         ensures { result ≡ uses self.now OldField }
     {
-        matches!(self.kind, PROMISE | OLD_VOTE | NACK | SNAP | SNAP_ROW)
+        matches!(self.kind(), PROMISE | OLD_VOTE | NACK | SNAP | SNAP_ROW)
     }
 
-    // Each of the three fields of minutes is 0 where the packet has no use for it.
-    fn keeps_minutes(&self) -> bool
-        ensures { result ≡ list_all (keeps_zero self.now) (AtField ∷ NowField ∷ LastField ∷ []) }
+    // Of the ballots, the slot and the counts, those are 0 that the packet has no use for.
+    fn keeps_number_zeros(&self) -> bool
+        ensures { result ≡ list_all (keeps_zero self.now) number_fields }
     {
-        let has_launch = self.has_entry() && self.tag != 0;
-        let has_start = self.has_entry() && self.tag == 1;
-        let has_row = self.has_row();
-        (has_launch || has_row && self.has_cursor() || self.at == 0)
-            && (has_start || has_row && self.is_open() || self.moment == 0)
-            && (has_row && self.has_last() || self.last == 0)
+        (self.uses_ballot() || self.ballot() == 0)
+            && (self.kind() != NACK || self.slot() == 0)
+            && (self.uses_old() || self.old() == 0)
+    }
+
+    // Of the other fields, those are 0 that the packet's entry or row has no use for.
+    fn keeps_other_zeros(&self) -> bool
+        ensures { result ≡ list_all (keeps_zero self.now) other_fields }
+    {
+        if self.has_entry() {
+            (self.tag() != 0 || self.job() == 0 && self.at() == 0)
+                && (self.tag() == 1 || self.moment() == 0)
+                && self.last() == 0
+        } else if self.has_row() {
+            (self.has_cursor() || self.at() == 0)
+                && (self.is_open() || self.moment() == 0)
+                && (self.has_last() || self.last() == 0)
+        } else {
+            self.tag() == 0
+                && self.job() == 0
+                && self.at() == 0
+                && self.moment() == 0
+                && self.last() == 0
+        }
     }
 
     // Each field is 0 that a packet of its kind, with its tag, has no use for.
     pub(crate) fn keeps_zeros(&self) -> bool
         ensures { result ≡ keeps_zeros self.now }
     {
-        let has_launch = self.has_entry() && self.tag != 0;
-        let has_row = self.has_row();
-        (self.has_entry() || has_row || self.tag == 0)
-            && self.zero == 0
-            && (has_launch || has_row || self.job == 0)
-            && (self.uses_ballot() || self.ballot == 0)
-            && (self.kind != NACK || self.slot == 0)
-            && (self.uses_old() || self.old == 0)
-            && self.keeps_minutes()
+        self.zero() == 0 && self.keeps_number_zeros() && self.keeps_other_zeros()
     }
 
     fn has_ballot(&self) -> bool
@@ -122,16 +132,16 @@ impl Fields {
     fn has_old_ballot(&self) -> bool
         ensures { result ≡ has_old_ballot self.now }
     {
-        matches!(self.kind, OLD_VOTE | NACK)
+        matches!(self.kind(), OLD_VOTE | NACK)
     }
 
     // The packet is of the letter's sender, and that and the ballots are of the members.
     pub(crate) fn keeps_members(&self, members: u8, sender: u8) -> bool
         ensures { result ≡ keeps_members members sender self.now }
     {
-        self.from < members
-            && self.from == sender
-            && (!self.has_ballot() || Ballot::is_number_of(members, self.ballot))
-            && (!self.has_old_ballot() || Ballot::is_number_of(members, self.old))
+        self.from() < members
+            && self.from() == sender
+            && (!self.has_ballot() || Ballot::is_number_of(members, self.ballot()))
+            && (!self.has_old_ballot() || Ballot::is_number_of(members, self.old()))
     }
 }
