@@ -1,39 +1,43 @@
 -- What it comes to that a letter's packets are heard one after another.
-use Rattle.std.proofs.Common.{◌≡◌, ℕ, ◌+◌, ◌-◌, ◌<◌, ◌≤◌, Bool, true, false, Result, Ok, Err, OnOk, List, [], ◌∷◌, ◌++◌, refl, sym, ap, ◌∙◌, arith, length, drop, max, ◌||◌, inl, inr, take, get_or, zero, suc, if◌then◌else◌}
-use Rattle.std.specs.List.{count_by, flat_map}
-use Rattle.std.proofs.lemmas.Bool.{le-ltb, cases_Bool, and_parts}
+use Rattle.std.proofs.Common.{◌≡◌, ℕ, ◌+◌, ◌-◌, ◌<◌, ◌≤◌, Bool, true, false, Result, Ok, Err, OnOk, List, [], ◌∷◌, ◌++◌, refl, sym, ap, subst, ◌∙◌, arith, length, drop, max, ◌||◌, inl, inr, take, get_or, zero, suc, if◌then◌else◌, map}
+use Rattle.std.specs.Prelude.{None}
+use Rattle.std.specs.List.{AllByRecursion, count_by, flat_map, list_any}
+use Rattle.std.proofs.lemmas.Bool.{le-ltb, lt-ltb, cases_Bool, and_parts}
 use Rattle.std.proofs.lemmas.List.Sums.{sum_by-cons}
 use Rattle.std.proofs.Math.Bool.{or-false}
 use Rattle.std.proofs.lemmas.List.{append-nil, drop_all, drop_more, length-drop, take_all}
+use Rattle.paxos_base.specs.declared.entry.Vote.{Vote}
+use Rattle.due_set.specs.Table.{Table}
 use Rattle.paxos_letter.specs.declared.packet.Packet.{Packet}
 use Rattle.paxos_letter.specs.declared.packet.Packet.TheVariants as packet
 use Rattle.term_core.specs.Term.{is_ended_by}
 use Rattle.term_core.specs.declared.term.Term.{Term}
 use Rattle.term_core.specs.declared.term.Term.TheVariants.{Follower, Candidate, Leader}
-use Rattle.step_law.specs.Act.{Act, Observe, after_act}
-use Rattle.step_law.specs.Folds.{after_acts, calls_by, deltas_by, learnt_by}
-use Rattle.step_law.specs.Hear.{hear, hear_all, line}
-use Rattle.step_law.specs.Heard.{messages_of, row_in, vote_in}
+use Rattle.step_law.specs.Act.{Act, Observe, Stand, Gather, TakeLead, Pledge, Cast, Propose, Count, Wait, Learn, Rebase, Call, Send, Restart, after_act}
+use Rattle.step_law.specs.Folds.{after_acts, calls_by, copies_by, copies_of, deltas_by, learnt_by}
+use Rattle.step_law.specs.Hear.{Once, hear, hear_all, line, not_yet, sends_copy}
+use Rattle.step_law.specs.Heard.{messages_of, old_vote, packets_of, row_in, vote_in}
 use Rattle.step_law.specs.Letters.{are_small, is_small}
-use Rattle.step_law.specs.Message.{Message, ballot_in, Prepare, Promise, Accept, Accepted, Nack, Known, AskFrom, Snap, Lead, Mention}
+use Rattle.step_law.specs.Message.{Message, Whom, ballot_in, Prepare, Promise, Accept, Accepted, Nack, Known, AskFrom, Snap, Lead, Mention}
 use Rattle.step_law.specs.State.{Identity, State, prefix_of}
 use Rattle.step_law.specs.Step.{asks_change}
-use Rattle.replica_draft.specs.Draft.{Desk, Goes, done, drafted, said_by}
+use Rattle.replica_draft.specs.Draft.{Desk, Goes, begins_copy, done, drafted, has_copied, said_by, said_in, said_of}
+use Rattle.replica_draft.specs.declared.draft.Sent.{Sent}
 use Rattle.replica_core.specs.Lines.{Does, IsFixed}
-use Rattle.replica_core.specs.Heard.{HearsBy, ballot_named, changes_asked, changes_in, hear_in, line_in, message_in, shows_gap_in}
-use Rattle.replica_core.specs.Replica.{DoesAsTerm, Flies, Makes, idle_desk, identity_of, fixed_of, next_slot, state_of}
+use Rattle.replica_core.specs.Heard.{BringsRows, BringsRowsIn, HearsBy, ballot_named, changes_asked, hear_in, line_in, message_in, once_in, shows_gap_in}
+use Rattle.replica_core.specs.Replica.{DoesAsTerm, IsSteady, Makes, changes_in, idle_desk, identity_of, fixed_of, next_slot, state_of}
 use Rattle.replica_draft.specs.declared.draft.Draft.{Draft}
 use Rattle.replica_core.specs.declared.parts.Core.{Core}
 use Rattle.replica_draft.proofs.DraftLemmas.{done-append, done-nil}
 use Rattle.replica_core.proofs.LineLemmas.{drafted-prefix}
 
 -- a replica keeps what its parts keep
-pub core-kept : (core : Core) → core.learner.base ≡ core.acceptor.base → IsFixed core.acceptor core.learner (fixed_of core)
-core-kept core base = record { acceptor = record { promised = refl; votes = refl; base = refl }; learned = refl; base = base }
+pub core-kept : (core : Core) → core.learner.base ≡ core.acceptor.base → IsFixed core (fixed_of core)
+core-kept core base = record { acceptor = record { promised = refl; votes = refl; base = refl }; learned = refl; base = base; rows = refl }
 
 -- what a line of the table does, it does for the replica
 pub of_state : {X E : Type 0} (result : Result X E) (core : Core) (old new : Draft) (acts : State → List Act) → core.learner.base ≡ core.acceptor.base
-    → OnOk result (Does core.acceptor core.learner old new acts) → OnOk result (HearsBy core old new acts)
+    → OnOk result (Does core old new acts) → OnOk result (HearsBy core old new acts)
 of_state (Ok value) core old new acts base does = does (fixed_of core) (core-kept core base)
 of_state (Err fault) core old new acts base does = tt
 
@@ -60,54 +64,58 @@ observe-none desk =
 -- ---- A packet is heard
 
 -- a message is heard: its ballot is observed, and then comes its line
-heard-message : (core : Core) (old middle new : Draft) (self : Identity) (from : ℕ) (message : Message) (asked : Bool) → Goes old middle (Observe (ballot_in message) ∷ [])
-    → HearsBy core middle new (line self from message asked) → HearsBy core old new (hear self from message asked)
+heard-message : (core : Core) (old middle new : Draft) (self : Identity) (from : ℕ) (message : Message) (once : Once) → Goes old middle (Observe (ballot_in message) ∷ [])
+    → HearsBy core middle new (line self from message once) → HearsBy core old new (hear self from message once)
 unfolding hear
-heard-message core old middle new self from message asked observed answered =
+heard-message core old middle new self from message once observed answered =
     answered
-    ∙ ap (λ (desk : Desk). done (line self from message asked desk.state) desk) (observed (fixed_of core))
-    ∙ sym (done-append (Observe (ballot_in message) ∷ []) (line self from message asked (after_act (Observe (ballot_in message)) (drafted (fixed_of core) old).state)) (drafted (fixed_of core) old))
+    ∙ ap (λ (desk : Desk). done (line self from message once desk.state) desk) (observed (fixed_of core))
+    ∙ sym (done-append (Observe (ballot_in message) ∷ []) (line self from message once (after_act (Observe (ballot_in message)) (drafted (fixed_of core) old).state)) (drafted (fixed_of core) old))
 
 -- a packet is heard as its message; one that names no ballot and is no message changes nothing
-heard-packet : (core : Core) (old middle new : Draft) (self : Identity) (from : ℕ) (packet : Packet) (rest : List Packet) (asked : Bool) → Goes old middle (Observe (ballot_named packet) ∷ [])
-    → HearsBy core middle new (line_in self from (message_in packet rest) asked) → HearsBy core old new (hear_in self from (message_in packet rest) asked)
-heard-packet core old middle new self from (packet.Prepare ballot slot) rest asked observed answered = heard-message core old middle new self from (Prepare ballot slot) asked observed answered
-heard-packet core old middle new self from (packet.Promise ballot slot count) rest asked observed answered = heard-message core old middle new self from (Promise ballot slot (flat_map vote_in (take count rest))) asked observed answered
-heard-packet core old middle new self from (packet.OldVote ballot slot cast entry) rest asked observed answered = heard-message core old middle new self from (Mention ballot) asked observed answered
-heard-packet core old middle new self from (packet.Accept ballot slot entry) rest asked observed answered = heard-message core old middle new self from (Accept (record { slot = slot; ballot = ballot; entry = entry })) asked observed answered
-heard-packet core old middle new self from (packet.Accepted ballot slot) rest asked observed answered = heard-message core old middle new self from (Accepted ballot slot) asked observed answered
-heard-packet core old middle new self from (packet.Nack ballot promised) rest asked observed answered = heard-message core old middle new self from (Nack ballot promised) asked observed answered
-heard-packet core old middle new self from (packet.Known slot entry) rest asked observed answered = heard-message core old middle new self from (Known slot entry) asked observed answered
-heard-packet core old middle new self from (packet.AskFrom slot) rest asked observed answered = heard-message core old middle new self from (AskFrom slot) asked observed answered
-heard-packet core old middle new self from (packet.Snap slot count) rest asked observed answered = heard-message core old middle new self from (Snap slot (flat_map row_in (take count rest))) asked observed answered
-heard-packet core old middle new self from (packet.SnapRow slot row) rest asked observed answered =
+heard-packet : (core : Core) (old middle new : Draft) (self : Identity) (from : ℕ) (packet : Packet) (rest : List Packet) (once : Once) → Goes old middle (Observe (ballot_named packet) ∷ [])
+    → HearsBy core middle new (line_in self from (message_in packet rest) once) → HearsBy core old new (hear_in self from (message_in packet rest) once)
+heard-packet core old middle new self from (packet.Prepare ballot slot) rest once observed answered = heard-message core old middle new self from (Prepare ballot slot) once observed answered
+heard-packet core old middle new self from (packet.Promise ballot slot count) rest once observed answered = heard-message core old middle new self from (Promise ballot slot (flat_map vote_in (take count rest))) once observed answered
+heard-packet core old middle new self from (packet.OldVote ballot slot cast entry) rest once observed answered = heard-message core old middle new self from (Mention ballot) once observed answered
+heard-packet core old middle new self from (packet.Accept ballot slot entry) rest once observed answered = heard-message core old middle new self from (Accept (record { slot = slot; ballot = ballot; entry = entry })) once observed answered
+heard-packet core old middle new self from (packet.Accepted ballot slot) rest once observed answered = heard-message core old middle new self from (Accepted ballot slot) once observed answered
+heard-packet core old middle new self from (packet.Nack ballot promised) rest once observed answered = heard-message core old middle new self from (Nack ballot promised) once observed answered
+heard-packet core old middle new self from (packet.Known slot entry) rest once observed answered = heard-message core old middle new self from (Known slot entry) once observed answered
+heard-packet core old middle new self from (packet.AskFrom slot) rest once observed answered = heard-message core old middle new self from (AskFrom slot) once observed answered
+heard-packet core old middle new self from (packet.Snap slot count) rest once observed answered = heard-message core old middle new self from (Snap slot (flat_map row_in (take count rest))) once observed answered
+heard-packet core old middle new self from (packet.SnapRow slot row) rest once observed answered =
     answered ∙ ap (done []) (observed (fixed_of core) ∙ sym (observe-none (drafted (fixed_of core) old)))
-heard-packet core old middle new self from (packet.Lead ballot slot) rest asked observed answered = heard-message core old middle new self from (Lead ballot slot) asked observed answered
+heard-packet core old middle new self from (packet.Lead ballot slot) rest once observed answered = heard-message core old middle new self from (Lead ballot slot) once observed answered
 
 -- the same, where its line was carried out
-pub heard-on_ok : {X E : Type 0} (result : Result X E) (core : Core) (old middle new : Draft) (self : Identity) (from : ℕ) (packet : Packet) (rest : List Packet) (asked : Bool)
-    → Goes old middle (Observe (ballot_named packet) ∷ []) → OnOk result (HearsBy core middle new (line_in self from (message_in packet rest) asked))
-    → OnOk result (HearsBy core old new (hear_in self from (message_in packet rest) asked))
-heard-on_ok (Ok value) core old middle new self from packet rest asked observed answered = heard-packet core old middle new self from packet rest asked observed answered
-heard-on_ok (Err fault) core old middle new self from packet rest asked observed answered = tt
+pub heard-on_ok : {X E : Type 0} (result : Result X E) (core : Core) (old middle new : Draft) (self : Identity) (from : ℕ) (packet : Packet) (rest : List Packet) (once : Once)
+    → Goes old middle (Observe (ballot_named packet) ∷ []) → OnOk result (HearsBy core middle new (line_in self from (message_in packet rest) once))
+    → OnOk result (HearsBy core old new (hear_in self from (message_in packet rest) once))
+heard-on_ok (Ok value) core old middle new self from packet rest once observed answered = heard-packet core old middle new self from packet rest once observed answered
+heard-on_ok (Err fault) core old middle new self from packet rest once observed answered = tt
+
+-- what was done once, with a packet that was heard so
+abbrev pub once_next : Packet → State → List Act → Once → Once
+once_next packet state acts once = record { asked = once.asked || shows_gap_in packet state; copied = once.copied || sends_copy acts }
 
 -- a packet is heard, and then those behind it
-pub first-heard : (self : Identity) (from : ℕ) (packet : Packet) (rest : List Packet) (asked : Bool) (state : State)
-    → hear_all self from (messages_of (packet ∷ rest)) asked state
-    ≡ hear_in self from (message_in packet rest) asked state
-    ++ hear_all self from (messages_of rest) (asked || shows_gap_in packet state) (after_acts (hear_in self from (message_in packet rest) asked state) state)
+pub first-heard : (self : Identity) (from : ℕ) (packet : Packet) (rest : List Packet) (once : Once) (state : State)
+    → hear_all self from (messages_of (packet ∷ rest)) once state
+    ≡ hear_in self from (message_in packet rest) once state
+    ++ hear_all self from (messages_of rest) (once_next packet state (hear_in self from (message_in packet rest) once state) once) (after_acts (hear_in self from (message_in packet rest) once state) state)
 unfolding hear_all messages_of
-first-heard self from (packet.Prepare ballot slot) rest asked state = refl
-first-heard self from (packet.Promise ballot slot count) rest asked state = refl
-first-heard self from (packet.OldVote ballot slot cast entry) rest asked state = refl
-first-heard self from (packet.Accept ballot slot entry) rest asked state = refl
-first-heard self from (packet.Accepted ballot slot) rest asked state = refl
-first-heard self from (packet.Nack ballot promised) rest asked state = refl
-first-heard self from (packet.Known slot entry) rest asked state = refl
-first-heard self from (packet.AskFrom slot) rest asked state = refl
-first-heard self from (packet.Snap slot count) rest asked state = refl
-first-heard self from (packet.SnapRow slot row) rest asked state = rw (or-false asked) refl
-first-heard self from (packet.Lead ballot slot) rest asked state = refl
+first-heard self from (packet.Prepare ballot slot) rest once state = refl
+first-heard self from (packet.Promise ballot slot count) rest once state = refl
+first-heard self from (packet.OldVote ballot slot cast entry) rest once state = refl
+first-heard self from (packet.Accept ballot slot entry) rest once state = refl
+first-heard self from (packet.Accepted ballot slot) rest once state = refl
+first-heard self from (packet.Nack ballot promised) rest once state = refl
+first-heard self from (packet.Known slot entry) rest once state = refl
+first-heard self from (packet.AskFrom slot) rest once state = refl
+first-heard self from (packet.Snap slot count) rest once state = refl
+first-heard self from (packet.SnapRow slot row) rest once state = rw (or-false once.asked, or-false once.copied) refl
+first-heard self from (packet.Lead ballot slot) rest once state = refl
 
 -- a message asks for a change or not, and so do those behind it
 asks-cons : (message : Message) (messages : List Message) → count_by asks_change (message ∷ messages) ≡ (if asks_change message then 1 else 0) + count_by asks_change messages
@@ -147,14 +155,109 @@ small_at jobs (packet ∷ packets) zero none small within = (and_parts (is_small
 small_at jobs (packet ∷ packets) (suc place) none small within =
     small_at jobs packets place none (and_parts (is_small jobs packet) (are_small jobs packets) small).1 (omega (arith, within))
 
+-- ---- What is done once
+
+-- some of what is said begins a snapshot
+abbrev any_copy : List (Whom × Packet) → Bool
+any_copy said = list_any (λ (one : Whom × Packet). begins_copy one.1) said
+
+any-said : (sends : List Sent) → list_any (λ (sent : Sent). begins_copy sent.packet) sends ≡ any_copy (map said_in sends)
+any-said [] = refl
+any-said (sent ∷ sends) = ap (λ rest. begins_copy sent.packet || rest) (any-said sends)
+
+any-append : (xs ys : List (Whom × Packet)) → any_copy (xs ++ ys) ≡ any_copy xs || any_copy ys
+any-append [] ys = refl
+any-append (x ∷ xs) ys = elim (cases_Bool (begins_copy x.1)) [
+  | inl begins ↦ rw begins refl
+  | inr other ↦ rw other (any-append xs ys)
+]
+
+any-votes : (whom : Whom) (ballot : ℕ) (votes : List Vote) (rest : List (Whom × Packet)) → any_copy (map (λ (packet : Packet). (whom, packet)) (map (old_vote ballot) votes) ++ rest) ≡ any_copy rest
+any-votes whom ballot [] rest = refl
+any-votes whom ballot (vote ∷ votes) rest = any-votes whom ballot votes rest
+
+-- acts that send a snapshot are those whose packets begin one
+any-acts : (acts : List Act) → any_copy (said_of acts) ≡ sends_copy acts
+unfolding said_by packets_of copies_by
+any-acts [] = refl
+any-acts (Send whom (Prepare ballot slot) ∷ acts) = any-acts acts
+any-acts (Send whom (Promise ballot slot votes) ∷ acts) = any-votes whom ballot votes (said_of acts) ∙ any-acts acts
+any-acts (Send whom (Accept vote) ∷ acts) = any-acts acts
+any-acts (Send whom (Accepted ballot slot) ∷ acts) = any-acts acts
+any-acts (Send whom (Nack ballot promised) ∷ acts) = any-acts acts
+any-acts (Send whom (Known slot entry) ∷ acts) = any-acts acts
+any-acts (Send whom (AskFrom slot) ∷ acts) = any-acts acts
+any-acts (Send whom (Snap slot rows) ∷ acts) = sym (lt-ltb 0 (length (copies_of (Send whom (Snap slot rows) ∷ acts))) (omega arith))
+any-acts (Send whom (Lead ballot slot) ∷ acts) = any-acts acts
+any-acts (Send whom (Mention ballot) ∷ acts) = any-acts acts
+any-acts (Observe ballot ∷ acts) = any-acts acts
+any-acts (Stand me ballot ∷ acts) = any-acts acts
+any-acts (Gather from votes ∷ acts) = any-acts acts
+any-acts (TakeLead ∷ acts) = any-acts acts
+any-acts (Pledge ballot ∷ acts) = any-acts acts
+any-acts (Cast vote ∷ acts) = any-acts acts
+any-acts (Propose me vote ∷ acts) = any-acts acts
+any-acts (Count from ∷ acts) = any-acts acts
+any-acts (Wait ∷ acts) = any-acts acts
+any-acts (Learn slot entry ∷ acts) = any-acts acts
+any-acts (Rebase slot rows ∷ acts) = any-acts acts
+any-acts (Call row ∷ acts) = any-acts acts
+any-acts (Restart me ∷ acts) = any-acts acts
+
+-- once acts were done, a snapshot was sent where one was sent before or they send one
+copied-after : (core : Core) (old new : Draft) (acts : List Act) → drafted (fixed_of core) new ≡ done acts (drafted (fixed_of core) old) → has_copied new ≡ has_copied old || sends_copy acts
+copied-after core old new acts is =
+    let said : map said_in new.sends.items ≡ map said_in old.sends.items ++ said_of acts = ap (λ (desk : Desk). desk.said) is in
+    any-said new.sends.items ∙ ap any_copy said ∙ any-append (map said_in old.sends.items) (said_of acts) ∙ rw (sym (any-said old.sends.items), any-acts acts) refl
+
+-- the same, where what is sent is the same
+copied-same : (old new : Draft) → new.sends ≡ old.sends → has_copied new ≡ has_copied old
+copied-same old new same = rw same refl
+
+-- a packet is heard once its ballot was observed, which sends nothing
+pub heard-observed : {X E : Type 0} (result : Result X E) (core : Core) (old middle new : Draft) (self : Identity) (from : ℕ) (packet : Packet) (rest : List Packet) (asked : Bool)
+    → Goes old middle (Observe (ballot_named packet) ∷ []) → middle.sends ≡ old.sends → OnOk result (HearsBy core middle new (line_in self from (message_in packet rest) (once_in asked middle)))
+    → OnOk result (HearsBy core old new (hear_in self from (message_in packet rest) (once_in asked old)))
+heard-observed result core old middle new self from packet rest asked observed same answered =
+    heard-on_ok result core old middle new self from packet rest (once_in asked old) observed
+    (subst (λ (copied : Bool). OnOk result (HearsBy core middle new (line_in self from (message_in packet rest) (record { asked = asked; copied = copied })))) (copied-same old middle same) answered)
+
+-- where nothing was done, no snapshot was sent
+copied-none : (core : Core) (draft : Draft) → drafted (fixed_of core) draft ≡ idle_desk core → has_copied draft ≡ false
+copied-none core draft idle =
+    let said : map said_in draft.sends.items ≡ [] = ap (λ (desk : Desk). desk.said) idle in
+    any-said draft.sends.items ∙ ap any_copy said
+
 -- ---- The letter
 
--- what holds once the packets before a place were heard: what is left to hear leads to the same, with few changes and entries
-pub record Hearing (core : Core) (from : ℕ) (packets : List Packet) (place : ℕ) (asked : Bool) (draft : Draft) : Type 0 where
-  pub acts : done (hear_all (identity_of core) from (messages_of (drop place packets)) asked (drafted (fixed_of core) draft).state) (drafted (fixed_of core) draft) ≡ done (hear_all (identity_of core) from (messages_of packets) false (state_of core)) (idle_desk core)
-  pub flies : Flies core.learner draft
+-- what holds once the packets before a place were heard: what is left to hear leads to the same, with few changes and entries, and
+-- brings rows of the table
+pub record Hearing (table : Table) (core : Core) (from : ℕ) (packets : List Packet) (place : ℕ) (asked : Bool) (draft : Draft) : Type 0 where
+  pub acts : done (hear_all (identity_of core) from (messages_of (drop place packets)) (once_in asked draft) (drafted (fixed_of core) draft).state) (drafted (fixed_of core) draft) ≡ done (hear_all (identity_of core) from (messages_of packets) not_yet (state_of core)) (idle_desk core)
+  pub steady : IsSteady table core draft
   pub once : changes_in draft.change + count_by asks_change (messages_of (drop place packets)) ≤ 1
   pub few : length draft.learnt.items ≤ place
+  pub rows : AllByRecursion (BringsRows (length table.jobs)) (messages_of (drop place packets))
+
+drop-none : (packets : List Packet) → drop 0 packets ≡ packets
+drop-none [] = refl
+drop-none (packet ∷ packets) = refl
+
+-- before the first packet
+pub hearing-none : (table : Table) (core : Core) (from : ℕ) (packets : List Packet) (draft : Draft) → drafted (fixed_of core) draft ≡ idle_desk core → IsSteady table core draft → draft.change ≡ None
+    → draft.learnt.items ≡ [] → count_by asks_change (messages_of packets) ≤ 1 → AllByRecursion (BringsRows (length table.jobs)) (messages_of packets) → Hearing table core from packets 0 false draft
+hearing-none table core from packets draft idle steady none nothing once rows =
+    let quiet = copied-none core draft idle in
+    let all = drop-none packets in
+    record {
+      acts = ap (λ (list : List Packet). done (hear_all (identity_of core) from (messages_of list) (once_in false draft) (drafted (fixed_of core) draft).state) (drafted (fixed_of core) draft)) all
+          ∙ ap (λ (desk : Desk). done (hear_all (identity_of core) from (messages_of packets) (once_in false draft) desk.state) desk) idle
+          ∙ ap (λ (copied : Bool). done (hear_all (identity_of core) from (messages_of packets) (record { asked = false; copied = copied }) (state_of core)) (idle_desk core)) quiet;
+      steady = steady;
+      once = rw (none, all) (omega (arith, once));
+      few = rw nothing (omega arith);
+      rows = rw all rows;
+    }
 
 -- of a change that the packet asks for, nothing is stored yet
 pub once-now : (packets rest : List Packet) (packet : Packet) (place changes : ℕ) → drop place packets ≡ packet ∷ rest → changes + count_by asks_change (messages_of (drop place packets)) ≤ 1
@@ -164,43 +267,69 @@ once-now packets rest packet place changes at once =
     let now : changes + count_by asks_change (messages_of (packet ∷ rest)) ≤ 1 = rw at at once in
     omega (arith, first, now)
 
+-- the rows that a packet brings, and those behind it, are of the table
+first-rows : (jobs : ℕ) (packet : Packet) (rest : List Packet) → AllByRecursion (BringsRows jobs) (messages_of (packet ∷ rest)) → BringsRowsIn jobs (message_in packet rest) × AllByRecursion (BringsRows jobs) (messages_of rest)
+unfolding messages_of
+first-rows jobs (packet.Prepare ballot slot) rest rows = rows
+first-rows jobs (packet.Promise ballot slot count) rest rows = rows
+first-rows jobs (packet.OldVote ballot slot cast entry) rest rows = rows
+first-rows jobs (packet.Accept ballot slot entry) rest rows = rows
+first-rows jobs (packet.Accepted ballot slot) rest rows = rows
+first-rows jobs (packet.Nack ballot promised) rest rows = rows
+first-rows jobs (packet.Known slot entry) rest rows = rows
+first-rows jobs (packet.AskFrom slot) rest rows = rows
+first-rows jobs (packet.Snap slot count) rest rows = rows
+first-rows jobs (packet.SnapRow slot row) rest rows = (tt, rows)
+first-rows jobs (packet.Lead ballot slot) rest rows = rows
+
+pub rows-now : (jobs : ℕ) (packets rest : List Packet) (packet : Packet) (place : ℕ) → drop place packets ≡ packet ∷ rest → AllByRecursion (BringsRows jobs) (messages_of (drop place packets))
+    → BringsRowsIn jobs (message_in packet rest)
+rows-now jobs packets rest packet place at rows = (first-rows jobs packet rest (rw at at rows)).0
+
 -- one packet more was heard
-pub hearing-next : (core : Core) (from : ℕ) (packets : List Packet) (packet : Packet) (place : ℕ) (asked : Bool) (old new : Draft) → drop place packets ≡ packet ∷ drop (place + 1) packets
-    → Hearing core from packets place asked old
-    → HearsBy core old new (hear_in (identity_of core) from (message_in packet (drop (place + 1) packets)) asked) → Flies core.learner new
+pub hearing-next : (table : Table) (core : Core) (from : ℕ) (packets : List Packet) (packet : Packet) (place : ℕ) (asked : Bool) (old new : Draft) → drop place packets ≡ packet ∷ drop (place + 1) packets
+    → Hearing table core from packets place asked old
+    → HearsBy core old new (hear_in (identity_of core) from (message_in packet (drop (place + 1) packets)) (once_in asked old)) → IsSteady table core new
     → changes_in new.change ≤ changes_in old.change + changes_asked packet → length new.learnt.items ≤ length old.learnt.items + 1
-    → Hearing core from packets (place + 1) (asked || shows_gap_in packet (drafted (fixed_of core) old).state) new
-hearing-next core from packets packet place asked old new at hearing heard flies once few =
+    → Hearing table core from packets (place + 1) (asked || shows_gap_in packet (drafted (fixed_of core) old).state) new
+hearing-next table core from packets packet place asked old new at hearing heard steady once few =
     let self = identity_of core in
     let rest = drop (place + 1) packets in
     let desk = drafted (fixed_of core) old in
-    let now = hear_in self from (message_in packet rest) asked desk.state in
-    let after = asked || shows_gap_in packet desk.state in
+    let now = hear_in self from (message_in packet rest) (once_in asked old) desk.state in
+    let after = once_next packet desk.state now (once_in asked old) in
     let later = hear_all self from (messages_of rest) after (after_acts now desk.state) in
     let first = first-asks packet rest in
     let before : changes_in old.change + count_by asks_change (messages_of (packet ∷ rest)) ≤ 1 = rw at at hearing.once in
+    let same : once_in (asked || shows_gap_in packet desk.state) new ≡ after =
+    ap (λ (copied : Bool). once_with (asked || shows_gap_in packet desk.state) copied) (copied-after core old new now heard) in
     record {
       acts =
-          ap (λ (desk : Desk). done (hear_all self from (messages_of rest) after desk.state) desk) heard
+          ap (λ (once : Once). done (hear_all self from (messages_of rest) once (drafted (fixed_of core) new).state) (drafted (fixed_of core) new)) same
+          ∙ ap (λ (desk : Desk). done (hear_all self from (messages_of rest) after desk.state) desk) heard
           ∙ sym (done-append now later desk)
-          ∙ ap (λ (acts : List Act). done acts desk) (sym (first-heard self from packet rest asked desk.state))
-          ∙ ap (λ (list : List Packet). done (hear_all self from (messages_of list) asked desk.state) desk) (sym at)
+          ∙ ap (λ (acts : List Act). done acts desk) (sym (first-heard self from packet rest (once_in asked old) desk.state))
+          ∙ ap (λ (list : List Packet). done (hear_all self from (messages_of list) (once_in asked old) desk.state) desk) (sym at)
           ∙ hearing.acts;
-      flies = flies;
+      steady = steady;
       once = omega (arith, first, before, once);
       few = omega (arith, few, hearing.few);
+      rows = (first-rows (length table.jobs) packet rest (rw at at hearing.rows)).1;
     }
+  where
+    once_with : Bool → Bool → Once
+    once_with asked copied = record { asked = asked; copied = copied }
 
 -- once all packets were heard, the draft makes just what the letter asks for
-pub hearing-all : (core : Core) (from : ℕ) (packets : List Packet) (place : ℕ) (asked : Bool) (draft : Draft) → length packets ≤ place → Hearing core from packets place asked draft
-    → Makes core (hear_all (identity_of core) from (messages_of packets) false (state_of core)) draft
+pub hearing-all : (table : Table) (core : Core) (from : ℕ) (packets : List Packet) (place : ℕ) (asked : Bool) (draft : Draft) → length packets ≤ place → Hearing table core from packets place asked draft
+    → Makes core (hear_all (identity_of core) from (messages_of packets) not_yet (state_of core)) draft
 unfolding hear_all messages_of
-hearing-all core from packets place asked draft past hearing =
+hearing-all table core from packets place asked draft past hearing =
     let none : drop place packets ≡ [] = drop_all place packets past in
     sym (done-nil (drafted (fixed_of core) draft))
-    ∙ ap (λ (list : List Packet). done (hear_all (identity_of core) from (messages_of list) asked (drafted (fixed_of core) draft).state) (drafted (fixed_of core) draft)) (sym none)
+    ∙ ap (λ (list : List Packet). done (hear_all (identity_of core) from (messages_of list) (once_in asked draft) (drafted (fixed_of core) draft).state) (drafted (fixed_of core) draft)) (sym none)
     ∙ hearing.acts
 
 -- the first slot that isn't learned, in the words of the protocol
 pub next-drafted : (core : Core) (draft : Draft) → core.learner.base ≡ core.acceptor.base → next_slot core.learner draft ≡ prefix_of (drafted (fixed_of core) draft).state
-next-drafted core draft base = sym (drafted-prefix core.acceptor core.learner draft (fixed_of core) (core-kept core base))
+next-drafted core draft base = sym (drafted-prefix core draft (fixed_of core) (core-kept core base))

@@ -15,7 +15,6 @@ use Rattle.paxos_base.specs.declared.entry.Kind.{Kind}
 use Rattle.paxos_base.specs.declared.entry.Vote.{Vote}
 use Rattle.paxos_base.specs.declared.rows.JobRow.{JobRow}
 use Rattle.launch_machine.specs.declared.machine.Intent.{Intent}
-use Rattle.acceptor_core.specs.Acceptor.{AcceptorState}
 use Rattle.learner_core.specs.Learner.{LearnerState}
 use Rattle.learner_core.specs.Learner as learned
 use Rattle.term_core.specs.Term.{answer_to_tick, best_votes, candidacy, is_fourth}
@@ -23,19 +22,20 @@ use Rattle.term_core.specs.declared.flight.Flight.{Flight}
 use Rattle.term_core.specs.declared.term.Term.{Term}
 use Rattle.term_core.specs.declared.term.Term.TheVariants.{Follower, Candidate, Leader}
 use Rattle.term_core.proofs.BestLemmas.{AllBelow, below_last}
-use Rattle.step_law.specs.Act.{Act, Propose, Learn, Send, Stand, Wait, after_act}
+use Rattle.step_law.specs.Act.{Act, Propose, Learn, Rebase, Send, Stand, Wait, after_act}
 use Rattle.step_law.specs.Folds.{calls_by, deltas_by, learnt_by}
 use Rattle.step_law.specs.Message.{Accept, Known, Others, Outside, Prepare}
-use Rattle.step_law.specs.Propose.{answer, campaign, end_if, is_open, lead_if, lead_on, next_ballot, propose, tick, vote_of, wait}
+use Rattle.step_law.specs.Propose.{answer, campaign, end_if, is_long, is_open, lead_if, lead_on, next_ballot, propose, tick, vote_of, wait}
 use Rattle.step_law.specs.State.{Identity, State, prefix_of}
-use Rattle.replica_draft.specs.Draft.{Chooses, Goes, FixedParts, done, drafted, said_by, with_best}
+use Rattle.replica_draft.specs.Draft.{Chooses, Goes, FixedParts, TakesTable, done, drafted, said_by, with_best}
 use Rattle.replica_core.specs.Lines.{Does, IsFixed}
-use Rattle.replica_core.specs.Replica.{FliesAt, IsReady, IsWhole, Makes, identity_of, idle_desk, fixed_of, next_slot, state_of}
+use Rattle.replica_core.specs.Replica.{FliesAt, IsReadyAnyhow, IsWhole, Makes, identity_of, idle_desk, fixed_of, next_slot, state_of}
 use Rattle.replica_core.specs.declared.parts.Core.{Core}
-use Rattle.replica_draft.specs.declared.draft.Change.TheVariants.{Tried}
+use Rattle.replica_draft.specs.declared.change.Change.TheVariants.{Tried}
 use Rattle.replica_draft.specs.declared.draft.Draft.{Draft}
-use Rattle.replica_draft.proofs.DraftLemmas.{done-append, done-nil, drafted-learn, goes-on}
+use Rattle.replica_draft.proofs.DraftLemmas.{done-append, done-nil, drafted-learn, drafted-rebase, goes-on}
 use Rattle.replica_core.proofs.LineLemmas.{done_as, drafted-prefix}
+use Rattle.replica_core.proofs.SteadyLemmas.{ready-quiet}
 
 -- ---- The votes that bind
 
@@ -89,8 +89,8 @@ makes core old new acts idle goes = goes (fixed_of core) ∙ ap (done acts) idle
 pub makes_nothing : (core : Core) (old : Draft) → drafted (fixed_of core) old ≡ idle_desk core → Makes core [] old
 makes_nothing core old idle = idle ∙ sym (done-nil (idle_desk core))
 
-pub nothing-learned : (learner : LearnerState) (draft : Draft) (slot : ℕ) → draft.learnt.items ≡ [] → slot ≡ learned.prefix_of learner → slot ≡ next_slot learner draft
-nothing-learned learner draft slot none at = rw (none, at) (omega arith)
+pub nothing-learned : (learner : LearnerState) (draft : Draft) (slot : ℕ) → draft.change ≡ None → draft.learnt.items ≡ [] → slot ≡ learned.prefix_of learner → slot ≡ next_slot learner draft
+nothing-learned learner draft slot plain none at = rw (plain, none, at) (omega arith)
 
 -- a flight stands at a slot, whatever the votes
 flies-outline : (prefix : ℕ) (best : List Vote) (term : Term) → FliesAt prefix (with_best best term) → FliesAt prefix term
@@ -99,14 +99,13 @@ flies-outline prefix best (Candidate ballot first heard votes) flies = flies
 flies-outline prefix best (Leader ballot votes None) flies = flies
 flies-outline prefix best (Leader ballot votes (Some flight)) flies = flies
 
-pub begun-ready : (core : Core) (draft : Draft) → IsWhole core → with_best (best_votes core.term) draft.term ≡ core.term → draft.learnt.items ≡ [] → IsReady core draft
-begun-ready core draft whole outline none =
-    let here : learned.prefix_of core.learner ≡ next_slot core.learner draft = nothing-learned core.learner draft (learned.prefix_of core.learner) none refl in
+pub begun-flies : (core : Core) (draft : Draft) → IsWhole core → with_best (best_votes core.term) draft.term ≡ core.term → FliesAt (learned.prefix_of core.learner) draft.term
+begun-flies core draft whole outline =
     let flies : FliesAt (learned.prefix_of core.learner) (with_best (best_votes core.term) draft.term) = rw outline whole.flies in
-    record {
-      flies = rw (← here) (flies-outline (learned.prefix_of core.learner) (best_votes core.term) draft.term flies);
-      few = rw none (omega arith);
-    }
+    flies-outline (learned.prefix_of core.learner) (best_votes core.term) draft.term flies
+
+pub begun-ready : (core : Core) (draft : Draft) → IsWhole core → with_best (best_votes core.term) draft.term ≡ core.term → draft.change ≡ None → draft.learnt.items ≡ [] → IsReadyAnyhow core draft
+begun-ready core draft whole outline plain none = ready-quiet core draft (rw plain tt) none (begun-flies core draft whole outline)
 
 -- a leader's term, by its parts
 pub leads_with : (term : Term) (ballot : ℕ) (best votes : List Vote) (flight other : Option Flight) → term ≡ Leader ballot best flight → flight ≡ other → votes ≡ best
@@ -114,11 +113,12 @@ pub leads_with : (term : Term) (ballot : ℕ) (best votes : List Vote) (flight o
 leads_with term ballot best votes flight other is same_flight same_votes = is ∙ rw (same_flight, same_votes) refl
 
 -- what the replica keeps is what its parts say
-own_kept : (core : Core) → IsWhole core → IsFixed core.acceptor core.learner (fixed_of core)
+own_kept : (core : Core) → IsWhole core → IsFixed core (fixed_of core)
 own_kept core whole = record {
   acceptor = record { promised = refl; votes = refl; base = refl };
   learned = refl;
   base = whole.base;
+  rows = refl;
 }
 
 pub own-prefix : (core : Core) → IsWhole core → learned.prefix_of core.learner ≡ prefix_of (state_of core)
@@ -141,28 +141,28 @@ proposed-prefix : (kept : FixedParts) (old middle : Draft) (me : ℕ) (vote : Vo
 unfolding after_act after_delta
 proposed-prefix kept old middle me vote goes = ap (λ desk. prefix_of desk.state) (goes kept)
 
-pub proposes : (acceptor : AcceptorState) (learner : LearnerState) (old middle new : Draft) (self : Identity) (vote : Vote) → has_majority self.members (only_member self.me) ≡ false
+pub proposes : (core : Core) (old middle new : Draft) (self : Identity) (vote : Vote) → has_majority self.members (only_member self.me) ≡ false
     → Goes old middle (Propose self.me vote ∷ []) → Goes middle new (Send Others (Accept vote) ∷ [])
-    → Does acceptor learner old new (λ state. propose self vote)
+    → Does core old new (λ state. propose self vote)
 unfolding propose
-proposes acceptor learner old middle new self vote waits first second kept is =
+proposes core old middle new self vote waits first second kept is =
     rw waits (goes-on old middle new (Propose self.me vote ∷ []) (Send Others (Accept vote) ∷ []) first second kept)
 
-pub proposes-alone : (acceptor : AcceptorState) (learner : LearnerState) (old middle sent new : Draft) (self : Identity) (vote : Vote) → has_majority self.members (only_member self.me) ≡ true
-    → vote.slot ≡ next_slot learner old → Goes old middle (Propose self.me vote ∷ []) → Goes middle sent (Send Others (Accept vote) ∷ [])
-    → Chooses sent new vote.slot vote.entry → Does acceptor learner old new (λ state. propose self vote)
+pub proposes-alone : (core : Core) (old middle sent new : Draft) (self : Identity) (vote : Vote) → has_majority self.members (only_member self.me) ≡ true
+    → vote.slot ≡ next_slot core.learner old → Goes old middle (Propose self.me vote ∷ []) → Goes middle sent (Send Others (Accept vote) ∷ [])
+    → Chooses sent new vote.slot vote.entry → Does core old new (λ state. propose self vote)
 unfolding propose
-proposes-alone acceptor learner old middle sent new self vote alone at first second chooses kept is =
+proposes-alone core old middle sent new self vote alone at first second chooses kept is =
     let goes : Goes old sent (proposed self.me vote) = goes-on old middle sent (Propose self.me vote ∷ []) (Send Others (Accept vote) ∷ []) first second in
     let here : vote.slot ≡ prefix_of (drafted kept sent).state =
-    at ∙ sym (drafted-prefix acceptor learner old kept is) ∙ sym (proposed-prefix kept old sent self.me vote goes) in
+    at ∙ sym (drafted-prefix core old kept is) ∙ sym (proposed-prefix kept old sent self.me vote goes) in
     rw alone
     (chosen-acts kept sent new vote.slot vote.entry here chooses
     ∙ ap (done (Learn vote.slot vote.entry ∷ Send Others (Known vote.slot vote.entry) ∷ [])) (goes kept)
     ∙ sym (done-append (proposed self.me vote) (Learn vote.slot vote.entry ∷ Send Others (Known vote.slot vote.entry) ∷ []) (drafted kept old)))
 
 pub makes_proposal : (core : Core) (old new : Draft) (vote : Vote) → IsWhole core → drafted (fixed_of core) old ≡ idle_desk core
-    → Does core.acceptor core.learner old new (λ state. propose (identity_of core) vote) → Makes core (propose (identity_of core) vote) new
+    → Does core old new (λ state. propose (identity_of core) vote) → Makes core (propose (identity_of core) vote) new
 makes_proposal core old new vote whole idle does = does (fixed_of core) (own_kept core whole) ∙ ap (done (propose (identity_of core) vote)) idle
 
 -- of what holds of a value that a call gave, what follows holds of it too
@@ -241,22 +241,35 @@ wait-not_yet ballot flight none =
 
 -- ---- Tick
 
-pub tick-waits : (self : Identity) (now : ℤ) (intent : Intent) (state : State) (ballot : ℕ) (best : List Vote) (flight : Flight) → state.term ≡ Leader ballot best (Some flight)
-    → tick self now intent state ≡ wait ballot flight
-unfolding tick
-tick-waits self now intent state ballot best flight is = rw is refl
+-- a replica whose log is long takes its launch table in its place
+pub compacts : (core : Core) (old new : Draft) (slot : ℕ) (rows : List JobRow) → drafted (fixed_of core) old ≡ idle_desk core → old.change ≡ None → slot ≡ prefix_of (state_of core)
+    → TakesTable old new slot rows None → Makes core (Rebase (prefix_of (state_of core)) rows ∷ []) new
+compacts core old new slot rows idle none at takes =
+    let prefix : prefix_of (drafted (fixed_of core) old).state ≡ prefix_of (state_of core) = ap (λ desk. prefix_of desk.state) idle in
+    rw (← at)
+    (drafted-rebase (fixed_of core) old new slot rows None takes none (omega (arith, prefix, at)) ∙ ap (done (Rebase slot rows ∷ [])) idle)
 
-pub tick-leads : (self : Identity) (now : ℤ) (intent : Intent) (state : State) (ballot : ℕ) (best : List Vote) → state.term ≡ Leader ballot best None
-    → tick self now intent state ≡ lead_on self now intent ballot best state (votes_from (prefix_of state) best)
+pub tick-long : (self : Identity) (now : ℤ) (rows : List JobRow) (intent : Intent) (state : State) → is_long state ≡ true → tick self now rows intent state ≡ Rebase (prefix_of state) rows ∷ []
 unfolding tick
-tick-leads self now intent state ballot best is = rw is refl
+tick-long self now rows intent state long = rw long refl
 
-pub tick-rests : (self : Identity) (now : ℤ) (intent : Intent) (state : State) (term : Term) → ((ballot : ℕ) (best : List Vote) (flight : Option Flight) → term ≡ Leader ballot best flight → ⊥)
-    → state.term ≡ term → tick self now intent state ≡ []
+pub tick-waits : (self : Identity) (now : ℤ) (rows : List JobRow) (intent : Intent) (state : State) (ballot : ℕ) (best : List Vote) (flight : Flight) → is_long state ≡ false → state.term ≡ Leader ballot best (Some flight)
+    → tick self now rows intent state ≡ wait ballot flight
 unfolding tick
-tick-rests self now intent state (Follower ended) other is = rw is refl
-tick-rests self now intent state (Candidate ballot first heard best) other is = rw is refl
-tick-rests self now intent state (Leader ballot best flight) other is = absurd (other ballot best flight refl)
+tick-waits self now rows intent state ballot best flight short is = rw (short, is) refl
+
+pub tick-leads : (self : Identity) (now : ℤ) (rows : List JobRow) (intent : Intent) (state : State) (ballot : ℕ) (best : List Vote) → is_long state ≡ false → state.term ≡ Leader ballot best None
+    → tick self now rows intent state ≡ lead_on self now intent ballot best state (votes_from (prefix_of state) best)
+unfolding tick
+tick-leads self now rows intent state ballot best short is = rw (short, is) refl
+
+pub tick-rests : (self : Identity) (now : ℤ) (rows : List JobRow) (intent : Intent) (state : State) (term : Term) → is_long state ≡ false
+    → ((ballot : ℕ) (best : List Vote) (flight : Option Flight) → term ≡ Leader ballot best flight → ⊥)
+    → state.term ≡ term → tick self now rows intent state ≡ []
+unfolding tick
+tick-rests self now rows intent state (Follower ended) short other is = rw (short, is) refl
+tick-rests self now rows intent state (Candidate ballot first heard best) short other is = rw (short, is) refl
+tick-rests self now rows intent state (Leader ballot best flight) short other is = absurd (other ballot best flight refl)
 
 -- ---- Answer
 

@@ -7,5 +7,9 @@ pub mod LineLemmas
 pub mod OnceLemmas
 pub mod OutcomeLemmas
 pub mod PlanLemmas
+pub mod SnapLemmas
+pub mod SteadyLemmas
 pub mod StoreLemmas
+pub mod TableLemmas
+pub mod TakenLemmas
 pub mod WholeLemmas

@@ -1,15 +1,13 @@
 -- What each line of the table comes to, by what the acceptor and the learner say.
-use Rattle.std.proofs.Common.{◌≡◌, ℕ, ◌+◌, ◌-◌, ◌<◌, ◌≤◌, Bool, true, false, Option, None, Some, List, [], ◌∷◌, ◌++◌, refl, sym, ap, ◌∙◌, inl, inr, arith, length, length-append, drop, unwrap_or, leb, ltb, eqb, ◌&&◌, max, zero, suc, IsSomeAnd}
+use Rattle.std.proofs.Common.{◌≡◌, ℕ, ◌+◌, ◌<◌, ◌≤◌, Bool, true, false, Option, None, Some, List, [], ◌∷◌, ◌++◌, refl, sym, ap, ◌∙◌, inl, inr, arith, length, length-append, unwrap_or, leb, ltb, eqb, ◌&&◌, IsSomeAnd}
 use Rattle.std.proofs.lemmas.Bool.{le-leb, lt-leb, lt-ltb, le-ltb, eq-eqb, ne_eqb, cases_Bool}
-use Rattle.std.proofs.lemmas.List.{length-map, length-drop, drop_all, map-append, append-nil}
+use Rattle.std.proofs.lemmas.List.{length-map, append-nil}
 use Rattle.paxos_base.specs.Durable.{after_delta}
 use Rattle.paxos_base.specs.Vote.{vote_at, votes_from}
 use Rattle.paxos_base.specs.declared.durable.Durable.{Durable}
 use Rattle.paxos_base.specs.declared.entry.Entry.{Entry}
 use Rattle.paxos_base.specs.declared.entry.Vote.{Vote}
-use Rattle.acceptor_core.specs.Acceptor.{AcceptorState, HasVoted, IsAbove, IsAtLeast}
-use Rattle.learner_core.specs.Learner.{LearnerState}
-use Rattle.learner_core.specs.Learner as learned
+use Rattle.acceptor_core.specs.Acceptor.{HasVoted, IsAbove, IsAtLeast}
 use Rattle.paxos_base.specs.Members.{has_majority, with_member}
 use Rattle.term_core.specs.Best.{best_of}
 use Rattle.term_core.specs.Term.{accepted_by, after_accepted, after_advance, after_promise, best_votes, chosen_by, has_asked}
@@ -18,16 +16,16 @@ use Rattle.term_core.specs.declared.term.Term.{Term}
 use Rattle.term_core.specs.declared.term.Term.TheVariants.{Follower, Candidate, Leader}
 use Rattle.step_law.specs.Folds.{calls_by, deltas_by, learnt_by}
 use Rattle.step_law.specs.Act.{Act, Cast, Count, Learn, Pledge, Send, after_act}
-use Rattle.step_law.specs.Hear.{ask_below, is_vote_of, known_from, on_accept, on_accepted, on_ask, on_known, on_prepare, on_promise, send_all}
+use Rattle.step_law.specs.Hear.{ask_below, is_vote_of, on_accept, on_accepted, on_known, on_prepare, on_promise, snapshot}
 use Rattle.step_law.specs.Message.{AskFrom, Known, Nack, Only, Others, Promise}
 use Rattle.step_law.specs.State.{State, prefix_of, promised_in}
 use Rattle.step_law.specs.declared.out.LearntRow.{LearntRow}
-use Rattle.replica_draft.specs.Draft.{Chooses, Desk, Goes, FixedParts, LearnsNext, done, drafted, durable_of, entries_in, said_by, with_best}
+use Rattle.replica_draft.specs.Draft.{Chooses, Desk, Goes, FixedParts, LearnsNext, done, drafted, durable_of, entries_in, has_copied, learned_with, said_by, with_best}
 use Rattle.replica_core.specs.Lines.{Does, IsFixed, cast_vote, tell_vote}
-use Rattle.replica_core.specs.Replica.{DoesAsTerm, Flies, best_in, next_slot}
+use Rattle.replica_core.specs.Replica.{DoesAsTerm, FliesAt, base_of, best_in, next_of, next_slot, rows_of}
 use Rattle.replica_core.specs.declared.parts.Core.{Core}
-use Rattle.replica_draft.specs.declared.draft.Change.{Change}
-use Rattle.replica_draft.specs.declared.draft.Change.TheVariants as change
+use Rattle.replica_draft.specs.declared.change.Change.{Change}
+use Rattle.replica_draft.specs.declared.change.Change.TheVariants as change
 use Rattle.replica_draft.specs.declared.draft.Draft.{Draft}
 use Rattle.replica_draft.proofs.DraftLemmas.{done-append, done-nil, drafted-learn, goes-on}
 
@@ -36,44 +34,69 @@ pub done_as : (desk : Desk) (acts these : List Act) → acts ≡ these → done 
 done_as desk acts these same = ap (λ list. done list desk) (sym same)
 
 -- a draft that goes on by acts does what comes to these acts
-pub does_as : (acceptor : AcceptorState) (learner : LearnerState) (old new : Draft) (acts : State → List Act) (these : List Act) → Goes old new these
-    → ((kept : FixedParts) → IsFixed acceptor learner kept → acts (drafted kept old).state ≡ these) → Does acceptor learner old new acts
-does_as acceptor learner old new acts these goes same kept is = goes kept ∙ done_as (drafted kept old) (acts (drafted kept old).state) these (same kept is)
+pub does_as : (core : Core) (old new : Draft) (acts : State → List Act) (these : List Act) → Goes old new these
+    → ((kept : FixedParts) → IsFixed core kept → acts (drafted kept old).state ≡ these) → Does core old new acts
+does_as core old new acts these goes same kept is = goes kept ∙ done_as (drafted kept old) (acts (drafted kept old).state) these (same kept is)
 
 -- nothing is done
-pub does_nothing : (acceptor : AcceptorState) (learner : LearnerState) (old : Draft) (acts : State → List Act)
-    → ((kept : FixedParts) → IsFixed acceptor learner kept → acts (drafted kept old).state ≡ []) → Does acceptor learner old old acts
-does_nothing acceptor learner old acts same = does_as acceptor learner old old acts [] (λ kept. sym (done-nil (drafted kept old))) same
+pub does_nothing : (core : Core) (old : Draft) (acts : State → List Act)
+    → ((kept : FixedParts) → IsFixed core kept → acts (drafted kept old).state ≡ []) → Does core old old acts
+does_nothing core old acts same = does_as core old old acts [] (λ kept. sym (done-nil (drafted kept old))) same
 
--- no change of a draft moves the base
-pub base_stays : (change : Option Change) (durable : Durable) → (durable_of change durable).base ≡ durable.base
+-- the base and the rows there, with what a draft has taken
+pub base-drafted : (made : Option Change) (durable : Durable) → (durable_of made durable).base ≡ base_of made durable.base
 unfolding after_delta
-base_stays None durable = refl
-base_stays (Some (change.Tried ballot)) durable = refl
-base_stays (Some (change.Promised ballot)) durable = refl
-base_stays (Some (change.Voted vote)) durable = refl
+base-drafted None durable = refl
+base-drafted (Some (change.Tried ballot)) durable = refl
+base-drafted (Some (change.Promised ballot)) durable = refl
+base-drafted (Some (change.Voted vote)) durable = refl
+base-drafted (Some (change.Rebased rebased)) durable = refl
+
+pub rows-drafted : (made : Option Change) (durable : Durable) → (durable_of made durable).rows ≡ rows_of made durable.rows
+unfolding after_delta
+rows-drafted None durable = refl
+rows-drafted (Some (change.Tried ballot)) durable = refl
+rows-drafted (Some (change.Promised ballot)) durable = refl
+rows-drafted (Some (change.Voted vote)) durable = refl
+rows-drafted (Some (change.Rebased rebased)) durable = refl
+
+-- where nothing is changed yet, the base is what it was
+base-none : (draft : Draft) (durable : Durable) → draft.change ≡ None → (durable_of draft.change durable).base ≡ durable.base
+base-none draft durable none = rw none refl
+
+-- the entries of a learner, with those of some rows
+entries-count : (entries : List Entry) (rows : List LearntRow) → length (entries ++ entries_in rows) ≡ length entries + length rows
+entries-count entries rows = length-append entries (entries_in rows) ∙ rw (length-map rows (λ (row : LearntRow). row.entry)) refl
+
+-- the first slot that isn't learned is by the base, and by what the replica has and the draft has learned
+pub next-learned : (made : Option Change) (base : ℕ) (entries : List Entry) (rows : List LearntRow)
+    → base_of made base + length (learned_with made entries rows) ≡ next_of made (base + length entries + length rows)
+next-learned None base entries rows = rw (entries-count entries rows) (omega arith)
+next-learned (Some (change.Tried ballot)) base entries rows = rw (entries-count entries rows) (omega arith)
+next-learned (Some (change.Promised ballot)) base entries rows = rw (entries-count entries rows) (omega arith)
+next-learned (Some (change.Voted vote)) base entries rows = rw (entries-count entries rows) (omega arith)
+next-learned (Some (change.Rebased rebased)) base entries rows = refl
 
 -- the first slot that isn't learned is the learner's, and what the draft has learned
-pub drafted-prefix : (acceptor : AcceptorState) (learner : LearnerState) (draft : Draft) (kept : FixedParts) → IsFixed acceptor learner kept
-    → prefix_of (drafted kept draft).state ≡ next_slot learner draft
-drafted-prefix acceptor learner draft kept is =
-    rw (base_stays draft.change kept.durable, sym is.base, sym is.learned, length-append learner.entries (entries_in draft.learnt.items), length-map draft.learnt.items (λ (row : LearntRow). row.entry)) (omega arith)
+pub drafted-prefix : (core : Core) (draft : Draft) (kept : FixedParts) → IsFixed core kept → prefix_of (drafted kept draft).state ≡ next_slot core.learner draft
+drafted-prefix core draft kept is =
+    rw (base-drafted draft.change kept.durable, sym is.base, sym is.learned) (next-learned draft.change core.learner.base core.learner.entries draft.learnt.items)
 
 -- what is promised, where nothing is changed yet
-pub drafted-promised : (acceptor : AcceptorState) (learner : LearnerState) (draft : Draft) (kept : FixedParts) → draft.change ≡ None → IsFixed acceptor learner kept
-    → promised_in (drafted kept draft).state.kept ≡ unwrap_or acceptor.promised 0
-drafted-promised acceptor learner draft kept none is = rw (none, is.acceptor.promised) refl
+pub drafted-promised : (core : Core) (draft : Draft) (kept : FixedParts) → draft.change ≡ None → IsFixed core kept
+    → promised_in (drafted kept draft).state.kept ≡ unwrap_or core.acceptor.promised 0
+drafted-promised core draft kept none is = rw (none, is.acceptor.promised) refl
 
 -- ---- Prepare
 
-pub prepare-refused : (acceptor : AcceptorState) (learner : LearnerState) (old new : Draft) (from ballot slot promised : ℕ) → old.change ≡ None
-    → (acceptor.promised ≡ Some promised) × (ballot ≤ promised) → Goes old new (Send (Only from) (Nack ballot promised) ∷ [])
-    → Does acceptor learner old new (on_prepare from ballot slot)
+pub prepare-refused : (core : Core) (old new : Draft) (from ballot slot promised : ℕ) → old.change ≡ None
+    → (core.acceptor.promised ≡ Some promised) × (ballot ≤ promised) → Goes old new (Send (Only from) (Nack ballot promised) ∷ [])
+    → Does core old new (on_prepare from ballot slot (has_copied old))
 unfolding on_prepare
-prepare-refused acceptor learner old new from ballot slot promised none refused goes =
-    does_as acceptor learner old new (on_prepare from ballot slot) (Send (Only from) (Nack ballot promised) ∷ []) goes
+prepare-refused core old new from ballot slot promised none refused goes =
+    does_as core old new (on_prepare from ballot slot (has_copied old)) (Send (Only from) (Nack ballot promised) ∷ []) goes
     (λ kept is.
-    let same : promised_in (drafted kept old).state.kept ≡ promised = drafted-promised acceptor learner old kept none is ∙ ap (λ option. unwrap_or option 0) refused.0 in
+    let same : promised_in (drafted kept old).state.kept ≡ promised = drafted-promised core old kept none is ∙ ap (λ option. unwrap_or option 0) refused.0 in
     rw (same, le-leb ballot promised refused.1) refl)
 
 -- a ballot above the promised one is above the number that stands for it
@@ -81,56 +104,56 @@ above : (ballot : ℕ) (promised : Option ℕ) → 0 < ballot → IsAbove ballot
 above ballot None positive is = lt-leb ballot 0 positive
 above ballot (Some promised) positive is = lt-leb ballot promised is
 
-pub prepare-behind : (acceptor : AcceptorState) (learner : LearnerState) (old : Draft) (from ballot slot : ℕ) → old.change ≡ None → 0 < ballot
-    → IsAbove ballot acceptor.promised → slot < acceptor.base → Does acceptor learner old old (on_prepare from ballot slot)
+pub prepare-behind : (core : Core) (old new : Draft) (from ballot slot : ℕ) → old.change ≡ None → 0 < ballot → IsAbove ballot core.acceptor.promised → slot < core.acceptor.base
+    → Does core old new (snapshot from (has_copied old)) → Does core old new (on_prepare from ballot slot (has_copied old))
 unfolding on_prepare
-prepare-behind acceptor learner old from ballot slot none positive is_above behind =
-    does_nothing acceptor learner old (on_prepare from ballot slot)
-    (λ kept is. rw (drafted-promised acceptor learner old kept none is, above ballot acceptor.promised positive is_above, base_stays old.change kept.durable, sym is.acceptor.base, lt-ltb slot acceptor.base behind) refl)
+prepare-behind core old new from ballot slot none positive is_above behind sends kept is =
+    sends kept is ∙ done_as (drafted kept old) (on_prepare from ballot slot (has_copied old) (drafted kept old).state) (snapshot from (has_copied old) (drafted kept old).state)
+    (rw (drafted-promised core old kept none is, above ballot core.acceptor.promised positive is_above, base-none old kept.durable none, sym is.acceptor.base, lt-ltb slot core.acceptor.base behind) refl)
 
-pub prepare-promised : (acceptor : AcceptorState) (learner : LearnerState) (old middle new : Draft) (from ballot slot : ℕ) → old.change ≡ None → 0 < ballot
-    → IsAbove ballot acceptor.promised → acceptor.base ≤ slot → Goes old middle (Pledge ballot ∷ []) → Goes middle new (Send (Only from) (Promise ballot slot (votes_from slot acceptor.votes)) ∷ [])
-    → Does acceptor learner old new (on_prepare from ballot slot)
+pub prepare-promised : (core : Core) (old middle new : Draft) (from ballot slot : ℕ) → old.change ≡ None → 0 < ballot
+    → IsAbove ballot core.acceptor.promised → core.acceptor.base ≤ slot → Goes old middle (Pledge ballot ∷ []) → Goes middle new (Send (Only from) (Promise ballot slot (votes_from slot core.acceptor.votes)) ∷ [])
+    → Does core old new (on_prepare from ballot slot (has_copied old))
 unfolding on_prepare
-prepare-promised acceptor learner old middle new from ballot slot none positive is_above reaches pledged sent =
-    does_as acceptor learner old new (on_prepare from ballot slot) (Pledge ballot ∷ Send (Only from) (Promise ballot slot (votes_from slot acceptor.votes)) ∷ [])
-    (goes-on old middle new (Pledge ballot ∷ []) (Send (Only from) (Promise ballot slot (votes_from slot acceptor.votes)) ∷ []) pledged sent)
-    (λ kept is. rw (drafted-promised acceptor learner old kept none is, above ballot acceptor.promised positive is_above, base_stays old.change kept.durable, sym is.acceptor.base, le-ltb slot acceptor.base reaches)
+prepare-promised core old middle new from ballot slot none positive is_above reaches pledged sent =
+    does_as core old new (on_prepare from ballot slot (has_copied old)) (Pledge ballot ∷ Send (Only from) (Promise ballot slot (votes_from slot core.acceptor.votes)) ∷ [])
+    (goes-on old middle new (Pledge ballot ∷ []) (Send (Only from) (Promise ballot slot (votes_from slot core.acceptor.votes)) ∷ []) pledged sent)
+    (λ kept is. rw (drafted-promised core old kept none is, above ballot core.acceptor.promised positive is_above, base-none old kept.durable none, sym is.acceptor.base, le-ltb slot core.acceptor.base reaches)
     (rw (none, is.acceptor.votes) refl))
 
 -- ---- Accept
 
-pub asks : (acceptor : AcceptorState) (learner : LearnerState) (old new : Draft) (from slot : ℕ) → next_slot learner old < slot
-    → Goes old new (Send (Only from) (AskFrom (next_slot learner old)) ∷ []) → Does acceptor learner old new (ask_below from slot)
-asks acceptor learner old new from slot below goes =
-    does_as acceptor learner old new (ask_below from slot) (Send (Only from) (AskFrom (next_slot learner old)) ∷ []) goes
-    (λ kept is. rw (drafted-prefix acceptor learner old kept is, lt-ltb (next_slot learner old) slot below) refl)
+pub asks : (core : Core) (old new : Draft) (from slot : ℕ) → next_slot core.learner old < slot
+    → Goes old new (Send (Only from) (AskFrom (next_slot core.learner old)) ∷ []) → Does core old new (ask_below from slot)
+asks core old new from slot below goes =
+    does_as core old new (ask_below from slot) (Send (Only from) (AskFrom (next_slot core.learner old)) ∷ []) goes
+    (λ kept is. rw (drafted-prefix core old kept is, lt-ltb (next_slot core.learner old) slot below) refl)
 
-pub asks_not : (acceptor : AcceptorState) (learner : LearnerState) (old : Draft) (from slot : ℕ) → slot ≤ next_slot learner old → Does acceptor learner old old (ask_below from slot)
-asks_not acceptor learner old from slot reached =
-    does_nothing acceptor learner old (ask_below from slot)
-    (λ kept is. rw (drafted-prefix acceptor learner old kept is, le-ltb (next_slot learner old) slot reached) refl)
+pub asks_not : (core : Core) (old : Draft) (from slot : ℕ) → slot ≤ next_slot core.learner old → Does core old old (ask_below from slot)
+asks_not core old from slot reached =
+    does_nothing core old (ask_below from slot)
+    (λ kept is. rw (drafted-prefix core old kept is, le-ltb (next_slot core.learner old) slot reached) refl)
 
 -- the prefix of a draft that has cast a vote
 cast-prefix : (kept : FixedParts) (old middle : Draft) (vote : Vote) → Goes old middle (Cast vote ∷ []) → prefix_of (drafted kept middle).state ≡ prefix_of (drafted kept old).state
 unfolding after_act after_delta
 cast-prefix kept old middle vote goes = ap (λ desk. prefix_of desk.state) (goes kept)
 
-pub casts : (acceptor : AcceptorState) (learner : LearnerState) (old middle new : Draft) (from : ℕ) (vote : Vote) → Goes old middle (Cast vote ∷ [])
-    → Does acceptor learner middle new (tell_vote from vote) → Does acceptor learner old new (cast_vote from vote)
-casts acceptor learner old middle new from vote cast told kept is =
+pub casts : (core : Core) (old middle new : Draft) (from : ℕ) (vote : Vote) → Goes old middle (Cast vote ∷ [])
+    → Does core middle new (tell_vote from vote) → Does core old new (cast_vote from vote)
+casts core old middle new from vote cast told kept is =
     told kept is
     ∙ rw (cast-prefix kept old middle vote cast) (ap (done (tell_vote from vote (drafted kept old).state)) (cast kept))
     ∙ sym (done-append (Cast vote ∷ []) (tell_vote from vote (drafted kept old).state) (drafted kept old))
 
-pub accept-refused : (acceptor : AcceptorState) (learner : LearnerState) (old new : Draft) (from promised : ℕ) (vote : Vote) → old.change ≡ None
-    → (acceptor.promised ≡ Some promised) × (vote.ballot < promised) → Goes old new (Send (Only from) (Nack vote.ballot promised) ∷ [])
-    → Does acceptor learner old new (on_accept from vote)
+pub accept-refused : (core : Core) (old new : Draft) (from promised : ℕ) (vote : Vote) → old.change ≡ None
+    → (core.acceptor.promised ≡ Some promised) × (vote.ballot < promised) → Goes old new (Send (Only from) (Nack vote.ballot promised) ∷ [])
+    → Does core old new (on_accept from vote (has_copied old))
 unfolding on_accept
-accept-refused acceptor learner old new from promised vote none refused goes =
-    does_as acceptor learner old new (on_accept from vote) (Send (Only from) (Nack vote.ballot promised) ∷ []) goes
+accept-refused core old new from promised vote none refused goes =
+    does_as core old new (on_accept from vote (has_copied old)) (Send (Only from) (Nack vote.ballot promised) ∷ []) goes
     (λ kept is.
-    let same : promised_in (drafted kept old).state.kept ≡ promised = drafted-promised acceptor learner old kept none is ∙ ap (λ option. unwrap_or option 0) refused.0 in
+    let same : promised_in (drafted kept old).state.kept ≡ promised = drafted-promised core old kept none is ∙ ap (λ option. unwrap_or option 0) refused.0 in
     rw (same, lt-ltb vote.ballot promised refused.1) refl)
 
 -- a ballot that is the promised one or above it is not below the number that stands for it
@@ -138,12 +161,12 @@ at_least : (ballot : ℕ) (promised : Option ℕ) → IsAtLeast ballot promised 
 at_least ballot None is = le-ltb ballot 0 (omega arith)
 at_least ballot (Some promised) is = le-ltb ballot promised is
 
-pub accept-behind : (acceptor : AcceptorState) (learner : LearnerState) (old : Draft) (from : ℕ) (vote : Vote) → old.change ≡ None
-    → IsAtLeast vote.ballot acceptor.promised → vote.slot < acceptor.base → Does acceptor learner old old (on_accept from vote)
+pub accept-behind : (core : Core) (old new : Draft) (from : ℕ) (vote : Vote) → old.change ≡ None
+    → IsAtLeast vote.ballot core.acceptor.promised → vote.slot < core.acceptor.base → Does core old new (snapshot from (has_copied old)) → Does core old new (on_accept from vote (has_copied old))
 unfolding on_accept
-accept-behind acceptor learner old from vote none reaches behind =
-    does_nothing acceptor learner old (on_accept from vote)
-    (λ kept is. rw (drafted-promised acceptor learner old kept none is, at_least vote.ballot acceptor.promised reaches, base_stays old.change kept.durable, sym is.acceptor.base, lt-ltb vote.slot acceptor.base behind) refl)
+accept-behind core old new from vote none reaches behind sends kept is =
+    sends kept is ∙ done_as (drafted kept old) (on_accept from vote (has_copied old) (drafted kept old).state) (snapshot from (has_copied old) (drafted kept old).state)
+    (rw (drafted-promised core old kept none is, at_least vote.ballot core.acceptor.promised reaches, base-none old kept.durable none, sym is.acceptor.base, lt-ltb vote.slot core.acceptor.base behind) refl)
 
 -- it has voted there in this ballot, or not
 voted : (ballot : ℕ) (vote : Option Vote) → IsSomeAnd vote (λ vote. vote.ballot ≡ ballot) → is_vote_of ballot vote ≡ true
@@ -154,111 +177,47 @@ not_voted : (ballot : ℕ) (vote : Option Vote) → (IsSomeAnd vote (λ vote. vo
 not_voted ballot None none = refl
 not_voted ballot (Some vote) none = ne_eqb vote.ballot ballot none
 
-pub accept-again : (acceptor : AcceptorState) (learner : LearnerState) (old new : Draft) (from : ℕ) (vote : Vote) → old.change ≡ None
-    → IsAtLeast vote.ballot acceptor.promised → acceptor.base ≤ vote.slot → HasVoted acceptor vote.slot vote.ballot → Does acceptor learner old new (tell_vote from vote)
-    → Does acceptor learner old new (on_accept from vote)
+pub accept-again : (core : Core) (old new : Draft) (from : ℕ) (vote : Vote) → old.change ≡ None
+    → IsAtLeast vote.ballot core.acceptor.promised → core.acceptor.base ≤ vote.slot → HasVoted core.acceptor vote.slot vote.ballot → Does core old new (tell_vote from vote)
+    → Does core old new (on_accept from vote (has_copied old))
 unfolding on_accept
-accept-again acceptor learner old new from vote none reaches above_base has told kept is =
-    told kept is ∙ done_as (drafted kept old) (on_accept from vote (drafted kept old).state) (tell_vote from vote (drafted kept old).state)
-    (rw (drafted-promised acceptor learner old kept none is, at_least vote.ballot acceptor.promised reaches, base_stays old.change kept.durable, sym is.acceptor.base, le-ltb vote.slot acceptor.base above_base)
-    (rw (none, sym is.acceptor.votes, voted vote.ballot (vote_at vote.slot acceptor.votes) has) refl))
+accept-again core old new from vote none reaches above_base has told kept is =
+    told kept is ∙ done_as (drafted kept old) (on_accept from vote (has_copied old) (drafted kept old).state) (tell_vote from vote (drafted kept old).state)
+    (rw (drafted-promised core old kept none is, at_least vote.ballot core.acceptor.promised reaches, base-none old kept.durable none, sym is.acceptor.base, le-ltb vote.slot core.acceptor.base above_base)
+    (rw (none, sym is.acceptor.votes, voted vote.ballot (vote_at vote.slot core.acceptor.votes) has) refl))
 
-pub accept-cast : (acceptor : AcceptorState) (learner : LearnerState) (old new : Draft) (from : ℕ) (vote : Vote) → old.change ≡ None
-    → IsAtLeast vote.ballot acceptor.promised → acceptor.base ≤ vote.slot → (HasVoted acceptor vote.slot vote.ballot → ⊥) → Does acceptor learner old new (cast_vote from vote)
-    → Does acceptor learner old new (on_accept from vote)
+pub accept-cast : (core : Core) (old new : Draft) (from : ℕ) (vote : Vote) → old.change ≡ None
+    → IsAtLeast vote.ballot core.acceptor.promised → core.acceptor.base ≤ vote.slot → (HasVoted core.acceptor vote.slot vote.ballot → ⊥) → Does core old new (cast_vote from vote)
+    → Does core old new (on_accept from vote (has_copied old))
 unfolding on_accept
-accept-cast acceptor learner old new from vote none reaches above_base has_not cast kept is =
-    cast kept is ∙ done_as (drafted kept old) (on_accept from vote (drafted kept old).state) (cast_vote from vote (drafted kept old).state)
-    (rw (drafted-promised acceptor learner old kept none is, at_least vote.ballot acceptor.promised reaches, base_stays old.change kept.durable, sym is.acceptor.base, le-ltb vote.slot acceptor.base above_base)
-    (rw (none, sym is.acceptor.votes, not_voted vote.ballot (vote_at vote.slot acceptor.votes) has_not) refl))
+accept-cast core old new from vote none reaches above_base has_not cast kept is =
+    cast kept is ∙ done_as (drafted kept old) (on_accept from vote (has_copied old) (drafted kept old).state) (cast_vote from vote (drafted kept old).state)
+    (rw (drafted-promised core old kept none is, at_least vote.ballot core.acceptor.promised reaches, base-none old kept.durable none, sym is.acceptor.base, le-ltb vote.slot core.acceptor.base above_base)
+    (rw (none, sym is.acceptor.votes, not_voted vote.ballot (vote_at vote.slot core.acceptor.votes) has_not) refl))
 
 -- ---- Known
 
-pub known-next : (acceptor : AcceptorState) (learner : LearnerState) (old new : Draft) (from slot : ℕ) (entry : Entry) (asked : Bool) → slot ≡ next_slot learner old
-    → LearnsNext old new slot entry → Does acceptor learner old new (on_known from slot entry asked)
+pub known-next : (core : Core) (old new : Draft) (from slot : ℕ) (entry : Entry) (asked : Bool) → slot ≡ next_slot core.learner old
+    → LearnsNext old new slot entry → Does core old new (on_known from slot entry asked)
 unfolding on_known
-known-next acceptor learner old new from slot entry asked at learns kept is =
-    let next : slot ≡ prefix_of (drafted kept old).state = at ∙ sym (drafted-prefix acceptor learner old kept is) in
+known-next core old new from slot entry asked at learns kept is =
+    let next : slot ≡ prefix_of (drafted kept old).state = at ∙ sym (drafted-prefix core old kept is) in
     drafted-learn kept old new slot entry learns next ∙ done_as (drafted kept old) (on_known from slot entry asked (drafted kept old).state) (Learn slot entry ∷ [])
     (rw (eq-eqb slot (prefix_of (drafted kept old).state) next) refl)
 
-pub known-later : (acceptor : AcceptorState) (learner : LearnerState) (old new : Draft) (from slot : ℕ) (entry : Entry) → (slot ≡ next_slot learner old → ⊥)
-    → Does acceptor learner old new (ask_below from slot) → Does acceptor learner old new (on_known from slot entry false)
+pub known-later : (core : Core) (old new : Draft) (from slot : ℕ) (entry : Entry) → (slot ≡ next_slot core.learner old → ⊥)
+    → Does core old new (ask_below from slot) → Does core old new (on_known from slot entry false)
 unfolding on_known
-known-later acceptor learner old new from slot entry other asks kept is =
-    let differs : eqb slot (prefix_of (drafted kept old).state) ≡ false = ne_eqb slot (prefix_of (drafted kept old).state) (λ same. other (same ∙ drafted-prefix acceptor learner old kept is)) in
+known-later core old new from slot entry other asks kept is =
+    let differs : eqb slot (prefix_of (drafted kept old).state) ≡ false = ne_eqb slot (prefix_of (drafted kept old).state) (λ same. other (same ∙ drafted-prefix core old kept is)) in
     asks kept is ∙ done_as (drafted kept old) (on_known from slot entry false (drafted kept old).state) (ask_below from slot (drafted kept old).state) (rw differs refl)
 
-pub known-asked : (acceptor : AcceptorState) (learner : LearnerState) (old : Draft) (from slot : ℕ) (entry : Entry) → (slot ≡ next_slot learner old → ⊥)
-    → Does acceptor learner old old (on_known from slot entry true)
+pub known-asked : (core : Core) (old : Draft) (from slot : ℕ) (entry : Entry) → (slot ≡ next_slot core.learner old → ⊥)
+    → Does core old old (on_known from slot entry true)
 unfolding on_known
-known-asked acceptor learner old from slot entry other =
-    does_nothing acceptor learner old (on_known from slot entry true)
-    (λ kept is. rw (ne_eqb slot (prefix_of (drafted kept old).state) (λ same. other (same ∙ drafted-prefix acceptor learner old kept is))) refl)
-
--- ---- AskFrom
-
-known_from-append : (slot : ℕ) (before after : List Entry) → known_from slot (before ++ after) ≡ known_from slot before ++ known_from (slot + length before) after
-known_from-append slot [] after = let at : slot + 0 ≡ slot = omega arith in rw at refl
-known_from-append slot (entry ∷ before) after =
-    let at : slot + 1 + length before ≡ slot + suc (length before) = omega arith in
-    ap (λ rest. Known slot entry ∷ rest) (rw (← at) (known_from-append (slot + 1) before after))
-
-drop-both : (n : ℕ) (before after : List Entry) → drop n (before ++ after) ≡ drop n before ++ drop (n - length before) after
-drop-both zero before after = let none : 0 - length before ≡ 0 = omega arith in rw none refl
-drop-both (suc n) [] after = let all : suc n - 0 ≡ suc n = omega arith in rw all refl
-drop-both (suc n) (entry ∷ before) after = let less : suc n - suc (length before) ≡ n - length before = omega arith in rw less (drop-both n before after)
-
--- the first slot that is told of those that the draft has learned, and how many of them are passed over
-abbrev pub fresh_slot : LearnerState → ℕ → ℕ
-fresh_slot learner slot = max (learned.prefix_of learner) slot
-
-abbrev pub passed : LearnerState → ℕ → ℕ
-passed learner slot = fresh_slot learner slot - learned.prefix_of learner
-
--- what is told are the learner's entries from the slot on, and then those that the draft has learned
-ask-parts : (acceptor : AcceptorState) (learner : LearnerState) (old : Draft) (from slot : ℕ) (kept : FixedParts) → learner.base ≤ slot → IsFixed acceptor learner kept
-    → on_ask from slot (drafted kept old).state
-    ≡ send_all from (known_from slot (drop (slot - learner.base) learner.entries)) ++ send_all from (known_from (fresh_slot learner slot) (drop (passed learner slot) (entries_in old.learnt.items)))
-unfolding on_ask
-ask-parts acceptor learner old from slot kept above_base is =
-    let past : slot - learner.base - length learner.entries ≡ passed learner slot = omega (arith, above_base) in
-    let count : length (drop (slot - learner.base) learner.entries) ≡ length learner.entries - (slot - learner.base) = length-drop (slot - learner.base) learner.entries in
-    let at : slot + length (drop (slot - learner.base) learner.entries) ≡ fresh_slot learner slot = rw count (omega (arith, above_base)) in
-    rw (
-      base_stays old.change kept.durable,
-      sym is.base,
-      le-ltb slot learner.base above_base,
-      sym is.learned,
-      drop-both (slot - learner.base) learner.entries (entries_in old.learnt.items),
-      past,
-      known_from-append slot (drop (slot - learner.base) learner.entries) (drop (passed learner slot) (entries_in old.learnt.items)),
-      at,
-    )
-    (map-append (Send (Only from)) (known_from slot (drop (slot - learner.base) learner.entries)) (known_from (fresh_slot learner slot) (drop (passed learner slot) (entries_in old.learnt.items))))
-
-pub ask-below_base : (acceptor : AcceptorState) (learner : LearnerState) (old : Draft) (from slot : ℕ) → slot < learner.base → Does acceptor learner old old (on_ask from slot)
-unfolding on_ask
-ask-below_base acceptor learner old from slot below =
-    does_nothing acceptor learner old (on_ask from slot) (λ kept is. rw (base_stays old.change kept.durable, sym is.base, lt-ltb slot learner.base below) refl)
-
-pub ask-both : (acceptor : AcceptorState) (learner : LearnerState) (old middle new : Draft) (from slot : ℕ) → learner.base ≤ slot
-    → Goes old middle (send_all from (known_from slot (drop (slot - learner.base) learner.entries)))
-    → Goes middle new (send_all from (known_from (fresh_slot learner slot) (drop (passed learner slot) (entries_in old.learnt.items))))
-    → Does acceptor learner old new (on_ask from slot)
-ask-both acceptor learner old middle new from slot above_base first second =
-    does_as acceptor learner old new (on_ask from slot)
-    (send_all from (known_from slot (drop (slot - learner.base) learner.entries)) ++ send_all from (known_from (fresh_slot learner slot) (drop (passed learner slot) (entries_in old.learnt.items))))
-    (goes-on old middle new _ _ first second) (λ kept is. ask-parts acceptor learner old from slot kept above_base is)
-
-pub ask-one : (acceptor : AcceptorState) (learner : LearnerState) (old new : Draft) (from slot : ℕ) → learner.base ≤ slot → length old.learnt.items ≤ passed learner slot
-    → Goes old new (send_all from (known_from slot (drop (slot - learner.base) learner.entries)))
-    → Does acceptor learner old new (on_ask from slot)
-ask-one acceptor learner old new from slot above_base none first =
-    let count : length (entries_in old.learnt.items) ≡ length old.learnt.items = length-map old.learnt.items (λ (row : LearntRow). row.entry) in
-    let gone : drop (passed learner slot) (entries_in old.learnt.items) ≡ [] = drop_all (passed learner slot) (entries_in old.learnt.items) (rw count none) in
-    does_as acceptor learner old new (on_ask from slot) (send_all from (known_from slot (drop (slot - learner.base) learner.entries))) first
-    (λ kept is. ask-parts acceptor learner old from slot kept above_base is ∙ rw gone (append-nil (send_all from (known_from slot (drop (slot - learner.base) learner.entries)))))
+known-asked core old from slot entry other =
+    does_nothing core old (on_known from slot entry true)
+    (λ kept is. rw (ne_eqb slot (prefix_of (drafted kept old).state) (λ same. other (same ∙ drafted-prefix core old kept is))) refl)
 
 -- ---- Accepted
 
@@ -326,7 +285,7 @@ counted-chosen kept old new from own votes flight is at chooses =
 
 pub accepted-chosen : (core : Core) (old middle new : Draft) (term : Term) (vote : Vote) (from ballot slot : ℕ) → old.term ≡ term
     → chosen_by core.members from ballot slot term ≡ Some vote → middle ≡ record old { term = after_accepted core.members from ballot slot term }
-    → Flies core.learner old → Chooses middle new vote.slot vote.entry
+    → FliesAt (next_slot core.learner old) old.term → Chooses middle new vote.slot vote.entry
     → DoesAsTerm core old new (on_accepted core.members from ballot slot)
 unfolding on_accepted
 accepted-chosen core old middle new (Follower ended) vote from ballot slot is none counted flies chooses = absurd cc
@@ -344,7 +303,7 @@ accepted-chosen core old middle new (Leader own votes (Some flight)) vote from b
             let chosen_now : Chooses (record old { term = Leader own votes None }) new flight.slot flight.entry = rw (landed, slot_is, entry_is) at chooses in
             let stands : flight.slot ≡ next_slot core.learner old = rw is at flies in
             λ kept kept_is best.
-            counted-chosen kept old new from own votes flight is (stands ∙ sym (drafted-prefix core.acceptor core.learner old kept kept_is)) chosen_now
+            counted-chosen kept old new from own votes flight is (stands ∙ sym (drafted-prefix core old kept kept_is)) chosen_now
             ∙ done_as (drafted kept old) (on_accepted core.members from ballot slot (drafted kept old).state.term) (chosen_acts from flight) (rw (is, hit, chosen) refl)
         | inr waits ↦ absurd (not_both (chosen_by core.members from ballot slot (Leader own votes (Some flight))) vote (rw (hit, waits) refl) some)
       ]

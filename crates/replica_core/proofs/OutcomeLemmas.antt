@@ -14,11 +14,9 @@ use Rattle.launch_machine.specs.Clerk.{AppliesAll}
 use Rattle.launch_machine.specs.Machine.{Launches}
 use Rattle.step_law.specs.Act.{Act}
 use Rattle.step_law.specs.Letters.{IsHeardAs, heard_in}
-use Rattle.step_law.specs.State.{Identity}
+use Rattle.step_law.specs.State.{Identity, State}
 use Rattle.step_law.specs.Step.{Event, Plan, step}
 use Rattle.step_law.specs.Step as told
-use Rattle.step_law.specs.declared.out.LearntRow.{LearntRow}
-use Rattle.replica_draft.specs.Draft.{entries_in}
 use Rattle.replica_draft.proofs.OneLemmas.{same-letters}
 use Rattle.replica_core.specs.Outcome.{IsSameOutcome}
 use Rattle.replica_core.specs.Replica.{ReplicaState}
@@ -71,15 +69,15 @@ same_option (Some x) (Some y) e = cc
 same_acts : (table : Table) (old one other : ReplicaState) (acts : List Act) (first second : StepOut) → Takes table old one acts first → Takes table old other acts second
     → IsSameOutcome one other first second
 same_acts table old one other acts first second a b =
-    let learnt : first.learnt ≡ second.learnt = a.learnt ∙ sym b.learnt in
+    let state : one.state ≡ other.state = a.state ∙ sym b.state in
     record {
       identity = a.identity ∙ sym b.identity;
-      state = a.state ∙ sym b.state;
-      rows = AppliesAll-same table old.machine.rows (entries_in first.learnt) one.machine.rows other.machine.rows a.machine
-          (subst (λ (rows : List LearntRow). AppliesAll table old.machine.rows (entries_in rows) other.machine.rows) (sym learnt) b.machine);
+      state = state;
+      rows = AppliesAll-same table one.state.kept.rows one.state.learned one.machine.rows other.machine.rows a.of_table.rows
+          (subst (λ (state : State). AppliesAll table state.kept.rows state.learned other.machine.rows) (sym state) b.of_table.rows);
       delta = same_option first.delta second.delta (sym a.delta ∙ b.delta);
       letters = same-letters old.identity acts first.letters second.letters a.letters b.letters;
-      learnt = learnt;
+      learnt = a.learnt ∙ sym b.learnt;
       call = same_option first.call second.call (sym a.call ∙ b.call);
     }
 
@@ -109,7 +107,6 @@ took_alike table old other new event out alike took =
     record {
       identity = took.identity ∙ sym alike.identity;
       state = rw (alike.identity, alike.state) took.state;
-      machine = rw alike.machine took.machine;
       of_table = took.of_table;
       delta = rw (alike.identity, alike.state) took.delta;
       letters = rw (alike.identity, alike.state) took.letters;

@@ -9,7 +9,7 @@ use Rattle.paxos_letter.specs.Spelling.{fields_of}
 use Rattle.paxos_letter.specs.declared.packet.Packet.{Packet}
 use Rattle.paxos_letter.specs.declared.packet.Packet.TheVariants.{Prepare, Promise, OldVote, Accept, Accepted, Nack, Known, AskFrom, Snap, SnapRow, Lead}
 use Rattle.due_set.specs.Table.{Table}
-use Rattle.step_law.specs.Hear.{hear_all}
+use Rattle.step_law.specs.Hear.{hear_all, not_yet}
 use Rattle.step_law.specs.Letters.{heard_in, is_small_letter}
 use Rattle.step_law.specs.Step.{Event, Plan, step}
 use Rattle.step_law.specs.Step as told
@@ -20,8 +20,13 @@ use Rattle.launch_machine.specs.Answers.{IsIntent}
 use Rattle.launch_machine.specs.declared.machine.Intent.{Intent}
 use Rattle.replica_core.specs.declared.input.Input.TheVariants as input
 use Rattle.replica_draft.specs.Draft.{drafted, said_in, said_of}
-use Rattle.replica_core.specs.Replica.{Makes, identity_of, idle_desk, fixed_of, state_of}
-use Rattle.replica_core.specs.Step.{Hears, MakesStep}
+use Rattle.replica_core.specs.Replica.{Makes, identity_of, idle_desk, fixed_of, replica_of, state_of}
+use Rattle.replica_core.specs.Step.{Hears, IsEventOf, IsOfTable, MakesStep}
+use Rattle.replica_core.specs.declared.input.Input.{Input}
+use Rattle.replica_core.proofs.TableLemmas.{all-rows-heard, all-rows-sent, copyable, stand-before}
+use Rattle.replica_draft.specs.Letters.{BringsCopyable, IsCopyable}
+use Rattle.replica_draft.proofs.LetterLemmas.{CanBeSent, step-letters}
+use Rattle.paxos_base.specs.Rows.{OpenHaveCursors}
 use Rattle.replica_draft.specs.declared.draft.Draft.{Draft}
 use Rattle.replica_core.specs.declared.parts.Core.{Core}
 use Rattle.replica_draft.proofs.DraftLemmas.{done-nil}
@@ -50,13 +55,13 @@ read-from members from (packet ∷ packets) bytes spells =
 
 -- a letter beyond the bounds is heard as one without messages
 pub hears-nothing : (jobs from : ℕ) (packets : List Packet) (core : Core) (draft : Draft) → is_small_letter jobs packets ≡ false → drafted (fixed_of core) draft ≡ idle_desk core
-    → Makes core (hear_all (identity_of core) from (heard_in jobs packets) false (state_of core)) draft
+    → Makes core (hear_all (identity_of core) from (heard_in jobs packets) not_yet (state_of core)) draft
 unfolding hear_all
 hears-nothing jobs from packets core draft large idle = rw large (idle ∙ sym (done-nil (idle_desk core)))
 
 -- a letter that was read is heard
 pub hears-letter : (table : Table) (jobs from : ℕ) (packets : List Packet) (bytes : List ℕ) (core : Core) (draft : Draft) → Spells core.members from packets bytes
-    → jobs ≡ length table.jobs → Makes core (hear_all (identity_of core) from (heard_in jobs packets) false (state_of core)) draft → Hears table bytes core draft
+    → jobs ≡ length table.jobs → Makes core (hear_all (identity_of core) from (heard_in jobs packets) not_yet (state_of core)) draft → Hears table bytes core draft
 hears-letter table jobs from packets bytes core draft spells jobs_are makes =
     record {
       from = from;
@@ -77,7 +82,7 @@ unfolding step
 campaign-step table core draft makes = record { event = told.Campaign; event_is = refl; makes = makes }
 
 pub tick-step : (table : Table) (now : Minute) (core : Core) (draft : Draft) (intent : Intent) → IsIntent table core.machine.rows now.0 intent
-    → Makes core (tick (identity_of core) now.0 intent (state_of core)) draft → MakesStep table (input.Tick now) core draft
+    → Makes core (tick (identity_of core) now.0 core.machine.rows intent (state_of core)) draft → MakesStep table (input.Tick now) core draft
 unfolding step
 tick-step table now core draft intent is_intent makes =
     let plan : Plan = record { rows = core.machine.rows; intent = intent } in
@@ -92,6 +97,28 @@ pub answer-step : (table : Table) (job : ℕ) (at : ℤ) (kind : Kind) (core : C
     → Makes core (answer (identity_of core) job at kind core.machine.rows (state_of core)) draft → MakesStep table (input.Answer job at kind) core draft
 unfolding step
 answer-step table job at kind core draft makes = record { event = told.Answer job at kind core.machine.rows; event_is = refl; makes = makes }
+
+-- ---- The rows that are sent
+
+-- the rows of an event of the replica can be sent
+event-copyable : (table : Table) (core : Core) (given : Input) (event : Event) → IsCopyable core.machine.rows → IsEventOf table (replica_of core) given event → BringsCopyable event
+event-copyable table core input.Campaign event rows is = rw is tt
+event-copyable table core (input.Tick now) event rows (plan, asked, is) = rw (is, asked.rows) rows
+event-copyable table core (input.Hear bytes) event rows (from, messages, heard, is) =
+    rw is (all-rows-sent (length table.jobs) messages (all-rows-heard core.members (length table.jobs) bytes.now from messages heard))
+event-copyable table core (input.Answer job at kind) event rows is = rw is tt
+
+-- so what a step says can be sent
+pub made-letters : (table : Table) (given : Input) (core : Core) (draft : Draft) → IsOfTable table (replica_of core) → MakesStep table given core draft → OpenHaveCursors core.rows → OpenHaveCursors core.machine.rows
+    → (event : Event) → Makes core (step (identity_of core) event (state_of core)) draft → BringsCopyable event
+    → CanBeSent (identity_of core) (step (identity_of core) event (state_of core)) (map said_in draft.sends.items)
+made-letters table given core draft of_table made here there event makes brings =
+    let stand = stand-before table core.rows core.learner.entries core.machine.rows (length table.jobs) of_table.rows of_table.stands.rows in
+    step-letters (identity_of core) event (state_of core) (map said_in draft.sends.items) (copyable core.rows (length table.jobs) stand here) brings (said-made core event draft makes)
+
+pub made-copyable : (table : Table) (given : Input) (core : Core) (draft : Draft) → IsOfTable table (replica_of core) → (made : MakesStep table given core draft) → OpenHaveCursors core.machine.rows → BringsCopyable made.event
+made-copyable table given core draft of_table made there =
+    event-copyable table core given made.event (copyable core.machine.rows (length table.jobs) of_table.stands.rows there) made.event_is
 
 -- ---- The fault of a letter
 

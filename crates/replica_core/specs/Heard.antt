@@ -1,16 +1,17 @@
 -- How a packet is heard: as a message, or as a part of one before it.
-use Rattle.std.specs.Prelude.{◌≡◌, ℕ, nat_lt, Bool, false, List, [], Option, None, Some, take}
+use Rattle.std.specs.Prelude.{◌≡◌, ℕ, ◌^◌, nat_lt, Bool, false, List, [], Option, None, Some, take, ⊤}
 use Rattle.std.specs.List.{flat_map}
+use Rattle.paxos_base.specs.Rows.{OpenHaveCursors, RowsStand}
+use Rattle.paxos_base.specs.declared.rows.JobRow.{JobRow}
 use Rattle.paxos_letter.specs.declared.packet.Packet.{Packet}
 use Rattle.paxos_letter.specs.declared.packet.Packet.TheVariants as packet
 use Rattle.step_law.specs.Act.{Act}
-use Rattle.step_law.specs.Hear.{hear, line}
+use Rattle.step_law.specs.Hear.{Once, hear, line}
 use Rattle.step_law.specs.Heard.{row_in, vote_in}
 use Rattle.step_law.specs.Message.{Message, Prepare, Promise, Accept, Accepted, Nack, Known, AskFrom, Snap, Lead, Mention}
 use Rattle.step_law.specs.State.{State, Identity, prefix_of}
-use Rattle.replica_draft.specs.Draft.{done, drafted}
-use Rattle.replica_core.specs.Replica.{fixed_of}
-use Rattle.replica_draft.specs.declared.draft.Change.{Change}
+use Rattle.replica_draft.specs.Draft.{done, drafted, has_copied}
+use Rattle.replica_core.specs.Replica.{CountsBelow, fixed_of}
 use Rattle.replica_draft.specs.declared.draft.Draft.{Draft}
 use Rattle.replica_core.specs.declared.parts.Core.{Core}
 
@@ -42,15 +43,19 @@ ballot_named (packet.Snap slot count) = 0
 ballot_named (packet.SnapRow slot row) = 0
 ballot_named (packet.Lead ballot slot) = ballot
 
+-- what was done once in a letter so far, by whether an entry behind the next one was told, and by what the draft sends
+abbrev pub once_in : Bool → Draft → Once
+once_in asked draft = record { asked = asked; copied = has_copied draft }
+
 -- what a packet asks for, once its ballot was observed
-abbrev pub line_in : Identity → ℕ → Option Message → Bool → State → List Act
-line_in self from None asked state = []
-line_in self from (Some message) asked state = line self from message asked state
+abbrev pub line_in : Identity → ℕ → Option Message → Once → State → List Act
+line_in self from None once state = []
+line_in self from (Some message) once state = line self from message once state
 
 -- what is done when a packet is heard
-abbrev pub hear_in : Identity → ℕ → Option Message → Bool → State → List Act
-hear_in self from None asked state = []
-hear_in self from (Some message) asked state = hear self from message asked state
+abbrev pub hear_in : Identity → ℕ → Option Message → Once → State → List Act
+hear_in self from None once state = []
+hear_in self from (Some message) once state = hear self from message once state
 
 -- a packet tells an entry behind the next one
 abbrev pub shows_gap_in : Packet → State → Bool
@@ -64,10 +69,19 @@ changes_asked (packet.Accept ballot slot entry) = 1
 changes_asked (packet.Snap slot count) = 1
 changes_asked packet = 0
 
--- how many changes a draft has
-abbrev pub changes_in : Option Change → ℕ
-changes_in None = 0
-changes_in (Some change) = 1
+-- the rows of a message are those of a table of so many jobs, each open one with a cursor, and their counts are within the bounds
+pub record AreRowsOf (jobs : ℕ) (rows : List JobRow) : Type 0 where
+  pub stand : RowsStand rows jobs
+  pub cursors : OpenHaveCursors rows
+  pub counts : CountsBelow (2 ^ 31) rows
+
+abbrev pub BringsRows : ℕ → Message → Type 0
+BringsRows jobs (Snap slot rows) = AreRowsOf jobs rows
+BringsRows jobs message = ⊤
+
+abbrev pub BringsRowsIn : ℕ → Option Message → Type 0
+BringsRowsIn jobs None = ⊤
+BringsRowsIn jobs (Some message) = BringsRows jobs message
 
 -- a draft of a replica goes on by the acts that its state asks for
 abbrev pub HearsBy : Core → Draft → Draft → (State → List Act) → Type 0

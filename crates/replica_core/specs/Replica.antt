@@ -1,6 +1,7 @@
 -- A replica by the parts of the protocol, and what it is in the words of the protocol.
 use Rattle.std.specs.Prelude.{◌≡◌, ℕ, ◌≤◌, ◌<◌, ◌^◌, List, [], All, Option, None, Some, length, unwrap_or, ◌+◌, ⊤}
 use Rattle.paxos_base.specs.Ballot.{round_of}
+use Rattle.paxos_base.specs.Rows.{OpenHaveCursors}
 use Rattle.paxos_base.specs.declared.durable.Durable.{Durable}
 use Rattle.paxos_base.specs.declared.entry.Vote.{Vote}
 use Rattle.paxos_base.specs.declared.rows.JobRow.{JobRow}
@@ -11,14 +12,17 @@ use Rattle.learner_core.specs.Learner as learner
 use Rattle.term_core.specs.Term.{best_votes}
 use Rattle.term_core.specs.declared.term.Term.{Term}
 use Rattle.term_core.specs.declared.term.Term.TheVariants.{Leader}
-use Rattle.launch_machine.specs.Machine.{Launches}
+use Rattle.due_set.specs.Table.{Table}
+use Rattle.launch_machine.specs.Machine.{Launches, StandsFor}
 use Rattle.step_law.specs.State.{State, Identity, prefix_of}
 use Rattle.step_law.specs.Act.{Act}
 use Rattle.replica_draft.specs.Draft.{Desk, FixedParts, delta_of, done, drafted}
 use Rattle.replica_core.specs.Lines.{IsFixed}
 use Rattle.replica_core.specs.Counts.{highest_count}
 use Rattle.replica_core.specs.declared.parts.Core.{Core}
-use Rattle.replica_draft.specs.declared.draft.Change.{Change}
+use Rattle.replica_draft.specs.declared.change.Change.{Change}
+use Rattle.replica_draft.specs.declared.change.Change.TheVariants as change
+use Rattle.replica_draft.specs.declared.change.Rebased.{Rebased}
 use Rattle.replica_draft.specs.declared.draft.Draft.{Draft}
 
 -- what a replica keeps on its disk
@@ -98,6 +102,63 @@ pub record HasRoomFor (core : Core) (draft : Draft) : Type 0 where
 abbrev pub CountsBelow : ℕ → List JobRow → Type 0
 CountsBelow limit rows = All (λ row. (row.launched < limit) × (row.voided < limit)) rows
 
+-- the launch table that a change brings, where it brings one
+abbrev pub rebased_of : Option Change → Option Rebased
+rebased_of (Some (change.Rebased rebased)) = Some rebased
+rebased_of (Some (change.Tried ballot)) = None
+rebased_of (Some (change.Promised ballot)) = None
+rebased_of (Some (change.Voted vote)) = None
+rebased_of None = None
+
+-- the new base of a change, or else this one
+abbrev pub base_of : Option Change → ℕ → ℕ
+base_of (Some (change.Rebased rebased)) base = rebased.slot
+base_of (Some (change.Tried ballot)) base = base
+base_of (Some (change.Promised ballot)) base = base
+base_of (Some (change.Voted vote)) base = base
+base_of None base = base
+
+-- the first slot that isn't learned behind the new base of a change, or else this one
+abbrev pub next_of : Option Change → ℕ → ℕ
+next_of (Some (change.Rebased rebased)) next = rebased.slot + length rebased.since
+next_of (Some (change.Tried ballot)) next = next
+next_of (Some (change.Promised ballot)) next = next
+next_of (Some (change.Voted vote)) next = next
+next_of None next = next
+
+-- how many entries were learned behind the new base of a change
+abbrev pub since_of : Option Change → ℕ
+since_of (Some (change.Rebased rebased)) = length rebased.since
+since_of (Some (change.Tried ballot)) = 0
+since_of (Some (change.Promised ballot)) = 0
+since_of (Some (change.Voted vote)) = 0
+since_of None = 0
+
+-- the launch table at the new base of a change, or else these rows
+abbrev pub rows_of : Option Change → List JobRow → List JobRow
+rows_of (Some (change.Rebased rebased)) rows = rebased.rows
+rows_of (Some (change.Tried ballot)) rows = rows
+rows_of (Some (change.Promised ballot)) rows = rows
+rows_of (Some (change.Voted vote)) rows = rows
+rows_of None rows = rows
+
+-- The launch table that a change brings is one of this table of jobs, and it has a machine: its own, or else this one. Its slot isn't
+-- one of those that are learned, and its counts are within the bounds.
+pub record HasTable (table : Table) (machine : Launches) (base prefix : ℕ) (rebased : Rebased) : Type 0 where
+  pub stands : StandsFor table (unwrap_or rebased.machine machine)
+  pub rows : (unwrap_or rebased.machine machine).rows ≡ rebased.rows
+  pub counts : CountsBelow (2 ^ 31) rebased.rows
+  pub cursors : OpenHaveCursors rebased.rows
+  pub past : base < rebased.slot
+  pub up : prefix ≤ rebased.slot
+
+abbrev pub IsSupplied : Table → Launches → (base prefix : ℕ) → Option Change → Type 0
+IsSupplied table machine base prefix (Some (change.Rebased rebased)) = HasTable table machine base prefix rebased
+IsSupplied table machine base prefix (Some (change.Tried ballot)) = ⊤
+IsSupplied table machine base prefix (Some (change.Promised ballot)) = ⊤
+IsSupplied table machine base prefix (Some (change.Voted vote)) = ⊤
+IsSupplied table machine base prefix None = ⊤
+
 -- a flight of the term stands at the slot
 abbrev pub FliesAt : ℕ → Term → Type 0
 FliesAt prefix (Leader ballot best (Some flight)) = flight.slot ≡ prefix
@@ -105,16 +166,33 @@ FliesAt prefix term = ⊤
 
 -- the first slot that isn't learned, with what a draft has learned
 abbrev pub next_slot : LearnerState → Draft → ℕ
-next_slot learns draft = learner.prefix_of learns + length draft.learnt.items
+next_slot learns draft = next_of draft.change (learner.prefix_of learns + length draft.learnt.items)
 
--- the draft's flight, where it has one, stands at the first slot that isn't learned
-abbrev pub Flies : LearnerState → Draft → Type 0
-Flies learns draft = FliesAt (next_slot learns draft) draft.term
+-- What holds of a draft between two packets, of a replica with this launch table, base and first slot that isn't learned: its flight,
+-- where it has one, stands at the first slot that isn't learned; of a new base, the slot is within the bounds, no more was learned
+-- behind it than in all, and its launch table is one of the table of jobs.
+pub record IsSteadyAt (table : Table) (machine : Launches) (base prefix : ℕ) (draft : Draft) : Type 0 where
+  pub flies : FliesAt (next_of draft.change (prefix + length draft.learnt.items)) draft.term
+  pub low : base_of draft.change 0 < 2 ^ 62
+  pub since : since_of draft.change ≤ length draft.learnt.items
+  pub supplied : IsSupplied table machine base prefix draft.change
 
--- a draft's flight stands there still, and what is to be stored is as before
-pub record KeepsLearned (learns : LearnerState) (old new : Draft) : Type 0 where
-  pub flies : Flies learns old → Flies learns new
-  pub change : new.change ≡ old.change
+abbrev pub IsSteady : Table → Core → Draft → Type 0
+IsSteady table core draft = IsSteadyAt table core.machine core.learner.base (learner.prefix_of core.learner) draft
+
+-- it holds still
+abbrev pub StaysSteady : Core → Draft → Draft → Type 0
+StaysSteady core old new = (table : Table) → IsSteady table core old → IsSteady table core new
+
+-- how many changes a draft has
+abbrev pub changes_in : Option Change → ℕ
+changes_in None = 0
+changes_in (Some made) = 1
+
+-- so it does, and there are as many changes as before
+pub record KeepsChange (core : Core) (old new : Draft) : Type 0 where
+  pub steady : StaysSteady core old new
+  pub once : changes_in new.change ≡ changes_in old.change
 
 -- the votes that bind the draft's term
 abbrev pub best_in : Core → Draft → List Vote
@@ -123,7 +201,7 @@ best_in core draft = unwrap_or draft.best (best_votes core.term)
 -- a draft goes on by the acts that its term asks for
 abbrev pub DoesAsTerm : Core → Draft → Draft → (Term → List Act) → Type 0
 DoesAsTerm core old new acts =
-    (kept : FixedParts) → IsFixed core.acceptor core.learner kept → kept.best ≡ best_votes core.term → drafted kept new ≡ done (acts (drafted kept old).state.term) (drafted kept old)
+    (kept : FixedParts) → IsFixed core kept → kept.best ≡ best_votes core.term → drafted kept new ≡ done (acts (drafted kept old).state.term) (drafted kept old)
 
 -- a step of a replica in which nothing was done yet
 abbrev pub idle_desk : Core → Desk
@@ -141,16 +219,22 @@ pub record IsSmall (state : State) (rows : List JobRow) : Type 0 where
   pub prefix : prefix_of state < 2 ^ 62
   pub counts : CountsBelow (2 ^ 31) rows
 
--- what holds of each replica: it is one of its members, its parts begin at one slot, a flight stands at the first slot that isn't
--- learned, and the highest count of its launch table is known
+-- What holds of each replica: it is one of its members, its parts begin at one slot, a flight stands at the first slot that isn't
+-- learned, the highest count of its launch table is known, and each open row there and at the base has a cursor.
 pub record IsWhole (core : Core) : Type 0 where
   pub me : core.me < core.members
   pub few : core.members ≤ 7
   pub base : core.learner.base ≡ core.acceptor.base
   pub flies : FliesAt (learner.prefix_of core.learner) core.term
   pub counts : core.high_count ≡ highest_count core.machine.rows
+  pub cursors : OpenHaveCursors core.machine.rows
+  pub base_cursors : OpenHaveCursors core.rows
 
--- a draft can be taken: its flight stands where it should, and it has learned few entries
-pub record IsReady (core : Core) (draft : Draft) : Type 0 where
-  pub flies : Flies core.learner draft
+-- a draft can be taken: it is steady, and has learned few entries
+pub record IsReady (table : Table) (core : Core) (draft : Draft) : Type 0 where
+  pub steady : IsSteady table core draft
   pub few : length draft.learnt.items < 2 ^ 31
+
+-- so it can for each table of jobs, since it has no new base
+abbrev pub IsReadyAnyhow : Core → Draft → Type 0
+IsReadyAnyhow core draft = (table : Table) → IsReady table core draft

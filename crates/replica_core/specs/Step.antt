@@ -1,24 +1,23 @@
 -- A step of a replica: what it is told, and what comes of it.
-use Rattle.std.specs.Prelude.{◌≡◌, ℕ, ◌+◌, ◌<◌, ◌≤◌, ◌^◌, List, length, Option, None, Some, Result, Ok, Err, ⊤, ℤ, false}
-use Rattle.std.specs.Option.{option_to_list}
+use Rattle.std.specs.Prelude.{◌≡◌, ℕ, ◌<◌, ◌≤◌, ◌^◌, List, length, Option, None, Some, Result, Ok, Err, ⊤, ℤ}
+use Rattle.std.specs.Option.{option_map, option_to_list}
 use Rattle.paxos_letter.specs.Letters.{fault_of}
 use Rattle.paxos_letter.specs.declared.fault.LetterFault.{LetterFault}
 use Rattle.zone_minutes.specs.Window.{IsInWindow}
 use Rattle.due_set.specs.Table.{Table}
 use Rattle.launch_machine.specs.Answers.{IsIntent}
-use Rattle.launch_machine.specs.Clerk.{AppliesAll}
 use Rattle.launch_machine.specs.Machine.{StandsFor}
 use Rattle.step_law.specs.Act.{Act}
 use Rattle.step_law.specs.Folds.{after_acts, calls_of, deltas_of, learnt_of}
-use Rattle.step_law.specs.Hear.{hear_all}
+use Rattle.step_law.specs.Hear.{hear_all, not_yet}
 use Rattle.step_law.specs.Letters.{IsHeardAs}
 use Rattle.step_law.specs.Message.{Message}
 use Rattle.step_law.specs.State.{prefix_of}
 use Rattle.step_law.specs.Step.{Event, IsLaunchTable, Plan, step}
 use Rattle.step_law.specs.Step as told
-use Rattle.replica_draft.specs.Draft.{done, drafted, entries_in}
+use Rattle.replica_draft.specs.Draft.{delta_of, done, drafted}
 use Rattle.replica_draft.specs.Letters.{AreLettersFrom}
-use Rattle.replica_core.specs.Replica.{FliesAt, Makes, ReplicaState, identity_of, idle_in, fixed_in, replica_of, state_of, votes_of}
+use Rattle.replica_core.specs.Replica.{IsSteadyAt, Makes, ReplicaState, identity_of, idle_in, fixed_in, replica_of, state_of, votes_of}
 use Rattle.replica_draft.specs.declared.draft.Draft.{Draft}
 use Rattle.replica_core.specs.declared.input.Input.{Input}
 use Rattle.replica_core.specs.declared.input.Input.TheVariants.{Campaign, Tick, Hear, Answer}
@@ -57,12 +56,10 @@ abbrev pub IsInputInside : Table → Input → Type 0
 IsInputInside table (Tick now) = IsInWindow table.window now.0
 IsInputInside table input = ⊤
 
--- what comes of acts: the state after them, with the entries that they learn applied to the launch table, and what they store, send,
--- learn and call
+-- what comes of acts: the state after them, with its launch table, and what they store, send, learn and call
 pub record Takes (table : Table) (old new : ReplicaState) (acts : List Act) (out : StepOut) : Type 0 where
   pub identity : new.identity ≡ old.identity
   pub state : new.state ≡ after_acts acts old.state
-  pub machine : AppliesAll table old.machine.rows (entries_in out.learnt) new.machine.rows
   pub of_table : IsOfTable table new
   pub delta : deltas_of acts ≡ option_to_list out.delta
   pub letters : AreLettersFrom old.identity acts out.letters
@@ -86,12 +83,13 @@ pub record Hears (table : Table) (bytes : List ℕ) (core : Core) (draft : Draft
   pub from : ℕ
   pub messages : List Message
   pub heard : IsHeardAs core.members (length table.jobs) bytes from messages
-  pub makes : Makes core (hear_all (identity_of core) from messages false (state_of core)) draft
+  pub makes : Makes core (hear_all (identity_of core) from messages not_yet (state_of core)) draft
 
 -- a step is planned that does these acts
 pub record Plans (replica : ReplicaState) (acts : List Act) (planned : Planned) : Type 0 where
   pub makes : drafted (fixed_in replica) planned.draft ≡ done acts (idle_in replica)
   pub letters : AreLettersFrom replica.identity acts planned.letters
+  pub delta : planned.delta ≡ option_map delta_of planned.draft.change
 
 -- a step of the replica at an input is planned
 pub record PlansStep (table : Table) (input : Input) (replica : ReplicaState) (planned : Planned) : Type 0 where
@@ -99,12 +97,13 @@ pub record PlansStep (table : Table) (input : Input) (replica : ReplicaState) (p
   pub event_is : IsEventOf table replica input event
   pub plans : Plans replica (step replica.identity event replica.state) planned
 
--- a planned step can be taken: there is room for it, and what it learns is counted
-pub record CanTake (replica : ReplicaState) (planned : Planned) : Type 0 where
+-- a planned step can be taken by a replica that is as this one, but for its room: there is room for it, and what it brings is fit
+pub record CanTake (table : Table) (replica : ReplicaState) (planned : Planned) : Type 0 where
   pub votes : votes_of planned.draft.change ≤ replica.votes_room
   pub entries : length planned.draft.learnt.items ≤ replica.entries_room
+  pub delta : planned.delta ≡ option_map delta_of planned.draft.change
+  pub steady : IsSteadyAt table replica.machine replica.state.kept.base (prefix_of replica.state) planned.draft
   pub few : length planned.draft.learnt.items < 2 ^ 31
-  pub flies : FliesAt (prefix_of replica.state + length planned.draft.learnt.items) planned.draft.term
 
 -- the first rule that the bytes of a letter break
 abbrev pub fault_in : ℕ → Input → Option LetterFault

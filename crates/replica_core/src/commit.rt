@@ -1,19 +1,23 @@
 //! How a planned step is taken: memory is wanted before it, and never in it.
-ghost use Rattle.std.specs.Prelude.{◌≡◌, max, ◌+◌, ◌++◌, ◌<◌, ◌≤◌, ◌^◌, length, unwrap_or, IfOk, OnOk, List};
+ghost use Rattle.std.specs.Prelude.{◌≡◌, max, ◌+◌, ◌<◌, ◌≤◌, ◌^◌, length, List, Some, unwrap_or, IfOk, IfSome, OnOk};
 ghost use Rattle.std.specs.Option.{option_map};
-ghost use Rattle.launch_machine.specs.Clerk.{AppliesAll};
-ghost use Rattle.launch_machine.specs.Machine.{StandsFor};
+ghost use Rattle.acceptor_core.specs.Acceptor.{votes_in};
+ghost use Rattle.launch_machine.specs.Clerk.{Applies, AppliesAll};
+ghost use Rattle.launch_machine.specs.Machine.{CanCount, StandsFor};
 ghost use Rattle.learner_core.specs.Learner.{HasLearned};
 ghost use Rattle.learner_core.specs.Learner as learned;
 ghost use Rattle.paxos_base.specs.Ballot.{ballot_number};
-ghost use Rattle.paxos_base.specs.Rows.{RowsStand};
-ghost use Rattle.paxos_base.specs.declared.rows.JobRow.{JobRow};
+ghost use Rattle.paxos_base.specs.Durable.{after_delta};
+ghost use Rattle.paxos_base.specs.Rows.{OpenHaveCursors, RowsStand};
+ghost use Rattle.paxos_base.specs.declared.durable.Durable.{Durable};
 ghost use Rattle.step_law.specs.State.{prefix_of, started};
+ghost use Rattle.step_law.specs.declared.out.LearntRow.{LearntRow};
 ghost use Rattle.term_core.specs.Term.{best_votes};
-ghost use Rattle.replica_core.specs.Commit.{kept_by};
+ghost use Rattle.replica_draft.specs.Draft.{delta_of, drafted, entries_in, with_best};
+ghost use Rattle.replica_draft.specs.declared.change.Change.TheVariants as change;
+ghost use Rattle.replica_core.specs.Commit.{HasLearnedAll, HasStored, LearnsAll, entries_with, launches_of};
 ghost use Rattle.replica_core.specs.Counts.{count_ended, count_of, highest_count};
-ghost use Rattle.replica_draft.specs.Draft.{delta_of, drafted, durable_of, entries_in, with_best};
-ghost use Rattle.replica_core.specs.Replica.{CountsBelow, HasRoomFor, IsAlikeCore, identity_of, fixed_of, state_of, votes_of};
+ghost use Rattle.replica_core.specs.Replica.{CountsBelow, HasRoomFor, HasTable, IsAlikeCore, IsSteady, IsSupplied, base_of, identity_of, fixed_of, since_of, state_of};
 
 use crate::out::{LearntList, StepOut};
 use crate::parts::Core;
@@ -23,7 +27,7 @@ use due_set::JobTable;
 use launch_machine::Machine;
 use learner_core::Learner;
 use paxos_base::{Ballot, Delta, Durable, Entry, JobRow, RowList, VoteList};
-use replica_draft::{Change, Draft, LetterList};
+use replica_draft::{Change, Draft, LetterList, Rebased};
 use std::alloc::Global;
 use std::mem;
 use step_law::LearntRow;
@@ -48,6 +52,7 @@ impl Core {
         ensures rows { IfOk result (λ core. core.machine.rows ≡ durable.rows) }
         ensures base { IfOk result (λ core. core.learner.base ≡ core.acceptor.base) }
         ensures counts { IfOk result (λ core. core.high_count ≡ highest_count core.machine.rows) }
+        ensures cursors { IfOk result (λ core. OpenHaveCursors core.machine.rows) }
     {
         let alloc = *durable.votes.items.allocator();
         let machine = machine_of(alloc, table, &durable.rows)?;
@@ -94,7 +99,7 @@ impl Core {
         ensures alike { IsAlikeCore self.new self.old }
         ensures room { OnOk result (HasRoomFor self.new draft.now) }
     {
-        if let Some(Change::Voted(_)) = draft.change {
+        if let Some(Change::Voted(_)) = &draft.change {
             self.acceptor.reserve()?;
         }
         self.learner.reserve(draft.learnt.len())?;
@@ -102,28 +107,34 @@ impl Core {
     }
 
     /// Takes a step that was planned and has room.
-    pub fn commit(&mut self, table: &JobTable, draft: Draft, letters: LetterList) -> StepOut
+    pub fn commit(
+        &mut self,
+        table: &JobTable,
+        draft: Draft,
+        delta: Option<Delta>,
+        letters: LetterList,
+    ) -> StepOut
         requires room { HasRoomFor self.old draft }
+        requires delta { delta ≡ option_map delta_of draft.change }
         requires stands { StandsFor table.now self.old.machine }
         requires counts { CountsBelow (2 ^ 31) self.old.machine.rows }
+        requires steady { IsSteady table.now self.old draft }
         requires few { length draft.learnt.items < 2 ^ 31 }
         requires prefix { prefix_of (state_of self.old) < 2 ^ 62 }
         requires base { self.old.learner.base ≡ self.old.acceptor.base }
         ensures state { state_of self.new ≡ (drafted (fixed_of self.old) draft).state }
-        ensures machine { AppliesAll table.now self.old.machine.rows (entries_in draft.learnt.items) self.new.machine.rows }
+        ensures machine { AppliesAll table.now (launches_of draft.change self.old.machine).rows (entries_with draft.change (entries_in draft.learnt.items)) self.new.machine.rows }
         ensures stands { StandsFor table.now self.new.machine }
         ensures identity { identity_of self.new ≡ identity_of self.old }
         ensures base { self.new.learner.base ≡ self.new.acceptor.base }
         ensures counts { self.old.high_count ≡ highest_count self.old.machine.rows → self.new.high_count ≡ highest_count self.new.machine.rows }
-        ensures alloc { self.new.alloc ≡ self.old.alloc }
-        ensures delta { result.delta ≡ option_map delta_of draft.change }
+        ensures delta { result.delta ≡ delta }
         ensures letters { result.letters ≡ letters }
         ensures learnt { result.learnt ≡ draft.learnt.items }
         ensures call { result.call ≡ draft.call }
     {
-        let delta = store(&mut self.tried, &mut self.acceptor, draft.change);
-        let ended = learn_all(&mut self.learner, &mut self.machine, table, &draft.learnt);
-        self.high_count = self.high_count.max(ended);
+        self.store(&delta);
+        self.learn(table, draft.change, &draft.learnt);
         let old = mem::replace(&mut self.term, draft.term);
         let best = draft.best.unwrap_or(best_votes(self.alloc, old));
         bind(&mut self.term, best);
@@ -137,26 +148,82 @@ impl Core {
             call: draft.call,
         }
     }
-}
 
-// Takes over a change of what is on the disk, and answers it.
-fn store(tried: &mut u64, acceptor: &mut Acceptor, change: Option<Change>) -> Option<Delta>
-    requires { votes_of change ≤ acceptor.old.spare }
-    ensures delta { result ≡ option_map delta_of change }
-    ensures kept { (rows : List JobRow) → kept_by tried.new acceptor.new rows ≡ durable_of change (kept_by tried.old acceptor.old rows) }
-{
-    let change = change?;
-    if let Change::Tried(ballot) = change {
-        *tried = ballot.round();
+    // Takes over a change of what is on the disk, where there is one.
+    fn store(&mut self, delta: &Option<Delta>)
+        requires { IfSome delta.now (λ delta. votes_in delta ≤ self.old.acceptor.spare) }
+        ensures { HasStored delta.now self.old self.new }
+    {
+        if let Some(delta) = delta {
+            self.tried = round_after(delta, self.tried);
+            self.acceptor.take(delta);
+        }
     }
-    let delta = change.delta();
-    acceptor.take(&delta);
-    Some(delta)
+
+    // Learns what a step has learned, and applies it to the launch table. Where that brings a new base, its launch table is taken
+    // first.
+    fn learn(&mut self, table: &JobTable, change: Option<Change>, rows: &[LearntRow])
+        requires room { length rows.now ≤ self.old.learner.spare }
+        requires few { length rows.now < 2 ^ 31 }
+        requires prefix { learned.prefix_of self.old.learner < 2 ^ 62 }
+        requires low { base_of change 0 < 2 ^ 62 }
+        requires since { since_of change ≤ length rows.now }
+        requires stands { StandsFor table.now self.old.machine }
+        requires counts { CountsBelow (2 ^ 31) self.old.machine.rows }
+        requires supplied { IsSupplied table.now self.old.machine self.old.learner.base (learned.prefix_of self.old.learner) change }
+        ensures { HasLearnedAll table.now change rows.now self.old self.new }
+    {
+        if let Some(Change::Rebased(rebased)) = change {
+            self.take_table(table, rebased);
+            return;
+        }
+        let ended = learn_rows(&mut self.learner, &mut self.machine, table, rows);
+        self.high_count = self.high_count.max(ended);
+    }
+
+    // Takes a launch table in the place of the entries below its slot, and learns what was learned since.
+    fn take_table(&mut self, table: &JobTable, rebased: Rebased)
+        requires room { length rebased.since ≤ self.old.learner.spare }
+        requires few { length rebased.since < 2 ^ 31 }
+        requires low { rebased.slot < 2 ^ 62 }
+        requires has { HasTable table.now self.old.machine self.old.learner.base (learned.prefix_of self.old.learner) rebased }
+        ensures { (rows : List LearntRow) → HasLearnedAll table.now (Some (change.Rebased rebased)) rows self.old self.new }
+    {
+        self.rows = rebased.rows;
+        self.take_machine(rebased.machine);
+        self.learner.rebase(rebased.slot);
+        let since = &rebased.since.items;
+        let ended = learn_entries(&mut self.learner, &mut self.machine, table, since);
+        self.high_count = self.high_count.max(ended);
+    }
+
+    // Takes the machine of the rows at the base, where there is one.
+    fn take_machine(&mut self, machine: Option<Machine>)
+        requires { (unwrap_or machine self.old.machine).rows ≡ self.old.rows }
+        ensures same { self.new ≡ record self.old { machine = unwrap_or machine self.old.machine; high_count = self.new.high_count } }
+        ensures counts { self.old.high_count ≡ highest_count self.old.machine.rows → self.new.high_count ≡ highest_count self.new.machine.rows }
+    {
+        if let Some(machine) = machine {
+            self.high_count = highest_count(&self.rows.items);
+            self.machine = machine;
+        }
+    }
 }
 
-// Learns entries, one after another, and applies each to the launch table. Answers the highest count of a job that one of them
-// has ended.
-fn learn_all(
+// The highest round of a ballot of its own, after a change.
+#[tactic(auto, unfolding(paxos_base::specs::Durable::after_delta))]
+fn round_after(delta: &Delta, tried: u64) -> u64
+    ensures { (kept : Durable) → kept.tried ≡ tried → result ≡ (after_delta delta.now kept).tried }
+{
+    match delta {
+        Delta::Tried(ballot) => ballot.round(),
+        _ => tried,
+    }
+}
+
+// Learns the entries of rows, one after another, and applies each to the launch table. Answers the highest count of a job that one
+// of them has ended.
+fn learn_rows(
     learner: &mut Learner,
     machine: &mut Machine,
     table: &JobTable,
@@ -167,19 +234,55 @@ fn learn_all(
     requires prefix { learned.prefix_of learner.old < 2 ^ 62 }
     requires stands { StandsFor table.now machine.old }
     requires counts { CountsBelow (2 ^ 31) machine.old.rows }
-    ensures base { learner.new.base ≡ learner.old.base }
-    ensures entries { learner.new.entries ≡ learner.old.entries ++ entries_in rows.now }
-    ensures machine { AppliesAll table.now machine.old.rows (entries_in rows.now) machine.new.rows }
-    ensures stands { StandsFor table.now machine.new }
-    ensures ended { highest_count machine.new.rows ≡ max (highest_count machine.old.rows) result }
+    ensures { LearnsAll table.now learner.old learner.new machine.old machine.new (entries_in rows.now) result }
 {
     let mut ended: u32 = 0;
     for row in rows {
-        learn(learner, row.entry);
-        machine.apply(table, row.entry);
-        ended = ended.max(count_ended(machine, table, row.entry));
+        ended = ended.max(learn_next(learner, machine, table, row.entry));
     }
     ended
+}
+
+// The same of entries.
+fn learn_entries(
+    learner: &mut Learner,
+    machine: &mut Machine,
+    table: &JobTable,
+    entries: &[Entry],
+) -> u32
+    requires room { length entries.now ≤ learner.old.spare }
+    requires few { length entries.now < 2 ^ 31 }
+    requires prefix { learned.prefix_of learner.old < 2 ^ 62 }
+    requires stands { StandsFor table.now machine.old }
+    requires counts { CountsBelow (2 ^ 31) machine.old.rows }
+    ensures { LearnsAll table.now learner.old learner.new machine.old machine.new entries.now result }
+{
+    let mut ended: u32 = 0;
+    for entry in entries {
+        ended = ended.max(learn_next(learner, machine, table, *entry));
+    }
+    ended
+}
+
+// Learns the next entry, for which there is room, and applies it. Answers the count of the job that it ends, or 0.
+fn learn_next(learner: &mut Learner, machine: &mut Machine, table: &JobTable, entry: Entry) -> u32
+    requires room { 1 ≤ learner.old.spare }
+    requires prefix { learned.prefix_of learner.old < 2 ^ 63 }
+    requires stands { StandsFor table.now machine.old }
+    requires counts { CanCount machine.old.rows entry }
+    ensures learned { HasLearned learner.old learner.new entry }
+    ensures spare { learner.old.spare ≤ learner.new.spare + 1 }
+    ensures applies { Applies table.now machine.old.rows entry machine.new.rows }
+    ensures stands { StandsFor table.now machine.new }
+    ensures count { result ≡ count_ended machine.new.rows entry }
+{
+    let slot = learner.prefix();
+    match learner.learn(slot, entry) {
+        Ok(_) => {}
+        Err(_) => unreachable!(),
+    }
+    machine.apply(table, entry);
+    count_ended(machine, table, entry)
 }
 
 // The count of a row.
@@ -217,20 +320,6 @@ fn count_ended(machine: &Machine, table: &JobTable, entry: Entry) -> u32
     }
 }
 
-// Learns the next entry, for which there is room.
-fn learn(learner: &mut Learner, entry: Entry)
-    requires room { 1 ≤ learner.old.spare }
-    requires prefix { learned.prefix_of learner.old < 2 ^ 63 }
-    ensures learned { HasLearned learner.old learner.new entry }
-    ensures spare { learner.old.spare ≤ learner.new.spare + 1 }
-{
-    let slot = learner.prefix();
-    match learner.learn(slot, entry) {
-        Ok(_) => {}
-        Err(_) => unreachable!(),
-    }
-}
-
 // The votes that bind a term.
 fn best_votes(alloc: Global, term: Term) -> VoteList
     ensures { result ≡ best_votes term }
@@ -254,11 +343,12 @@ fn bind(term: &mut Term, votes: VoteList)
     }
 }
 
-// The machine of a launch table that is one of the table of jobs.
-fn machine_of(alloc: Global, table: &JobTable, rows: &RowList) -> Result<Machine, OutOfMemory>
+/// The machine of a launch table that is one of the table of jobs.
+pub fn machine_of(alloc: Global, table: &JobTable, rows: &RowList) -> Result<Machine, OutOfMemory>
     requires { RowsStand rows.now (length table.now.jobs) }
     ensures rows { IfOk result (λ machine. machine.rows ≡ rows.now) }
     ensures stands { IfOk result (λ machine. StandsFor table.now machine) }
+    ensures cursors { IfOk result (λ machine. OpenHaveCursors machine.rows) }
 {
     match Machine::from_rows(alloc, table, rows.clone()?)? {
         Some(machine) => Ok(machine),

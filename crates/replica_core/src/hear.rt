@@ -1,19 +1,19 @@
 //! How a replica hears a letter: its packets one after another, each by its line of the table.
-ghost use Rattle.std.specs.Prelude.{◌≡◌, ℕ, ◌+◌, ◌^◌, ◌<◌, ◌≤◌, Bool, true, false, IfOk, OnOk, [], ◌∷◌, length, unwrap_or};
-ghost use Rattle.std.specs.List.{count_by};
+ghost use Rattle.std.specs.Prelude.{◌≡◌, ℕ, ◌+◌, ◌^◌, ◌<◌, ◌≤◌, Bool, true, IfOk, OnOk, List, [], ◌∷◌, length, unwrap_or};
 ghost use Rattle.learner_core.specs.Learner.{prefix_of};
+ghost use Rattle.paxos_letter.specs.Letters.{Spells};
 ghost use Rattle.term_core.specs.Term.{after_ballot};
 ghost use Rattle.step_law.specs.Act.{Observe};
-ghost use Rattle.step_law.specs.Hear.{hear_all};
+ghost use Rattle.step_law.specs.Hear.{hear_all, not_yet};
 ghost use Rattle.step_law.specs.Heard.{messages_of};
 ghost use Rattle.step_law.specs.Letters.{is_small, is_small_letter};
-ghost use Rattle.step_law.specs.Step.{asks_change};
 ghost use Rattle.replica_draft.specs.Draft.{Goes, drafted};
-ghost use Rattle.replica_core.specs.Heard.{HearsBy, ballot_named, changes_asked, changes_in, hear_in, line_in, message_in, shows_gap_in};
-ghost use Rattle.replica_core.specs.Replica.{Flies, IsReady, IsSmall, IsWhole, Makes, identity_of, fixed_of, state_of};
+ghost use Rattle.replica_core.specs.Heard.{BringsRowsIn, HearsBy, ballot_named, changes_asked, hear_in, line_in, message_in, once_in, shows_gap_in};
+ghost use Rattle.replica_core.specs.Replica.{IsReady, IsSmall, IsSteady, IsWhole, Makes, base_of, changes_in, identity_of, fixed_of, state_of};
 
 use crate::parts::Core;
 use cron_io::OutOfMemory;
+use due_set::JobTable;
 use paxos_base::{Ballot, Vote};
 use paxos_letter::Packet;
 use replica_draft::Draft;
@@ -43,6 +43,7 @@ fn observe_in(draft: &mut Draft, packet: &Packet)
     ensures term { draft.new.term ≡ after_ballot (ballot_named packet.now) draft.old.term }
     ensures change { draft.new.change ≡ draft.old.change }
     ensures learnt { draft.new.learnt ≡ draft.old.learnt }
+    ensures sends { draft.new.sends ≡ draft.old.sends }
 {
     match ballot_in(packet) {
         Some(ballot) => draft.observe(ballot),
@@ -52,21 +53,32 @@ fn observe_in(draft: &mut Draft, packet: &Packet)
 
 impl Core {
     /// Hears the packets of a letter.
-    pub fn hear_all(&self, from: u8, packets: &[Packet]) -> Result<Draft, OutOfMemory>
+    pub fn hear_all(
+        &self,
+        table: &JobTable,
+        from: u8,
+        packets: &[Packet],
+    ) -> Result<Draft, OutOfMemory>
         requires whole { IsWhole self.now }
         requires small { IsSmall (state_of self.now) self.now.machine.rows }
-        requires from { from < self.now.members }
-        requires bounds { (jobs : ℕ) × (is_small_letter jobs packets.now ≡ true) }
-        requires once { count_by asks_change (messages_of packets.now) ≤ 1 }
-        ensures makes { IfOk result (λ draft. Makes self.now (hear_all (identity_of self.now) from (messages_of packets.now) false (state_of self.now)) draft) }
-        ensures ready { IfOk result (λ draft. IsReady self.now draft) }
+        requires letter { (bytes : List ℕ) × Spells self.now.members from packets.now bytes }
+        requires bounds { is_small_letter (length table.now.jobs) packets.now ≡ true }
+        ensures makes { IfOk result (λ draft. Makes self.now (hear_all (identity_of self.now) from (messages_of packets.now) not_yet (state_of self.now)) draft) }
+        ensures ready { IfOk result (λ draft. IsReady table.now self.now draft) }
     {
         let mut draft = self.begin();
         let mut asked = false;
         for place in 0..packets.len() {
             let packet = &packets[place];
             let gap = self.shows_gap(&draft, packet);
-            self.hear(&mut draft, from, packet, &packets[place + 1..], asked)?;
+            self.hear(
+                table,
+                &mut draft,
+                from,
+                packet,
+                &packets[place + 1..],
+                asked,
+            )?;
             asked = asked || gap;
         }
         Ok(draft)
@@ -75,6 +87,7 @@ impl Core {
     // Whether a packet tells an entry behind the next one.
     fn shows_gap(&self, draft: &Draft, packet: &Packet) -> bool
         requires prefix { prefix_of self.now.learner < 2 ^ 62 }
+        requires low { base_of draft.now.change 0 < 2 ^ 62 }
         requires base { self.now.learner.base ≡ self.now.acceptor.base }
         ensures { result ≡ shows_gap_in packet.now (drafted (fixed_of self.now) draft.now).state }
     {
@@ -87,6 +100,7 @@ impl Core {
     // Hears a packet, behind which these follow: its ballot is observed first.
     fn hear(
         &self,
+        table: &JobTable,
         draft: &mut Draft,
         from: u8,
         packet: &Packet,
@@ -96,22 +110,25 @@ impl Core {
         requires whole { IsWhole self.now }
         requires prefix { prefix_of self.now.learner < 2 ^ 62 }
         requires from { from < self.now.members }
-        requires small { (jobs : ℕ) × (is_small jobs packet.now ≡ true) }
+        requires small { is_small (length table.now.jobs) packet.now ≡ true }
+        requires rows { BringsRowsIn (length table.now.jobs) (message_in packet.now rest.now) }
         requires once { changes_in draft.old.change + changes_asked packet.now ≤ 1 }
-        requires flies { Flies self.now.learner draft.old }
-        ensures does { OnOk result (HearsBy self.now draft.old draft.new (hear_in (identity_of self.now) from (message_in packet.now rest.now) asked)) }
-        ensures flies { OnOk result (Flies self.now.learner draft.new) }
+        requires steady { IsSteady table.now self.now draft.old }
+        requires short { length draft.old.learnt.items < 2 ^ 31 }
+        ensures does { OnOk result (HearsBy self.now draft.old draft.new (hear_in (identity_of self.now) from (message_in packet.now rest.now) (once_in asked draft.old))) }
+        ensures steady { OnOk result (IsSteady table.now self.now draft.new) }
         ensures once { OnOk result (changes_in draft.new.change ≤ changes_in draft.old.change + changes_asked packet.now) }
         ensures few { OnOk result (length draft.new.learnt.items ≤ length draft.old.learnt.items + 1) }
     {
         observe_in(draft, packet);
-        self.handle(draft, from, packet, rest, asked)
+        self.handle(table, draft, from, packet, rest, asked)
     }
 
     // Does what a packet asks for, once its ballot was observed.
     #[tactic(auto, unfolding(step_law::specs::Hear::line))]
     fn handle(
         &self,
+        table: &JobTable,
         draft: &mut Draft,
         from: u8,
         packet: &Packet,
@@ -121,11 +138,13 @@ impl Core {
         requires whole { IsWhole self.now }
         requires prefix { prefix_of self.now.learner < 2 ^ 62 }
         requires from { from < self.now.members }
-        requires small { (jobs : ℕ) × (is_small jobs packet.now ≡ true) }
+        requires small { is_small (length table.now.jobs) packet.now ≡ true }
+        requires rows { BringsRowsIn (length table.now.jobs) (message_in packet.now rest.now) }
         requires once { changes_in draft.old.change + changes_asked packet.now ≤ 1 }
-        requires flies { Flies self.now.learner draft.old }
-        ensures does { OnOk result (HearsBy self.now draft.old draft.new (line_in (identity_of self.now) from (message_in packet.now rest.now) asked)) }
-        ensures flies { OnOk result (Flies self.now.learner draft.new) }
+        requires steady { IsSteady table.now self.now draft.old }
+        requires short { length draft.old.learnt.items < 2 ^ 31 }
+        ensures does { OnOk result (HearsBy self.now draft.old draft.new (line_in (identity_of self.now) from (message_in packet.now rest.now) (once_in asked draft.old))) }
+        ensures steady { OnOk result (IsSteady table.now self.now draft.new) }
         ensures once { OnOk result (changes_in draft.new.change ≤ changes_in draft.old.change + changes_asked packet.now) }
         ensures few { OnOk result (length draft.new.learnt.items ≤ length draft.old.learnt.items + 1) }
     {
@@ -151,11 +170,9 @@ impl Core {
             Packet::Accepted { ballot, slot } => self.on_accepted(draft, from, *ballot, *slot),
             Packet::Known { slot, entry } => self.on_known(draft, from, *slot, *entry, asked),
             Packet::AskFrom { slot } => self.on_ask(draft, from, *slot),
+            Packet::Snap { slot, count } => self.on_snap(table, draft, *slot, *count, rest),
             Packet::Lead { slot, .. } => self.ask_below(draft, from, *slot),
-            Packet::OldVote { .. }
-            | Packet::Nack { .. }
-            | Packet::Snap { .. }
-            | Packet::SnapRow { .. } => Ok(()),
+            Packet::OldVote { .. } | Packet::Nack { .. } | Packet::SnapRow { .. } => Ok(()),
         }
     }
 }

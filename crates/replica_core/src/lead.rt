@@ -1,20 +1,21 @@
 //! How a replica comes to lead, and what a leader does at a tick and at an answer of the scheduler.
-ghost use Rattle.std.specs.Prelude.{◌≡◌, ◌+◌, ◌<◌, ◌≤◌, ◌≢◌, ◌^◌, ◌↔◌, [], ◌∷◌, None, Some, Ok, IfOk, OnOk, IsTrue, length};
+ghost use Rattle.std.specs.Prelude.{◌≡◌, ◌+◌, ◌<◌, ◌≤◌, ◌≢◌, ◌^◌, ◌↔◌, [], ◌∷◌, None, Some, Ok, true, IfOk, OnOk, IsTrue, length};
 ghost use Rattle.paxos_base.specs.Members.{has_majority, only_member};
 ghost use Rattle.paxos_base.specs.Vote.{SlotsRise, vote_at, votes_from};
 ghost use Rattle.term_core.specs.Term.{answer_to_proposal, best_votes};
 ghost use Rattle.term_core.specs.declared.term.Term.TheVariants.{Leader};
 ghost use Rattle.zone_minutes.specs.Window.{IsInWindow};
+ghost use Rattle.due_set.specs.Table.{Table};
 ghost use Rattle.launch_machine.specs.Answers.{IsIntent};
 ghost use Rattle.launch_machine.specs.Machine.{StandsFor};
 ghost use Rattle.launch_machine.specs.declared.machine.Intent.{Intent};
 ghost use Rattle.learner_core.specs.Learner as learned;
-ghost use Rattle.step_law.specs.Act.{Call, Send};
+ghost use Rattle.step_law.specs.Act.{Call, Rebase, Send};
 ghost use Rattle.step_law.specs.Message.{Lead, Others};
-ghost use Rattle.step_law.specs.Propose.{answer, bound_by, campaign, end_if, follow_intent, is_open, lead_on, proposal, propose, tick, wait};
+ghost use Rattle.step_law.specs.Propose.{answer, bound_by, campaign, end_if, follow_intent, is_long, is_open, lead_on, proposal, propose, tick, wait};
 ghost use Rattle.step_law.specs.State.{prefix_of};
 ghost use Rattle.replica_core.specs.Lines.{Does};
-ghost use Rattle.replica_core.specs.Replica.{Flies, IsReady, IsSmall, IsWhole, Makes, identity_of, state_of};
+ghost use Rattle.replica_core.specs.Replica.{FliesAt, IsReady, IsReadyAnyhow, IsSmall, IsWhole, Makes, identity_of, state_of};
 
 use crate::parts::Core;
 use cluster_sched::{Name, SchedRow};
@@ -65,7 +66,7 @@ impl Core {
         requires whole { IsWhole self.now }
         requires small { IsSmall (state_of self.now) self.now.machine.rows }
         ensures makes { IfOk result (λ draft. Makes self.now (campaign (identity_of self.now) (state_of self.now)) draft) }
-        ensures ready { IfOk result (λ draft. IsReady self.now draft) }
+        ensures ready { IfOk result (λ draft. IsReadyAnyhow self.now draft) }
     {
         let mut draft = self.begin();
         let first = self.learner.prefix();
@@ -89,10 +90,13 @@ impl Core {
         requires stands { StandsFor table.now self.now.machine }
         requires inside { IsInWindow table.now.window now.0 }
         ensures makes { IfOk result (λ draft. (intent : Intent) × IsIntent table.now self.now.machine.rows now.0 intent
-            × Makes self.now (tick (identity_of self.now) now.0 intent (state_of self.now)) draft) }
-        ensures ready { IfOk result (λ draft. IsReady self.now draft) }
+            × Makes self.now (tick (identity_of self.now) now.0 self.now.machine.rows intent (state_of self.now)) draft) }
+        ensures ready { IfOk result (λ draft. IsReady table.now self.now draft) }
     {
         let intent = self.machine.choose(table, now);
+        if self.is_long() {
+            return self.compact();
+        }
         match &self.term {
             Term::Leader {
                 ballot,
@@ -106,12 +110,35 @@ impl Core {
         }
     }
 
+    // Whether so many entries were learned since the base that the launch table takes their place.
+    fn is_long(&self) -> bool
+        requires whole { IsWhole self.now }
+        requires prefix { prefix_of (state_of self.now) < 2 ^ 62 }
+        ensures { result ≡ is_long (state_of self.now) }
+    {
+        self.learner.base() + 64 <= self.learner.prefix()
+    }
+
+    // Takes its launch table in the place of the entries that it has learned.
+    fn compact(&self) -> Result<Draft, OutOfMemory>
+        requires whole { IsWhole self.now }
+        requires small { IsSmall (state_of self.now) self.now.machine.rows }
+        requires long { is_long (state_of self.now) ≡ true }
+        ensures makes { IfOk result (λ draft. Makes self.now (Rebase (prefix_of (state_of self.now)) self.now.machine.rows ∷ []) draft) }
+        ensures ready { IfOk result (λ draft. (jobs : Table) → StandsFor jobs self.now.machine → IsReady jobs self.now draft) }
+    {
+        let mut draft = self.begin();
+        let rows = self.machine.copy_rows(self.alloc)?;
+        draft.rebase(self.alloc, self.learner.prefix(), rows, None);
+        Ok(draft)
+    }
+
     // Waits for the votes of a flight. At each fourth tick those that have not voted are asked again.
     fn wait(&self, ballot: Ballot, flight: &Flight) -> Result<Draft, OutOfMemory>
         requires whole { IsWhole self.now }
         requires waits { self.now.term ≡ Leader ballot (best_votes self.now.term) (Some flight.now) }
         ensures makes { IfOk result (λ draft. Makes self.now (wait ballot flight.now) draft) }
-        ensures ready { IfOk result (λ draft. IsReady self.now draft) }
+        ensures ready { IfOk result (λ draft. IsReadyAnyhow self.now draft) }
     {
         let mut draft = self.begin();
         if let Some(accepted) = draft.wait() {
@@ -139,7 +166,7 @@ impl Core {
         requires rise { SlotsRise best.now }
         ensures makes { IfOk result (λ draft. Makes self.now (lead_on (identity_of self.now) now.0 intent ballot best.now (state_of self.now)
             (votes_from (prefix_of (state_of self.now)) best.now)) draft) }
-        ensures ready { IfOk result (λ draft. IsReady self.now draft) }
+        ensures ready { IfOk result (λ draft. IsReadyAnyhow self.now draft) }
     {
         if is_bound(best, self.learner.prefix()) {
             self.propose(ballot, best, Entry::Noop)
@@ -161,7 +188,7 @@ impl Core {
         requires leads { self.now.term ≡ Leader ballot best.now None }
         requires rise { SlotsRise best.now }
         ensures makes { IfOk result (λ draft. Makes self.now (follow_intent (identity_of self.now) now.0 intent ballot best.now (state_of self.now)) draft) }
-        ensures ready { IfOk result (λ draft. IsReady self.now draft) }
+        ensures ready { IfOk result (λ draft. IsReadyAnyhow self.now draft) }
     {
         match intent {
             Intent::Call { job, at, kind } => Ok(self.call(job, at, kind, now)),
@@ -181,7 +208,7 @@ impl Core {
     fn call(&self, job: u32, at: i64, kind: Kind, now: Minute) -> Draft
         requires { IsWhole self.now }
         ensures makes { Makes self.now (Call (record { name = record { job = job; at = at }; kind = kind; now = now; by = self.now.me }) ∷ []) result }
-        ensures ready { IsReady self.now result }
+        ensures ready { IsReadyAnyhow self.now result }
     {
         let mut draft = self.begin();
         draft.call(SchedRow {
@@ -197,7 +224,7 @@ impl Core {
     fn say_lead(&self, ballot: Ballot) -> Result<Draft, OutOfMemory>
         requires { IsWhole self.now }
         ensures makes { IfOk result (λ draft. Makes self.now (Send Others (Lead ballot (prefix_of (state_of self.now))) ∷ []) draft) }
-        ensures ready { IfOk result (λ draft. IsReady self.now draft) }
+        ensures ready { IfOk result (λ draft. IsReadyAnyhow self.now draft) }
     {
         let mut draft = self.begin();
         draft.send_lead(ballot, self.learner.prefix())?;
@@ -212,7 +239,7 @@ impl Core {
         requires rise { SlotsRise best.now }
         ensures makes { IfOk result (λ draft. Makes self.now (propose (identity_of self.now)
             (proposal ballot best.now (prefix_of (state_of self.now)) entry)) draft) }
-        ensures ready { IfOk result (λ draft. IsReady self.now draft) }
+        ensures ready { IfOk result (λ draft. IsReadyAnyhow self.now draft) }
     {
         let mut draft = self.begin();
         let slot = self.learner.prefix();
@@ -233,10 +260,10 @@ impl Core {
         requires learnt { draft.old.learnt.items ≡ [] }
         requires slot { vote.slot ≡ learned.prefix_of self.now.learner }
         requires bound { vote.slot < 2 ^ 62 }
-        requires flies { Flies self.now.learner draft.old }
+        requires flies { FliesAt (learned.prefix_of self.now.learner) draft.old.term }
         requires leads { answer_to_proposal draft.old.term ≡ Ok vote.ballot }
-        ensures does { OnOk result (Does self.now.acceptor self.now.learner draft.old draft.new (λ state. propose (identity_of self.now) vote)) }
-        ensures ready { OnOk result (IsReady self.now draft.new) }
+        ensures does { OnOk result (Does self.now draft.old draft.new (λ state. propose (identity_of self.now) vote)) }
+        ensures ready { OnOk result (IsReadyAnyhow self.now draft.new) }
     {
         draft.propose(self.me, vote);
         draft.send_accept(Target::Others, &vote)?;
@@ -269,7 +296,7 @@ impl Core {
         requires small { IsSmall (state_of self.now) self.now.machine.rows }
         requires stands { StandsFor table.now self.now.machine }
         ensures makes { IfOk result (λ draft. Makes self.now (answer (identity_of self.now) job at kind self.now.machine.rows (state_of self.now)) draft) }
-        ensures ready { IfOk result (λ draft. IsReady self.now draft) }
+        ensures ready { IfOk result (λ draft. IsReadyAnyhow self.now draft) }
     {
         match &self.term {
             Term::Leader {
@@ -301,7 +328,7 @@ impl Core {
         requires rise { SlotsRise best.now }
         ensures makes { IfOk result (λ draft. Makes self.now (end_if (identity_of self.now) ballot best.now (state_of self.now) entry is_open
             (votes_from (prefix_of (state_of self.now)) best.now)) draft) }
-        ensures ready { IfOk result (λ draft. IsReady self.now draft) }
+        ensures ready { IfOk result (λ draft. IsReadyAnyhow self.now draft) }
     {
         if is_bound(best, self.learner.prefix()) {
             return Ok(self.begin());

@@ -1,13 +1,15 @@
 //! What is done at an input.
-ghost use Rattle.std.specs.Prelude.{◌≡◌, ℕ, List, false, IfOk};
+ghost use Rattle.std.specs.Prelude.{◌≡◌, ℕ, List, IfOk, length};
 ghost use Rattle.paxos_letter.specs.Letters.{Spells, fault_of};
+ghost use Rattle.due_set.specs.Table.{Table};
 ghost use Rattle.launch_machine.specs.Machine.{StandsFor};
-ghost use Rattle.step_law.specs.Hear.{hear_all};
+ghost use Rattle.step_law.specs.Hear.{hear_all, not_yet};
 ghost use Rattle.step_law.specs.Letters.{heard_in};
 ghost use Rattle.step_law.specs.Step.{Event, step};
 ghost use Rattle.replica_draft.specs.Letters.{AreLettersFrom};
-ghost use Rattle.replica_core.specs.Replica.{IsAlikeCore, IsReady, IsSmall, IsWhole, Makes, identity_of, state_of};
-ghost use Rattle.replica_core.specs.Step.{Hears, IsInputInside, MakesStep, fault_in, fault_told};
+ghost use Rattle.replica_core.specs.Replica.{IsAlikeCore, IsReady, IsSmall, IsWhole, Makes, identity_of, replica_of, state_of};
+ghost use Rattle.replica_core.specs.Step.{Hears, IsInputInside, IsOfTable, MakesStep, fault_in, fault_told};
+ghost use Rattle.replica_core.specs.declared.input.Input.{Input};
 
 use crate::bounds::is_small_letter;
 use crate::input::{Input, StepFault};
@@ -25,7 +27,7 @@ impl Core {
         requires stands { StandsFor table.now self.now.machine }
         requires inside { IsInputInside table.now input }
         ensures makes { IfOk result (λ draft. MakesStep table.now input.entry self.now draft) }
-        ensures ready { IfOk result (λ draft. IsReady self.now draft) }
+        ensures ready { IfOk result (λ draft. IsReady table.now self.now draft) }
         ensures fault { fault_told result ≡ fault_in self.now.members input.entry }
     {
         match input {
@@ -41,26 +43,26 @@ impl Core {
         requires whole { IsWhole self.now }
         requires small { IsSmall (state_of self.now) self.now.machine.rows }
         ensures makes { IfOk result (λ draft. Hears table.now bytes.now self.now draft) }
-        ensures ready { IfOk result (λ draft. IsReady self.now draft) }
+        ensures ready { IfOk result (λ draft. IsReady table.now self.now draft) }
         ensures fault { fault_told result ≡ fault_of self.now.members bytes.now }
     {
         match read_letter(self.alloc, bytes, self.members) {
-            Ok(letter) => Ok(self.hear_packets(table.jobs(), &letter)?),
+            Ok(letter) => Ok(self.hear_packets(table, &letter)?),
             Err(OwnedFault::Letter(fault)) => Err(StepFault::Letter(fault)),
             Err(OwnedFault::OutOfMemory) => Err(StepFault::OutOfMemory),
         }
     }
 
     // Hears the packets of a letter, or none of them where they are beyond the bounds.
-    fn hear_packets(&self, jobs: u32, letter: &OwnedLetter) -> Result<Draft, OutOfMemory>
+    fn hear_packets(&self, table: &JobTable, letter: &OwnedLetter) -> Result<Draft, OutOfMemory>
         requires whole { IsWhole self.now }
         requires small { IsSmall (state_of self.now) self.now.machine.rows }
         requires letter { (bytes : List ℕ) × Spells self.now.members letter.now.from letter.now.packets bytes }
-        ensures makes { IfOk result (λ draft. Makes self.now (hear_all (identity_of self.now) letter.now.from (heard_in jobs letter.now.packets) false (state_of self.now)) draft) }
-        ensures ready { IfOk result (λ draft. IsReady self.now draft) }
+        ensures makes { IfOk result (λ draft. Makes self.now (hear_all (identity_of self.now) letter.now.from (heard_in (length table.now.jobs) letter.now.packets) not_yet (state_of self.now)) draft) }
+        ensures ready { IfOk result (λ draft. IsReady table.now self.now draft) }
     {
-        if is_small_letter(jobs, &letter.packets.items) {
-            self.hear_all(letter.from, &letter.packets.items)
+        if is_small_letter(table.jobs(), &letter.packets.items) {
+            self.hear_all(table, letter.from, &letter.packets.items)
         } else {
             Ok(self.begin())
         }
@@ -69,10 +71,10 @@ impl Core {
     /// The letters of a draft.
     pub fn letters(&mut self, draft: &Draft) -> Result<LetterList, OutOfMemory>
         requires whole { IsWhole self.old }
-        requires made { (event : Event) × Makes self.old (step (identity_of self.old) event (state_of self.old)) draft.now }
+        requires made { (table : Table) × (input : Input) × IsOfTable table (replica_of self.old) × MakesStep table input self.old draft.now }
         ensures alike { IsAlikeCore self.new self.old }
-        ensures letters { IfOk result (λ letters. (event : Event) → Makes self.old (step (identity_of self.old) event (state_of self.old)) draft.now
-            → AreLettersFrom (identity_of self.old) (step (identity_of self.old) event (state_of self.old)) letters) }
+        ensures letters { IfOk result (λ letters. (table : Table) (input : Input) → IsOfTable table (replica_of self.old) → (made : MakesStep table input self.old draft.now)
+            → AreLettersFrom (identity_of self.old) (step (identity_of self.old) made.event (state_of self.old)) letters) }
     {
         let sends = draft.sends.as_slice();
         write_letters(self.alloc, self.me, self.members, sends, &mut self.packets)

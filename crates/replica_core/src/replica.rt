@@ -1,9 +1,10 @@
 ghost use Rattle.std.specs.Prelude.{◌≡◌, ◌↔◌, ◌<◌, ◌≤◌, ◌^◌, IsTrue, List, IfOk, OnErr, length};
-ghost use Rattle.std.specs.Option.{option_to_list};
+ghost use Rattle.std.specs.Option.{option_copied, option_map, option_to_list};
 ghost use Rattle.paxos_base.specs.Rows.{RowsStand};
 ghost use Rattle.step_law.specs.Act.{Act};
 ghost use Rattle.step_law.specs.Folds.{deltas_of};
 ghost use Rattle.step_law.specs.State.{prefix_of, started};
+ghost use Rattle.replica_draft.specs.Draft.{delta_of};
 ghost use Rattle.replica_core.specs.Replica.{IsSmall, ReplicaState};
 ghost use Rattle.replica_core.specs.Step.{CanTake, IsAlike, IsInputInside, IsOfTable, Plans, PlansStep, Steps, Takes, fault_in, fault_told};
 
@@ -38,18 +39,26 @@ impl Model for Replica {
 #[derive(Debug, Drop)]
 pub struct Planned {
     draft: Draft,
+    delta: Option<Delta>,
     letters: LetterList,
 }
 
 impl Planned {
     /// What the step changes on the disk.
-    pub fn delta(&self) -> Option<Delta>
-        ensures { (replica : ReplicaState) (acts : List Act) → Plans replica acts self.now → deltas_of acts ≡ option_to_list result }
+    pub fn delta(&self) -> Option<&Delta>
+        ensures { (replica : ReplicaState) (acts : List Act) → Plans replica acts self.now → deltas_of acts ≡ option_to_list (option_copied result) }
     {
-        match self.draft.change {
-            Some(change) => Some(change.delta()),
-            None => None,
-        }
+        self.delta.as_ref()
+    }
+}
+
+// What a draft changes on the disk.
+fn delta_of(draft: &Draft) -> Result<Option<Delta>, OutOfMemory>
+    ensures { IfOk result (λ delta. delta ≡ option_map delta_of draft.now.change) }
+{
+    match &draft.change {
+        Some(change) => Ok(Some(change.delta()?)),
+        None => Ok(None),
     }
 }
 
@@ -124,24 +133,30 @@ impl Replica {
         requires inside { IsInputInside table.now input }
         ensures alike { IsAlike self.new self.old }
         ensures planned { IfOk result (λ planned. PlansStep table.now input.entry self.old planned) }
-        ensures can { IfOk result (λ planned. CanTake self.new planned) }
+        ensures can { IfOk result (λ planned. CanTake table.now self.new planned) }
         // The bytes of a letter are refused exactly where they break a rule, for the first that they break.
         ensures fault { fault_told result ≡ fault_in self.old.identity.members input.entry }
     {
         let draft = self.core.draft(table, input)?;
+        let delta = delta_of(&draft)?;
         let letters = self.core.letters(&draft)?;
         self.core.reserve(&draft)?;
-        Ok(Planned { draft, letters })
+        Ok(Planned {
+            draft,
+            delta,
+            letters,
+        })
     }
 
     /// Takes a step that it has planned. This needs no memory, and can't refuse.
     pub fn complete(&mut self, table: &JobTable, planned: Planned) -> StepOut
         requires of_table { IsOfTable table.now self.old }
         requires small { IsSmall self.old.state self.old.machine.rows }
-        requires can { CanTake self.old planned }
+        requires can { CanTake table.now self.old planned }
         ensures { (acts : List Act) → Plans self.old acts planned → Takes table.now self.old self.new acts result }
     {
-        self.core.commit(table, planned.draft, planned.letters)
+        self.core
+            .commit(table, planned.draft, planned.delta, planned.letters)
     }
 
     /// What the replica does at an input: a step planned, and taken at once.

@@ -1,25 +1,32 @@
 -- What a draft's verbs come to.
-use Rattle.std.proofs.Common.{take, arith, ◌<◌, get_or, drop, ◌≤◌, ◌-◌, ◌≡◌, ℕ, ◌+◌, None, Some, List, [], ◌∷◌, ◌++◌, map, refl, sym, ap, ◌∙◌, unwrap_or, max, length, Result, Ok, Err, OnOk, inl, inr, ltb}
-use Rattle.std.proofs.lemmas.List.{append-nil, append_assoc, map-append, take_more, length-take-le, length-drop, length-map, get_or-drop, get_or-map}
+use Rattle.std.proofs.Common.{take, arith, ◌<◌, get_or, drop, ◌≤◌, ◌-◌, ◌≡◌, ℕ, ◌+◌, Option, None, Some, List, [], ◌∷◌, ◌++◌, map, refl, sym, ap, ◌∙◌, unwrap_or, max, length, Result, Ok, Err, OnOk, inl, inr, ltb}
+use Rattle.std.specs.Prelude.{⊤}
+use Rattle.std.specs.List.{AllByRecursion}
+use Rattle.std.proofs.lemmas.List.{append-nil, append_assoc, drop_all, map-append, take_more, length-take-le}
 use Rattle.std.proofs.lemmas.List.Concat.{flat_map-append}
 use Rattle.std.proofs.lemmas.Bool.{cases_Bool}
+use Rattle.paxos_base.specs.declared.durable.Durable.{Durable}
 use Rattle.paxos_base.specs.declared.entry.Entry.{Entry}
 use Rattle.paxos_base.specs.declared.entry.Vote.{Vote}
+use Rattle.paxos_base.specs.declared.rows.JobRow.{JobRow}
+use Rattle.launch_machine.specs.Machine.{Launches}
 use Rattle.paxos_letter.specs.declared.packet.Packet.{Packet}
 use Rattle.term_core.specs.Term.{after_ballot, after_advance}
 use Rattle.term_core.specs.declared.term.Term.{Term}
 use Rattle.term_core.specs.declared.term.Term.TheVariants.{Follower, Candidate, Leader}
-use Rattle.step_law.specs.Act.{Act, Observe, Pledge, Cast, Learn, Send, after_act}
+use Rattle.step_law.specs.Act.{Act, Observe, Pledge, Cast, Learn, Rebase, Send, after_act}
 use Rattle.step_law.specs.Folds.{after_acts, calls_by, calls_of, deltas_by, deltas_of, learnt_by, learnt_of}
 use Rattle.paxos_letter.specs.declared.packet.Packet.TheVariants as packet
 use Rattle.step_law.specs.Heard.{old_vote, packets_of}
 use Rattle.step_law.specs.Hear.{known_from, send_all}
 use Rattle.step_law.proofs.VoteLemmas.{known-push}
-use Rattle.step_law.specs.Message.{Message, Whom, Only, Known, Promise}
+use Rattle.step_law.specs.Message.{Message, Whom, Only, Known, Promise, Snap}
 use Rattle.step_law.specs.State.{State, prefix_of}
 use Rattle.step_law.specs.declared.out.LearntRow.{LearntRow}
-use Rattle.replica_draft.specs.Draft.{Desk, Goes, FixedParts, LearnsNext, SendsOnly, done, drafted, entries_in, said_by, said_in, said_of, with_best}
-use Rattle.replica_draft.specs.declared.draft.Change.TheVariants.{Promised, Voted}
+use Rattle.replica_draft.specs.Draft.{Desk, Goes, FixedParts, LearnsNext, Says, SendsOnly, TakesTable, calls_in, deltas_in, done, drafted, durable_of, entries_in, learned_with, said_by, said_in, said_of, with_best, with_learned}
+use Rattle.replica_draft.specs.declared.draft.Sent.{Sent}
+use Rattle.replica_draft.specs.declared.change.Change.{Change}
+use Rattle.replica_draft.specs.declared.change.Change.TheVariants as change
 use Rattle.replica_draft.specs.declared.draft.Draft.{Draft}
 
 -- a term hears of a ballot, whatever its votes
@@ -56,14 +63,43 @@ drafted-observe kept old term seen ballot seen_is term_is =
     ) refl
 
 pub drafted-pledge : (kept : FixedParts) (old : Draft) (ballot : ℕ) → old.change ≡ None
-    → drafted kept (record old { change = Some (Promised ballot) }) ≡ done (Pledge ballot ∷ []) (drafted kept old)
+    → drafted kept (record old { change = Some (change.Promised ballot) }) ≡ done (Pledge ballot ∷ []) (drafted kept old)
 unfolding after_act deltas_by learnt_by said_by calls_by
 drafted-pledge kept old ballot none = rw (none, append-nil old.learnt.items, append-nil (drafted kept old).said, append-nil (drafted kept old).calls) refl
 
 pub drafted-cast : (kept : FixedParts) (old : Draft) (vote : Vote) → old.change ≡ None
-    → drafted kept (record old { change = Some (Voted vote) }) ≡ done (Cast vote ∷ []) (drafted kept old)
+    → drafted kept (record old { change = Some (change.Voted vote) }) ≡ done (Cast vote ∷ []) (drafted kept old)
 unfolding after_act deltas_by learnt_by said_by calls_by
 drafted-cast kept old vote none = rw (none, append-nil old.learnt.items, append-nil (drafted kept old).said, append-nil (drafted kept old).calls) refl
+
+-- with one more entry learned, the change of what is kept is the same
+durable-learned : (entry : Entry) (made : Option Change) (kept : Durable) → durable_of (with_learned entry made) kept ≡ durable_of made kept
+durable-learned entry None kept = refl
+durable-learned entry (Some (change.Tried ballot)) kept = refl
+durable-learned entry (Some (change.Promised ballot)) kept = refl
+durable-learned entry (Some (change.Voted vote)) kept = refl
+durable-learned entry (Some (change.Rebased rebased)) kept = refl
+
+deltas-learned : (entry : Entry) (made : Option Change) → deltas_in (with_learned entry made) ≡ deltas_in made
+deltas-learned entry None = refl
+deltas-learned entry (Some (change.Tried ballot)) = refl
+deltas-learned entry (Some (change.Promised ballot)) = refl
+deltas-learned entry (Some (change.Voted vote)) = refl
+deltas-learned entry (Some (change.Rebased rebased)) = refl
+
+entries-push : (learned : List Entry) (rows : List LearntRow) (slot : ℕ) (entry : Entry) → learned ++ entries_in (rows ++ record { slot = slot; entry = entry } ∷ []) ≡ (learned ++ entries_in rows) ++ entry ∷ []
+entries-push learned rows slot entry =
+    ap (λ entries. learned ++ entries) (map-append (λ (row : LearntRow). row.entry) rows (record { slot = slot; entry = entry } ∷ []))
+    ∙ sym (append_assoc learned (entries_in rows) (entry ∷ []))
+
+-- and the entry is behind those that were learned
+learned-learned : (entry : Entry) (slot : ℕ) (made : Option Change) (learned : List Entry) (rows : List LearntRow)
+    → learned_with (with_learned entry made) learned (rows ++ record { slot = slot; entry = entry } ∷ []) ≡ learned_with made learned rows ++ entry ∷ []
+learned-learned entry slot None learned rows = entries-push learned rows slot entry
+learned-learned entry slot (Some (change.Tried ballot)) learned rows = entries-push learned rows slot entry
+learned-learned entry slot (Some (change.Promised ballot)) learned rows = entries-push learned rows slot entry
+learned-learned entry slot (Some (change.Voted vote)) learned rows = entries-push learned rows slot entry
+learned-learned entry slot (Some (change.Rebased rebased)) learned rows = refl
 
 -- an entry is learned, where its slot is the first that isn't
 pub drafted-learn : (kept : FixedParts) (old new : Draft) (slot : ℕ) (entry : Entry) → LearnsNext old new slot entry → slot ≡ prefix_of (drafted kept old).state
@@ -78,16 +114,39 @@ drafted-learn kept old new slot entry learns at =
       learns.change,
       learns.learnt,
       learns.call,
+      durable-learned entry old.change kept.durable,
+      deltas-learned entry old.change,
+      learned-learned entry slot old.change kept.learned old.learnt.items,
       with_best-after_advance (unwrap_or old.best kept.best) (slot + 1) old.term,
       append-nil (drafted kept old).deltas,
       append-nil (drafted kept old).said,
       append-nil (drafted kept old).calls,
     )
-    (rw (
-      map-append (λ (row : LearntRow). row.entry) old.learnt.items (record { slot = slot; entry = entry } ∷ []),
-      sym at,
-      append_assoc kept.learned (entries_in old.learnt.items) (entry ∷ []),
-    ) refl)
+    (rw (sym at) refl)
+
+-- a launch table is taken, where nothing is learned behind its slot
+pub drafted-rebase : (kept : FixedParts) (old new : Draft) (slot : ℕ) (rows : List JobRow) (machine : Option Launches) → TakesTable old new slot rows machine → old.change ≡ None
+    → prefix_of (drafted kept old).state ≤ slot → drafted kept new ≡ done (Rebase slot rows ∷ []) (drafted kept old)
+unfolding after_act deltas_by learnt_by said_by calls_by
+drafted-rebase kept old new slot rows machine takes none up =
+    let past : kept.durable.base + length (kept.learned ++ entries_in old.learnt.items) ≤ slot = rw none at up in
+    let gone : drop (slot - kept.durable.base) (kept.learned ++ entries_in old.learnt.items) ≡ [] =
+    drop_all (slot - kept.durable.base) (kept.learned ++ entries_in old.learnt.items) (omega (arith, past)) in
+    rw (
+      takes.seen,
+      takes.term,
+      takes.sends,
+      takes.best,
+      takes.change,
+      takes.learnt,
+      takes.call,
+      none,
+      gone,
+      with_best-after_advance (unwrap_or old.best kept.best) slot old.term,
+      append-nil old.learnt.items,
+      append-nil (map said_in old.sends.items),
+      append-nil (calls_in old.call),
+    ) refl
 
 -- packets are sent that spell a message
 pub drafted-send : (kept : FixedParts) (old new : Draft) (whom : Whom) (message : Message) → SendsOnly old new
@@ -138,33 +197,6 @@ sends-twice old middle new first second =
       call = second.call ∙ first.call;
     }
 
--- entries are told, and one more
-pub told-more : (old middle new : Draft) (to first : ℕ) (entries : List Entry) (entry : Entry) → Goes old middle (send_all to (known_from first entries))
-    → Goes middle new (Send (Only to) (Known (first + length entries) entry) ∷ []) → Goes old new (send_all to (known_from first (entries ++ entry ∷ [])))
-told-more old middle new to first entries entry before after =
-    rw (known-push first entries entry, map-append (Send (Only to)) (known_from first entries) (Known (first + length entries) entry ∷ []))
-    (goes-on old middle new (send_all to (known_from first entries)) (Send (Only to) (Known (first + length entries) entry) ∷ []) before after)
-
--- entries are told, one after another, each at the place that it has among them
-pub told-next : (old middle new : Draft) (to first place : ℕ) (entries : List Entry) (none entry : Entry) → place < length entries → get_or entries place none ≡ entry
-    → Goes old middle (send_all to (known_from first (take place entries))) → Goes middle new (Send (Only to) (Known (first + place) entry) ∷ [])
-    → Goes old new (send_all to (known_from first (take (place + 1) entries)))
-told-next old middle new to first place entries none entry in_range is before after =
-    let count : length (take place entries) ≡ place = length-take-le place entries (omega (arith, in_range)) in
-    rw (take_more entries place none in_range, is)
-    (told-more old middle new to first (take place entries) entry before (rw count after))
-
--- the entry of a row, among those that are left after the first ones
-pub learnt-entry : (rows : List LearntRow) (skip place : ℕ) (row : LearntRow) (none : Entry) → skip ≤ place → place < length rows
-    → get_or (drop skip (entries_in rows)) (place - skip) none ≡ (get_or rows place row).entry
-learnt-entry rows skip place row none past in_range =
-    let at : skip + (place - skip) ≡ place = omega (arith, past) in
-    get_or-drop skip (entries_in rows) (place - skip) none
-    ∙ rw at (get_or-map (λ (row : LearntRow). row.entry) rows place row none in_range)
-
-pub learnt-count : (rows : List LearntRow) (skip : ℕ) → length (drop skip (entries_in rows)) ≡ length rows - skip
-learnt-count rows skip = length-drop skip (entries_in rows) ∙ rw (length-map rows (λ (row : LearntRow). row.entry)) refl
-
 map_twice : {X Y Z : Type 0} (f : Y → Z) (g : X → Y) (xs : List X) → map f (map g xs) ≡ map (λ x. f (g x)) xs
 map_twice f g [] = refl
 map_twice f g (x ∷ xs) = ap (λ rest. f (g x) ∷ rest) (map_twice f g xs)
@@ -178,3 +210,93 @@ unfolding packets_of
 promised kept old middle new to ballot slot votes one two first rest =
     drafted-send kept old new (Only to) (Promise ballot slot votes) (sends-twice old middle new one two)
     (rest ∙ rw (first, map_twice {Z = Whom × Packet} (λ (packet : Packet). (Only to, packet)) (old_vote ballot) votes) (append_assoc (map said_in old.sends.items) ((Only to, packet.Promise ballot slot (length votes)) ∷ []) (map (λ vote. (Only to, old_vote ballot vote)) votes)))
+
+-- ---- what is sent by several packets
+
+-- the act sends something
+abbrev pub IsSend : Act → Type 0
+IsSend (Send whom message) = ⊤
+IsSend act = ⊥
+
+sends-state : (acts : List Act) → AllByRecursion IsSend acts → (state : State) → after_acts acts state ≡ state
+unfolding after_act
+sends-state [] sends state = refl
+sends-state (Send whom message ∷ acts) sends state = sends-state acts sends.1 state
+sends-state (act ∷ acts) sends state = absurd sends.0
+
+sends-deltas : (acts : List Act) → AllByRecursion IsSend acts → deltas_of acts ≡ []
+unfolding deltas_by
+sends-deltas [] sends = refl
+sends-deltas (Send whom message ∷ acts) sends = sends-deltas acts sends.1
+sends-deltas (act ∷ acts) sends = absurd sends.0
+
+sends-learnt : (acts : List Act) → AllByRecursion IsSend acts → learnt_of acts ≡ []
+unfolding learnt_by
+sends-learnt [] sends = refl
+sends-learnt (Send whom message ∷ acts) sends = sends-learnt acts sends.1
+sends-learnt (act ∷ acts) sends = absurd sends.0
+
+sends-calls : (acts : List Act) → AllByRecursion IsSend acts → calls_of acts ≡ []
+unfolding calls_by
+sends-calls [] sends = refl
+sends-calls (Send whom message ∷ acts) sends = sends-calls acts sends.1
+sends-calls (act ∷ acts) sends = absurd sends.0
+
+pub all-sends : (to : ℕ) (messages : List Message) → AllByRecursion IsSend (send_all to messages)
+all-sends to [] = tt
+all-sends to (message ∷ messages) = (tt, all-sends to messages)
+
+-- a draft that only sends goes on by what it sends
+pub goes-by : (old new : Draft) (acts : List Act) → SendsOnly old new → AllByRecursion IsSend acts → Says old.sends.items new.sends.items acts → Goes old new acts
+goes-by old new acts only sends says kept =
+    rw (
+      only.seen,
+      only.term,
+      only.best,
+      only.change,
+      only.learnt,
+      only.call,
+      says,
+      sends-state acts sends (drafted kept old).state,
+      sends-deltas acts sends,
+      sends-learnt acts sends,
+      sends-calls acts sends,
+      append-nil (drafted kept old).deltas,
+      append-nil (drafted kept old).learnt,
+      append-nil (drafted kept old).calls,
+    ) refl
+
+pub says-nothing : (sends : List Sent) → Says sends sends []
+says-nothing sends = sym (append-nil (map said_in sends))
+
+-- what is sent, and what is sent behind it
+pub says-on : (one two three : List Sent) (xs ys : List Act) → Says one two xs → Says two three ys → Says one three (xs ++ ys)
+says-on one two three xs ys first second =
+    second ∙ rw (first, flat_map-append said_by xs ys) (append_assoc (map said_in one) (said_of xs) (said_of ys))
+
+-- entries are told, and one more
+says-more : (one two three : List Sent) (to first : ℕ) (entries : List Entry) (entry : Entry) → Says one two (send_all to (known_from first entries))
+    → map said_in three ≡ map said_in two ++ (Only to, packet.Known (first + length entries) entry) ∷ [] → Says one three (send_all to (known_from first (entries ++ entry ∷ [])))
+unfolding said_by packets_of
+says-more one two three to first entries entry before now =
+    rw (known-push first entries entry, map-append (Send (Only to)) (known_from first entries) (Known (first + length entries) entry ∷ []))
+    (says-on one two three (send_all to (known_from first entries)) (Send (Only to) (Known (first + length entries) entry) ∷ []) before now)
+
+-- entries are told, one after another, each at the place that it has among them
+pub says-next : (one two three : List Sent) (to first place : ℕ) (entries : List Entry) (none entry : Entry) → place < length entries → get_or entries place none ≡ entry
+    → Says one two (send_all to (known_from first (take place entries))) → map said_in three ≡ map said_in two ++ (Only to, packet.Known (first + place) entry) ∷ []
+    → Says one three (send_all to (known_from first (take (place + 1) entries)))
+says-next one two three to first place entries none entry in_range is before now =
+    let count : length (take place entries) ≡ place = length-take-le place entries (omega (arith, in_range)) in
+    rw (take_more entries place none in_range, is)
+    (says-more one two three to first (take place entries) entry before (rw count now))
+
+-- a launch table is sent, and then its rows
+pub says-rows : (one two : List Sent) (to slot : ℕ) (rows : List JobRow)
+    → map said_in two ≡ (map said_in one ++ (Only to, packet.Snap slot (length rows)) ∷ []) ++ map (λ (row : JobRow). (Only to, packet.SnapRow slot row)) rows
+    → Says one two (Send (Only to) (Snap slot rows) ∷ [])
+unfolding said_by packets_of
+says-rows one two to slot rows is =
+    is
+    ∙ append_assoc (map said_in one) ((Only to, packet.Snap slot (length rows)) ∷ []) (map (λ (row : JobRow). (Only to, packet.SnapRow slot row)) rows)
+    ∙ rw (map_twice {Z = Whom × Packet} (λ (packet : Packet). (Only to, packet)) (packet.SnapRow slot) rows, append-nil {A = Whom × Packet} (map (λ (row : JobRow). (Only to, packet.SnapRow slot row)) rows)) refl

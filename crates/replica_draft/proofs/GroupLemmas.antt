@@ -1,11 +1,13 @@
--- The packets of messages keep the rules of groups: each promise has its old votes behind it.
-use Rattle.std.proofs.Common.{◌≡◌, ℕ, ◌-◌, Bool, true, false, List, [], ◌∷◌, ◌++◌, length, map, refl, inl, inr, arith}
-use Rattle.std.specs.List.{flat_map}
-use Rattle.std.proofs.lemmas.Bool.{and_from, lt-ltb, cases_Bool}
+-- The packets of messages keep the rules of groups: each promise has its old votes behind it, and a snapshot its rows.
+use Rattle.std.proofs.Common.{◌≡◌, ℕ, suc, ◌+◌, ◌-◌, Bool, true, false, Some, List, [], ◌∷◌, ◌++◌, length, map, refl, inl, inr, arith}
+use Rattle.std.specs.List.{flat_map, slice_get}
+use Rattle.std.proofs.lemmas.Bool.{and_from, lt-ltb, eq-eqb, cases_Bool, false≢true}
 use Rattle.paxos_base.specs.declared.entry.Vote.{Vote}
+use Rattle.paxos_base.specs.declared.rows.JobRow.{JobRow}
 use Rattle.paxos_letter.specs.Groups.{keep_groups, no_group}
 use Rattle.paxos_letter.specs.Spelling.{fields_of}
 use Rattle.paxos_letter.specs.declared.packet.Packet.{Packet}
+use Rattle.paxos_letter.specs.declared.packet.Packet.TheVariants as packet
 use Rattle.step_law.specs.Act.{Act, Send}
 use Rattle.step_law.specs.Folds.{sent_by, sent_to}
 use Rattle.step_law.specs.Heard.{packets_of, old_vote}
@@ -40,6 +42,30 @@ free_follow me (Lead ballot slot) rest true free keeps = keeps
 free_follow me (Lead ballot slot) rest false free keeps = keeps
 free_follow me (Mention ballot) rest asked free keeps = absurd free
 
+-- where nothing is owed, the job of the next row says nothing
+job_free : (me job : ℕ) (asked : Bool) (packets : List Packet) → Follow me 0 asked packets → keep_groups (record no_group { job = job; asked = asked }) (map (fields_of me) packets) ≡ true
+job_free me job asked [] keeps = refl
+job_free me job asked (packet.Prepare ballot slot ∷ rest) keeps = keeps
+job_free me job asked (packet.Promise ballot slot count ∷ rest) keeps = keeps
+job_free me job asked (packet.OldVote ballot slot cast entry ∷ rest) keeps = absurd (false≢true keeps)
+job_free me job asked (packet.Accept ballot slot entry ∷ rest) keeps = keeps
+job_free me job asked (packet.Accepted ballot slot ∷ rest) keeps = keeps
+job_free me job asked (packet.Nack ballot promised ∷ rest) keeps = keeps
+job_free me job asked (packet.Known slot entry ∷ rest) keeps = keeps
+job_free me job asked (packet.AskFrom slot ∷ rest) keeps = keeps
+job_free me job asked (packet.Snap slot count ∷ rest) keeps = keeps
+job_free me job asked (packet.SnapRow slot row ∷ rest) keeps = absurd (false≢true keeps)
+job_free me job asked (packet.Lead ballot slot ∷ rest) keeps = keeps
+
+-- as many rows as are owed, from a job on
+rows_follow : (me slot job owed : ℕ) (rows : List JobRow) (rest : List Packet) → owed ≡ length rows → ((k : ℕ) (row : JobRow) → slice_get rows k ≡ Some row → row.job ≡ job + k) → Follow me 0 true rest
+    → keep_groups (record no_group { rows = owed; job = job; asked = true }) (map (fields_of me) (map (packet.SnapRow slot) rows ++ rest)) ≡ true
+rows_follow me slot job owed [] rest is in_order keeps = rw is (job_free me job true rest keeps)
+rows_follow me slot job owed (row ∷ rows) rest is in_order keeps =
+    let first : row.job ≡ job = let at = in_order 0 row refl in omega (arith, at) in
+    and_from _ _ (and_from _ _ (lt-ltb 0 owed (omega (arith, is))) (eq-eqb row.job job first))
+    (rows_follow me slot (job + 1) (owed - 1) rows rest (omega (arith, is)) (λ k other there. let at = in_order (suc k) other there in omega (arith, at)) keeps)
+
 ask_follows : (me : ℕ) (message : Message) (rest : List Packet) → IsAsk message → Follow me 0 true rest → Follow me 0 false (packets_of message ++ rest)
 unfolding packets_of
 ask_follows me (Prepare ballot slot) rest asks keeps = keeps
@@ -49,7 +75,8 @@ ask_follows me (Accepted ballot slot) rest asks keeps = absurd asks
 ask_follows me (Nack ballot promised) rest asks keeps = absurd asks
 ask_follows me (Known slot entry) rest asks keeps = absurd asks
 ask_follows me (AskFrom slot) rest asks keeps = absurd asks
-ask_follows me (Snap slot rows) rest asks keeps = absurd asks
+ask_follows me (Snap slot rows) rest asks keeps =
+    rows_follow me slot 0 (length rows) rows rest refl (λ k row is. let at = asks.in_order k row is in omega (arith, at)) keeps
 ask_follows me (Lead ballot slot) rest asks keeps = absurd asks
 ask_follows me (Mention ballot) rest asks keeps = absurd asks
 

@@ -10,7 +10,7 @@ use Rattle.cluster_sched.specs.declared.row.SchedRow.{SchedRow}
 use Rattle.step_law.specs.Act.{Call, Propose, Wait, after_act}
 use Rattle.step_law.specs.Folds.{calls_by, deltas_by, learnt_by}
 use Rattle.replica_draft.specs.Draft.{FixedParts, done, drafted, said_by, with_best}
-use Rattle.replica_draft.specs.declared.draft.Change.TheVariants.{Voted}
+use Rattle.replica_draft.specs.declared.change.Change.TheVariants.{Voted}
 use Rattle.replica_draft.specs.declared.draft.Draft.{Draft}
 
 with_best-after_proposal : (best : List Vote) (slot : ℕ) (entry : Entry) (me : ℕ) (term : Term) → with_best best (after_proposal slot entry me term) ≡ after_proposal slot entry me (with_best best term)

@@ -1,10 +1,14 @@
 -- From what a step sends to its letters.
 use Rattle.std.proofs.Common.{◌≡◌, ℕ, List, [], ◌∷◌, ◌++◌, map, refl, sym, ◌∙◌, ap, inl, inr, subst, if◌then◌else◌}
 use Rattle.std.proofs.lemmas.Bool.{cases_Bool}
+use Rattle.std.proofs.lemmas.List.Elements.{All-head, All-tail}
+use Rattle.paxos_base.specs.Rows.{OpenHasCursor, OpenHaveCursors}
 use Rattle.paxos_base.specs.declared.entry.Vote.{Vote}
+use Rattle.paxos_base.specs.declared.rows.JobRow.{JobRow}
 use Rattle.paxos_letter.specs.Groups.{keep_groups, no_group}
 use Rattle.paxos_letter.specs.Spelling.{fields_of}
 use Rattle.paxos_letter.specs.declared.packet.Packet.{Packet}
+use Rattle.paxos_letter.specs.declared.packet.Packet.TheVariants as packet
 use Rattle.step_law.specs.Act.{Act, Send}
 use Rattle.step_law.specs.Folds.{sent_by}
 use Rattle.step_law.specs.Heard.{packets_of, old_vote}
@@ -12,7 +16,7 @@ use Rattle.step_law.specs.Message.{Message, Prepare, Promise, Accept, Accepted, 
 use Rattle.step_law.specs.State.{State, Identity}
 use Rattle.step_law.specs.Step.{Event, step}
 use Rattle.replica_draft.specs.Draft.{said_by, said_of}
-use Rattle.replica_draft.specs.Letters.{packets_to, KeepGroups, HaveCursors, IsTold, IsSpoken, AreSpoken}
+use Rattle.replica_draft.specs.Letters.{packets_to, BringsCopyable, IsCopyable, KeepGroups, HaveCursors, IsTold, IsSpoken, AreSpoken}
 use Rattle.replica_draft.proofs.AskLemmas.{IsFree, IsAsk, SendsFree, SendsAsk, AreFree, AskOnce, step-once}
 use Rattle.replica_draft.proofs.GroupLemmas.{told_to, acts_once}
 
@@ -73,15 +77,15 @@ once_spoken (act ∷ acts) (inl free) = (free_spoken act free.0, once_spoken act
 once_spoken (act ∷ acts) (inr asks) = (ask_spoken act asks.0, all_spoken acts asks.1)
 
 -- a step sends no mention
-pub step-spoken : (self : Identity) (event : Event) (state : State) → AreSpoken (step self event state)
-step-spoken self event state = once_spoken (step self event state) (step-once self event state)
+pub step-spoken : (self : Identity) (event : Event) (state : State) → IsCopyable state.kept.rows → BringsCopyable event → AreSpoken (step self event state)
+step-spoken self event state rows brings = once_spoken (step self event state) (step-once self event state rows brings)
 
 -- what a step sends to a replica keeps the rules of groups
-pub step-groups : (self : Identity) (event : Event) (state : State) → KeepGroups self.me (said_of (step self event state))
-step-groups self event state member =
+pub step-groups : (self : Identity) (event : Event) (state : State) → IsCopyable state.kept.rows → BringsCopyable event → KeepGroups self.me (said_of (step self event state))
+step-groups self event state rows brings member =
     let acts : List Act = step self event state in
     ap (λ (packets : List Packet). keep_groups no_group (map (fields_of self.me) packets)) (packets_to-said_of self.me member acts)
-    ∙ acts_once self.me member acts (step-once self event state)
+    ∙ acts_once self.me member acts (step-once self event state rows brings)
 
 cursors-append : (xs ys : List (Whom × Packet)) → HaveCursors xs → HaveCursors ys → HaveCursors (xs ++ ys)
 cursors-append [] ys first rest = rest
@@ -90,6 +94,10 @@ cursors-append (x ∷ xs) ys first rest = (first.0, cursors-append xs ys first.1
 votes_cursors : (whom : Whom) (ballot : ℕ) (votes : List Vote) → HaveCursors (map (λ (packet : Packet). (whom, packet)) (map (old_vote ballot) votes))
 votes_cursors whom ballot [] = tt
 votes_cursors whom ballot (vote ∷ votes) = (tt, votes_cursors whom ballot votes)
+
+rows_cursors : (whom : Whom) (slot : ℕ) (rows : List JobRow) → OpenHaveCursors rows → HaveCursors (map (λ (packet : Packet). (whom, packet)) (map (packet.SnapRow slot) rows))
+rows_cursors whom slot [] cursors = tt
+rows_cursors whom slot (row ∷ rows) cursors = (All-head OpenHasCursor row rows cursors, rows_cursors whom slot rows (All-tail OpenHasCursor row rows cursors))
 
 free_cursors : (whom : Whom) (message : Message) → IsFree message → HaveCursors (said_by (Send whom message))
 unfolding said_by packets_of
@@ -113,7 +121,7 @@ ask_cursors whom (Accepted ballot slot) asks = absurd asks
 ask_cursors whom (Nack ballot promised) asks = absurd asks
 ask_cursors whom (Known slot entry) asks = absurd asks
 ask_cursors whom (AskFrom slot) asks = absurd asks
-ask_cursors whom (Snap slot rows) asks = absurd asks
+ask_cursors whom (Snap slot rows) asks = (tt, rows_cursors whom slot rows asks.cursors)
 ask_cursors whom (Lead ballot slot) asks = absurd asks
 ask_cursors whom (Mention ballot) asks = absurd asks
 
@@ -135,8 +143,8 @@ once_cursors (act ∷ acts) (inl free) = once_cursors acts free.1
 once_cursors (act ∷ acts) (inr asks) = absurd asks.0
 
 -- a step sends no row whose job is open and which has no cursor
-pub step-cursors : (self : Identity) (event : Event) (state : State) → HaveCursors (said_of (step self event state))
-step-cursors self event state = once_cursors (step self event state) (step-once self event state)
+pub step-cursors : (self : Identity) (event : Event) (state : State) → IsCopyable state.kept.rows → BringsCopyable event → HaveCursors (said_of (step self event state))
+step-cursors self event state rows brings = once_cursors (step self event state) (step-once self event state rows brings)
 
 -- what the letters of a step need of it
 pub record CanBeSent (self : Identity) (acts : List Act) (said : List (Whom × Packet)) : Type 0 where
@@ -145,10 +153,10 @@ pub record CanBeSent (self : Identity) (acts : List Act) (said : List (Whom × P
   pub cursors : HaveCursors said
 
 -- what a step says can be sent
-pub step-letters : (self : Identity) (event : Event) (state : State) (said : List (Whom × Packet)) → said ≡ said_of (step self event state) → CanBeSent self (step self event state) said
-step-letters self event state said is =
+pub step-letters : (self : Identity) (event : Event) (state : State) (said : List (Whom × Packet)) → IsCopyable state.kept.rows → BringsCopyable event → said ≡ said_of (step self event state) → CanBeSent self (step self event state) said
+step-letters self event state said rows brings is =
     record {
-      spoken = step-spoken self event state;
-      groups = subst (KeepGroups self.me) (sym is) (step-groups self event state);
-      cursors = subst HaveCursors (sym is) (step-cursors self event state);
+      spoken = step-spoken self event state rows brings;
+      groups = subst (KeepGroups self.me) (sym is) (step-groups self event state rows brings);
+      cursors = subst HaveCursors (sym is) (step-cursors self event state rows brings);
     }

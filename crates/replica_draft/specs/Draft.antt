@@ -1,13 +1,16 @@
 -- A step that is being planned, in the words of the protocol.
-use Rattle.std.specs.Prelude.{◌≡◌, ℕ, ◌+◌, Option, None, Some, List, [], ◌∷◌, ◌++◌, map, unwrap_or}
-use Rattle.std.specs.List.{flat_map}
+use Rattle.std.specs.Prelude.{◌≡◌, ℕ, ◌+◌, Bool, true, false, Option, None, Some, List, [], ◌∷◌, ◌++◌, map, unwrap_or}
+use Rattle.std.specs.List.{flat_map, list_any}
 use Rattle.paxos_base.specs.Durable.{after_delta}
 use Rattle.paxos_base.specs.declared.durable.Delta.{Delta}
-use Rattle.paxos_base.specs.declared.durable.Delta.TheVariants.{Tried, Promised, Voted}
+use Rattle.paxos_base.specs.declared.durable.Delta.TheVariants.{Tried, Promised, Voted, Base}
 use Rattle.paxos_base.specs.declared.durable.Durable.{Durable}
 use Rattle.paxos_base.specs.declared.entry.Entry.{Entry}
 use Rattle.paxos_base.specs.declared.entry.Vote.{Vote}
+use Rattle.paxos_base.specs.declared.rows.JobRow.{JobRow}
 use Rattle.paxos_letter.specs.declared.packet.Packet.{Packet}
+use Rattle.paxos_letter.specs.declared.packet.Packet.TheVariants as packet
+use Rattle.launch_machine.specs.Machine.{Launches}
 use Rattle.term_core.specs.Term.{after_advance}
 use Rattle.term_core.specs.declared.term.Term.{Term}
 use Rattle.term_core.specs.declared.term.Term.TheVariants.{Follower, Candidate, Leader}
@@ -18,8 +21,8 @@ use Rattle.step_law.specs.Heard.{packets_of}
 use Rattle.step_law.specs.Message.{Whom, Known, Only, Others, Outside}
 use Rattle.step_law.specs.State.{State}
 use Rattle.step_law.specs.declared.out.LearntRow.{LearntRow}
-use Rattle.replica_draft.specs.declared.draft.Change.{Change}
-use Rattle.replica_draft.specs.declared.draft.Change.TheVariants as change
+use Rattle.replica_draft.specs.declared.change.Change.{Change}
+use Rattle.replica_draft.specs.declared.change.Change.TheVariants as change
 use Rattle.replica_draft.specs.declared.draft.Draft.{Draft}
 use Rattle.replica_draft.specs.declared.draft.Sent.{Sent}
 use Rattle.replica_draft.specs.declared.draft.Target.{Target}
@@ -69,6 +72,7 @@ abbrev pub delta_of : Change → Delta
 delta_of (change.Tried ballot) = Tried ballot
 delta_of (change.Promised ballot) = Promised ballot
 delta_of (change.Voted vote) = Voted vote
+delta_of (change.Rebased rebased) = Base rebased.slot rebased.rows
 
 -- what is kept after a change, where there is one
 abbrev pub durable_of : Option Change → Durable → Durable
@@ -89,13 +93,38 @@ calls_in (Some row) = row ∷ []
 abbrev pub entries_in : List LearntRow → List Entry
 entries_in rows = map (λ (row : LearntRow). row.entry) rows
 
+-- the entries that a replica has from its base on, with those that a draft has learned: behind a new base the latter alone
+abbrev pub learned_with : Option Change → List Entry → List LearntRow → List Entry
+learned_with (Some (change.Rebased rebased)) learned rows = rebased.since
+learned_with (Some (change.Tried ballot)) learned rows = learned ++ entries_in rows
+learned_with (Some (change.Promised ballot)) learned rows = learned ++ entries_in rows
+learned_with (Some (change.Voted vote)) learned rows = learned ++ entries_in rows
+learned_with None learned rows = learned ++ entries_in rows
+
+-- a change with one more entry learned
+abbrev pub with_learned : Entry → Option Change → Option Change
+with_learned entry (Some (change.Rebased rebased)) = Some (change.Rebased (record rebased { since = rebased.since ++ entry ∷ [] }))
+with_learned entry (Some (change.Tried ballot)) = Some (change.Tried ballot)
+with_learned entry (Some (change.Promised ballot)) = Some (change.Promised ballot)
+with_learned entry (Some (change.Voted vote)) = Some (change.Voted vote)
+with_learned entry None = None
+
+-- the packet begins a snapshot
+abbrev pub begins_copy : Packet → Bool
+begins_copy (packet.Snap slot count) = true
+begins_copy other = false
+
+-- a draft sends a snapshot
+abbrev pub has_copied : Draft → Bool
+has_copied draft = list_any (λ (sent : Sent). begins_copy sent.packet) draft.sends.items
+
 -- what a draft stands for
 abbrev pub drafted : FixedParts → Draft → Desk
 drafted kept draft =
     record {
       state = record {
         kept = durable_of draft.change kept.durable;
-        learned = kept.learned ++ entries_in draft.learnt.items;
+        learned = learned_with draft.change kept.learned draft.learnt.items;
         term = with_best (unwrap_or draft.best kept.best) draft.term;
         seen = draft.seen;
       };
@@ -134,10 +163,25 @@ pub record LearnsNext (old new : Draft) (slot : ℕ) (entry : Entry) : Type 0 wh
   pub seen : new.seen ≡ old.seen
   pub term : new.term ≡ after_advance (slot + 1) old.term
   pub best : new.best ≡ old.best
-  pub change : new.change ≡ old.change
+  pub change : new.change ≡ with_learned entry old.change
   pub learnt : new.learnt.items ≡ old.learnt.items ++ record { slot = slot; entry = entry } ∷ []
   pub sends : map said_in new.sends.items ≡ map said_in old.sends.items
   pub call : new.call ≡ old.call
+
+-- a draft has taken a launch table in the place of all entries below a slot, with a machine of it or none, and is else as it was;
+-- a flight below the slot is over
+pub record TakesTable (old new : Draft) (slot : ℕ) (rows : List JobRow) (machine : Option Launches) : Type 0 where
+  pub seen : new.seen ≡ old.seen
+  pub term : new.term ≡ after_advance slot old.term
+  pub best : new.best ≡ old.best
+  pub change : new.change ≡ Some (change.Rebased (record { slot = slot; rows = rows; since = []; machine = machine }))
+  pub learnt : new.learnt.items ≡ old.learnt.items
+  pub sends : map said_in new.sends.items ≡ map said_in old.sends.items
+  pub call : new.call ≡ old.call
+
+-- what some acts send was put behind what was there
+abbrev pub Says : List Sent → List Sent → List Act → Type 0
+Says old new acts = map said_in new ≡ map said_in old ++ said_of acts
 
 -- a draft has learned an entry, and told all
 pub record Chooses (old new : Draft) (slot : ℕ) (entry : Entry) : Type 0 where

@@ -1,7 +1,8 @@
 -- The letters of a step, by their packets.
-use Rattle.std.specs.Prelude.{◌≡◌, ℕ, IsTrue, List, map, ⊤}
+use Rattle.std.specs.Prelude.{◌≡◌, ℕ, IsTrue, List, map, ⊤, Some, slice_get}
 use Rattle.std.specs.List.{AllByRecursion, AllZip, filter}
-use Rattle.paxos_base.specs.Rows.{OpenHasCursor}
+use Rattle.paxos_base.specs.Rows.{OpenHasCursor, OpenHaveCursors}
+use Rattle.paxos_base.specs.declared.rows.JobRow.{JobRow}
 use Rattle.paxos_letter.specs.Groups.{keep_groups, no_group}
 use Rattle.paxos_letter.specs.Rules.{keeps_kind, keeps_members}
 use Rattle.paxos_letter.specs.Spelling.{fields_of}
@@ -10,8 +11,10 @@ use Rattle.paxos_letter.specs.declared.packet.Packet.TheVariants.{SnapRow}
 use Rattle.step_law.specs.Act.{Act, Send}
 use Rattle.step_law.specs.Folds.{letters_of}
 use Rattle.step_law.specs.Letters.{IsSpelled}
-use Rattle.step_law.specs.Message.{Message, Mention, Whom, goes_to}
+use Rattle.step_law.specs.Message.{Message, Mention, Snap, Whom, goes_to}
 use Rattle.step_law.specs.State.{Identity}
+use Rattle.step_law.specs.Step.{Event}
+use Rattle.step_law.specs.Step as told
 use Rattle.step_law.specs.declared.out.OutLetter.{OutLetter}
 use Rattle.replica_draft.specs.Draft.{said_of}
 
@@ -36,6 +39,22 @@ HasCursor packet = ⊤
 -- the rows that are sent have cursors where their jobs are open
 abbrev pub HaveCursors : List (Whom × Packet) → Type 0
 HaveCursors said = AllByRecursion (λ (sent : Whom × Packet). HasCursor sent.1) said
+
+-- rows that a snapshot can carry: each stands at its job's number, and has a cursor where its job is open
+pub record IsCopyable (rows : List JobRow) : Type 0 where
+  pub in_order : (k : ℕ) (row : JobRow) → slice_get rows k ≡ Some row → row.job ≡ k
+  pub cursors : OpenHaveCursors rows
+
+-- so are the rows of a message, where it has some
+abbrev pub IsCopyableIn : Message → Type 0
+IsCopyableIn (Snap slot rows) = IsCopyable rows
+IsCopyableIn message = ⊤
+
+-- and those that an event brings
+abbrev pub BringsCopyable : Event → Type 0
+BringsCopyable (told.Tick now plan) = IsCopyable plan.rows
+BringsCopyable (told.Hear from messages) = AllByRecursion IsCopyableIn messages
+BringsCopyable event = ⊤
 
 -- a message is told in packets, as each is but a mention
 abbrev pub IsTold : Message → Type 0

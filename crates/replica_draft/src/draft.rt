@@ -1,16 +1,19 @@
-ghost use Rattle.std.specs.Prelude.{◌≡◌, ℕ, ◌+◌, ◌^◌, ◌<◌, ◌≤◌, ◌++◌, None, Some, Ok, [], ◌∷◌, OnOk, length, map, drop};
+ghost use Rattle.std.specs.Prelude.{◌≡◌, ℕ, ◌+◌, ◌^◌, ◌<◌, ◌++◌, None, Some, Ok, [], ◌∷◌, OnOk, map};
 ghost use Rattle.step_law.specs.Act.{Call, Cast, Propose, Learn, Observe, Pledge, Send, Wait};
 ghost use Rattle.step_law.specs.Heard.{old_vote, packets_of};
-ghost use Rattle.step_law.specs.Hear.{known_from, send_all};
 ghost use Rattle.step_law.specs.Message.{Message, Accept, Accepted, AskFrom, Known, Lead, Nack, Only, Others, Prepare, Promise};
 ghost use Rattle.term_core.specs.Term.{after_advance, after_ballot, after_proposal, after_tick, answer_to_proposal, answer_to_tick};
-ghost use Rattle.replica_draft.specs.Draft.{Chooses, Goes, SendsOnly, LearnsNext, delta_of, entries_in, meant, said_in};
+ghost use Rattle.replica_draft.specs.declared.change.Change.TheVariants as change;
+ghost use Rattle.replica_draft.specs.Draft.{Chooses, Goes, LearnsNext, SendsOnly, TakesTable, has_copied, meant, said_in};
 
+use crate::change::{Change, Rebased};
 use cluster_sched::SchedRow;
 use cron_io::OutOfMemory;
-use paxos_base::{Ballot, Delta, Entry, Members, Vote, VoteList};
+use launch_machine::Machine;
+use paxos_base::{Ballot, Entry, EntryList, Members, RowList, Vote, VoteList};
 use paxos_letter::Packet;
 use smallvec::SmallVec;
+use std::alloc::Global;
 use step_law::LearntRow;
 use term_core::Term;
 
@@ -45,30 +48,6 @@ impl Default for Sent {
     }
 }
 
-/// What a step changes on the disk.
-#[derive(Clone, Copy, Debug)]
-pub enum Change {
-    /// A ballot of its own was taken up.
-    Tried(Ballot),
-    /// A ballot was promised.
-    Promised(Ballot),
-    /// A vote was cast.
-    Voted(Vote),
-}
-
-impl Change {
-    /// The change of what is on the disk that it is.
-    pub fn delta(self) -> Delta
-        ensures { result ≡ delta_of self }
-    {
-        match self {
-            Change::Tried(ballot) => Delta::Tried(ballot),
-            Change::Promised(ballot) => Delta::Promised(ballot),
-            Change::Voted(vote) => Delta::Voted(vote),
-        }
-    }
-}
-
 /// A step as far as it goes: what becomes of the replica, which itself stays as it is, and what is to be stored, learned,
 /// sent and called.
 #[derive(Debug, Drop)]
@@ -92,6 +71,7 @@ impl Draft {
         ensures term { self.new.term ≡ after_ballot ballot self.old.term }
         ensures change { self.new.change ≡ self.old.change }
         ensures learnt { self.new.learnt ≡ self.old.learnt }
+        ensures sends { self.new.sends ≡ self.old.sends }
     {
         self.term.on_ballot(ballot);
         self.seen = self.seen.max(ballot.number());
@@ -101,6 +81,7 @@ impl Draft {
     pub fn pledge(&mut self, ballot: Ballot)
         requires { self.old.change ≡ None }
         ensures goes { Goes self.old self.new (Pledge ballot ∷ []) }
+        ensures change { self.new.change ≡ Some (change.Promised ballot) }
         ensures term { self.new.term ≡ self.old.term }
         ensures learnt { self.new.learnt ≡ self.old.learnt }
     {
@@ -111,6 +92,7 @@ impl Draft {
     pub fn cast(&mut self, vote: Vote)
         requires { self.old.change ≡ None }
         ensures goes { Goes self.old self.new (Cast vote ∷ []) }
+        ensures change { self.new.change ≡ Some (change.Voted vote) }
         ensures term { self.new.term ≡ self.old.term }
         ensures learnt { self.new.learnt ≡ self.old.learnt }
     {
@@ -121,11 +103,31 @@ impl Draft {
     pub fn learn(&mut self, slot: u64, entry: Entry) -> Result<(), OutOfMemory>
         requires { slot + 1 < 2 ^ 64 }
         ensures learns { OnOk result (LearnsNext self.old self.new slot entry) }
-        ensures change { self.new.change ≡ self.old.change }
     {
         self.learnt.push(LearntRow { slot, entry })?;
+        if let Some(change) = &mut self.change {
+            change.learn(entry)?;
+        }
         self.term.advance(slot + 1);
         Ok(())
+    }
+
+    /// Takes a launch table in the place of all entries below a slot, which isn't below the first that isn't learned. Where the
+    /// table is another than the replica's own, its machine comes with it.
+    pub fn rebase(&mut self, alloc: Global, slot: u64, rows: RowList, machine: Option<Machine>)
+        requires { self.old.change ≡ None }
+        ensures takes { TakesTable self.old self.new slot rows machine }
+    {
+        let since = EntryList {
+            items: Vec::new(alloc),
+        };
+        self.change = Some(Change::Rebased(Rebased {
+            slot,
+            rows,
+            since,
+            machine,
+        }));
+        self.term.advance(slot);
     }
 
     /// Learns the entry that was chosen at the first slot that isn't learned, and tells all.
@@ -247,39 +249,14 @@ impl Draft {
         Ok(())
     }
 
-    /// Tells entries of the slots from one on.
-    pub fn send_entries(&mut self, to: u8, first: u64, entries: &[Entry]) -> Result<(), OutOfMemory>
-        requires { first + length entries.now < 2 ^ 64 }
-        ensures goes { OnOk result (Goes self.old self.new (send_all to (known_from first entries.now))) }
-        ensures sends { OnOk result (SendsOnly self.old self.new) }
+    /// Whether a snapshot was sent.
+    pub fn has_copied(&self) -> bool
+        ensures { result ≡ has_copied self.now }
     {
-        let mut slot = first;
-        for entry in entries {
-            let packet = Packet::Known {
-                slot,
-                entry: *entry,
-            };
-            self.send(Target::Only(to), packet)?;
-            slot += 1;
-        }
-        Ok(())
-    }
-
-    /// Tells those of the entries that this step has learned that are left after the first ones.
-    pub fn send_learnt(&mut self, to: u8, first: u64, skip: usize) -> Result<(), OutOfMemory>
-        requires skip { skip ≤ length self.old.learnt.items }
-        requires first { first + length self.old.learnt.items < 2 ^ 64 }
-        ensures goes { OnOk result (Goes self.old self.new (send_all to (known_from first (drop skip (entries_in self.old.learnt.items))))) }
-        ensures sends { OnOk result (SendsOnly self.old self.new) }
-    {
-        for place in skip..self.learnt.len() {
-            let packet = Packet::Known {
-                slot: first + (place - skip) as u64,
-                entry: self.learnt[place].entry,
-            };
-            self.send(Target::Only(to), packet)?;
-        }
-        Ok(())
+        self.sends
+            .as_slice()
+            .iter()
+            .any(|sent| matches!(sent.packet, Packet::Snap { .. }))
     }
 
     /// Proposes an entry as the leader, who has no flight, and votes for it.
@@ -288,6 +265,7 @@ impl Draft {
         requires change { self.old.change ≡ None }
         requires leads { answer_to_proposal self.old.term ≡ Ok vote.ballot }
         ensures goes { Goes self.old self.new (Propose me vote ∷ []) }
+        ensures change { self.new.change ≡ Some (change.Voted vote) }
         ensures term { self.new.term ≡ after_proposal vote.slot vote.entry me self.old.term }
         ensures learnt { self.new.learnt ≡ self.old.learnt }
     {
@@ -299,6 +277,7 @@ impl Draft {
     /// Waits one tick more for the votes of a flight. At each fourth tick the replicas that have cast theirs are answered.
     pub fn wait(&mut self) -> Option<Members>
         ensures goes { Goes self.old self.new (Wait ∷ []) }
+        ensures change { self.new.change ≡ self.old.change }
         ensures accepted { result ≡ answer_to_tick self.old.term }
         ensures term { self.new.term ≡ after_tick self.old.term }
         ensures learnt { self.new.learnt ≡ self.old.learnt }
@@ -310,6 +289,7 @@ impl Draft {
     pub fn call(&mut self, row: SchedRow)
         requires { self.old.call ≡ None }
         ensures goes { Goes self.old self.new (Call row ∷ []) }
+        ensures change { self.new.change ≡ self.old.change }
         ensures term { self.new.term ≡ self.old.term }
         ensures learnt { self.new.learnt ≡ self.old.learnt }
     {

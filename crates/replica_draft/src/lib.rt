@@ -3,10 +3,14 @@
 //! are those of its acts.
 #![tactic(auto)]
 
+mod change;
 mod draft;
 mod laws;
 mod letters;
+mod tell;
 
-pub use draft::{Change, Draft, SendList, Sent, Target};
+pub use change::{Change, Rebased};
+pub use draft::{Draft, SendList, Sent, Target};
 pub use laws::acts_have_one_list_of_letters;
 pub use letters::{LetterList, write_letters};
+pub use tell::{tell_entries, tell_learnt, tell_rows};

@@ -1,5 +1,5 @@
 -- A step changes what is kept once at most.
-use Rattle.std.proofs.Common.{◌≡◌, ℕ, ◌+◌, ◌-◌, ◌≤◌, Bool, Some, None, List, [], ◌∷◌, ◌++◌, length, drop, true, false, eqb, ltb, leb, ◌&&◌, ◌||◌, ℤ, refl, ap, ◌∙◌, inl, inr, arith, if◌then◌else◌, length-append}
+use Rattle.std.proofs.Common.{◌≡◌, ℕ, ◌+◌, ◌-◌, ◌≤◌, Bool, Some, None, List, [], ◌∷◌, ◌++◌, length, drop, true, false, eqb, ltb, leb, ◌&&◌, ℤ, refl, ap, ◌∙◌, inl, inr, arith, if◌then◌else◌, length-append}
 use Rattle.std.specs.List.{count_by}
 use Rattle.std.proofs.lemmas.List.Concat.{flat_map-append}
 use Rattle.std.proofs.lemmas.Bool.{cases_Bool}
@@ -9,6 +9,7 @@ use Rattle.paxos_base.specs.Vote.{vote_at, votes_from}
 use Rattle.paxos_base.specs.declared.entry.Entry.{Entry}
 use Rattle.paxos_base.specs.declared.entry.Entry.TheVariants.{Noop, Start, End}
 use Rattle.paxos_base.specs.declared.entry.Vote.{Vote}
+use Rattle.paxos_base.specs.declared.rows.JobRow.{JobRow}
 use Rattle.term_core.specs.Term.{is_fourth}
 use Rattle.term_core.specs.declared.flight.Flight.{Flight}
 use Rattle.term_core.specs.declared.term.Term.{Term}
@@ -17,9 +18,9 @@ use Rattle.launch_machine.specs.declared.machine.Intent.{Intent}
 use Rattle.launch_machine.specs.declared.machine.Intent.TheVariants as intent
 use Rattle.step_law.specs.Act.{Act}
 use Rattle.step_law.specs.Folds.{after_acts, deltas_by, deltas_of}
-use Rattle.step_law.specs.Hear.{ask_below, hear, hear_all, is_vote_of, known_from, line, on_prepare, on_promise, on_accept, on_accepted, on_known, on_ask, on_lead, send_all, shows_gap}
+use Rattle.step_law.specs.Hear.{Once, ask_below, hear, hear_all, is_vote_of, known_from, line, not_yet, on_prepare, on_promise, on_accept, on_accepted, on_known, on_ask, on_lead, on_snap, once_after, send_all, snapshot}
 use Rattle.step_law.specs.Message.{Message, Prepare, Promise, Accept, Accepted, Nack, Known, AskFrom, Snap, Lead, Mention}
-use Rattle.step_law.specs.Propose.{answer, answer_of, campaign, choose_if, end_if, follow_intent, lead_if, lead_on, propose, proposal, tick, tick_of, wait, is_open}
+use Rattle.step_law.specs.Propose.{answer, answer_of, campaign, choose_if, end_if, follow_intent, lead_if, lead_on, propose, proposal, tick, tick_of, wait, is_long, is_open}
 use Rattle.step_law.specs.State.{State, Identity, prefix_of, promised_in}
 use Rattle.step_law.specs.Step.{Event, Campaign, Tick, Hear, Answer, AsksOnce, asks_change, step}
 
@@ -88,22 +89,30 @@ answer_changes self state entry open_now (Leader ballot best None) = go (votes_f
     go [] false = omega arith
     go (bound ∷ others) now = omega arith
 
-on_prepare_changes : (from ballot slot : ℕ) (state : State) → changes (on_prepare from ballot slot state) ≤ 1
+snapshot_changes : (from : ℕ) (copied : Bool) (state : State) → changes (snapshot from copied state) ≡ 0
+unfolding deltas_by
+snapshot_changes from true state = refl
+snapshot_changes from false state = send_changes from (known_from state.kept.base state.learned)
+
+on_prepare_changes : (from ballot slot : ℕ) (copied : Bool) (state : State) → changes (on_prepare from ballot slot copied state) ≤ 1
 unfolding on_prepare deltas_by
-on_prepare_changes from ballot slot state =
+on_prepare_changes from ballot slot copied state =
     elim (cases_Bool (leb ballot (promised_in state.kept))) [
       | inl refused ↦ rw refused (omega arith)
-      | inr above ↦ rw above (elim (cases_Bool (ltb slot state.kept.base)) [ inl behind ↦ rw behind (omega arith) | inr kept ↦ rw kept (omega arith) ])
+      | inr above ↦ rw above (elim (cases_Bool (ltb slot state.kept.base)) [
+        | inl behind ↦ rw behind (omega (arith, snapshot_changes from copied state))
+        | inr kept ↦ rw kept (omega arith)
+      ])
     ]
 
-on_accept_changes : (from : ℕ) (vote : Vote) (state : State) → changes (on_accept from vote state) ≤ 1
+on_accept_changes : (from : ℕ) (vote : Vote) (copied : Bool) (state : State) → changes (on_accept from vote copied state) ≤ 1
 unfolding on_accept deltas_by
-on_accept_changes from vote state =
+on_accept_changes from vote copied state =
     let none = ask_changes from vote.slot state in
     elim (cases_Bool (ltb vote.ballot (promised_in state.kept))) [
       | inl refused ↦ rw refused (omega arith)
       | inr least ↦ rw least (elim (cases_Bool (ltb vote.slot state.kept.base)) [
-        | inl behind ↦ rw behind (omega arith)
+        | inl behind ↦ rw behind (omega (arith, snapshot_changes from copied state))
         | inr kept ↦ rw kept (elim (cases_Bool (is_vote_of vote.ballot (vote_at vote.slot state.kept.votes))) [
           | inl again ↦ rw again (omega (arith, none))
           | inr new ↦ rw new (omega (arith, none))
@@ -137,55 +146,64 @@ on_known_changes from slot entry asked state =
       | inr other ↦ rw other (elim (cases_Bool asked) [ inl once ↦ rw once refl | inr first ↦ rw first (ask_changes from slot state) ])
     ]
 
-on_ask_changes : (from slot : ℕ) (state : State) → changes (on_ask from slot state) ≡ 0
+on_ask_changes : (from slot : ℕ) (copied : Bool) (state : State) → changes (on_ask from slot copied state) ≡ 0
 unfolding on_ask deltas_by
-on_ask_changes from slot state =
+on_ask_changes from slot copied state =
     elim (cases_Bool (ltb slot state.kept.base)) [
-      | inl behind ↦ rw behind refl
+      | inl behind ↦ rw behind (snapshot_changes from copied state)
       | inr kept ↦ rw kept (send_changes from (known_from slot (drop (slot - state.kept.base) state.learned)))
     ]
+
+on_snap_changes : (slot : ℕ) (rows : List JobRow) (state : State) → changes (on_snap slot rows state) ≤ 1
+unfolding on_snap deltas_by
+on_snap_changes slot rows state =
+    elim (cases_Bool (ltb (prefix_of state) slot)) [ inl behind ↦ rw behind (omega arith) | inr old ↦ rw old (omega arith) ]
 
 -- whether a message asks for a change, as a number
 abbrev pub ones : Bool → ℕ
 ones true = 1
 ones false = 0
 
-line_changes : (self : Identity) (from : ℕ) (message : Message) (asked : Bool) (state : State) → changes (line self from message asked state) ≤ ones (asks_change message)
+line_changes : (self : Identity) (from : ℕ) (message : Message) (once : Once) (state : State) → changes (line self from message once state) ≤ ones (asks_change message)
 unfolding line on_lead deltas_by
-line_changes self from (Prepare ballot slot) asked state = on_prepare_changes from ballot slot state
-line_changes self from (Promise ballot slot votes) asked state = omega (arith, on_promise_changes self.members from ballot slot votes state.term)
-line_changes self from (Accept vote) asked state = on_accept_changes from vote state
-line_changes self from (Accepted ballot slot) asked state = omega (arith, on_accepted_changes self.members from ballot slot state.term)
-line_changes self from (Nack ballot promised) asked state = omega arith
-line_changes self from (Known slot entry) asked state = omega (arith, on_known_changes from slot entry asked state)
-line_changes self from (AskFrom slot) asked state = omega (arith, on_ask_changes from slot state)
-line_changes self from (Snap slot rows) asked state = omega arith
-line_changes self from (Lead ballot slot) asked state = omega (arith, ask_changes from slot state)
-line_changes self from (Mention ballot) asked state = omega arith
+line_changes self from (Prepare ballot slot) once state = on_prepare_changes from ballot slot once.copied state
+line_changes self from (Promise ballot slot votes) once state = omega (arith, on_promise_changes self.members from ballot slot votes state.term)
+line_changes self from (Accept vote) once state = on_accept_changes from vote once.copied state
+line_changes self from (Accepted ballot slot) once state = omega (arith, on_accepted_changes self.members from ballot slot state.term)
+line_changes self from (Nack ballot promised) once state = omega arith
+line_changes self from (Known slot entry) once state = omega (arith, on_known_changes from slot entry once.asked state)
+line_changes self from (AskFrom slot) once state = omega (arith, on_ask_changes from slot once.copied state)
+line_changes self from (Snap slot rows) once state = on_snap_changes slot rows state
+line_changes self from (Lead ballot slot) once state = omega (arith, ask_changes from slot state)
+line_changes self from (Mention ballot) once state = omega arith
 
-hear_changes : (self : Identity) (from : ℕ) (message : Message) (asked : Bool) (state : State) → changes (hear self from message asked state) ≤ ones (asks_change message)
+hear_changes : (self : Identity) (from : ℕ) (message : Message) (once : Once) (state : State) → changes (hear self from message once state) ≤ ones (asks_change message)
 unfolding hear deltas_by
-hear_changes self from message asked state = line_changes self from message asked _
+hear_changes self from message once state = line_changes self from message once _
 
 counts : (message : Message) (messages : List Message) → count_by asks_change (message ∷ messages) ≡ ones (asks_change message) + count_by asks_change messages
 counts message messages =
     sum_by-cons (λ m. if asks_change m then 1 else 0) message messages
     ∙ elim (cases_Bool (asks_change message)) [ inl asks ↦ rw asks refl | inr other ↦ rw other refl ]
 
-hear_all_changes : (self : Identity) (from : ℕ) (messages : List Message) (asked : Bool) (state : State) → changes (hear_all self from messages asked state) ≤ count_by asks_change messages
+hear_all_changes : (self : Identity) (from : ℕ) (messages : List Message) (once : Once) (state : State) → changes (hear_all self from messages once state) ≤ count_by asks_change messages
 unfolding hear_all
-hear_all_changes self from [] asked state = omega arith
-hear_all_changes self from (message ∷ messages) asked state =
-    let acts = hear self from message asked state in
-    let first = hear_changes self from message asked state in
-    let rest = hear_all_changes self from messages (asked || shows_gap message state) (after_acts acts state) in
-    let both = changes-append acts (hear_all self from messages (asked || shows_gap message state) (after_acts acts state)) in
+hear_all_changes self from [] once state = omega arith
+hear_all_changes self from (message ∷ messages) once state =
+    let acts = hear self from message once state in
+    let onward = once_after message state acts once in
+    let first = hear_changes self from message once state in
+    let rest = hear_all_changes self from messages onward (after_acts acts state) in
+    let both = changes-append acts (hear_all self from messages onward (after_acts acts state)) in
     omega (arith, first, rest, both, counts message messages)
 
 -- a step brings one change at most
 pub step_changes : (self : Identity) (event : Event) (state : State) → AsksOnce event → changes (step self event state) ≤ 1
-unfolding step tick answer
+unfolding step tick answer deltas_by
 step_changes self Campaign state once = omega (arith, campaign_changes self state)
-step_changes self (Tick now plan) state once = tick_changes self now plan.intent state state.term
-step_changes self (Hear from messages) state once = omega (arith, once, hear_all_changes self from messages false state)
+step_changes self (Tick now plan) state once = elim (cases_Bool (is_long state)) [
+  | inl long ↦ rw long (omega arith)
+  | inr short ↦ rw short (tick_changes self now plan.intent state state.term)
+]
+step_changes self (Hear from messages) state once = omega (arith, once, hear_all_changes self from messages not_yet state)
 step_changes self (Answer job at kind rows) state once = answer_changes self state (End job at kind) (is_open job at rows) state.term

@@ -1,5 +1,5 @@
 -- Each act of each line of the table may be done where it is.
-use Rattle.std.proofs.Common.{◌≡◌, ℕ, ◌+◌, ◌-◌, ◌*◌, ◌<◌, ◌≤◌, max, Bool, Option, Some, None, List, [], ◌∷◌, ◌++◌, length, drop, true, false, eqb, ltb, leb, ◌&&◌, ◌||◌, ℤ, refl, ◌∙◌, inl, inr, arith, subst, if◌then◌else◌, IsTrue}
+use Rattle.std.proofs.Common.{◌≡◌, ℕ, ◌+◌, ◌-◌, ◌*◌, ◌<◌, ◌≤◌, max, Bool, Option, Some, None, List, [], ◌∷◌, ◌++◌, length, drop, true, false, eqb, ltb, leb, ◌&&◌, ℤ, refl, ◌∙◌, inl, inr, arith, subst, if◌then◌else◌, IsTrue}
 use Rattle.std.specs.List.{All, Contains, AllByRecursion}
 use Rattle.std.proofs.Math.Nat.{le-max_left, le-max_right, max-le}
 use Rattle.std.proofs.lemmas.Bool.{both_ways, cases_Bool, and_parts, ltb-true, ltb-false, leb-true, leb-false, eqb-true, eq-eqb}
@@ -10,6 +10,7 @@ use Rattle.paxos_base.specs.Members.{has_majority, with_member}
 use Rattle.paxos_base.specs.declared.entry.Entry.{Entry}
 use Rattle.paxos_base.specs.declared.entry.Entry.TheVariants.{Noop, Start, End}
 use Rattle.paxos_base.specs.declared.entry.Vote.{Vote}
+use Rattle.paxos_base.specs.declared.rows.JobRow.{JobRow}
 use Rattle.paxos_base.specs.Vote.{vote_at, votes_from}
 use Rattle.paxos_base.proofs.PutLemmas.{at_put}
 use Rattle.term_core.specs.Best.{best_of}
@@ -17,16 +18,16 @@ use Rattle.term_core.specs.Term.{after_ballot, is_fourth, new_flight, accepted_b
 use Rattle.term_core.specs.declared.flight.Flight.{Flight}
 use Rattle.term_core.specs.declared.term.Term.{Term}
 use Rattle.term_core.specs.declared.term.Term.TheVariants.{Follower, Candidate, Leader}
-use Rattle.step_law.specs.Act.{Act, Observe, Gather, Cast, Propose, Count, Send, after_act}
+use Rattle.step_law.specs.Act.{Act, Observe, Gather, Cast, Propose, Count, Rebase, Send, after_act}
 use Rattle.step_law.specs.Folds.{after_acts}
-use Rattle.step_law.specs.Hear.{ask_below, cast_new, hear, hear_all, is_vote_of, known_from, line, on_prepare, on_promise, on_accept, on_accepted, on_known, on_ask, on_lead, send_all, shows_gap}
+use Rattle.step_law.specs.Hear.{Once, ask_below, cast_new, hear, hear_all, is_vote_of, known_from, line, not_yet, on_prepare, on_promise, on_accept, on_accepted, on_known, on_ask, on_lead, on_snap, once_after, send_all, snapshot}
 use Rattle.step_law.specs.May.{May, AllMay, Saying, Setting, HasSaid, IsFollower, HasNoOther, IsNamed, none_named, by_saying, TellsWhatWasSaid, MayEnter, WasSaid}
 use Rattle.step_law.specs.Step.{Event, Campaign, Tick, Hear, Answer, IsLaunchTable, IsPlanned, Plan, step}
 use Rattle.launch_machine.specs.Answers.{IsIntent}
 use Rattle.launch_machine.specs.declared.machine.Intent.{Intent}
 use Rattle.launch_machine.specs.declared.machine.Intent.TheVariants as intent
 use Rattle.step_law.specs.Message.{Message, Prepare, Promise, Accept, Accepted, Nack, Known, AskFrom, Snap, Lead, Mention, Only, ballot_in}
-use Rattle.step_law.specs.Propose.{answer, answer_of, campaign, choose_if, end_if, follow_intent, is_open, lead_if, lead_on, propose, proposal, tick, tick_of, wait}
+use Rattle.step_law.specs.Propose.{answer, answer_of, campaign, choose_if, end_if, follow_intent, is_long, is_open, lead_if, lead_on, propose, proposal, tick, tick_of, wait}
 use Rattle.step_law.specs.Coherent.{IsCoherent, FitsTerm, AreUpTo}
 use Rattle.step_law.specs.State.{State, Identity, prefix_of, promised_in}
 use Rattle.step_law.proofs.SoundLemmas.{act_sound}
@@ -81,15 +82,30 @@ unfolding votes_from
 lower_votes promised ballot slot votes above all =
     All-filter _ (IsBelow ballot) votes (All-weaker (IsUpTo promised) (IsBelow ballot) (λ vote up. omega (arith, up, above)) votes all)
 
-pub on_prepare_may : (setting : Setting) (state : State) (from ballot slot : ℕ) → IsCoherent setting.self state → ballot ≤ state.seen → IsNotBelow ballot state.term → AllMay setting state (on_prepare from ballot slot state)
+-- entries that a replica has learned may be told
+send_may : (setting : Setting) (state : State) (from slot : ℕ) (entries : List Entry) → ((message : Message) → Contains (known_from slot entries) message → Contains (known_from state.kept.base state.learned) message) → AllMay setting state (send_all from (known_from slot entries))
+unfolding May after_act
+send_may setting state from slot [] known = tt
+send_may setting state from slot (entry ∷ entries) known = (
+  known (Known slot entry) (Contains-append_left (Known slot entry ∷ []) (known_from (slot + 1) entries) (Known slot entry) (Contains-push [] (Known slot entry))),
+  send_may setting state from (slot + 1) entries (λ message has. known message (Contains-append_right (Known slot entry ∷ []) (known_from (slot + 1) entries) message has)),
+)
+
+-- so may a snapshot be sent
+snapshot_may : (setting : Setting) (state : State) (from : ℕ) (copied : Bool) → AllMay setting state (snapshot from copied state)
+unfolding May after_act
+snapshot_may setting state from true = tt
+snapshot_may setting state from false = ((refl, refl), send_may setting state from state.kept.base state.learned (λ message has. has))
+
+pub on_prepare_may : (setting : Setting) (state : State) (from ballot slot : ℕ) (copied : Bool) → IsCoherent setting.self state → ballot ≤ state.seen → IsNotBelow ballot state.term → AllMay setting state (on_prepare from ballot slot copied state)
 unfolding on_prepare after_act after_delta May
-on_prepare_may setting state from ballot slot sound seen not_low =
+on_prepare_may setting state from ballot slot copied sound seen not_low =
     elim (cases_Bool (leb ballot (promised_in state.kept))) [
       | inl refused ↦ rw refused ((refl, leb-true ballot (promised_in state.kept) refused), tt)
       | inr above ↦
           let high : promised_in state.kept < ballot = leb-false ballot (promised_in state.kept) above in
           rw above (elim (cases_Bool (ltb slot state.kept.base)) [
-            | inl behind ↦ rw behind tt
+            | inl behind ↦ rw behind (snapshot_may setting state from copied)
             | inr kept ↦ rw kept (
               record { above = high; seen = seen; follower = no_lower setting.self state ballot state.term sound.term not_low high },
               (record { promised = refl; kept_all = ltb-false slot state.kept.base kept; votes_are = refl; lower = lower_votes (promised_in state.kept) ballot slot state.kept.votes high sound.votes }, tt),
@@ -157,16 +173,16 @@ voted_may setting state from vote sound seen not_low said least from_base = go (
       )
     ]
 
-pub on_accept_may : (setting : Setting) (state : State) (from : ℕ) (vote : Vote) → IsCoherent setting.self state → vote.ballot ≤ state.seen → IsNotBelow vote.ballot state.term → HasSaid setting.said from (Accept vote) → AllMay setting state (on_accept from vote state)
+pub on_accept_may : (setting : Setting) (state : State) (from : ℕ) (vote : Vote) (copied : Bool) → IsCoherent setting.self state → vote.ballot ≤ state.seen → IsNotBelow vote.ballot state.term → HasSaid setting.said from (Accept vote) → AllMay setting state (on_accept from vote copied state)
 unfolding on_accept after_act after_delta May
-on_accept_may setting state from vote sound seen not_low said =
+on_accept_may setting state from vote copied sound seen not_low said =
     elim (cases_Bool (ltb vote.ballot (promised_in state.kept))) [
       | inl refused ↦
           let low : vote.ballot < promised_in state.kept = ltb-true vote.ballot (promised_in state.kept) refused in
           rw refused ((refl, omega (arith, low)), tt)
       | inr least ↦
           rw least (elim (cases_Bool (ltb vote.slot state.kept.base)) [
-            | inl behind ↦ rw behind tt
+            | inl behind ↦ rw behind (snapshot_may setting state from copied)
             | inr kept ↦ rw kept (voted_may setting state from vote sound seen not_low said (ltb-false vote.ballot (promised_in state.kept) least) (ltb-false vote.slot state.kept.base kept))
           ])
     ]
@@ -216,20 +232,11 @@ on_known_may setting state from slot entry asked said =
       | inr other ↦ rw other (elim (cases_Bool asked) [ inl once ↦ rw once tt | inr first ↦ rw first (ask_may setting state from slot) ])
     ]
 
--- entries that a replica has learned may be told
-send_may : (setting : Setting) (state : State) (from slot : ℕ) (entries : List Entry) → ((message : Message) → Contains (known_from slot entries) message → Contains (known_from state.kept.base state.learned) message) → AllMay setting state (send_all from (known_from slot entries))
-unfolding May after_act
-send_may setting state from slot [] known = tt
-send_may setting state from slot (entry ∷ entries) known = (
-  known (Known slot entry) (Contains-append_left (Known slot entry ∷ []) (known_from (slot + 1) entries) (Known slot entry) (Contains-push [] (Known slot entry))),
-  send_may setting state from (slot + 1) entries (λ message has. known message (Contains-append_right (Known slot entry ∷ []) (known_from (slot + 1) entries) message has)),
-)
-
-pub on_ask_may : (setting : Setting) (state : State) (from slot : ℕ) → AllMay setting state (on_ask from slot state)
+pub on_ask_may : (setting : Setting) (state : State) (from slot : ℕ) (copied : Bool) → AllMay setting state (on_ask from slot copied state)
 unfolding on_ask
-on_ask_may setting state from slot =
+on_ask_may setting state from slot copied =
     elim (cases_Bool (ltb slot state.kept.base)) [
-      | inl behind ↦ rw behind tt
+      | inl behind ↦ rw behind (snapshot_may setting state from copied)
       | inr kept ↦
           let least : state.kept.base ≤ slot = ltb-false slot state.kept.base kept in
           let at : state.kept.base + (slot - state.kept.base) ≡ slot = omega (arith, least) in
@@ -237,23 +244,34 @@ on_ask_may setting state from slot =
           known-drop state.kept.base (slot - state.kept.base) state.learned message (rw at has)))
     ]
 
+-- rows behind the prefix that were told may be taken
+pub on_snap_may : (setting : Setting) (state : State) (from slot : ℕ) (rows : List JobRow) → HasSaid setting.said from (Snap slot rows) → AllMay setting state (on_snap slot rows state)
+unfolding on_snap May
+on_snap_may setting state from slot rows said =
+    elim (cases_Bool (ltb (prefix_of state) slot)) [
+      | inl behind ↦
+          let up : prefix_of state < slot = ltb-true (prefix_of state) slot behind in
+          rw behind (record { up = omega (arith, up); rows_of = inr (from, said) }, tt)
+      | inr old ↦ rw old tt
+    ]
+
 pub on_lead_may : (setting : Setting) (state : State) (from slot : ℕ) → AllMay setting state (on_lead from slot state)
 unfolding on_lead
 on_lead_may setting state from slot = ask_may setting state from slot
 
 -- hearing of a ballot that was named
-pub hear_line : (setting : Setting) (state : State) (from : ℕ) (message : Message) (asked : Bool) → IsCoherent setting.self state → ballot_in message ≤ state.seen → IsNotBelow (ballot_in message) state.term → WasSaid setting.said from message → AllMay setting state (line setting.self from message asked state)
+pub hear_line : (setting : Setting) (state : State) (from : ℕ) (message : Message) (once : Once) → IsCoherent setting.self state → ballot_in message ≤ state.seen → IsNotBelow (ballot_in message) state.term → WasSaid setting.said from message → AllMay setting state (line setting.self from message once state)
 unfolding line
-hear_line setting state from (Prepare ballot slot) asked sound seen not_low said = on_prepare_may setting state from ballot slot sound seen not_low
-hear_line setting state from (Promise ballot slot votes) asked sound seen not_low said = on_promise_may setting state from ballot slot votes state.term refl said
-hear_line setting state from (Accept vote) asked sound seen not_low said = on_accept_may setting state from vote sound seen not_low said
-hear_line setting state from (Accepted ballot slot) asked sound seen not_low said = on_accepted_may setting state from ballot slot state.term refl sound said
-hear_line setting state from (Nack ballot promised) asked sound seen not_low said = tt
-hear_line setting state from (Known slot entry) asked sound seen not_low said = on_known_may setting state from slot entry asked said
-hear_line setting state from (AskFrom slot) asked sound seen not_low said = on_ask_may setting state from slot
-hear_line setting state from (Snap slot rows) asked sound seen not_low said = tt
-hear_line setting state from (Lead ballot slot) asked sound seen not_low said = on_lead_may setting state from slot
-hear_line setting state from (Mention ballot) asked sound seen not_low said = tt
+hear_line setting state from (Prepare ballot slot) once sound seen not_low said = on_prepare_may setting state from ballot slot once.copied sound seen not_low
+hear_line setting state from (Promise ballot slot votes) once sound seen not_low said = on_promise_may setting state from ballot slot votes state.term refl said
+hear_line setting state from (Accept vote) once sound seen not_low said = on_accept_may setting state from vote once.copied sound seen not_low said
+hear_line setting state from (Accepted ballot slot) once sound seen not_low said = on_accepted_may setting state from ballot slot state.term refl sound said
+hear_line setting state from (Nack ballot promised) once sound seen not_low said = tt
+hear_line setting state from (Known slot entry) once sound seen not_low said = on_known_may setting state from slot entry once.asked said
+hear_line setting state from (AskFrom slot) once sound seen not_low said = on_ask_may setting state from slot once.copied
+hear_line setting state from (Snap slot rows) once sound seen not_low said = on_snap_may setting state from slot rows said
+hear_line setting state from (Lead ballot slot) once sound seen not_low said = on_lead_may setting state from slot
+hear_line setting state from (Mention ballot) once sound seen not_low said = tt
 
 -- what is heard names a ballot that was said
 named : (said : List Saying) (from : ℕ) (message : Message) → WasSaid said from message → IsNamed said (ballot_in message)
@@ -268,22 +286,23 @@ named said from (AskFrom slot) has = none_named refl
 named said from (Snap slot rows) has = none_named refl
 named said from (Lead ballot slot) has = by_saying (record { by = from; message = Lead ballot slot }) has refl
 
-hear_may : (setting : Setting) (state : State) (from : ℕ) (message : Message) (asked : Bool) → IsCoherent setting.self state → WasSaid setting.said from message → AllMay setting state (hear setting.self from message asked state)
+hear_may : (setting : Setting) (state : State) (from : ℕ) (message : Message) (once : Once) → IsCoherent setting.self state → WasSaid setting.said from message → AllMay setting state (hear setting.self from message once state)
 unfolding hear May after_act
-hear_may setting state from message asked sound said = (
+hear_may setting state from message once sound said = (
   named setting.said from message said,
-  hear_line setting (after_act (Observe (ballot_in message)) state) from message asked
+  hear_line setting (after_act (Observe (ballot_in message)) state) from message once
       (act_sound setting state (Observe (ballot_in message)) sound (named setting.said from message said))
       (le-max_right state.seen (ballot_in message)) (not_below (ballot_in message) state.term) said,
 )
 
-hear_all_may : (setting : Setting) (state : State) (from : ℕ) (messages : List Message) (asked : Bool) → IsCoherent setting.self state → AllByRecursion (WasSaid setting.said from) messages → AllMay setting state (hear_all setting.self from messages asked state)
+hear_all_may : (setting : Setting) (state : State) (from : ℕ) (messages : List Message) (once : Once) → IsCoherent setting.self state → AllByRecursion (WasSaid setting.said from) messages → AllMay setting state (hear_all setting.self from messages once state)
 unfolding hear_all
-hear_all_may setting state from [] asked sound said = tt
-hear_all_may setting state from (message ∷ messages) asked sound said =
-    let first = hear_may setting state from message asked sound said.0 in
+hear_all_may setting state from [] once sound said = tt
+hear_all_may setting state from (message ∷ messages) once sound said =
+    let acts = hear setting.self from message once state in
+    let first = hear_may setting state from message once sound said.0 in
     all_append setting state _ _ first
-    (hear_all_may setting (after_acts (hear setting.self from message asked state) state) from messages (asked || shows_gap message state)
+    (hear_all_may setting (after_acts acts state) from messages (once_after message state acts once)
     (acts_sound setting state _ sound first) said.1)
 
 -- a ballot of its own above all that it has seen is above what it has promised
@@ -362,11 +381,19 @@ answer_may setting state entry open_now (Leader ballot best None) is may = go (v
     go (bound ∷ others) now so = tt
 
 -- each act of a step may be done where it is
+-- a replica may take its own launch table in the place of the entries that it has learned
+compact_may : (setting : Setting) (state : State) (rows : List JobRow) → IsLaunchTable setting.table state rows → AllMay setting state (Rebase (prefix_of state) rows ∷ [])
+unfolding May
+compact_may setting state rows table = (record { up = omega arith; rows_of = inl (refl, table) }, tt)
+
 pub step_may : (setting : Setting) (state : State) (event : Event) → setting.event ≡ Some event → setting.self.me < 8 → IsCoherent setting.self state → IsPlanned setting.table state event → TellsWhatWasSaid setting event → AllMay setting state (step setting.self event state)
 unfolding step tick answer
 step_may setting state Campaign told small sound planned heard = campaign_may setting state told small sound
-step_may setting state (Tick now plan) told small sound planned heard = tick_may setting state now plan state.term refl sound planned.0 planned.1
-step_may setting state (Hear from messages) told small sound planned heard = hear_all_may setting state from messages false sound heard
+step_may setting state (Tick now plan) told small sound planned heard = elim (cases_Bool (is_long state)) [
+  | inl long ↦ rw long (compact_may setting state plan.rows planned.0)
+  | inr short ↦ rw short (tick_may setting state now plan state.term refl sound planned.0 planned.1)
+]
+step_may setting state (Hear from messages) told small sound planned heard = hear_all_may setting state from messages not_yet sound heard
 step_may setting state (Answer job at kind rows) told small sound planned heard =
     answer_may setting state (End job at kind) (is_open job at rows) state.term refl
     (λ open_there. record { rows = rows; rows_are = planned; open_there = open_there; answered = heard })

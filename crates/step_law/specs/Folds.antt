@@ -5,7 +5,7 @@ use Rattle.paxos_base.specs.declared.durable.Delta.{Delta}
 use Rattle.paxos_base.specs.declared.durable.Delta.TheVariants.{Tried, Promised, Voted, Base}
 use Rattle.cluster_sched.specs.declared.row.SchedRow.{SchedRow}
 use Rattle.step_law.specs.Act.{Act, Stand, Pledge, Cast, Propose, Learn, Rebase, Call, Send, after_act}
-use Rattle.step_law.specs.Message.{Message, goes_to}
+use Rattle.step_law.specs.Message.{Message, Snap, goes_to}
 use Rattle.step_law.specs.State.{State, Identity}
 use Rattle.step_law.specs.declared.out.LearntRow.{LearntRow}
 
@@ -35,6 +35,15 @@ learnt_by act = []
 -- what some acts learn, in order
 abbrev pub learnt_of : List Act → List LearntRow
 learnt_of acts = flat_map learnt_by acts
+
+-- the launch tables that an act sends
+unfoldable pub copies_by : Act → List Message
+copies_by (Send whom (Snap slot rows)) = Snap slot rows ∷ []
+copies_by act = []
+
+-- the launch tables that some acts send, in order
+abbrev pub copies_of : List Act → List Message
+copies_of acts = flat_map copies_by acts
 
 -- the scheduler's calls of an act
 unfoldable pub calls_by : Act → List SchedRow

@@ -1,5 +1,5 @@
 -- How a replica comes to lead, and what a leader proposes.
-use Rattle.std.specs.Prelude.{ℕ, ◌+◌, max, Bool, false, ◌&&◌, List, [], ◌∷◌, Option, None, Some, ℤ, if◌then◌else◌, slice_get}
+use Rattle.std.specs.Prelude.{ℕ, ◌+◌, max, nat_le, Bool, false, ◌&&◌, List, [], ◌∷◌, Option, None, Some, ℤ, if◌then◌else◌, slice_get}
 use Rattle.std.specs.Option.{is_some}
 use Rattle.std.specs.Ordering.{int_eq}
 use Rattle.paxos_base.specs.Ballot.{ballot_number, round_of}
@@ -16,7 +16,7 @@ use Rattle.term_core.specs.declared.term.Term.{Term}
 use Rattle.term_core.specs.declared.term.Term.TheVariants.{Follower, Candidate, Leader}
 use Rattle.launch_machine.specs.declared.machine.Intent.{Intent}
 use Rattle.launch_machine.specs.declared.machine.Intent.TheVariants as intent
-use Rattle.step_law.specs.Act.{Act, Stand, TakeLead, Propose, Wait, Learn, Call, Send}
+use Rattle.step_law.specs.Act.{Act, Stand, TakeLead, Propose, Wait, Learn, Rebase, Call, Send}
 use Rattle.step_law.specs.Message.{Prepare, Accept, Known, Lead, Others, Outside}
 use Rattle.step_law.specs.State.{State, Identity, prefix_of}
 
@@ -85,9 +85,14 @@ tick_of self now intent state (Leader ballot best (Some flight)) = wait ballot f
 tick_of self now intent state (Leader ballot best None) =
     lead_on self now intent ballot best state (votes_from (prefix_of state) best)
 
--- **Tick**, at a clock reading, where the launch table asks for this.
-unfoldable pub tick : Identity → ℤ → Intent → State → List Act
-tick self now intent state = tick_of self now intent state state.term
+-- so many entries were learned since the base that the launch table takes their place
+abbrev pub is_long : State → Bool
+is_long state = nat_le (state.kept.base + 64) (prefix_of state)
+
+-- **Tick**, at a clock reading, where the launch table has these rows and asks for this.
+unfoldable pub tick : Identity → ℤ → List JobRow → Intent → State → List Act
+tick self now rows intent state =
+    if is_long state then Rebase (prefix_of state) rows ∷ [] else tick_of self now intent state state.term
 
 -- the instant is the one that is there
 abbrev pub is_at : ℤ → Option ℤ → Bool

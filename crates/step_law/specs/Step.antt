@@ -7,7 +7,7 @@ use Rattle.launch_machine.specs.Answers.{IsIntent}
 use Rattle.launch_machine.specs.Clerk.{AppliesAll}
 use Rattle.launch_machine.specs.declared.machine.Intent.{Intent}
 use Rattle.step_law.specs.Act.{Act}
-use Rattle.step_law.specs.Hear.{hear_all}
+use Rattle.step_law.specs.Hear.{hear_all, not_yet}
 use Rattle.step_law.specs.Message.{Message, Prepare, Accept, Snap}
 use Rattle.step_law.specs.Propose.{campaign, tick, answer}
 use Rattle.step_law.specs.State.{State, Identity}
@@ -38,8 +38,8 @@ IsPlanned table state (Answer job at kind rows) = IsLaunchTable table state rows
 -- what the replica does then
 unfoldable pub step : Identity → Event → State → List Act
 step self Campaign state = campaign self state
-step self (Tick now plan) state = tick self now plan.intent state
-step self (Hear from messages) state = hear_all self from messages false state
+step self (Tick now plan) state = tick self now plan.rows plan.intent state
+step self (Hear from messages) state = hear_all self from messages not_yet state
 step self (Answer job at kind rows) state = answer self job at kind rows state
 
 -- one of the messages that ask for a change of what is kept, of which a letter has at most one

@@ -1,20 +1,22 @@
 //! Laws of a replica's step. Each is the contract of a function that does nothing.
-ghost use Rattle.std.specs.Prelude.{◌≡◌, ◌≢◌, ◌≤◌, ◌<◌, ◌^◌, ◌↔◌, ℕ, true, List, Some, Contains, flat_map, length};
+ghost use Rattle.std.specs.Prelude.{◌≡◌, ◌≢◌, ◌≤◌, ◌<◌, ◌^◌, ◌↔◌, ℕ, true, All, List, Some, Contains, flat_map, length};
 ghost use Rattle.paxos_base.specs.Ballot.{round_of};
 ghost use Rattle.paxos_base.specs.Members.{HasMember};
+ghost use Rattle.paxos_base.specs.Rows.{OpenHaveCursors, RowsStand};
 ghost use Rattle.paxos_base.specs.Vote.{vote_at};
 ghost use Rattle.paxos_base.specs.declared.durable.Durable.{Durable};
 ghost use Rattle.paxos_base.specs.declared.entry.Entry.{Entry};
 ghost use Rattle.paxos_base.specs.declared.entry.Vote.{Vote};
+ghost use Rattle.paxos_base.specs.declared.rows.JobRow.{JobRow};
 ghost use Rattle.paxos_letter.specs.declared.packet.Packet.{Packet};
 ghost use Rattle.term_core.specs.declared.term.Term.TheVariants.{Candidate};
 ghost use Rattle.cluster_sched.specs.declared.row.SchedRow.{SchedRow};
 ghost use Rattle.step_law.specs.Act.{Act, Call, Learn, Send, Stand, after_act};
-ghost use Rattle.step_law.specs.Folds.{Addressed, after_acts, calls_of, deltas_of, learnt_of, letters_of, sent_to};
+ghost use Rattle.step_law.specs.Folds.{Addressed, after_acts, calls_of, copies_of, deltas_of, learnt_of, letters_of, sent_to};
 ghost use Rattle.step_law.specs.Heard.{heard_as, messages_of, packets_of};
-ghost use Rattle.step_law.specs.Letters.{heard_in, is_small_letter};
+ghost use Rattle.step_law.specs.Letters.{IsHeardAs, heard_in, is_small_letter};
 ghost use Rattle.step_law.specs.May.{AllMay, TellsWhatWasSaid, May, Setting};
-ghost use Rattle.step_law.specs.Message.{Message, Only, Others, Outside, Whom, ballot_in, goes_to, slot_in};
+ghost use Rattle.step_law.specs.Message.{Message, Only, Others, Outside, Snap, Whom, ballot_in, goes_to, slot_in};
 ghost use Rattle.step_law.specs.Coherent.{AreUpTo, IsCoherent};
 ghost use Rattle.step_law.specs.State.{State, Identity, prefix_of, promised_in, started};
 ghost use Rattle.step_law.specs.Step.{AsksOnce, Event, IsPlanned, step};
@@ -39,6 +41,22 @@ pub fn replicas_stay_coherent()
 /// A step changes what is kept once at most.
 pub fn a_step_has_one_delta_at_most()
     ensures { (self : Identity) (event : Event) (state : State) → AsksOnce event → length (deltas_of (step self event state)) ≤ 1 }
+{}
+
+/// A step sends one launch table at most, whatever it is told.
+pub fn a_step_sends_one_snapshot_at_most()
+    ensures { (self : Identity) (event : Event) (state : State) → length (copies_of (step self event state)) ≤ 1 }
+{}
+
+/// Rows that are heard of a letter are those of the table of jobs: one for each job, in their order, of which each that is open
+/// has a cursor, with counts within the bounds that a replica counts with.
+pub fn rows_that_are_heard_stand()
+    ensures stand { (members jobs : ℕ) (bytes : List ℕ) (from slot : ℕ) (messages : List Message) (rows : List JobRow)
+        → IsHeardAs members jobs bytes from messages → Contains messages (Snap slot rows) → RowsStand rows jobs }
+    ensures cursors { (members jobs : ℕ) (bytes : List ℕ) (from slot : ℕ) (messages : List Message) (rows : List JobRow)
+        → IsHeardAs members jobs bytes from messages → Contains messages (Snap slot rows) → OpenHaveCursors rows }
+    ensures counts { (members jobs : ℕ) (bytes : List ℕ) (from slot : ℕ) (messages : List Message) (rows : List JobRow)
+        → IsHeardAs members jobs bytes from messages → Contains messages (Snap slot rows) → All (λ row. (row.launched < 2 ^ 31) × (row.voided < 2 ^ 31)) rows }
 {}
 
 /// What is spelled in packets is heard as it was meant: each message as itself, and with a promise a mention of its ballot

@@ -29,5 +29,5 @@ returns-in_default c =
       makes = makes_as c.args.self.now c.begin-in_default.result _ _
           (answer-rests (identity_of c.args.self.now) c.args.job c.args.at c.args.kind c.args.self.now.machine.rows (state_of c.args.self.now) c.args.self.now.term c.in_default.not-Leader refl)
           (makes_nothing c.args.self.now c.begin-in_default.result c.begin-in_default.ensures.idle);
-      ready = begun-ready c.args.self.now c.begin-in_default.result c.requires.whole c.begin-in_default.ensures.term c.begin-in_default.ensures.learnt;
+      ready = begun-ready c.args.self.now c.begin-in_default.result c.requires.whole c.begin-in_default.ensures.term c.begin-in_default.ensures.change c.begin-in_default.ensures.learnt;
     }

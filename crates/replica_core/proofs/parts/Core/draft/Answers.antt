@@ -25,3 +25,9 @@ returns-in_ok-answer-in-Answer-clause-makes c =
 
 pub returns-in-Hear-clause-fault : goal.returns-in-Hear-clause-fault
 returns-in-Hear-clause-fault c = rw c.in-Hear.is c.hear_letter.ensures.fault
+
+pub returns-in_ok-campaign-in-Campaign-clause-ready : goal.returns-in_ok-campaign-in-Campaign-clause-ready
+returns-in_ok-campaign-in-Campaign-clause-ready c = c.in_ok-campaign-in-Campaign.ensures.ready c.args.table.now
+
+pub returns-in_ok-answer-in-Answer-clause-ready : goal.returns-in_ok-answer-in-Answer-clause-ready
+returns-in_ok-answer-in-Answer-clause-ready c = c.in_ok-answer-in-Answer.ensures.ready c.args.table.now

@@ -1,5 +1,0 @@
-use Rattle.replica_core.proofs.LearnLemmas.{Learning}
-use Rattle.replica_core.proofs.commit.learn_all.Given as goal
-
-abbrev pub invariant-loop-row : goal.invariant-loop-row
-invariant-loop-row l = Learning l.table l.fn.learner l.learner l.fn.machine l.machine l.rows l.row-index l.ended
