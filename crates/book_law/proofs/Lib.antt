@@ -1,8 +1,12 @@
 pub mod Acts
 pub mod Agreement
 pub mod Asks
+pub mod Launches
 pub mod Reached
 pub mod Refused
+pub mod Rounds
+pub mod Snapshots
 pub mod SomeBook
 pub mod Standings
 pub mod Takeover
+pub mod Turns

@@ -69,14 +69,14 @@ some_book = stands_for ∷ promises ∷ takes_lead ∷ ticks ∷ refuses ∷ sto
 abbrev standing_at : ℕ → Standing
 standing_at k = standing_after 2 (first_rows no_jobs) (take k some_book)
 
-prepare_spells : Spells 2 0 (packet.Prepare 8 0 ∷ []) (one_letter 0 (packet.Prepare 8 0))
+pub prepare_spells : Spells 2 0 (packet.Prepare 8 0 ∷ []) (one_letter 0 (packet.Prepare 8 0))
 prepare_spells = record {
   letter = record { some = λ is. cc; kinds = (refl, tt); members_keep = (refl, tt); groups = refl };
   fits = (record { kind = lit< tt; from = lit< tt; tag = lit< tt; zero = lit< tt; job = lit< tt; ballot = lit< tt; slot = lit< tt; old = lit< tt; at = grind arith; moment = grind arith; last = grind arith }, tt);
   spelled = refl;
 }
 
-promise_spells : Spells 2 1 (packet.Promise 8 0 0 ∷ []) (one_letter 1 (packet.Promise 8 0 0))
+pub promise_spells : Spells 2 1 (packet.Promise 8 0 0 ∷ []) (one_letter 1 (packet.Promise 8 0 0))
 promise_spells = record {
   letter = record { some = λ is. cc; kinds = (refl, tt); members_keep = (refl, tt); groups = refl };
   fits = (record { kind = lit< tt; from = lit< tt; tag = lit< tt; zero = lit< tt; job = lit< tt; ballot = lit< tt; slot = lit< tt; old = lit< tt; at = grind arith; moment = grind arith; last = grind arith }, tt);

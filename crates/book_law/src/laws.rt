@@ -18,6 +18,7 @@ ghost use Rattle.agree_law.specs.World.{Learning};
 ghost use Rattle.book_law.specs.Agrees.{Agrees};
 ghost use Rattle.book_law.specs.Book.{Row, Standing, acts_at, after_row, learned_in, standing_after, turn_of, under, votes_in};
 ghost use Rattle.book_law.specs.Legal.{IsLegal, MayFollow};
+ghost use Rattle.book_law.specs.Snapshots.{HasSnapshots};
 ghost use Rattle.book_law.specs.Takeover.{AsksFor, learned_twice, takeover};
 ghost use Rattle.book_law.specs.Some.{beginning, no_jobs, some_turns};
 ghost use Rattle.book_law.specs.declared.turn.CallRow.{CallRow};
@@ -95,6 +96,12 @@ pub fn a_takeover_is_legal()
     ensures legal { (table : Table) (job : ℕ) (at now : ℤ) → AsksFor table job at now
         → (book : List Row) × (map (λ row. row.turn) book ≡ takeover job at now) × IsLegal 3 table book
         × (learned_in book ≡ learned_twice job at now) }
+{}
+
+/// There is a legal book with snapshots: a replica puts its launch table in the place of 64 entries or more; it sends it to
+/// another that asks for votes below its base, and that takes it; and it promises from its base on, with its votes there.
+pub fn a_book_with_snapshots_is_legal()
+    ensures { (table : Table) × (front : List Row) × (back : List Row) × IsSound table × HasSnapshots table front back }
 {}
 
 /// What it is to agree, part by part.
