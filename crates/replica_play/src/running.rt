@@ -111,7 +111,7 @@ impl<'a> Running<'a> {
     pub fn plan(&mut self, input: Input<'_>, text: &mut Text) -> Result<(), Refusal> {
         self.test(&input)?;
         let planned = self.replica.plan(self.table, input)?;
-        text.put_plan(&planned.delta())?;
+        text.put_plan(planned.delta())?;
         Ok(())
     }
 
@@ -119,7 +119,7 @@ impl<'a> Running<'a> {
     pub fn complete(&mut self, input: Input<'_>, text: &mut Text) -> Result<StepOut, Refusal> {
         self.test(&input)?;
         let planned = self.replica.plan(self.table, input)?;
-        text.put_plan(&planned.delta())?;
+        text.put_plan(planned.delta())?;
         Ok(self.replica.complete(self.table, planned))
     }
 }

@@ -10,7 +10,7 @@ use zone_minutes::Minute;
 
 impl Text {
     /// Appends the line of what a step that is planned would change on the disk.
-    pub fn put_plan(&mut self, delta: &Option<Delta>) -> Result<(), OutOfMemory> {
+    pub fn put_plan(&mut self, delta: Option<&Delta>) -> Result<(), OutOfMemory> {
         match delta {
             Some(delta) => self.put_delta("  plans ", delta),
             None => self.put("  plans nothing\n"),
