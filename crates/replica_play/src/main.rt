@@ -12,6 +12,7 @@ mod hour;
 mod made_up;
 mod packet_text;
 mod parse;
+mod row_text;
 mod running;
 mod scenario;
 mod step_text;

@@ -55,6 +55,42 @@ impl Text {
         self.put_number(between, slot)
     }
 
+    /// Appends words, a ballot, a slot and the entry of a vote.
+    pub fn put_vote(
+        &mut self,
+        words: &str,
+        ballot: Ballot,
+        slot: u64,
+        entry: &Entry,
+    ) -> Result<(), OutOfMemory> {
+        self.put_place(words, ballot, " at ", slot)?;
+        self.put_entry(" ", entry)
+    }
+
+    // Appends a promise with so many votes.
+    fn put_promise(&mut self, ballot: Ballot, slot: u64, count: u64) -> Result<(), OutOfMemory> {
+        self.put_place("promise ", ballot, " from ", slot)?;
+        self.put_number(", votes ", count)
+    }
+
+    // Appends the refusal of a ballot.
+    fn put_nack(&mut self, ballot: Ballot, promised: Ballot) -> Result<(), OutOfMemory> {
+        self.put_ballot("nack ", ballot)?;
+        self.put_ballot(", promised ", promised)
+    }
+
+    // Appends what is told of a slot.
+    fn put_known(&mut self, slot: u64, entry: &Entry) -> Result<(), OutOfMemory> {
+        self.put_number("known ", slot)?;
+        self.put_entry(" ", entry)
+    }
+
+    // Appends the beginning of a snapshot with so many rows.
+    fn put_snapshot(&mut self, slot: u64, count: u64) -> Result<(), OutOfMemory> {
+        self.put_number("snapshot at ", slot)?;
+        self.put_number(", rows ", count)
+    }
+
     // Appends a packet.
     fn put_packet(&mut self, packet: &Packet) -> Result<(), OutOfMemory> {
         match packet {
@@ -65,49 +101,27 @@ impl Text {
                 ballot,
                 slot,
                 count,
-            } => {
-                self.put_place("promise ", *ballot, " from ", *slot)?;
-                self.put_number(", votes ", *count)
-            }
+            } => self.put_promise(*ballot, *slot, *count),
             Packet::OldVote {
                 slot,
                 cast,
                 entry,
                 ..
-            } => {
-                self.put_place("vote ", *cast, " at ", *slot)?;
-                self.put_entry(" ", entry)
-            }
-            Packet::Nack { ballot, promised } => {
-                self.put_ballot("nack ", *ballot)?;
-                self.put_ballot(", promised ", *promised)
-            }
-            _ => self.put_later_packet(packet),
-        }
-    }
-
-    // Appends a packet that comes after the promises.
-    fn put_later_packet(&mut self, packet: &Packet) -> Result<(), OutOfMemory> {
-        match packet {
+            } => self.put_vote("vote ", *cast, *slot, entry),
+            Packet::Nack { ballot, promised } => self.put_nack(*ballot, *promised),
             Packet::Accept {
                 ballot,
                 slot,
                 entry,
-            } => {
-                self.put_place("accept ", *ballot, " at ", *slot)?;
-                self.put_entry(" ", entry)
-            }
+            } => self.put_vote("accept ", *ballot, *slot, entry),
             Packet::Accepted { ballot, slot } => {
                 self.put_place("accepted ", *ballot, " at ", *slot)
             }
-            Packet::Known { slot, entry } => {
-                self.put_number("known ", *slot)?;
-                self.put_entry(" ", entry)
-            }
+            Packet::Known { slot, entry } => self.put_known(*slot, entry),
             Packet::AskFrom { slot } => self.put_number("ask from ", *slot),
+            Packet::Snap { slot, count } => self.put_snapshot(*slot, *count),
+            Packet::SnapRow { row, .. } => self.put_row(row),
             Packet::Lead { ballot, slot } => self.put_place("lead ", *ballot, " up to ", *slot),
-            // A replica sends no rows of its launch table yet.
-            _ => self.put("rows"),
         }
     }
 

@@ -23,11 +23,8 @@ impl Text {
         match delta {
             Delta::Tried(ballot) => self.put_ballot("tried ", *ballot)?,
             Delta::Promised(ballot) => self.put_ballot("promised ", *ballot)?,
-            Delta::Voted(vote) => {
-                self.put_place("voted ", vote.ballot, " at ", vote.slot)?;
-                self.put_entry(" ", &vote.entry)?;
-            }
-            Delta::Base { slot, .. } => self.put_number("base ", *slot)?,
+            Delta::Voted(vote) => self.put_vote("voted ", vote.ballot, vote.slot, &vote.entry)?,
+            Delta::Base { slot, rows } => self.put_table("base ", *slot, &rows.items)?,
         }
         self.put("\n")
     }
