@@ -10,6 +10,7 @@ mod fault;
 mod host;
 mod hour;
 mod made_up;
+mod noops;
 mod packet_text;
 mod parse;
 mod row_text;

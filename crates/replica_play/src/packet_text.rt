@@ -1,4 +1,5 @@
 //! Entries, packets and letters in words.
+use crate::noops::Ends;
 use crate::text::Text;
 use cron_io::OutOfMemory;
 use paxos_base::{Ballot, Entry, Kind};
@@ -10,6 +11,17 @@ pub fn word_of(kind: Kind) -> &'static str {
     match kind {
         Kind::Launch => "launch",
         Kind::Void => "void",
+    }
+}
+
+// The slot of the no-op that a packet tells, where there is such a packet.
+fn noop_at(packets: &[Packet], place: usize) -> Option<u64> {
+    match packets.get(place)? {
+        Packet::Known {
+            slot,
+            entry: Entry::Noop,
+        } => Some(*slot),
+        _ => None,
     }
 }
 
@@ -134,13 +146,28 @@ impl Text {
     ) -> Result<(), OutOfMemory> {
         self.put_number("  letter ", number)?;
         self.put_number(" to ", u64::from(to))?;
-        let mut mark = ": ";
-        for packet in packets {
-            self.put(mark)?;
-            self.put_packet(packet)?;
-            mark = "; ";
-        }
+        self.put_packets(packets)?;
         self.put("\n")
+    }
+
+    // Appends packets, and as one those that tell no-ops of slots that follow one another.
+    fn put_packets(&mut self, packets: &[Packet]) -> Result<(), OutOfMemory> {
+        let mut mark = ": ";
+        let mut before = None;
+        for place in 0..packets.len() {
+            let slot = noop_at(packets, place);
+            let ends = Ends::of(before, slot, noop_at(packets, place + 1));
+            if ends.first {
+                self.put(mark)?;
+                mark = "; ";
+            }
+            match slot {
+                Some(slot) => self.put_noop("known ", slot, " noop", ends)?,
+                None => self.put_packet(&packets[place])?,
+            }
+            before = slot;
+        }
+        Ok(())
     }
 
     /// Appends the line of a fault of a letter: the rule, and the packet that breaks it.

@@ -1,12 +1,22 @@
 //! What comes of a step in words: changes of the disk, entries that are learned, calls, and the term.
+use crate::noops::Ends;
 use crate::packet_text::word_of;
 use crate::text::Text;
 use cluster_sched::SchedRow;
 use cron_io::OutOfMemory;
-use paxos_base::Delta;
+use paxos_base::{Delta, Entry};
 use replica_core::LearntRow;
 use term_core::{Flight, Term};
 use zone_minutes::Minute;
+
+// The slot of the no-op that is learned, where there is one.
+fn noop_at(rows: &[LearntRow], place: usize) -> Option<u64> {
+    let row = rows.get(place)?;
+    match row.entry {
+        Entry::Noop => Some(row.slot),
+        _ => None,
+    }
+}
 
 impl Text {
     /// Appends the line of what a step that is planned would change on the disk.
@@ -29,14 +39,26 @@ impl Text {
         self.put("\n")
     }
 
-    /// Appends the lines of the entries that a step learns.
+    /// Appends the lines of the entries that a step learns, and one line of no-ops of slots that follow one another.
     pub fn put_learnt(&mut self, rows: &[LearntRow]) -> Result<(), OutOfMemory> {
-        for row in rows {
-            self.put_number("  learned ", row.slot)?;
-            self.put_entry(": ", &row.entry)?;
-            self.put("\n")?;
+        let mut before = None;
+        for place in 0..rows.len() {
+            let slot = noop_at(rows, place);
+            let ends = Ends::of(before, slot, noop_at(rows, place + 1));
+            match slot {
+                Some(slot) => self.put_noop("  learned ", slot, ": noop\n", ends)?,
+                None => self.put_learnt_row(&rows[place])?,
+            }
+            before = slot;
         }
         Ok(())
+    }
+
+    // Appends the line of an entry that is learned.
+    fn put_learnt_row(&mut self, row: &LearntRow) -> Result<(), OutOfMemory> {
+        self.put_number("  learned ", row.slot)?;
+        self.put_entry(": ", &row.entry)?;
+        self.put("\n")
     }
 
     /// Appends the line of a call of the scheduler.
