@@ -1,61 +1,150 @@
 //! The letters that a scenario makes up.
 use crate::fault::PlayFault;
-use crate::parse::{member_of, number_of, split};
+use crate::parse::{member_of, minute_of, number_of, split};
+use paxos_base::{Ballot, Entry, JobRow};
+use paxos_letter::{Packet, packet_bytes};
 use std::alloc::Global;
 
-// The number of a ballot that is written as round and replica.
-fn ballot_number(word: &str) -> Result<u64, PlayFault> {
+// How many packets a word stands for at most.
+const PACKETS: u64 = 1000;
+
+// A ballot that is written as round and replica.
+fn ballot_of(word: &str) -> Result<Ballot, PlayFault> {
     let (round, member) = word.split_once('.').ok_or(PlayFault::BadBallot)?;
     let member = member_of(member)?;
     match number_of(round) {
-        Some(round) if round < 1 << 61 => Ok(8 * round + u64::from(member)),
+        Some(round) if 1 <= round && round < 1 << 61 => Ok(Ballot::of(round, member)),
         _ => Err(PlayFault::BadBallot),
     }
 }
 
-// The kind of a packet by its name.
-fn kind_of(name: &str) -> Result<u8, PlayFault> {
+fn slot_of(word: &str) -> Result<u64, PlayFault> {
+    number_of(word).ok_or(PlayFault::BadNumber)
+}
+
+// The packet of a ballot and a slot, as `lead 1.0 5`. A promise has no votes, and a no-op is proposed.
+fn packet_of(name: &str, words: &str) -> Result<Packet, PlayFault> {
+    let (ballot, slot) = split(words)?;
+    let ballot = ballot_of(ballot)?;
+    let slot = slot_of(slot)?;
     match name {
-        "prepare" => Ok(1),
-        "promise" => Ok(2),
-        "accept" => Ok(4),
-        "accepted" => Ok(5),
-        "known" => Ok(7),
-        "ask" => Ok(8),
-        "lead" => Ok(11),
+        "prepare" => Ok(Packet::Prepare { ballot, slot }),
+        "promise" => Ok(Packet::Promise {
+            ballot,
+            slot,
+            count: 0,
+        }),
+        "accept" => Ok(Packet::Accept {
+            ballot,
+            slot,
+            entry: Entry::Noop,
+        }),
+        "accepted" => Ok(Packet::Accepted { ballot, slot }),
+        "lead" => Ok(Packet::Lead { ballot, slot }),
         _ => Err(PlayFault::BadPacket),
     }
 }
 
-// A ballot's number and a slot. A packet without a ballot has 0 there.
-fn place_of(words: &str) -> Result<(u64, u64), PlayFault> {
-    let (ballot, slot) = match words.split_once(' ') {
-        Some((ballot, slot)) => (ballot_number(ballot)?, slot),
-        None => (0, words),
-    };
-    match number_of(slot) {
-        Some(slot) => Ok((ballot, slot)),
-        None => Err(PlayFault::BadNumber),
+// Appends the bytes of a packet.
+fn put_packet(from: u8, packet: Packet, bytes: &mut Vec<u8>) -> Result<(), PlayFault> {
+    bytes.extend_from_slice(&packet_bytes(from, &packet))?;
+    Ok(())
+}
+
+// Appends the no-op of a slot, as `known 5`, or those of several, as `known 0 to 63`.
+fn put_known(from: u8, words: &str, bytes: &mut Vec<u8>) -> Result<(), PlayFault> {
+    let (first, last) = words.split_once(" to ").unwrap_or((words, words));
+    let first = slot_of(first)?;
+    let last = slot_of(last)?;
+    if last < first || PACKETS <= last - first {
+        return Err(PlayFault::BadSlots);
+    }
+    for place in 0..last - first + 1 {
+        let packet = Packet::Known {
+            slot: first + place,
+            entry: Entry::Noop,
+        };
+        put_packet(from, packet, bytes)?;
+    }
+    Ok(())
+}
+
+// A count of launches.
+fn count_of(word: &str) -> Result<u32, PlayFault> {
+    match number_of(word) {
+        Some(count) if count <= u64::from(u32::MAX) => Ok(count as u32),
+        _ => Err(PlayFault::BadNumber),
     }
 }
 
-// Appends the 56 bytes of a packet, as `known 5` or `lead 1.0 5`. Its entry is a no-op.
-fn put_packet(from: u8, words: &str, bytes: &mut Vec<u8>) -> Result<(), PlayFault> {
-    let (name, rest) = split(words)?;
-    let kind = kind_of(name)?;
-    let (ballot, slot) = place_of(rest)?;
-    bytes.extend_from_slice(&[kind, from, 0, 0, 0, 0, 0, 0])?;
-    bytes.extend_from_slice(&ballot.to_be_bytes())?;
-    bytes.extend_from_slice(&slot.to_be_bytes())?;
-    bytes.extend_from_slice(&[0; 32])?;
+// Puts a part into a row.
+fn put_part(row: &mut JobRow, name: &str, word: &str) -> Result<(), PlayFault> {
+    match name {
+        "cursor" => row.cursor = Some(minute_of(word)?.0),
+        "open" => row.open_now = Some(minute_of(word)?.0),
+        "last" => row.last = Some(minute_of(word)?.0),
+        "launched" => row.launched = count_of(word)?,
+        "voided" => row.voided = count_of(word)?,
+        _ => return Err(PlayFault::BadRow),
+    }
     Ok(())
+}
+
+// A row by its parts, as `cursor 2024-03-31T00:00Z, launched 3`. It is fresh but for these.
+fn row_of(parts: &str) -> Result<JobRow, PlayFault> {
+    let mut row = JobRow::fresh(0);
+    for part in parts.split(", ") {
+        let (name, word) = split(part)?;
+        put_part(&mut row, name, word)?;
+    }
+    Ok(row)
+}
+
+// How many rows there are.
+fn rows_of(word: &str) -> Result<u32, PlayFault> {
+    match number_of(word) {
+        Some(rows) if rows <= PACKETS => Ok(rows as u32),
+        _ => Err(PlayFault::BadRows),
+    }
+}
+
+// Appends a snapshot at a slot, and so many rows behind it, as `snapshot 70 1`. The rows are fresh, or all have the parts that
+// follow, as in `snapshot 70 1, launched 3`.
+fn put_snapshot(from: u8, words: &str, bytes: &mut Vec<u8>) -> Result<(), PlayFault> {
+    let (slot, rest) = split(words)?;
+    let slot = slot_of(slot)?;
+    let (rows, row) = match rest.split_once(", ") {
+        Some((rows, parts)) => (rows_of(rows)?, row_of(parts)?),
+        None => (rows_of(rest)?, JobRow::fresh(0)),
+    };
+    let count = u64::from(rows);
+    put_packet(from, Packet::Snap { slot, count }, bytes)?;
+    for job in 0..rows {
+        let row = JobRow { job, ..row };
+        put_packet(from, Packet::SnapRow { slot, row }, bytes)?;
+    }
+    Ok(())
+}
+
+// Appends what the words of a packet say.
+fn put_words(from: u8, words: &str, bytes: &mut Vec<u8>) -> Result<(), PlayFault> {
+    let (name, rest) = split(words)?;
+    match name {
+        "known" => put_known(from, rest, bytes),
+        "snapshot" => put_snapshot(from, rest, bytes),
+        "ask" => {
+            let slot = slot_of(rest)?;
+            put_packet(from, Packet::AskFrom { slot }, bytes)
+        }
+        _ => put_packet(from, packet_of(name, rest)?, bytes),
+    }
 }
 
 /// The bytes of a letter from a replica, by the words of its packets with `; ` between them.
 pub fn letter_bytes(alloc: Global, from: u8, packets: &str) -> Result<Vec<u8>, PlayFault> {
     let mut bytes = Vec::new(alloc);
     for words in packets.split("; ") {
-        put_packet(from, words, &mut bytes)?;
+        put_words(from, words, &mut bytes)?;
     }
     Ok(bytes)
 }

@@ -5,7 +5,7 @@ use crate::command::{Command, Event, Extent};
 use crate::fault::PlayFault;
 use itoa::Buffer;
 use paxos_base::Kind;
-use zone_minutes::read_stamp;
+use zone_minutes::{Minute, read_stamp};
 
 /// A word, and what follows it.
 pub fn split(text: &str) -> Result<(&str, &str), PlayFault> {
@@ -33,6 +33,11 @@ pub fn member_of(word: &str) -> Result<u8, PlayFault>
         Some(member) if member < 7 => Ok(member as u8),
         _ => Err(PlayFault::BadMember),
     }
+}
+
+/// The minute of a stamp.
+pub fn minute_of(word: &str) -> Result<Minute, PlayFault> {
+    read_stamp(word).ok_or(PlayFault::BadStamp)
 }
 
 // How many replicas there are.
@@ -79,7 +84,7 @@ fn tick_of(text: &str) -> Result<Event, PlayFault> {
     let (member, stamp) = split(text)?;
     Ok(Event::Tick {
         member: member_of(member)?,
-        now: read_stamp(stamp).ok_or(PlayFault::BadStamp)?,
+        now: minute_of(stamp)?,
     })
 }
 
