@@ -1,11 +1,11 @@
 -- What it comes to that a letter's packets are heard one after another.
-use Rattle.std.proofs.Common.{◌≡◌, ℕ, ◌+◌, ◌-◌, ◌<◌, ◌≤◌, Bool, true, false, Result, Ok, Err, OnOk, List, [], ◌∷◌, ◌++◌, refl, sym, ap, subst, ◌∙◌, arith, length, drop, max, ◌||◌, inl, inr, take, get_or, zero, suc, if◌then◌else◌, map}
+use Rattle.std.proofs.Common.{◌≡◌, ℕ, ◌+◌, ◌≤◌, Bool, true, false, Result, Ok, Err, OnOk, List, [], ◌∷◌, ◌++◌, refl, sym, ap, subst, ◌∙◌, arith, length, max, ◌||◌, inl, inr, take, if◌then◌else◌, map}
 use Rattle.std.specs.Prelude.{None}
 use Rattle.std.specs.List.{AllByRecursion, count_by, flat_map, list_any}
 use Rattle.std.proofs.lemmas.Bool.{le-ltb, lt-ltb, cases_Bool, and_parts}
 use Rattle.std.proofs.lemmas.List.Sums.{sum_by-cons}
 use Rattle.std.proofs.Math.Bool.{or-false}
-use Rattle.std.proofs.lemmas.List.{append-nil, drop_all, drop_more, length-drop, take_all}
+use Rattle.std.proofs.lemmas.List.{append-nil}
 use Rattle.paxos_base.specs.declared.entry.Vote.{Vote}
 use Rattle.due_set.specs.Table.{Table}
 use Rattle.paxos_letter.specs.declared.packet.Packet.{Packet}
@@ -138,23 +138,6 @@ first-asks (packet.Snap slot count) rest = asks-cons (Snap slot (flat_map row_in
 first-asks (packet.SnapRow slot row) rest = omega arith
 first-asks (packet.Lead ballot slot) rest = asks-cons (Lead ballot slot) (messages_of rest)
 
--- the next packet, and those behind it
-pub next_packet : (packets : List Packet) (place : ℕ) (heard : Packet) → heard ≡ get_or packets place heard → place < length packets → drop place packets ≡ heard ∷ drop (place + 1) packets
-next_packet packets place heard is within = drop_more packets place heard within ∙ ap (λ (other : Packet). other ∷ drop (place + 1) packets) (sym is)
-
--- all packets behind a place
-pub all_behind : (packets : List Packet) (place : ℕ) → take (length packets - place) (drop place packets) ≡ drop place packets
-all_behind packets place =
-    let count : length (drop place packets) ≡ length packets - place = length-drop place packets in
-    take_all (length packets - place) (drop place packets) (rw count (omega arith))
-
--- each of small packets is small
-pub small_at : (jobs : ℕ) (packets : List Packet) (place : ℕ) (none : Packet) → are_small jobs packets ≡ true → place < length packets → is_small jobs (get_or packets place none) ≡ true
-small_at jobs [] place none small within = absurd (omega (arith, within))
-small_at jobs (packet ∷ packets) zero none small within = (and_parts (is_small jobs packet) (are_small jobs packets) small).0
-small_at jobs (packet ∷ packets) (suc place) none small within =
-    small_at jobs packets place none (and_parts (is_small jobs packet) (are_small jobs packets) small).1 (omega (arith, within))
-
 -- ---- What is done once
 
 -- some of what is said begins a snapshot
@@ -230,45 +213,38 @@ copied-none core draft idle =
 
 -- ---- The letter
 
--- what holds once the packets before a place were heard: what is left to hear leads to the same, with few changes and entries, and
--- brings rows of the table
-pub record Hearing (table : Table) (core : Core) (from : ℕ) (packets : List Packet) (place : ℕ) (asked : Bool) (draft : Draft) : Type 0 where
-  pub acts : done (hear_all (identity_of core) from (messages_of (drop place packets)) (once_in asked draft) (drafted (fixed_of core) draft).state) (drafted (fixed_of core) draft) ≡ done (hear_all (identity_of core) from (messages_of packets) not_yet (state_of core)) (idle_desk core)
+-- what holds while some packets of a letter are left to hear: what they ask for leads to what the whole letter does, with few changes
+-- and entries, and they bring rows of the table
+pub record Hearing (table : Table) (core : Core) (from : ℕ) (packets left : List Packet) (asked : Bool) (draft : Draft) : Type 0 where
+  pub acts : done (hear_all (identity_of core) from (messages_of left) (once_in asked draft) (drafted (fixed_of core) draft).state) (drafted (fixed_of core) draft) ≡ done (hear_all (identity_of core) from (messages_of packets) not_yet (state_of core)) (idle_desk core)
   pub steady : IsSteady table core draft
-  pub once : changes_in draft.change + count_by asks_change (messages_of (drop place packets)) ≤ 1
-  pub few : length draft.learnt.items ≤ place
-  pub rows : AllByRecursion (BringsRows (length table.jobs)) (messages_of (drop place packets))
-
-drop-none : (packets : List Packet) → drop 0 packets ≡ packets
-drop-none [] = refl
-drop-none (packet ∷ packets) = refl
+  pub once : changes_in draft.change + count_by asks_change (messages_of left) ≤ 1
+  pub few : length draft.learnt.items + length left ≤ length packets
+  pub rows : AllByRecursion (BringsRows (length table.jobs)) (messages_of left)
+  pub small : are_small (length table.jobs) left ≡ true
 
 -- before the first packet
 pub hearing-none : (table : Table) (core : Core) (from : ℕ) (packets : List Packet) (draft : Draft) → drafted (fixed_of core) draft ≡ idle_desk core → IsSteady table core draft → draft.change ≡ None
-    → draft.learnt.items ≡ [] → count_by asks_change (messages_of packets) ≤ 1 → AllByRecursion (BringsRows (length table.jobs)) (messages_of packets) → Hearing table core from packets 0 false draft
-hearing-none table core from packets draft idle steady none nothing once rows =
+    → draft.learnt.items ≡ [] → count_by asks_change (messages_of packets) ≤ 1 → AllByRecursion (BringsRows (length table.jobs)) (messages_of packets) → are_small (length table.jobs) packets ≡ true
+    → Hearing table core from packets packets false draft
+hearing-none table core from packets draft idle steady none nothing once rows small =
     let quiet = copied-none core draft idle in
-    let all = drop-none packets in
     record {
-      acts = ap (λ (list : List Packet). done (hear_all (identity_of core) from (messages_of list) (once_in false draft) (drafted (fixed_of core) draft).state) (drafted (fixed_of core) draft)) all
-          ∙ ap (λ (desk : Desk). done (hear_all (identity_of core) from (messages_of packets) (once_in false draft) desk.state) desk) idle
+      acts = ap (λ (desk : Desk). done (hear_all (identity_of core) from (messages_of packets) (once_in false draft) desk.state) desk) idle
           ∙ ap (λ (copied : Bool). done (hear_all (identity_of core) from (messages_of packets) (record { asked = false; copied = copied }) (state_of core)) (idle_desk core)) quiet;
       steady = steady;
-      once = rw (none, all) (omega (arith, once));
+      once = rw none (omega (arith, once));
       few = rw nothing (omega arith);
-      rows = rw all rows;
+      rows = rows;
+      small = small;
     }
 
--- of a change that the packet asks for, nothing is stored yet
-pub once-now : (packets rest : List Packet) (packet : Packet) (place changes : ℕ) → drop place packets ≡ packet ∷ rest → changes + count_by asks_change (messages_of (drop place packets)) ≤ 1
-    → changes + changes_asked packet ≤ 1
-once-now packets rest packet place changes at once =
-    let first = first-asks packet rest in
-    let now : changes + count_by asks_change (messages_of (packet ∷ rest)) ≤ 1 = rw at at once in
-    omega (arith, first, now)
+-- of a change that the next packet asks for, nothing is stored yet
+pub once-now : (packet : Packet) (rest : List Packet) (changes : ℕ) → changes + count_by asks_change (messages_of (packet ∷ rest)) ≤ 1 → changes + changes_asked packet ≤ 1
+once-now packet rest changes once = let first = first-asks packet rest in omega (arith, first, once)
 
 -- the rows that a packet brings, and those behind it, are of the table
-first-rows : (jobs : ℕ) (packet : Packet) (rest : List Packet) → AllByRecursion (BringsRows jobs) (messages_of (packet ∷ rest)) → BringsRowsIn jobs (message_in packet rest) × AllByRecursion (BringsRows jobs) (messages_of rest)
+pub first-rows : (jobs : ℕ) (packet : Packet) (rest : List Packet) → AllByRecursion (BringsRows jobs) (messages_of (packet ∷ rest)) → BringsRowsIn jobs (message_in packet rest) × AllByRecursion (BringsRows jobs) (messages_of rest)
 unfolding messages_of
 first-rows jobs (packet.Prepare ballot slot) rest rows = rows
 first-rows jobs (packet.Promise ballot slot count) rest rows = rows
@@ -282,53 +258,41 @@ first-rows jobs (packet.Snap slot count) rest rows = rows
 first-rows jobs (packet.SnapRow slot row) rest rows = (tt, rows)
 first-rows jobs (packet.Lead ballot slot) rest rows = rows
 
-pub rows-now : (jobs : ℕ) (packets rest : List Packet) (packet : Packet) (place : ℕ) → drop place packets ≡ packet ∷ rest → AllByRecursion (BringsRows jobs) (messages_of (drop place packets))
-    → BringsRowsIn jobs (message_in packet rest)
-rows-now jobs packets rest packet place at rows = (first-rows jobs packet rest (rw at at rows)).0
-
 -- one packet more was heard
-pub hearing-next : (table : Table) (core : Core) (from : ℕ) (packets : List Packet) (packet : Packet) (place : ℕ) (asked : Bool) (old new : Draft) → drop place packets ≡ packet ∷ drop (place + 1) packets
-    → Hearing table core from packets place asked old
-    → HearsBy core old new (hear_in (identity_of core) from (message_in packet (drop (place + 1) packets)) (once_in asked old)) → IsSteady table core new
+pub hearing-next : (table : Table) (core : Core) (from : ℕ) (packets rest : List Packet) (packet : Packet) (asked now_asked : Bool) (old new : Draft) → Hearing table core from packets (packet ∷ rest) asked old
+    → now_asked ≡ (asked || shows_gap_in packet (drafted (fixed_of core) old).state) → HearsBy core old new (hear_in (identity_of core) from (message_in packet rest) (once_in asked old)) → IsSteady table core new
     → changes_in new.change ≤ changes_in old.change + changes_asked packet → length new.learnt.items ≤ length old.learnt.items + 1
-    → Hearing table core from packets (place + 1) (asked || shows_gap_in packet (drafted (fixed_of core) old).state) new
-hearing-next table core from packets packet place asked old new at hearing heard steady once few =
+    → Hearing table core from packets rest now_asked new
+hearing-next table core from packets rest packet asked now_asked old new hearing shows heard steady once few =
     let self = identity_of core in
-    let rest = drop (place + 1) packets in
     let desk = drafted (fixed_of core) old in
     let now = hear_in self from (message_in packet rest) (once_in asked old) desk.state in
     let after = once_next packet desk.state now (once_in asked old) in
     let later = hear_all self from (messages_of rest) after (after_acts now desk.state) in
     let first = first-asks packet rest in
-    let before : changes_in old.change + count_by asks_change (messages_of (packet ∷ rest)) ≤ 1 = rw at at hearing.once in
-    let same : once_in (asked || shows_gap_in packet desk.state) new ≡ after =
-    ap (λ (copied : Bool). once_with (asked || shows_gap_in packet desk.state) copied) (copied-after core old new now heard) in
+    let same : once_in now_asked new ≡ after = rw shows (ap (once_with (asked || shows_gap_in packet desk.state)) (copied-after core old new now heard)) in
     record {
       acts =
           ap (λ (once : Once). done (hear_all self from (messages_of rest) once (drafted (fixed_of core) new).state) (drafted (fixed_of core) new)) same
           ∙ ap (λ (desk : Desk). done (hear_all self from (messages_of rest) after desk.state) desk) heard
           ∙ sym (done-append now later desk)
           ∙ ap (λ (acts : List Act). done acts desk) (sym (first-heard self from packet rest (once_in asked old) desk.state))
-          ∙ ap (λ (list : List Packet). done (hear_all self from (messages_of list) (once_in asked old) desk.state) desk) (sym at)
           ∙ hearing.acts;
       steady = steady;
-      once = omega (arith, first, before, once);
-      few = omega (arith, few, hearing.few);
-      rows = (first-rows (length table.jobs) packet rest (rw at at hearing.rows)).1;
+      once = let before = hearing.once in omega (arith, first, before, once);
+      few = let before = hearing.few in omega (arith, few, before);
+      rows = (first-rows (length table.jobs) packet rest hearing.rows).1;
+      small = (and_parts (is_small (length table.jobs) packet) (are_small (length table.jobs) rest) hearing.small).1;
     }
   where
     once_with : Bool → Bool → Once
     once_with asked copied = record { asked = asked; copied = copied }
 
 -- once all packets were heard, the draft makes just what the letter asks for
-pub hearing-all : (table : Table) (core : Core) (from : ℕ) (packets : List Packet) (place : ℕ) (asked : Bool) (draft : Draft) → length packets ≤ place → Hearing table core from packets place asked draft
+pub hearing-all : (table : Table) (core : Core) (from : ℕ) (packets : List Packet) (asked : Bool) (draft : Draft) → Hearing table core from packets [] asked draft
     → Makes core (hear_all (identity_of core) from (messages_of packets) not_yet (state_of core)) draft
 unfolding hear_all messages_of
-hearing-all table core from packets place asked draft past hearing =
-    let none : drop place packets ≡ [] = drop_all place packets past in
-    sym (done-nil (drafted (fixed_of core) draft))
-    ∙ ap (λ (list : List Packet). done (hear_all (identity_of core) from (messages_of list) (once_in asked draft) (drafted (fixed_of core) draft).state) (drafted (fixed_of core) draft)) (sym none)
-    ∙ hearing.acts
+hearing-all table core from packets asked draft hearing = sym (done-nil (drafted (fixed_of core) draft)) ∙ hearing.acts
 
 -- the first slot that isn't learned, in the words of the protocol
 pub next-drafted : (core : Core) (draft : Draft) → core.learner.base ≡ core.acceptor.base → next_slot core.learner draft ≡ prefix_of (drafted (fixed_of core) draft).state

@@ -1,10 +1,8 @@
 -- What a letter that was read is heard as, and what of a draft its letters need.
-use Rattle.std.proofs.Common.{◌≡◌, ◌↔◌, ℕ, ◌<◌, ltb, true, false, List, [], ◌∷◌, map, Option, Some, None, Result, Ok, Err, refl, sym, ap, ◌∙◌, length, ℤ, Bor}
+use Rattle.std.proofs.Common.{◌≡◌, ◌↔◌, ℕ, ◌<◌, ltb, true, false, List, [], ◌∷◌, map, Option, Some, None, Ok, Err, refl, sym, ap, ◌∙◌, length, ℤ, Bor}
 use Rattle.std.proofs.lemmas.Bool.{and_parts, ltb-true}
 use Rattle.paxos_letter.specs.Letters.{Spells}
 use Rattle.paxos_letter.specs.declared.fault.LetterFault.{LetterFault}
-use Rattle.paxos_letter.specs.declared.fault.OwnedFault.{OwnedFault}
-use Rattle.paxos_letter.specs.declared.fault.OwnedFault.TheVariants as owned
 use Rattle.paxos_letter.specs.Spelling.{fields_of}
 use Rattle.paxos_letter.specs.declared.packet.Packet.{Packet}
 use Rattle.paxos_letter.specs.declared.packet.Packet.TheVariants.{Prepare, Promise, OldVote, Accept, Accepted, Nack, Known, AskFrom, Snap, SnapRow, Lead}
@@ -122,16 +120,7 @@ made-copyable table given core draft of_table made there =
 
 -- ---- The fault of a letter
 
-abbrev told_by : {X : Type 0} → Result X OwnedFault → Option LetterFault
-told_by (Ok letter) = None
-told_by (Err (owned.Letter fault)) = Some fault
-told_by (Err owned.OutOfMemory) = None
-
--- a letter is read, or its bytes are refused for the first rule that they break
-pub told_is : {X : Type 0} (result : Result X OwnedFault) (first : Option LetterFault)
-    → ((fault : LetterFault) → (result ≡ Err (owned.Letter fault)) ↔ (first ≡ Some fault)) → told_by result ≡ first
-told_is (Ok letter) None is = refl
-told_is (Ok letter) (Some fault) is = let e = (is fault).1 refl in absurd cc
-told_is (Err (owned.Letter fault)) first is = sym ((is fault).0 refl)
-told_is (Err owned.OutOfMemory) None is = refl
-told_is (Err owned.OutOfMemory) (Some fault) is = let e = (is fault).1 refl in absurd cc
+-- a letter that is read has no fault
+pub no-fault : {X : Type 0} (letter : X) (first : Option LetterFault) → ((fault : LetterFault) → (Ok letter ≡ Err fault) ↔ (first ≡ Some fault)) → None ≡ first
+no-fault letter None is = refl
+no-fault letter (Some fault) is = let e = (is fault).1 refl in absurd cc

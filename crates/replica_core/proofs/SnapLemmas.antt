@@ -1,13 +1,18 @@
 -- What is told of entries and of the launch table at the base.
 use Rattle.std.proofs.Common.{◌≡◌, ℕ, ◌+◌, ◌-◌, ◌<◌, ◌≤◌, true, false, Option, None, Some, List, [], ◌∷◌, ◌++◌, refl, sym, ap, ◌∙◌, arith, length, drop, take, min, max, zero, suc, inl, inr}
 use Rattle.std.proofs.lemmas.Bool.{cases_lt, lt-ltb, le-ltb}
-use Rattle.std.proofs.lemmas.List.{drop-map, length-drop, drop_all, map-append, take_all}
+use Rattle.std.proofs.lemmas.List.{append_assoc, drop-map, length-drop, drop_all, map-append, take_all}
+use Rattle.std.proofs.lemmas.List.Concat.{flat_map-cons}
+use Rattle.std.specs.List.{flat_map}
 use Rattle.paxos_base.specs.declared.entry.Entry.{Entry}
 use Rattle.paxos_base.specs.declared.rows.JobRow.{JobRow}
 use Rattle.launch_machine.specs.Machine.{Launches}
 use Rattle.learner_core.specs.Learner.{LearnerState}
 use Rattle.learner_core.specs.Learner as learned
 use Rattle.step_law.specs.Act.{Act, Rebase, Send}
+use Rattle.paxos_letter.specs.declared.packet.Packet.{Packet}
+use Rattle.paxos_letter.specs.declared.packet.Packet.TheVariants as packet
+use Rattle.step_law.specs.Heard.{row_in, vote_in}
 use Rattle.step_law.specs.Hear.{known_from, on_ask, on_snap, send_all, snapshot}
 use Rattle.step_law.specs.Message.{Known, Only, Snap}
 use Rattle.step_law.specs.declared.out.LearntRow.{LearntRow}
@@ -52,6 +57,24 @@ take-min n xs = elim (cases_lt n (length xs)) [
       let all : min n (length xs) ≡ length xs = omega (arith, past) in
       rw all (take_all (length xs) xs (omega arith) ∙ sym (take_all n xs past))
 ]
+
+-- a packet that is no old vote has none, and one that is no row of a copy has none
+pub no-vote : (other : Packet) → ((ballot slot cast : ℕ) (entry : Entry) → other ≡ packet.OldVote ballot slot cast entry → ⊥) → vote_in other ≡ []
+no-vote (packet.OldVote ballot slot cast entry) not = absurd (not ballot slot cast entry refl)
+no-vote other not = refl
+
+pub no-row : (other : Packet) → ((slot : ℕ) (row : JobRow) → other ≡ packet.SnapRow slot row → ⊥) → row_in other ≡ []
+no-row (packet.SnapRow slot row) not = absurd (not slot row refl)
+no-row other not = refl
+
+-- of the packets behind one those that it counts are gone over one after another
+pub counted-next : {X : Type 0} (f : Packet → List X) (found : List X) (packet : Packet) (rest : List Packet) (count counter : ℕ) (all : List X) → counter < count
+    → found ++ flat_map f (take (count - counter) (packet ∷ rest)) ≡ all → (found ++ f packet) ++ flat_map f (take (count - (counter + 1)) rest) ≡ all
+counted-next f found packet rest count counter all within is =
+    let left : count - counter ≡ suc (count - (counter + 1)) = omega (arith, within) in
+    append_assoc found (f packet) (flat_map f (take (count - (counter + 1)) rest))
+    ∙ ap (λ (behind : List _). found ++ behind) (sym (flat_map-cons f packet (take (count - (counter + 1)) rest)))
+    ∙ (rw left at is)
 
 -- a change that is no new base leaves the base, and what was learned
 pub base-plain : (made : Option Change) (base : ℕ) → ((rebased : Rebased) → made ≡ Some (change.Rebased rebased) → ⊥) → base_of made base ≡ base

@@ -6,7 +6,7 @@ ghost use Rattle.replica_core.specs.Replica.{CountsBelow, IsSmall, IsWhole, stat
 
 use crate::parts::Core;
 use paxos_base::{Ballot, JobRow};
-use paxos_letter::Packet;
+use paxos_letter::{Letter, Packet, Packets};
 
 fn is_small_ballot(ballot: &Ballot) -> bool
     ensures { result ≡ is_small_ballot ballot.now }
@@ -50,11 +50,11 @@ fn is_small(jobs: u32, packet: &Packet) -> bool
 }
 
 // Whether each packet is.
-fn are_small(jobs: u32, packets: &[Packet]) -> bool
-    ensures { result ≡ are_small jobs packets.now }
+fn are_small(jobs: u32, packets: Packets<'_>) -> bool
+    ensures { result ≡ are_small jobs packets.entry }
 {
     for packet in packets {
-        if !is_small(jobs, packet) {
+        if !is_small(jobs, &packet) {
             return false;
         }
     }
@@ -62,10 +62,10 @@ fn are_small(jobs: u32, packets: &[Packet]) -> bool
 }
 
 /// Whether a letter has fewer than 2^31 packets, each of them within the bounds.
-pub fn is_small_letter(jobs: u32, packets: &[Packet]) -> bool
-    ensures { result ≡ is_small_letter jobs packets.now }
+pub fn is_small_letter(jobs: u32, letter: &Letter<'_>) -> bool
+    ensures { result ≡ is_small_letter jobs letter.now.packets }
 {
-    packets.len() < 1 << 31 && are_small(jobs, packets)
+    letter.count() < 1 << 31 && are_small(jobs, letter.packets())
 }
 
 impl Core {

@@ -15,7 +15,7 @@ use crate::parts::Core;
 use cron_io::OutOfMemory;
 use due_set::JobTable;
 use paxos_base::{Ballot, Vote};
-use paxos_letter::Packet;
+use paxos_letter::{Letter, Packet, Packets};
 use replica_draft::Draft;
 
 // The ballot that a packet names to all who hear it.
@@ -53,32 +53,21 @@ fn observe_in(draft: &mut Draft, packet: &Packet)
 
 impl Core {
     /// Hears the packets of a letter.
-    pub fn hear_all(
-        &self,
-        table: &JobTable,
-        from: u8,
-        packets: &[Packet],
-    ) -> Result<Draft, OutOfMemory>
+    pub fn hear_all(&self, table: &JobTable, letter: &Letter<'_>) -> Result<Draft, OutOfMemory>
         requires whole { IsWhole self.now }
         requires small { IsSmall (state_of self.now) self.now.machine.rows }
-        requires letter { (bytes : List ℕ) × Spells self.now.members from packets.now bytes }
-        requires bounds { is_small_letter (length table.now.jobs) packets.now ≡ true }
-        ensures makes { IfOk result (λ draft. Makes self.now (hear_all (identity_of self.now) from (messages_of packets.now) not_yet (state_of self.now)) draft) }
+        requires letter { (bytes : List ℕ) × Spells self.now.members letter.now.from letter.now.packets bytes }
+        requires bounds { is_small_letter (length table.now.jobs) letter.now.packets ≡ true }
+        ensures makes { IfOk result (λ draft. Makes self.now (hear_all (identity_of self.now) letter.now.from (messages_of letter.now.packets) not_yet (state_of self.now)) draft) }
         ensures ready { IfOk result (λ draft. IsReady table.now self.now draft) }
     {
+        let from = letter.from();
         let mut draft = self.begin();
         let mut asked = false;
-        for place in 0..packets.len() {
-            let packet = &packets[place];
-            let gap = self.shows_gap(&draft, packet);
-            self.hear(
-                table,
-                &mut draft,
-                from,
-                packet,
-                &packets[place + 1..],
-                asked,
-            )?;
+        let mut packets = letter.packets();
+        while let Some(packet) = packets.next() {
+            let gap = self.shows_gap(&draft, &packet);
+            self.hear(table, &mut draft, from, &packet, &packets, asked)?;
             asked = asked || gap;
         }
         Ok(draft)
@@ -104,7 +93,7 @@ impl Core {
         draft: &mut Draft,
         from: u8,
         packet: &Packet,
-        rest: &[Packet],
+        rest: &Packets<'_>,
         asked: bool,
     ) -> Result<(), OutOfMemory>
         requires whole { IsWhole self.now }
@@ -132,7 +121,7 @@ impl Core {
         draft: &mut Draft,
         from: u8,
         packet: &Packet,
-        rest: &[Packet],
+        rest: &Packets<'_>,
         asked: bool,
     ) -> Result<(), OutOfMemory>
         requires whole { IsWhole self.now }

@@ -3,7 +3,7 @@ ghost use Rattle.replica_core.specs.declared.input.StepFault.TheVariants as faul
 
 use cron_io::OutOfMemory;
 use paxos_base::Kind;
-use paxos_letter::{LetterFault, OwnedFault};
+use paxos_letter::LetterFault;
 use zone_minutes::Minute;
 
 /// What a replica is told.
@@ -32,5 +32,13 @@ impl From<OutOfMemory> for StepFault {
 
     fn from(_fault: OutOfMemory) -> StepFault {
         StepFault::OutOfMemory
+    }
+}
+
+impl From<LetterFault> for StepFault {
+    ghost from_gives = { λ e result. result ≡ fault.Letter e };
+
+    fn from(fault: LetterFault) -> StepFault {
+        StepFault::Letter(fault)
     }
 }

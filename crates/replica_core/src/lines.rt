@@ -21,18 +21,20 @@ use acceptor_core::{AcceptAnswer, PrepareAnswer};
 use cron_io::OutOfMemory;
 use due_set::JobTable;
 use paxos_base::{Ballot, Entry, RowList, Vote, VoteList};
-use paxos_letter::Packet;
+use paxos_letter::{Packet, Packets};
 use replica_draft::{Change, Draft, Rebased, tell_entries, tell_learnt, tell_rows};
 use std::alloc::Global;
 use term_core::{Term, best_of};
 
 // The votes of a promise: of the packets behind it those that it counts.
-fn votes_of(alloc: Global, count: u64, rest: &[Packet]) -> Result<Vec<Vote>, OutOfMemory>
-    ensures { IfOk result (λ votes. votes.items ≡ flat_map vote_in (take count rest.now)) }
+fn votes_of(alloc: Global, count: u64, mut rest: Packets<'_>) -> Result<Vec<Vote>, OutOfMemory>
+    ensures { IfOk result (λ votes. votes.items ≡ flat_map vote_in (take count rest.entry)) }
 {
-    let count = count.min(rest.len() as u64) as usize;
-    let mut votes = Vec::with_capacity(alloc, count)?;
-    for packet in &rest[..count] {
+    let mut votes = Vec::new(alloc);
+    for _ in 0..count {
+        let Some(packet) = rest.next() else {
+            return Ok(votes);
+        };
         if let Packet::OldVote {
             slot,
             cast,
@@ -41,9 +43,9 @@ fn votes_of(alloc: Global, count: u64, rest: &[Packet]) -> Result<Vec<Vote>, Out
         } = packet
         {
             votes.push(Vote {
-                slot: *slot,
-                ballot: *cast,
-                entry: *entry,
+                slot,
+                ballot: cast,
+                entry,
             })?;
         }
     }
@@ -51,15 +53,17 @@ fn votes_of(alloc: Global, count: u64, rest: &[Packet]) -> Result<Vec<Vote>, Out
 }
 
 // The rows of a copy: of the packets behind it those that it counts.
-fn rows_in(alloc: Global, count: u64, rest: &[Packet]) -> Result<RowList, OutOfMemory>
-    requires { OpenHaveCursors (flat_map row_in (take count rest.now)) }
-    ensures { IfOk result (λ rows. rows ≡ flat_map row_in (take count rest.now)) }
+fn rows_in(alloc: Global, count: u64, mut rest: Packets<'_>) -> Result<RowList, OutOfMemory>
+    requires { OpenHaveCursors (flat_map row_in (take count rest)) }
+    ensures { IfOk result (λ rows. rows ≡ flat_map row_in (take count rest.entry)) }
 {
-    let count = count.min(rest.len() as u64) as usize;
-    let mut items = Vec::with_capacity(alloc, count)?;
-    for packet in &rest[..count] {
+    let mut items = Vec::new(alloc);
+    for _ in 0..count {
+        let Some(packet) = rest.next() else {
+            return Ok(RowList { items });
+        };
         if let Packet::SnapRow { row, .. } = packet {
-            items.push(*row)?;
+            items.push(row)?;
         }
     }
     Ok(RowList { items })
@@ -145,7 +149,7 @@ impl Core {
         ballot: Ballot,
         slot: u64,
         count: u64,
-        rest: &[Packet],
+        rest: &Packets<'_>,
     ) -> Result<(), OutOfMemory>
         requires some { 1 ≤ self.now.members }
         requires few { self.now.members ≤ 7 }
@@ -157,7 +161,7 @@ impl Core {
         if !draft.term.has_asked(ballot, slot) {
             return Ok(());
         }
-        self.gather(draft, &votes_of(self.alloc, count, rest)?)?;
+        self.gather(draft, &votes_of(self.alloc, count, rest.copy())?)?;
         draft
             .term
             .on_promise(from, ballot, slot, &[], self.members)?;
@@ -370,7 +374,7 @@ impl Core {
         draft: &mut Draft,
         slot: u64,
         count: u64,
-        rest: &[Packet],
+        rest: &Packets<'_>,
     ) -> Result<(), OutOfMemory>
         requires change { draft.old.change ≡ None }
         requires prefix { prefix_of self.now.learner < 2 ^ 62 }
@@ -383,7 +387,7 @@ impl Core {
         if slot <= self.next_slot(draft) {
             return Ok(());
         }
-        let rows = rows_in(self.alloc, count, rest)?;
+        let rows = rows_in(self.alloc, count, rest.copy())?;
         let machine = machine_of(self.alloc, table, &rows)?;
         draft.rebase(self.alloc, slot, rows, Some(machine));
         Ok(())

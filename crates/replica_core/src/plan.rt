@@ -16,7 +16,7 @@ use crate::input::{Input, StepFault};
 use crate::parts::Core;
 use cron_io::OutOfMemory;
 use due_set::JobTable;
-use paxos_letter::{OwnedFault, OwnedLetter, read_letter};
+use paxos_letter::Letter;
 use replica_draft::{Draft, LetterList, write_letters};
 
 impl Core {
@@ -46,23 +46,20 @@ impl Core {
         ensures ready { IfOk result (λ draft. IsReady table.now self.now draft) }
         ensures fault { fault_told result ≡ fault_of self.now.members bytes.now }
     {
-        match read_letter(self.alloc, bytes, self.members) {
-            Ok(letter) => Ok(self.hear_packets(table, &letter)?),
-            Err(OwnedFault::Letter(fault)) => Err(StepFault::Letter(fault)),
-            Err(OwnedFault::OutOfMemory) => Err(StepFault::OutOfMemory),
-        }
+        let letter = Letter::read(bytes, self.members)?;
+        Ok(self.hear_packets(table, &letter)?)
     }
 
     // Hears the packets of a letter, or none of them where they are beyond the bounds.
-    fn hear_packets(&self, table: &JobTable, letter: &OwnedLetter) -> Result<Draft, OutOfMemory>
+    fn hear_packets(&self, table: &JobTable, letter: &Letter<'_>) -> Result<Draft, OutOfMemory>
         requires whole { IsWhole self.now }
         requires small { IsSmall (state_of self.now) self.now.machine.rows }
         requires letter { (bytes : List ℕ) × Spells self.now.members letter.now.from letter.now.packets bytes }
         ensures makes { IfOk result (λ draft. Makes self.now (hear_all (identity_of self.now) letter.now.from (heard_in (length table.now.jobs) letter.now.packets) not_yet (state_of self.now)) draft) }
         ensures ready { IfOk result (λ draft. IsReady table.now self.now draft) }
     {
-        if is_small_letter(table.jobs(), &letter.packets.items) {
-            self.hear_all(table, letter.from, &letter.packets.items)
+        if is_small_letter(table.jobs(), letter) {
+            self.hear_all(table, letter)
         } else {
             Ok(self.begin())
         }

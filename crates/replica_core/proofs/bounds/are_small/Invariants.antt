@@ -1,6 +1,6 @@
-use Rattle.std.proofs.Common.{◌≡◌, drop}
+use Rattle.std.proofs.Common.{◌≡◌}
 use Rattle.step_law.specs.Letters.{are_small}
 use Rattle.replica_core.proofs.bounds.are_small.Given as goal
 
 abbrev pub invariant-loop-packet : goal.invariant-loop-packet
-invariant-loop-packet l = are_small l.jobs l.packets ≡ are_small l.jobs (drop l.packet-index l.packets)
+invariant-loop-packet l = are_small l.jobs l.fn.packets ≡ are_small l.jobs l.packet-iterator

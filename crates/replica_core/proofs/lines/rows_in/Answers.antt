@@ -1,15 +1,14 @@
-use Rattle.std.proofs.Common.{◌≡◌, ◌∙◌, ap, subst, sym, take}
-use Rattle.std.specs.List.{flat_map}
-use Rattle.std.proofs.lemmas.List.{take_all}
-use Rattle.paxos_base.specs.Rows.{OpenHaveCursors}
+use Rattle.std.proofs.Common.{◌≡◌, ◌++◌, Global, Vec, sym, ap, ◌∙◌}
+use Rattle.std.proofs.lemmas.List.{append-nil}
 use Rattle.step_law.specs.Heard.{row_in}
-use Rattle.replica_core.proofs.SnapLemmas.{take-min}
+use Rattle.replica_core.proofs.SnapLemmas.{counted-next, no-row}
 use Rattle.replica_core.proofs.lines.rows_in.Goals as goal
+use Rattle.replica_core.proofs.lines.rows_in.Goals.{in-SnapRow+in_ok-push, in_default-packet}
 
-pub invariant_of-result : goal.invariant_of-result
-invariant_of-result c =
-    let rest = c.args.rest.now in
-    let all = take_all c.loop-packet.packet-index (take c.min-count.result rest) c.loop-packet-test.false in
-    let same : c.loop-packet.items.items ≡ flat_map row_in (take c.args.count rest) =
-    c.loop-packet.invariant ∙ ap (flat_map row_in) (all ∙ ap (λ n. take n rest) c.min-count.ensures ∙ take-min c.args.count rest) in
-    subst OpenHaveCursors (sym same) c.requires
+pub loop-preserved : goal.loop-preserved
+loop-preserved c =
+    let found : c.match-packet.items.items ≡ c.loop.items.items ++ row_in c.in-Some.packet = elim c.match-packet.branch [
+      | in-SnapRow+in_ok-push w ↦ rw w.in-SnapRow.is (ap (λ (items : Vec _ Global). items.items) w.items-is ∙ w.in_ok-push.ensures.items)
+      | in_default-packet w ↦ rw (w.items-is, no-row c.in-Some.packet w.in_default-packet.not-SnapRow) (sym (append-nil c.loop.items.items))
+    ] in
+    rw found (counted-next row_in c.loop.items.items c.in-Some.packet c.next.new.self c.args.count c.loop.counter _ c.loop-test.true (rw c.in-Some.ensures.steps at c.loop.invariant))

@@ -14,5 +14,5 @@ pub returns-clause-does : goal.returns-clause-does
 returns-clause-does c =
     promise-gathered c.args.self.now c.args.draft.now c.gather.new.draft c.on_promise.new.self c.args.from c.args.ballot c.args.slot (flat_map vote_in (take c.args.count c.args.rest.now))
     (sym c.has_asked.ensures ∙ c.if-not-has_asked.false)
-    (c.in_ok-gather.ensures.best ∙ ap (best_of (best_in c.args.self.now c.args.draft.now)) (c.deref.ensures.value ∙ c.in_ok-votes_of.ensures))
+    (c.in_ok-gather.ensures.best ∙ ap (best_of (best_in c.args.self.now c.args.draft.now)) (c.deref.ensures.value ∙ rw c.copy.ensures at c.in_ok-votes_of.ensures))
     c.in_ok-gather.ensures.kept c.in_ok-on_promise.ensures.term

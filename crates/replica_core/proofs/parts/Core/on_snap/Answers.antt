@@ -9,4 +9,4 @@ pub returns-clause-does : goal.returns-clause-does
 returns-clause-does c =
     let behind = rw c.next_slot.ensures.value at c.if-slot-next_slot.false in
     snap-taken c.args.self.now c.args.draft.now c.rebase.new.self c.args.slot _ _ c.requires.change (omega (arith, behind))
-    (rw c.in_ok-rows.ensures at c.rebase.ensures.takes)
+    (rw (c.in_ok-rows.ensures, c.copy.ensures) at c.rebase.ensures.takes)
