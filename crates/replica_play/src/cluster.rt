@@ -7,9 +7,10 @@ use crate::host::Host;
 use crate::made_up::letter_bytes;
 use crate::text::Text;
 use cluster_sched::SchedRow;
+use cron_io::OutOfMemory;
 use due_set::JobTable;
 use paxos_base::Kind;
-use paxos_letter::{LetterBytes, read_letter};
+use paxos_letter::{Letter, LetterBytes, Packet};
 use replica_core::{Input, LetterList, OutLetter, StepOut};
 use std::alloc::Global;
 
@@ -18,6 +19,15 @@ const LETTERS: usize = 1000;
 
 // The kind of a packet that no packet is of.
 const UNKNOWN_KIND: u8 = 12;
+
+// The packets of a letter, each of which is written with its neighbours.
+fn packets_of(alloc: Global, letter: &Letter<'_>) -> Result<Vec<Packet>, OutOfMemory> {
+    let mut packets = Vec::with_capacity(alloc, letter.count())?;
+    for packet in letter.packets() {
+        packets.push(packet)?;
+    }
+    Ok(packets)
+}
 
 // A letter, and whether it waits to be delivered. It stays then, so that it can be delivered again.
 #[derive(Drop)]
@@ -215,10 +225,10 @@ impl<'a> Cluster<'a> {
     // Puts a letter with the others, and writes its packets.
     fn post(&mut self, letter: OutLetter) -> Result<(), PlayFault> {
         let bytes = letter.bytes.items;
-        let read = read_letter(self.alloc, &bytes, self.members())?;
+        let read = Letter::read(&bytes, self.members())?;
+        let packets = packets_of(self.alloc, &read)?;
         let number = self.posted.len() as u64;
-        self.text
-            .put_letter(number, letter.to, &read.packets.items)?;
+        self.text.put_letter(number, letter.to, &packets)?;
         self.posted.push(Posted {
             to: letter.to,
             bytes,

@@ -1,5 +1,5 @@
 use cron_io::{OutOfMemory, ReadAllFault, SinkFault};
-use paxos_letter::{LetterFault, OwnedFault};
+use paxos_letter::LetterFault;
 use replica_core::StepFault;
 use std::alloc::{AllocError, AllocFailed};
 
@@ -100,12 +100,9 @@ impl From<ReadAllFault> for PlayFault {
     }
 }
 
-impl From<OwnedFault> for PlayFault {
-    fn from(fault: OwnedFault) -> PlayFault {
-        match fault {
-            OwnedFault::Letter(_) => PlayFault::NotALetter,
-            OwnedFault::OutOfMemory => PlayFault::OutOfMemory,
-        }
+impl From<LetterFault> for PlayFault {
+    fn from(_: LetterFault) -> PlayFault {
+        PlayFault::NotALetter
     }
 }
 
