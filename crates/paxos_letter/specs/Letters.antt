@@ -1,15 +1,12 @@
 -- Letters, and the first rule that bytes break.
-use Rattle.std.specs.Prelude.{◌≡◌, ◌≢◌, ◌↔◌, ℕ, ◌+◌, ◌*◌, ◌%◌, ◌<◌, Bool, not, ◌||◌, ◌==◌, if◌then◌else◌, IsTrue, List, [], ◌∷◌, length, map, slice_index, Option, None, Some, Result, Ok, Err}
+use Rattle.std.specs.Prelude.{◌≡◌, ◌≢◌, ◌↔◌, ℕ, ◌+◌, ◌*◌, ◌%◌, ◌<◌, Bool, not, ◌||◌, ◌==◌, if◌then◌else◌, IsTrue, List, [], ◌∷◌, length, map, slice_index, Option, None, Some}
 use Rattle.std.specs.List.{AllByRecursion}
 use Rattle.paxos_base.specs.Packet.{offset_of, FromField}
 use Rattle.paxos_letter.specs.declared.fault.LetterFault.{LetterFault}
 use Rattle.paxos_letter.specs.declared.fault.LetterFault.TheVariants.{BadLength, BadKind, NotZero, BadMember, BadGroup}
-use Rattle.paxos_letter.specs.declared.fault.OwnedFault.{OwnedFault}
-use Rattle.paxos_letter.specs.declared.fault.OwnedFault.TheVariants.{OutOfMemory}
 use Rattle.paxos_letter.specs.declared.fields.Fields.{Fields}
 use Rattle.paxos_letter.specs.declared.group.Group.{Group}
 use Rattle.paxos_letter.specs.declared.packet.Packet.{Packet}
-use Rattle.paxos_letter.specs.declared.packet.OwnedLetter.{OwnedLetter}
 use Rattle.paxos_letter.specs.Fields.{FitPacketFields, all_in}
 use Rattle.paxos_letter.specs.Spelling.{fields_of, packet_bytes, spelling, AllFit}
 use Rattle.paxos_letter.specs.Rules.{keeps_kind, keeps_zeros, keeps_members}
@@ -69,11 +66,6 @@ sender_of bytes = slice_index bytes (offset_of FromField)
 abbrev pub fault_of : ℕ → List ℕ → Option LetterFault
 fault_of members bytes =
     if has_bad_length bytes then Some (BadLength 0) else fault_from members (sender_of bytes) no_group 0 (all_in bytes)
-
--- the packets of the sender were read, unless memory ran out
-abbrev pub ReadsPackets : ℕ → List Packet → Result OwnedLetter OwnedFault → Type 0
-ReadsPackets from packets (Ok letter) = (letter.from ≡ from) × (letter.packets ≡ packets)
-ReadsPackets from packets (Err fault) = fault ≡ OutOfMemory
 
 -- bytes spell no two letters
 abbrev pub LettersDiffer : Type 0

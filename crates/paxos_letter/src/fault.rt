@@ -1,7 +1,3 @@
-ghost use Rattle.std.specs.Prelude.{◌≡◌};
-
-use std::alloc::AllocFailed;
-
 /// The first rule that the bytes of a letter break, and the number, from 0, of the packet that breaks it.
 ///
 /// The length is tested first, and then the packets in their order, each by the rules in the order that they stand in
@@ -19,21 +15,4 @@ pub enum LetterFault {
     /// The packet cannot stand where it does, or the letter ends before a count is filled; then the number is that of
     /// the packets in the letter.
     BadGroup { packet: u64 },
-}
-
-/// Why bytes could not be read as a letter.
-#[derive(Clone, Copy, Debug, PartialEq, Eq)]
-pub enum OwnedFault {
-    Letter(LetterFault),
-    OutOfMemory,
-}
-
-impl<T: Drop> From<AllocFailed<T>> for OwnedFault {
-    ghost use Rattle.paxos_letter.specs.declared.fault.OwnedFault.TheVariants.{OutOfMemory};
-
-    ghost from_gives = { λ _ e. e ≡ OutOfMemory };
-
-    fn from(_: AllocFailed<T>) -> Self {
-        OwnedFault::OutOfMemory
-    }
 }

@@ -33,17 +33,15 @@ mod kinds;
 mod laws;
 mod letter;
 mod packet;
-mod reading;
 mod rules;
 mod single;
 mod writing;
 
-pub use fault::{LetterFault, OwnedFault};
+pub use fault::LetterFault;
 pub use laws::{
     copies_are_letters, letters_break_no_rule, letters_differ_in_their_bytes, letters_have_packets,
 };
 pub use letter::{Letter, Packets};
-pub use packet::{LetterBytes, OwnedLetter, Packet, PacketList};
-pub use reading::read_letter;
+pub use packet::{LetterBytes, Packet};
 pub use single::{packet_bytes, packet_in};
 pub use writing::write_letter;

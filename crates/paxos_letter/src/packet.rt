@@ -66,28 +66,6 @@ pub enum Packet {
     },
 }
 
-/// The packets of a letter in their order. Contracts see the list.
-#[derive(Debug, Drop)]
-pub struct PacketList {
-    pub items: Vec<Packet>,
-}
-
-impl Model for PacketList {
-    ghost use Rattle.std.specs.Prelude.{List};
-    ghost use Rattle.paxos_letter.specs.declared.packet.Packet.{Packet};
-
-    ghost Value = { List Packet };
-
-    ghost view = { λ list. list.items.items };
-}
-
-/// A letter that was read: the replica that it is from, and its packets.
-#[derive(Debug, Drop)]
-pub struct OwnedLetter {
-    pub from: u8,
-    pub packets: PacketList,
-}
-
 /// The bytes of a letter. Contracts see the list.
 #[derive(Debug, Drop)]
 pub struct LetterBytes {
