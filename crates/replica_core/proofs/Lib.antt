@@ -9,6 +9,7 @@ pub mod OutcomeLemmas
 pub mod PlanLemmas
 pub mod SnapLemmas
 pub mod SteadyLemmas
+pub mod StepLemmas
 pub mod StoreLemmas
 pub mod TableLemmas
 pub mod TakenLemmas

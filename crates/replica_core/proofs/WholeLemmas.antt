@@ -1,5 +1,5 @@
 -- What holds of each replica holds of it after a step.
-use Rattle.std.proofs.Common.{◌≡◌, ℕ, ◌+◌, Option, None, Some, List, [], ◌∷◌, ◌++◌, ap, subst, ◌∙◌, length, unwrap_or}
+use Rattle.std.proofs.Common.{◌≡◌, ℕ, ◌+◌, Option, None, Some, List, [], ◌∷◌, ◌++◌, refl, ap, subst, ◌∙◌, length, unwrap_or}
 use Rattle.paxos_base.specs.Rows.{OpenHaveCursors}
 use Rattle.paxos_base.specs.declared.entry.Entry.{Entry}
 use Rattle.paxos_base.specs.declared.entry.Vote.{Vote}
@@ -19,7 +19,7 @@ use Rattle.replica_draft.specs.declared.change.Change.{Change}
 use Rattle.replica_draft.specs.declared.change.Change.TheVariants as change
 use Rattle.replica_core.specs.Counts.{highest_count}
 use Rattle.replica_core.specs.Commit.{entries_with, launches_of}
-use Rattle.replica_core.specs.Replica.{FliesAt, IsSteady, IsSteadyAt, IsSupplied, IsWhole, base_of, identity_of, fixed_of, next_of, rows_of, state_of}
+use Rattle.replica_core.specs.Replica.{FliesAt, IsAlikeCore, IsSteady, IsSteadyAt, IsSupplied, IsWhole, base_of, identity_of, fixed_of, next_of, rows_of, state_of}
 use Rattle.replica_draft.specs.declared.draft.Draft.{Draft}
 use Rattle.replica_core.specs.declared.parts.Core.{Core}
 use Rattle.replica_core.proofs.LineLemmas.{base-drafted, next-learned, rows-drafted}
@@ -102,3 +102,26 @@ launches_after table old new draft steady state before applied =
     let rows : new.rows ≡ rows_of draft.change old.rows = ap (λ state. state.kept.rows) state ∙ rows-drafted draft.change (fixed_of old).durable in
     let entries : new.learner.entries ≡ learned_with draft.change old.learner.entries draft.learnt.items = ap (λ state. state.learned) state in
     rw (rows, entries) (launches_by table draft.change old.machine _ _ old.rows new.machine.rows old.learner.entries draft.learnt.items steady.supplied before applied)
+
+-- ---- A replica with more room
+
+-- one that is alike knows the same
+pub state-alike : (new old : Core) → IsAlikeCore new old → state_of new ≡ state_of old
+state-alike new old alike =
+    rw (alike.tried, alike.acceptor.promised, alike.acceptor.votes, alike.acceptor.base, alike.rows, alike.learner.entries, alike.term, alike.seen) refl
+
+pub identity-alike : (new old : Core) → IsAlikeCore new old → identity_of new ≡ identity_of old
+identity-alike new old alike = rw (alike.me, alike.members) refl
+
+-- and what holds of each replica holds of it
+pub whole-alike : (new old : Core) → IsAlikeCore new old → IsWhole old → IsWhole new
+whole-alike new old alike whole =
+    record {
+      me = rw (alike.me, alike.members) whole.me;
+      few = rw alike.members whole.few;
+      base = rw (alike.learner.base, alike.acceptor.base) whole.base;
+      flies = rw (alike.learner.base, alike.learner.entries, alike.term) whole.flies;
+      counts = rw (alike.high_count, alike.machine) whole.counts;
+      cursors = rw alike.machine whole.cursors;
+      base_cursors = rw alike.rows whole.base_cursors;
+    }

@@ -16,7 +16,7 @@ use Rattle.due_set.specs.Table.{Table}
 use Rattle.launch_machine.specs.Machine.{Launches, StandsFor}
 use Rattle.step_law.specs.State.{State, Identity, prefix_of}
 use Rattle.step_law.specs.Act.{Act}
-use Rattle.replica_draft.specs.Draft.{Desk, FixedParts, delta_of, done, drafted}
+use Rattle.replica_draft.specs.Draft.{Desk, FixedParts, delta_of, done, drafted, with_best}
 use Rattle.replica_core.specs.Lines.{IsFixed}
 use Rattle.replica_core.specs.Counts.{highest_count}
 use Rattle.replica_core.specs.declared.parts.Core.{Core}
@@ -206,6 +206,15 @@ DoesAsTerm core old new acts =
 -- a step of a replica in which nothing was done yet
 abbrev pub idle_desk : Core → Desk
 idle_desk core = idle_in (replica_of core)
+
+-- a draft of the replica in which nothing was done yet
+pub record IsIdle (core : Core) (draft : Draft) : Type 0 where
+  pub stands : drafted (fixed_of core) draft ≡ idle_desk core
+  pub best : draft.best ≡ None
+  pub change : draft.change ≡ None
+  pub call : draft.call ≡ None
+  pub learnt : draft.learnt.items ≡ []
+  pub term : with_best (best_votes core.term) draft.term ≡ core.term
 
 -- a draft does just these acts
 abbrev pub Makes : Core → List Act → Draft → Type 0

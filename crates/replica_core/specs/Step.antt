@@ -88,8 +88,8 @@ pub record Hears (table : Table) (bytes : List ℕ) (core : Core) (draft : Draft
 -- a step is planned that does these acts
 pub record Plans (replica : ReplicaState) (acts : List Act) (planned : Planned) : Type 0 where
   pub makes : drafted (fixed_in replica) planned.draft ≡ done acts (idle_in replica)
-  pub letters : AreLettersFrom replica.identity acts planned.letters
-  pub delta : planned.delta ≡ option_map delta_of planned.draft.change
+  pub letters : AreLettersFrom replica.identity acts planned.effects.letters
+  pub delta : planned.effects.delta ≡ option_map delta_of planned.draft.change
 
 -- a step of the replica at an input is planned
 pub record PlansStep (table : Table) (input : Input) (replica : ReplicaState) (planned : Planned) : Type 0 where
@@ -101,7 +101,7 @@ pub record PlansStep (table : Table) (input : Input) (replica : ReplicaState) (p
 pub record CanTake (table : Table) (replica : ReplicaState) (planned : Planned) : Type 0 where
   pub votes : votes_of planned.draft.change ≤ replica.votes_room
   pub entries : length planned.draft.learnt.items ≤ replica.entries_room
-  pub delta : planned.delta ≡ option_map delta_of planned.draft.change
+  pub delta : planned.effects.delta ≡ option_map delta_of planned.draft.change
   pub steady : IsSteadyAt table replica.machine replica.state.kept.base (prefix_of replica.state) planned.draft
   pub few : length planned.draft.learnt.items < 2 ^ 31
 

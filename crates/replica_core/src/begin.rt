@@ -1,8 +1,8 @@
 //! A step before anything was done in it.
-ghost use Rattle.std.specs.Prelude.{◌≡◌, None, []};
+ghost use Rattle.std.specs.Prelude.{◌≡◌};
 ghost use Rattle.term_core.specs.Term.{best_votes};
-ghost use Rattle.replica_draft.specs.Draft.{drafted, with_best};
-ghost use Rattle.replica_core.specs.Replica.{idle_desk, fixed_of};
+ghost use Rattle.replica_draft.specs.Draft.{with_best};
+ghost use Rattle.replica_core.specs.Replica.{IsIdle};
 
 use crate::parts::Core;
 use paxos_base::VoteList;
@@ -41,12 +41,7 @@ fn outline(alloc: Global, term: &Term) -> Term
 impl Core {
     /// A step in which nothing was done yet.
     pub fn begin(&self) -> Draft
-        ensures idle { drafted (fixed_of self.now) result ≡ idle_desk self.now }
-        ensures best { result.best ≡ None }
-        ensures change { result.change ≡ None }
-        ensures call { result.call ≡ None }
-        ensures learnt { result.learnt.items ≡ [] }
-        ensures term { with_best (best_votes self.now.term) result.term ≡ self.now.term }
+        ensures { IsIdle self.now result }
     {
         Draft {
             seen: self.seen,

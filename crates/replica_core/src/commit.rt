@@ -19,7 +19,7 @@ ghost use Rattle.replica_core.specs.Commit.{HasLearnedAll, HasStored, LearnsAll,
 ghost use Rattle.replica_core.specs.Counts.{count_ended, count_of, highest_count};
 ghost use Rattle.replica_core.specs.Replica.{CountsBelow, HasRoomFor, HasTable, IsAlikeCore, IsSteady, IsSupplied, base_of, identity_of, fixed_of, since_of, state_of};
 
-use crate::out::{LearntList, StepOut};
+use crate::out::{Effects, LearntList, StepOut};
 use crate::parts::Core;
 use acceptor_core::Acceptor;
 use cron_io::OutOfMemory;
@@ -27,7 +27,7 @@ use due_set::JobTable;
 use launch_machine::Machine;
 use learner_core::Learner;
 use paxos_base::{Ballot, Delta, Durable, Entry, JobRow, RowList, VoteList};
-use replica_draft::{Change, Draft, LetterList, Rebased};
+use replica_draft::{Change, Draft, Rebased};
 use std::alloc::Global;
 use std::mem;
 use step_law::LearntRow;
@@ -70,7 +70,6 @@ impl Core {
             term: Term::Follower { ended: None },
             seen,
             high_count,
-            packets: Vec::new(alloc),
         })
     }
 
@@ -90,7 +89,6 @@ impl Core {
             term: self.term.copy()?,
             seen: self.seen,
             high_count: self.high_count,
-            packets: Vec::new(self.alloc),
         })
     }
 
@@ -107,15 +105,9 @@ impl Core {
     }
 
     /// Takes a step that was planned and has room.
-    pub fn commit(
-        &mut self,
-        table: &JobTable,
-        draft: Draft,
-        delta: Option<Delta>,
-        letters: LetterList,
-    ) -> StepOut
+    pub fn commit(&mut self, table: &JobTable, draft: Draft, effects: Effects) -> StepOut
         requires room { HasRoomFor self.old draft }
-        requires delta { delta ≡ option_map delta_of draft.change }
+        requires delta { effects.delta ≡ option_map delta_of draft.change }
         requires stands { StandsFor table.now self.old.machine }
         requires counts { CountsBelow (2 ^ 31) self.old.machine.rows }
         requires steady { IsSteady table.now self.old draft }
@@ -128,20 +120,20 @@ impl Core {
         ensures identity { identity_of self.new ≡ identity_of self.old }
         ensures base { self.new.learner.base ≡ self.new.acceptor.base }
         ensures counts { self.old.high_count ≡ highest_count self.old.machine.rows → self.new.high_count ≡ highest_count self.new.machine.rows }
-        ensures delta { result.delta ≡ delta }
-        ensures letters { result.letters ≡ letters }
+        ensures delta { result.delta ≡ effects.delta }
+        ensures letters { result.letters ≡ effects.letters }
         ensures learnt { result.learnt ≡ draft.learnt.items }
         ensures call { result.call ≡ draft.call }
     {
-        self.store(&delta);
+        self.store(&effects.delta);
         self.learn(table, draft.change, &draft.learnt);
         let old = mem::replace(&mut self.term, draft.term);
         let best = draft.best.unwrap_or(best_votes(self.alloc, old));
         bind(&mut self.term, best);
         self.seen = draft.seen;
         StepOut {
-            delta,
-            letters,
+            delta: effects.delta,
+            letters: effects.letters,
             learnt: LearntList {
                 items: draft.learnt,
             },
@@ -174,7 +166,7 @@ impl Core {
         ensures { HasLearnedAll table.now change rows.now self.old self.new }
     {
         if let Some(Change::Rebased(rebased)) = change {
-            self.take_table(table, rebased);
+            self.take_table(table, Box::into_inner(rebased.table));
             return;
         }
         let ended = learn_rows(&mut self.learner, &mut self.machine, table, rows);

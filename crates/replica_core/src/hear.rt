@@ -1,5 +1,5 @@
 //! How a replica hears a letter: its packets one after another, each by its line of the table.
-ghost use Rattle.std.specs.Prelude.{◌≡◌, ℕ, ◌+◌, ◌^◌, ◌<◌, ◌≤◌, Bool, true, IfOk, OnOk, List, [], ◌∷◌, length, unwrap_or};
+ghost use Rattle.std.specs.Prelude.{◌≡◌, ℕ, ◌+◌, ◌^◌, ◌<◌, ◌≤◌, Bool, true, OnOk, List, [], ◌∷◌, length, unwrap_or};
 ghost use Rattle.learner_core.specs.Learner.{prefix_of};
 ghost use Rattle.paxos_letter.specs.Letters.{Spells};
 ghost use Rattle.term_core.specs.Term.{after_ballot};
@@ -9,7 +9,7 @@ ghost use Rattle.step_law.specs.Heard.{messages_of};
 ghost use Rattle.step_law.specs.Letters.{is_small, is_small_letter};
 ghost use Rattle.replica_draft.specs.Draft.{Goes, drafted};
 ghost use Rattle.replica_core.specs.Heard.{BringsRowsIn, HearsBy, ballot_named, changes_asked, hear_in, line_in, message_in, once_in, shows_gap_in};
-ghost use Rattle.replica_core.specs.Replica.{IsReady, IsSmall, IsSteady, IsWhole, Makes, base_of, changes_in, identity_of, fixed_of, state_of};
+ghost use Rattle.replica_core.specs.Replica.{IsIdle, IsReady, IsSmall, IsSteady, IsWhole, Makes, base_of, changes_in, identity_of, fixed_of, state_of};
 
 use crate::parts::Core;
 use cron_io::OutOfMemory;
@@ -53,24 +53,29 @@ fn observe_in(draft: &mut Draft, packet: &Packet)
 
 impl Core {
     /// Hears the packets of a letter.
-    pub fn hear_all(&self, table: &JobTable, letter: &Letter<'_>) -> Result<Draft, OutOfMemory>
+    pub fn hear_all(
+        &self,
+        table: &JobTable,
+        draft: &mut Draft,
+        letter: &Letter<'_>,
+    ) -> Result<(), OutOfMemory>
+        requires idle { IsIdle self.now draft.old }
         requires whole { IsWhole self.now }
         requires small { IsSmall (state_of self.now) self.now.machine.rows }
         requires letter { (bytes : List ℕ) × Spells self.now.members letter.now.from letter.now.packets bytes }
         requires bounds { is_small_letter (length table.now.jobs) letter.now.packets ≡ true }
-        ensures makes { IfOk result (λ draft. Makes self.now (hear_all (identity_of self.now) letter.now.from (messages_of letter.now.packets) not_yet (state_of self.now)) draft) }
-        ensures ready { IfOk result (λ draft. IsReady table.now self.now draft) }
+        ensures makes { OnOk result (Makes self.now (hear_all (identity_of self.now) letter.now.from (messages_of letter.now.packets) not_yet (state_of self.now)) draft.new) }
+        ensures ready { OnOk result (IsReady table.now self.now draft.new) }
     {
         let from = letter.from();
-        let mut draft = self.begin();
         let mut asked = false;
         let mut packets = letter.packets();
         while let Some(packet) = packets.next() {
-            let gap = self.shows_gap(&draft, &packet);
-            self.hear(table, &mut draft, from, &packet, &packets, asked)?;
+            let gap = self.shows_gap(draft, &packet);
+            self.hear(table, draft, from, &packet, &packets, asked)?;
             asked = asked || gap;
         }
-        Ok(draft)
+        Ok(())
     }
 
     // Whether a packet tells an entry behind the next one.

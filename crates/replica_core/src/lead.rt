@@ -15,7 +15,7 @@ ghost use Rattle.step_law.specs.Message.{Lead, Others};
 ghost use Rattle.step_law.specs.Propose.{answer, bound_by, campaign, end_if, follow_intent, is_long, is_open, lead_on, proposal, propose, tick, wait};
 ghost use Rattle.step_law.specs.State.{prefix_of};
 ghost use Rattle.replica_core.specs.Lines.{Does};
-ghost use Rattle.replica_core.specs.Replica.{FliesAt, IsReady, IsReadyAnyhow, IsSmall, IsWhole, Makes, identity_of, state_of};
+ghost use Rattle.replica_core.specs.Replica.{FliesAt, IsIdle, IsReady, IsReadyAnyhow, IsSmall, IsWhole, Makes, identity_of, state_of};
 
 use crate::parts::Core;
 use cluster_sched::{Name, SchedRow};
@@ -62,13 +62,13 @@ fn bound_by(best: &[Vote], slot: u64, entry: Entry) -> Entry
 
 impl Core {
     /// Stands for leader in its next ballot, and asks all for promises and for their votes.
-    pub fn campaign(&self) -> Result<Draft, OutOfMemory>
+    pub fn campaign(&self, draft: &mut Draft) -> Result<(), OutOfMemory>
+        requires idle { IsIdle self.now draft.old }
         requires whole { IsWhole self.now }
         requires small { IsSmall (state_of self.now) self.now.machine.rows }
-        ensures makes { IfOk result (λ draft. Makes self.now (campaign (identity_of self.now) (state_of self.now)) draft) }
-        ensures ready { IfOk result (λ draft. IsReadyAnyhow self.now draft) }
+        ensures makes { OnOk result (Makes self.now (campaign (identity_of self.now) (state_of self.now)) draft.new) }
+        ensures ready { OnOk result (IsReadyAnyhow self.now draft.new) }
     {
-        let mut draft = self.begin();
         let first = self.learner.prefix();
         let ballot = Ballot::of(self.tried.max(self.seen / 8) + 1, self.me);
         draft.best = Some(copy_of(self.alloc, self.acceptor.votes_from(first))?);
@@ -79,23 +79,23 @@ impl Core {
         draft
             .term
             .campaign(ballot, first, none, self.me, self.members);
-        draft.send_prepare(ballot, first)?;
-        Ok(draft)
+        draft.send_prepare(ballot, first)
     }
 
     /// A leader waits for the votes of its flight, proposes what votes bind it to, or does what its launch table asks for.
-    pub fn tick(&self, table: &JobTable, now: Minute) -> Result<Draft, OutOfMemory>
+    pub fn tick(&self, table: &JobTable, draft: &mut Draft, now: Minute) -> Result<(), OutOfMemory>
+        requires idle { IsIdle self.now draft.old }
         requires whole { IsWhole self.now }
         requires small { IsSmall (state_of self.now) self.now.machine.rows }
         requires stands { StandsFor table.now self.now.machine }
         requires inside { IsInWindow table.now.window now.0 }
-        ensures makes { IfOk result (λ draft. (intent : Intent) × IsIntent table.now self.now.machine.rows now.0 intent
-            × Makes self.now (tick (identity_of self.now) now.0 self.now.machine.rows intent (state_of self.now)) draft) }
-        ensures ready { IfOk result (λ draft. IsReady table.now self.now draft) }
+        ensures makes { OnOk result ((intent : Intent) × IsIntent table.now self.now.machine.rows now.0 intent
+            × Makes self.now (tick (identity_of self.now) now.0 self.now.machine.rows intent (state_of self.now)) draft.new) }
+        ensures ready { OnOk result (IsReady table.now self.now draft.new) }
     {
         let intent = self.machine.choose(table, now);
         if self.is_long() {
-            return self.compact();
+            return self.compact(draft);
         }
         match &self.term {
             Term::Leader {
@@ -103,10 +103,10 @@ impl Core {
                 best,
                 flight,
             } => match flight {
-                Some(flight) => self.wait(*ballot, flight),
-                None => self.lead_on(*ballot, &best.items, intent, now),
+                Some(flight) => self.wait(draft, *ballot, flight),
+                None => self.lead_on(draft, *ballot, &best.items, intent, now),
             },
-            _ => Ok(self.begin()),
+            _ => Ok(()),
         }
     }
 
@@ -120,27 +120,26 @@ impl Core {
     }
 
     // Takes its launch table in the place of the entries that it has learned.
-    fn compact(&self) -> Result<Draft, OutOfMemory>
+    fn compact(&self, draft: &mut Draft) -> Result<(), OutOfMemory>
+        requires idle { IsIdle self.now draft.old }
         requires whole { IsWhole self.now }
         requires small { IsSmall (state_of self.now) self.now.machine.rows }
         requires long { is_long (state_of self.now) ≡ true }
-        ensures makes { IfOk result (λ draft. Makes self.now (Rebase (prefix_of (state_of self.now)) self.now.machine.rows ∷ []) draft) }
-        ensures ready { IfOk result (λ draft. (jobs : Table) → StandsFor jobs self.now.machine → IsReady jobs self.now draft) }
+        ensures makes { OnOk result (Makes self.now (Rebase (prefix_of (state_of self.now)) self.now.machine.rows ∷ []) draft.new) }
+        ensures ready { OnOk result ((jobs : Table) → StandsFor jobs self.now.machine → IsReady jobs self.now draft.new) }
     {
-        let mut draft = self.begin();
         let rows = self.machine.copy_rows(self.alloc)?;
-        draft.rebase(self.alloc, self.learner.prefix(), rows, None);
-        Ok(draft)
+        draft.rebase(self.alloc, self.learner.prefix(), rows, None)
     }
 
     // Waits for the votes of a flight. At each fourth tick those that have not voted are asked again.
-    fn wait(&self, ballot: Ballot, flight: &Flight) -> Result<Draft, OutOfMemory>
+    fn wait(&self, draft: &mut Draft, ballot: Ballot, flight: &Flight) -> Result<(), OutOfMemory>
+        requires idle { IsIdle self.now draft.old }
         requires whole { IsWhole self.now }
         requires waits { self.now.term ≡ Leader ballot (best_votes self.now.term) (Some flight.now) }
-        ensures makes { IfOk result (λ draft. Makes self.now (wait ballot flight.now) draft) }
-        ensures ready { IfOk result (λ draft. IsReadyAnyhow self.now draft) }
+        ensures makes { OnOk result (Makes self.now (wait ballot flight.now) draft.new) }
+        ensures ready { OnOk result (IsReadyAnyhow self.now draft.new) }
     {
-        let mut draft = self.begin();
         if let Some(accepted) = draft.wait() {
             let vote = Vote {
                 slot: flight.slot,
@@ -149,107 +148,117 @@ impl Core {
             };
             draft.send_accept(Target::Outside(accepted), &vote)?;
         }
-        Ok(draft)
+        Ok(())
     }
 
     // What a leader without a flight does: where votes bind it still, it proposes what they ask for.
     fn lead_on(
         &self,
+        draft: &mut Draft,
         ballot: Ballot,
         best: &[Vote],
         intent: Intent,
         now: Minute,
-    ) -> Result<Draft, OutOfMemory>
+    ) -> Result<(), OutOfMemory>
+        requires idle { IsIdle self.now draft.old }
         requires whole { IsWhole self.now }
         requires small { IsSmall (state_of self.now) self.now.machine.rows }
         requires leads { self.now.term ≡ Leader ballot best.now None }
         requires rise { SlotsRise best.now }
-        ensures makes { IfOk result (λ draft. Makes self.now (lead_on (identity_of self.now) now.0 intent ballot best.now (state_of self.now)
-            (votes_from (prefix_of (state_of self.now)) best.now)) draft) }
-        ensures ready { IfOk result (λ draft. IsReadyAnyhow self.now draft) }
+        ensures makes { OnOk result (Makes self.now (lead_on (identity_of self.now) now.0 intent ballot best.now (state_of self.now)
+            (votes_from (prefix_of (state_of self.now)) best.now)) draft.new) }
+        ensures ready { OnOk result (IsReadyAnyhow self.now draft.new) }
     {
         if is_bound(best, self.learner.prefix()) {
-            self.propose(ballot, best, Entry::Noop)
+            self.propose(draft, ballot, best, Entry::Noop)
         } else {
-            self.follow_intent(ballot, best, intent, now)
+            self.follow_intent(draft, ballot, best, intent, now)
         }
     }
 
     // What a leader does whom no vote binds.
     fn follow_intent(
         &self,
+        draft: &mut Draft,
         ballot: Ballot,
         best: &[Vote],
         intent: Intent,
         now: Minute,
-    ) -> Result<Draft, OutOfMemory>
+    ) -> Result<(), OutOfMemory>
+        requires idle { IsIdle self.now draft.old }
         requires whole { IsWhole self.now }
         requires small { IsSmall (state_of self.now) self.now.machine.rows }
         requires leads { self.now.term ≡ Leader ballot best.now None }
         requires rise { SlotsRise best.now }
-        ensures makes { IfOk result (λ draft. Makes self.now (follow_intent (identity_of self.now) now.0 intent ballot best.now (state_of self.now)) draft) }
-        ensures ready { IfOk result (λ draft. IsReadyAnyhow self.now draft) }
+        ensures makes { OnOk result (Makes self.now (follow_intent (identity_of self.now) now.0 intent ballot best.now (state_of self.now)) draft.new) }
+        ensures ready { OnOk result (IsReadyAnyhow self.now draft.new) }
     {
         match intent {
-            Intent::Call { job, at, kind } => Ok(self.call(job, at, kind, now)),
+            Intent::Call { job, at, kind } => {
+                self.call(draft, job, at, kind, now);
+                Ok(())
+            }
             Intent::Start { job, at } => {
                 let entry = Entry::Start {
                     job,
                     at,
                     now: now.0,
                 };
-                self.propose(ballot, best, entry)
+                self.propose(draft, ballot, best, entry)
             }
-            Intent::Rest => self.say_lead(ballot),
+            Intent::Rest => self.say_lead(draft, ballot),
         }
     }
 
     // Calls the scheduler.
-    fn call(&self, job: u32, at: i64, kind: Kind, now: Minute) -> Draft
-        requires { IsWhole self.now }
-        ensures makes { Makes self.now (Call (record { name = record { job = job; at = at }; kind = kind; now = now; by = self.now.me }) ∷ []) result }
-        ensures ready { IsReadyAnyhow self.now result }
+    fn call(&self, draft: &mut Draft, job: u32, at: i64, kind: Kind, now: Minute)
+        requires idle { IsIdle self.now draft.old }
+        requires whole { IsWhole self.now }
+        ensures makes { Makes self.now (Call (record { name = record { job = job; at = at }; kind = kind; now = now; by = self.now.me }) ∷ []) draft.new }
+        ensures ready { IsReadyAnyhow self.now draft.new }
     {
-        let mut draft = self.begin();
         draft.call(SchedRow {
             name: Name { job, at },
             kind,
             now,
             by: self.me,
         });
-        draft
     }
 
     // Says to all that it leads.
-    fn say_lead(&self, ballot: Ballot) -> Result<Draft, OutOfMemory>
-        requires { IsWhole self.now }
-        ensures makes { IfOk result (λ draft. Makes self.now (Send Others (Lead ballot (prefix_of (state_of self.now))) ∷ []) draft) }
-        ensures ready { IfOk result (λ draft. IsReadyAnyhow self.now draft) }
+    fn say_lead(&self, draft: &mut Draft, ballot: Ballot) -> Result<(), OutOfMemory>
+        requires idle { IsIdle self.now draft.old }
+        requires whole { IsWhole self.now }
+        ensures makes { OnOk result (Makes self.now (Send Others (Lead ballot (prefix_of (state_of self.now))) ∷ []) draft.new) }
+        ensures ready { OnOk result (IsReadyAnyhow self.now draft.new) }
     {
-        let mut draft = self.begin();
-        draft.send_lead(ballot, self.learner.prefix())?;
-        Ok(draft)
+        draft.send_lead(ballot, self.learner.prefix())
     }
 
     // Proposes an entry at the first slot that isn't learned, or what a vote binds it to there.
-    fn propose(&self, ballot: Ballot, best: &[Vote], entry: Entry) -> Result<Draft, OutOfMemory>
+    fn propose(
+        &self,
+        draft: &mut Draft,
+        ballot: Ballot,
+        best: &[Vote],
+        entry: Entry,
+    ) -> Result<(), OutOfMemory>
+        requires idle { IsIdle self.now draft.old }
         requires whole { IsWhole self.now }
         requires small { IsSmall (state_of self.now) self.now.machine.rows }
         requires leads { self.now.term ≡ Leader ballot best.now None }
         requires rise { SlotsRise best.now }
-        ensures makes { IfOk result (λ draft. Makes self.now (propose (identity_of self.now)
-            (proposal ballot best.now (prefix_of (state_of self.now)) entry)) draft) }
-        ensures ready { IfOk result (λ draft. IsReadyAnyhow self.now draft) }
+        ensures makes { OnOk result (Makes self.now (propose (identity_of self.now)
+            (proposal ballot best.now (prefix_of (state_of self.now)) entry)) draft.new) }
+        ensures ready { OnOk result (IsReadyAnyhow self.now draft.new) }
     {
-        let mut draft = self.begin();
         let slot = self.learner.prefix();
         let vote = Vote {
             slot,
             ballot,
             entry: bound_by(best, slot, entry),
         };
-        self.propose_vote(&mut draft, vote)?;
-        Ok(draft)
+        self.propose_vote(draft, vote)
     }
 
     // Votes for its own proposal, and asks all for their votes. Where it alone is a majority, the entry is chosen at once.
@@ -288,15 +297,17 @@ impl Core {
     pub fn answer(
         &self,
         table: &JobTable,
+        draft: &mut Draft,
         job: u32,
         at: i64,
         kind: Kind,
-    ) -> Result<Draft, OutOfMemory>
+    ) -> Result<(), OutOfMemory>
+        requires idle { IsIdle self.now draft.old }
         requires whole { IsWhole self.now }
         requires small { IsSmall (state_of self.now) self.now.machine.rows }
         requires stands { StandsFor table.now self.now.machine }
-        ensures makes { IfOk result (λ draft. Makes self.now (answer (identity_of self.now) job at kind self.now.machine.rows (state_of self.now)) draft) }
-        ensures ready { IfOk result (λ draft. IsReadyAnyhow self.now draft) }
+        ensures makes { OnOk result (Makes self.now (answer (identity_of self.now) job at kind self.now.machine.rows (state_of self.now)) draft.new) }
+        ensures ready { OnOk result (IsReadyAnyhow self.now draft.new) }
     {
         match &self.term {
             Term::Leader {
@@ -304,39 +315,47 @@ impl Core {
                 best,
                 flight,
             } => match flight {
-                Some(_) => Ok(self.begin()),
+                Some(_) => Ok(()),
                 None => {
                     let entry = Entry::End { job, at, kind };
-                    self.end_if(*ballot, &best.items, entry, self.is_open(table, job, at))
+                    self.end_if(
+                        draft,
+                        *ballot,
+                        &best.items,
+                        entry,
+                        self.is_open(table, job, at),
+                    )
                 }
             },
-            _ => Ok(self.begin()),
+            _ => Ok(()),
         }
     }
 
     // Proposes the end of a launch that is open, unless a vote binds.
     fn end_if(
         &self,
+        draft: &mut Draft,
         ballot: Ballot,
         best: &[Vote],
         entry: Entry,
         is_open: bool,
-    ) -> Result<Draft, OutOfMemory>
+    ) -> Result<(), OutOfMemory>
+        requires idle { IsIdle self.now draft.old }
         requires whole { IsWhole self.now }
         requires small { IsSmall (state_of self.now) self.now.machine.rows }
         requires leads { self.now.term ≡ Leader ballot best.now None }
         requires rise { SlotsRise best.now }
-        ensures makes { IfOk result (λ draft. Makes self.now (end_if (identity_of self.now) ballot best.now (state_of self.now) entry is_open
-            (votes_from (prefix_of (state_of self.now)) best.now)) draft) }
-        ensures ready { IfOk result (λ draft. IsReadyAnyhow self.now draft) }
+        ensures makes { OnOk result (Makes self.now (end_if (identity_of self.now) ballot best.now (state_of self.now) entry is_open
+            (votes_from (prefix_of (state_of self.now)) best.now)) draft.new) }
+        ensures ready { OnOk result (IsReadyAnyhow self.now draft.new) }
     {
         if is_bound(best, self.learner.prefix()) {
-            return Ok(self.begin());
+            return Ok(());
         }
         if is_open {
-            self.propose(ballot, best, entry)
+            self.propose(draft, ballot, best, entry)
         } else {
-            Ok(self.begin())
+            Ok(())
         }
     }
 

@@ -74,7 +74,7 @@ fn rebased_in(change: &Option<Change>) -> Option<&Rebased>
     ensures { option_copied result ≡ rebased_of change.now }
 {
     match change {
-        Some(Change::Rebased(rebased)) => Some(rebased),
+        Some(Change::Rebased(rebased)) => Some(&rebased.table),
         _ => None,
     }
 }
@@ -88,7 +88,9 @@ impl Core {
         ensures bound { result < 2 ^ 63 + 2 ^ 62 }
     {
         match &draft.change {
-            Some(Change::Rebased(rebased)) => rebased.slot + rebased.since.items.len() as u64,
+            Some(Change::Rebased(rebased)) => {
+                rebased.table.slot + rebased.table.since.items.len() as u64
+            }
             _ => self.learner.prefix() + draft.learnt.len() as u64,
         }
     }
@@ -98,7 +100,7 @@ impl Core {
         ensures { result ≡ base_of draft.now.change self.now.learner.base }
     {
         match &draft.change {
-            Some(Change::Rebased(rebased)) => rebased.slot,
+            Some(Change::Rebased(rebased)) => rebased.table.slot,
             _ => self.learner.base(),
         }
     }
@@ -321,9 +323,12 @@ impl Core {
         ensures sends { OnOk result (SendsOnly draft.old draft.new) }
     {
         match &draft.change {
-            Some(Change::Rebased(rebased)) => {
-                tell_rows(&mut draft.sends, from, rebased.slot, &rebased.rows.items)
-            }
+            Some(Change::Rebased(rebased)) => tell_rows(
+                &mut draft.sends,
+                from,
+                rebased.table.slot,
+                &rebased.table.rows.items,
+            ),
             _ => tell_rows(
                 &mut draft.sends,
                 from,
@@ -389,7 +394,6 @@ impl Core {
         }
         let rows = rows_in(self.alloc, count, rest.copy())?;
         let machine = machine_of(self.alloc, table, &rows)?;
-        draft.rebase(self.alloc, slot, rows, Some(machine));
-        Ok(())
+        draft.rebase(self.alloc, slot, rows, Some(machine))
     }
 }

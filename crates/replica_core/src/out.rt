@@ -19,6 +19,13 @@ impl Model for LearntList {
     ghost view = { λ list. list.items.items };
 }
 
+/// What a step changes on the disk, and what it sends.
+#[derive(Debug, Drop)]
+pub struct Effects {
+    pub delta: Option<Delta>,
+    pub letters: LetterList,
+}
+
 /// What comes of a step, to be carried out in this order: what changes on the disk is stored, then letters leave and the
 /// scheduler is called.
 #[derive(Debug, Drop)]

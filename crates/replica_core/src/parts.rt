@@ -2,7 +2,6 @@ use acceptor_core::Acceptor;
 use launch_machine::Machine;
 use learner_core::Learner;
 use paxos_base::RowList;
-use paxos_letter::Packet;
 use std::alloc::Global;
 use term_core::Term;
 
@@ -27,6 +26,4 @@ pub struct Core {
     pub seen: u64,
     /// The highest count of a row of the launch table.
     pub high_count: u32,
-    /// Room for the packets of a letter, so that a step takes no memory for them.
-    pub packets: Vec<Packet>,
 }

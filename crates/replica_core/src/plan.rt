@@ -1,79 +1,108 @@
 //! What is done at an input.
-ghost use Rattle.std.specs.Prelude.{◌≡◌, ℕ, List, IfOk, length};
-ghost use Rattle.paxos_letter.specs.Letters.{Spells, fault_of};
+ghost use Rattle.std.specs.Prelude.{◌≡◌, IfOk, OnOk};
+ghost use Rattle.std.specs.Option.{option_map};
+ghost use Rattle.paxos_letter.specs.Letters.{fault_of};
 ghost use Rattle.due_set.specs.Table.{Table};
 ghost use Rattle.launch_machine.specs.Machine.{StandsFor};
-ghost use Rattle.step_law.specs.Hear.{hear_all, not_yet};
-ghost use Rattle.step_law.specs.Letters.{heard_in};
 ghost use Rattle.step_law.specs.Step.{Event, step};
+ghost use Rattle.replica_draft.specs.Draft.{delta_of};
 ghost use Rattle.replica_draft.specs.Letters.{AreLettersFrom};
-ghost use Rattle.replica_core.specs.Replica.{IsAlikeCore, IsReady, IsSmall, IsWhole, Makes, identity_of, replica_of, state_of};
-ghost use Rattle.replica_core.specs.Step.{Hears, IsInputInside, IsOfTable, MakesStep, fault_in, fault_told};
+ghost use Rattle.replica_core.specs.Replica.{IsAlikeCore, IsIdle, IsReady, IsSmall, IsWhole, identity_of, replica_of, state_of};
+ghost use Rattle.replica_core.specs.Step.{CanTake, Hears, IsInputInside, IsOfTable, MakesStep, PlansStep, fault_in, fault_told};
 ghost use Rattle.replica_core.specs.declared.input.Input.{Input};
 
 use crate::bounds::is_small_letter;
 use crate::input::{Input, StepFault};
+use crate::out::Effects;
 use crate::parts::Core;
 use cron_io::OutOfMemory;
 use due_set::JobTable;
+use paxos_base::Delta;
 use paxos_letter::Letter;
 use replica_draft::{Draft, LetterList, write_letters};
 
+// What a draft changes on the disk.
+fn delta_of(draft: &Draft) -> Result<Option<Delta>, OutOfMemory>
+    ensures { IfOk result (λ delta. delta ≡ option_map delta_of draft.now.change) }
+{
+    match &draft.change {
+        Some(change) => Ok(Some(change.delta()?)),
+        None => Ok(None),
+    }
+}
+
 impl Core {
-    /// Does what an input asks for.
-    pub fn draft(&self, table: &JobTable, input: Input<'_>) -> Result<Draft, StepFault>
+    // Does what an input asks for, in a draft in which nothing was done yet.
+    fn draft(&self, table: &JobTable, draft: &mut Draft, input: Input<'_>) -> Result<(), StepFault>
+        requires idle { IsIdle self.now draft.old }
         requires whole { IsWhole self.now }
         requires small { IsSmall (state_of self.now) self.now.machine.rows }
         requires stands { StandsFor table.now self.now.machine }
         requires inside { IsInputInside table.now input }
-        ensures makes { IfOk result (λ draft. MakesStep table.now input.entry self.now draft) }
-        ensures ready { IfOk result (λ draft. IsReady table.now self.now draft) }
+        ensures makes { OnOk result (MakesStep table.now input.entry self.now draft.new) }
+        ensures ready { OnOk result (IsReady table.now self.now draft.new) }
         ensures fault { fault_told result ≡ fault_in self.now.members input.entry }
     {
         match input {
-            Input::Campaign => Ok(self.campaign()?),
-            Input::Tick { now } => Ok(self.tick(table, now)?),
-            Input::Hear { bytes } => self.hear_letter(table, bytes),
-            Input::Answer { job, at, kind } => Ok(self.answer(table, job, at, kind)?),
+            Input::Campaign => Ok(self.campaign(draft)?),
+            Input::Tick { now } => Ok(self.tick(table, draft, now)?),
+            Input::Hear { bytes } => self.hear_letter(table, draft, bytes),
+            Input::Answer { job, at, kind } => Ok(self.answer(table, draft, job, at, kind)?),
         }
     }
 
     // Reads a letter and hears it. One beyond the bounds is heard as one without packets.
-    fn hear_letter(&self, table: &JobTable, bytes: &[u8]) -> Result<Draft, StepFault>
+    fn hear_letter(
+        &self,
+        table: &JobTable,
+        draft: &mut Draft,
+        bytes: &[u8],
+    ) -> Result<(), StepFault>
+        requires idle { IsIdle self.now draft.old }
         requires whole { IsWhole self.now }
         requires small { IsSmall (state_of self.now) self.now.machine.rows }
-        ensures makes { IfOk result (λ draft. Hears table.now bytes.now self.now draft) }
-        ensures ready { IfOk result (λ draft. IsReady table.now self.now draft) }
+        ensures makes { OnOk result (Hears table.now bytes.now self.now draft.new) }
+        ensures ready { OnOk result (IsReady table.now self.now draft.new) }
         ensures fault { fault_told result ≡ fault_of self.now.members bytes.now }
     {
         let letter = Letter::read(bytes, self.members)?;
-        Ok(self.hear_packets(table, &letter)?)
-    }
-
-    // Hears the packets of a letter, or none of them where they are beyond the bounds.
-    fn hear_packets(&self, table: &JobTable, letter: &Letter<'_>) -> Result<Draft, OutOfMemory>
-        requires whole { IsWhole self.now }
-        requires small { IsSmall (state_of self.now) self.now.machine.rows }
-        requires letter { (bytes : List ℕ) × Spells self.now.members letter.now.from letter.now.packets bytes }
-        ensures makes { IfOk result (λ draft. Makes self.now (hear_all (identity_of self.now) letter.now.from (heard_in (length table.now.jobs) letter.now.packets) not_yet (state_of self.now)) draft) }
-        ensures ready { IfOk result (λ draft. IsReady table.now self.now draft) }
-    {
-        if is_small_letter(table.jobs(), letter) {
-            self.hear_all(table, letter)
-        } else {
-            Ok(self.begin())
+        if is_small_letter(table.jobs(), &letter) {
+            self.hear_all(table, draft, &letter)?;
         }
+        Ok(())
     }
 
-    /// The letters of a draft.
-    pub fn letters(&mut self, draft: &Draft) -> Result<LetterList, OutOfMemory>
+    /// Plans a step in a draft in which nothing was done yet, and makes the room that it needs.
+    pub fn prepare(
+        &mut self,
+        table: &JobTable,
+        draft: &mut Draft,
+        input: Input<'_>,
+    ) -> Result<Effects, StepFault>
+        requires idle { IsIdle self.old draft.old }
         requires whole { IsWhole self.old }
-        requires made { (table : Table) × (input : Input) × IsOfTable table (replica_of self.old) × MakesStep table input self.old draft.now }
+        requires small { IsSmall (state_of self.old) self.old.machine.rows }
+        requires of_table { IsOfTable table.now (replica_of self.old) }
+        requires inside { IsInputInside table.now input }
         ensures alike { IsAlikeCore self.new self.old }
-        ensures letters { IfOk result (λ letters. (table : Table) (input : Input) → IsOfTable table (replica_of self.old) → (made : MakesStep table input self.old draft.now)
-            → AreLettersFrom (identity_of self.old) (step (identity_of self.old) made.event (state_of self.old)) letters) }
+        ensures planned { IfOk result (λ effects. PlansStep table.now input.entry (replica_of self.old) (record { draft = draft.new; effects = effects })) }
+        ensures can { IfOk result (λ effects. CanTake table.now (replica_of self.new) (record { draft = draft.new; effects = effects })) }
+        ensures fault { fault_told result ≡ fault_in self.old.members input.entry }
     {
-        let sends = draft.sends.as_slice();
-        write_letters(self.alloc, self.me, self.members, sends, &mut self.packets)
+        self.draft(table, draft, input)?;
+        let delta = delta_of(draft)?;
+        let letters = self.letters(draft)?;
+        self.reserve(draft)?;
+        Ok(Effects { delta, letters })
+    }
+
+    // The letters of a draft.
+    fn letters(&self, draft: &Draft) -> Result<LetterList, OutOfMemory>
+        requires whole { IsWhole self.now }
+        requires made { (table : Table) × (input : Input) × IsOfTable table (replica_of self.now) × MakesStep table input self.now draft.now }
+        ensures letters { IfOk result (λ letters. (table : Table) (input : Input) → IsOfTable table (replica_of self.now) → (made : MakesStep table input self.now draft.now)
+            → AreLettersFrom (identity_of self.now) (step (identity_of self.now) made.event (state_of self.now)) letters) }
+    {
+        write_letters(self.alloc, self.me, self.members, draft.sends.as_slice())
     }
 }

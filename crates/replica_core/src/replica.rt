@@ -1,21 +1,20 @@
 ghost use Rattle.std.specs.Prelude.{◌≡◌, ◌↔◌, ◌<◌, ◌≤◌, ◌^◌, IsTrue, List, IfOk, OnErr, length};
-ghost use Rattle.std.specs.Option.{option_copied, option_map, option_to_list};
+ghost use Rattle.std.specs.Option.{option_copied, option_to_list};
 ghost use Rattle.paxos_base.specs.Rows.{RowsStand};
 ghost use Rattle.step_law.specs.Act.{Act};
 ghost use Rattle.step_law.specs.Folds.{deltas_of};
 ghost use Rattle.step_law.specs.State.{prefix_of, started};
-ghost use Rattle.replica_draft.specs.Draft.{delta_of};
 ghost use Rattle.replica_core.specs.Replica.{IsSmall, ReplicaState};
 ghost use Rattle.replica_core.specs.Step.{CanTake, IsAlike, IsInputInside, IsOfTable, Plans, PlansStep, Steps, Takes, fault_in, fault_told};
 
 use crate::input::{Input, StepFault};
-use crate::out::StepOut;
+use crate::out::{Effects, StepOut};
 use crate::parts::Core;
 use cron_io::OutOfMemory;
 use due_set::JobTable;
 use launch_machine::Machine;
 use paxos_base::{Delta, Durable};
-use replica_draft::{Draft, LetterList};
+use replica_draft::Draft;
 use std::marker::Model;
 use term_core::Term;
 
@@ -39,8 +38,7 @@ impl Model for Replica {
 #[derive(Debug, Drop)]
 pub struct Planned {
     draft: Draft,
-    delta: Option<Delta>,
-    letters: LetterList,
+    effects: Effects,
 }
 
 impl Planned {
@@ -48,17 +46,7 @@ impl Planned {
     pub fn delta(&self) -> Option<&Delta>
         ensures { (replica : ReplicaState) (acts : List Act) → Plans replica acts self.now → deltas_of acts ≡ option_to_list (option_copied result) }
     {
-        self.delta.as_ref()
-    }
-}
-
-// What a draft changes on the disk.
-fn delta_of(draft: &Draft) -> Result<Option<Delta>, OutOfMemory>
-    ensures { IfOk result (λ delta. delta ≡ option_map delta_of draft.now.change) }
-{
-    match &draft.change {
-        Some(change) => Ok(Some(change.delta()?)),
-        None => Ok(None),
+        self.effects.delta.as_ref()
     }
 }
 
@@ -137,15 +125,9 @@ impl Replica {
         // The bytes of a letter are refused exactly where they break a rule, for the first that they break.
         ensures fault { fault_told result ≡ fault_in self.old.identity.members input.entry }
     {
-        let draft = self.core.draft(table, input)?;
-        let delta = delta_of(&draft)?;
-        let letters = self.core.letters(&draft)?;
-        self.core.reserve(&draft)?;
-        Ok(Planned {
-            draft,
-            delta,
-            letters,
-        })
+        let mut draft = self.core.begin();
+        let effects = self.core.prepare(table, &mut draft, input)?;
+        Ok(Planned { draft, effects })
     }
 
     /// Takes a step that it has planned. This needs no memory, and can't refuse.
@@ -155,8 +137,7 @@ impl Replica {
         requires can { CanTake table.now self.old planned }
         ensures { (acts : List Act) → Plans self.old acts planned → Takes table.now self.old self.new acts result }
     {
-        self.core
-            .commit(table, planned.draft, planned.delta, planned.letters)
+        self.core.commit(table, planned.draft, planned.effects)
     }
 
     /// What the replica does at an input: a step planned, and taken at once.
@@ -173,7 +154,8 @@ impl Replica {
         // The bytes of a letter are refused exactly where they break a rule, for the first that they break.
         ensures fault { fault_told result ≡ fault_in self.old.identity.members input.entry }
     {
-        let planned = self.plan(table, input)?;
-        Ok(self.complete(table, planned))
+        let mut draft = self.core.begin();
+        let effects = self.core.prepare(table, &mut draft, input)?;
+        Ok(self.core.commit(table, draft, effects))
     }
 }

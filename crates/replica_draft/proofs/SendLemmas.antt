@@ -1,14 +1,14 @@
 -- Going over what is sent, and over the replicas that it goes to.
-use Rattle.std.proofs.Common.{◌≡◌, ◌≢◌, ℕ, zero, suc, ◌+◌, ◌<◌, ◌^◌, Bool, true, false, eqb, Some, None, List, [], ◌∷◌, ◌++◌, length, map, take, get_or, refl, sym, ◌∙◌, ap, inl, inr, subst, arith, if◌then◌else◌, add-one, append-nil}
+use Rattle.std.proofs.Common.{◌≡◌, ◌≢◌, ℕ, zero, suc, ◌+◌, ◌<◌, ◌≤◌, ◌^◌, true, false, List, [], ◌∷◌, ◌++◌, length, map, take, get_or, refl, sym, ◌∙◌, ap, inl, inr, subst, arith, if◌then◌else◌, add-one, append-nil}
 use Rattle.std.specs.Prelude.{⊤, IsTrue}
 use Rattle.std.specs.List.{AllByRecursion, AllZip, flat_map, range_with_len}
-use Rattle.std.proofs.lemmas.Bool.{cases_Bool, eqb-true, eqb-false}
-use Rattle.std.proofs.lemmas.List.{take_more}
+use Rattle.std.proofs.lemmas.Bool.{cases_Bool}
+use Rattle.std.proofs.lemmas.List.{flat_map_more, length-append, take_more}
 use Rattle.std.proofs.lemmas.List.Concat.{flat_map-append}
-use Rattle.paxos_letter.specs.Groups.{keep_groups, no_group}
-use Rattle.paxos_letter.specs.Letters.{IsLetter, Spells}
+use Rattle.paxos_letter.specs.Fields.{FitPacketFields}
+use Rattle.paxos_letter.specs.Letters.{Spells}
 use Rattle.paxos_letter.specs.Rules.{keeps_kind, keeps_members}
-use Rattle.paxos_letter.specs.Spelling.{fields_of}
+use Rattle.paxos_letter.specs.Spelling.{AllFit, fields_of, packet_bytes, spelling}
 use Rattle.paxos_letter.specs.declared.packet.Packet.{Packet}
 use Rattle.paxos_letter.specs.declared.packet.Packet.TheVariants as packet
 use Rattle.paxos_letter.proofs.CallerLemmas.{BallotsKeep, RowKeeps, keeps_kind-packet, keeps_members-packet}
@@ -26,13 +26,14 @@ use Rattle.replica_draft.proofs.LetterLemmas.{packets_to-said_of}
 
 -- ---- the packets to one replica
 
--- the packets to a replica of what was gone over
-pub record Putting (me member : ℕ) (said : List (Whom × Packet)) (packets : List Packet) : Type 0 where
-  pub are : packets ≡ packets_to me member said
+-- packets that go to a replica are spelled behind what was there
+pub record Putting (me : ℕ) (packets : List Packet) (before bytes : List ℕ) : Type 0 where
+  pub spelled : bytes ≡ before ++ spelling me packets
+  pub fits : AllFit me packets
   pub keep : AllKeep me packets
 
-pub Putting-none : (me member : ℕ) → Putting me member [] []
-Putting-none me member = record { are = refl; keep = record { kinds = tt; members_keep = tt } }
+pub Putting-none : (me : ℕ) (before : List ℕ) → Putting me [] before before
+Putting-none me before = record { spelled = sym (append-nil before); fits = tt; keep = record { kinds = tt; members_keep = tt } }
 
 all-push : {X : Type 0} (P : X → Type 0) (xs : List X) (x : X) → AllByRecursion P xs → P x → AllByRecursion P (xs ++ x ∷ [])
 all-push P [] x all here = (here, tt)
@@ -68,60 +69,88 @@ row_keeps : (sent : Packet) → HasCursor sent → CountsFit sent → RowKeeps s
 row_keeps (packet.SnapRow slot row) cursor fit = (cursor, fit.0, fit.1)
 row_keeps other cursor fit = tt
 
-cursor_at : (sends : List Sent) (at : ℕ) (sent : Sent) → at < length sends → sent ≡ get_or sends at sent → HaveCursors (map said_in sends) → HasCursor sent.packet
+-- a packet keeps the rules that packets keep by themselves, as its numbers fit
+pub keeps-packet : (me : ℕ) (packet : Packet) → me < 7 → HasCursor packet → BallotsKeep 7 packet → CountsFit packet → AllKeep me (packet ∷ [])
+keeps-packet me packet few cursor ballots counts =
+    record { kinds = (keeps_kind-packet me packet (row_keeps packet cursor counts), tt); members_keep = (keeps_members-packet 7 me packet few ballots, tt) }
+
+pub cursor_at : (sends : List Sent) (at : ℕ) (sent : Sent) → at < length sends → sent ≡ get_or sends at sent → HaveCursors (map said_in sends) → HasCursor sent.packet
 cursor_at [] at sent below is have = absurd (omega arith)
 cursor_at (first ∷ sends) zero sent below is have = subst (λ (s : Sent). HasCursor s.packet) (sym is) have.0
 cursor_at (first ∷ sends) (suc at) sent below is have = cursor_at sends at sent (omega (arith, below)) is have.1
 
-found : (goes : Bool) (sent it : Packet) → (if goes then Some sent else None) ≡ Some it → (goes ≡ true) × (it ≡ sent)
-found true sent it is = (refl, cc)
-found false sent it is = absurd cc
-
-not_found : (goes : Bool) (sent : Packet) → (if goes then Some sent else None) ≡ None → goes ≡ false
-not_found true sent is = absurd cc
-not_found false sent is = refl
-
 -- the packet goes there, and was put there
-pub Putting-next : (me member : ℕ) (sends : List Sent) (at : ℕ) (sent : Sent) (it : Packet) (now new : List Packet) → me < 7 → HaveCursors (map said_in sends) → at < length sends → sent ≡ get_or sends at sent
-    → (if goes_to me (meant sent.target) member then Some sent.packet else None) ≡ Some it → BallotsKeep 7 it → CountsFit it → new ≡ now ++ it ∷ []
-    → Putting me member (map said_in (take at sends)) now → Putting me member (map said_in (take (at + 1) sends)) new
-Putting-next me member sends at sent it now new few cursors below is goes ballots counts pushed putting =
-    let parts = found (goes_to me (meant sent.target) member) sent.packet it goes in
-    let more = rw parts.0 at (to_more me member sends at sent below is) in
-    let cursor : HasCursor it = subst HasCursor (sym parts.1) (cursor_at sends at sent below is cursors) in
-    record {
-      are = pushed ∙ ap (λ (packets : List Packet). packets ++ it ∷ []) putting.are ∙ ap (λ (last : Packet). packets_to me member (map said_in (take at sends)) ++ last ∷ []) parts.1 ∙ sym more;
-      keep = subst (AllKeep me) (sym pushed) (record {
-        kinds = all-push (λ packet. IsTrue (keeps_kind (fields_of me packet))) now it putting.keep.kinds (keeps_kind-packet me it (row_keeps it cursor counts));
-        members_keep = all-push (λ packet. IsTrue (keeps_members 7 me (fields_of me packet))) now it putting.keep.members_keep (keeps_members-packet 7 me it few ballots);
-      });
-    }
+pub Putting-next : (me member : ℕ) (sends : List Sent) (at : ℕ) (sent : Sent) (before now new : List ℕ) → at < length sends → sent ≡ get_or sends at sent
+    → goes_to me (meant sent.target) member ≡ true → AllKeep me (sent.packet ∷ []) → FitPacketFields (fields_of me sent.packet) → new ≡ now ++ packet_bytes me sent.packet
+    → Putting me (packets_to me member (map said_in (take at sends))) before now → Putting me (packets_to me member (map said_in (take (at + 1) sends))) before new
+Putting-next me member sends at sent before now new below is goes keep fit put putting =
+    let more = rw goes at (to_more me member sends at sent below is) in
+    let there : List Packet = packets_to me member (map said_in (take at sends)) in
+    subst (λ (packets : List Packet). Putting me packets before new) (sym more)
+    (record {
+      spelled = put ∙ ap (λ (bytes : List ℕ). bytes ++ packet_bytes me sent.packet) putting.spelled ∙ flat_map_more (packet_bytes me) before there sent.packet;
+      fits = all-push (λ packet. FitPacketFields (fields_of me packet)) there sent.packet putting.fits fit;
+      keep = record {
+        kinds = all-push (λ packet. IsTrue (keeps_kind (fields_of me packet))) there sent.packet putting.keep.kinds keep.kinds.0;
+        members_keep = all-push (λ packet. IsTrue (keeps_members 7 me (fields_of me packet))) there sent.packet putting.keep.members_keep keep.members_keep.0;
+      };
+    })
 
 -- it goes elsewhere
-pub Putting-skip : (me member : ℕ) (sends : List Sent) (at : ℕ) (sent : Sent) (now : List Packet) → at < length sends → sent ≡ get_or sends at sent → (if goes_to me (meant sent.target) member then Some sent.packet else None) ≡ None
-    → Putting me member (map said_in (take at sends)) now → Putting me member (map said_in (take (at + 1) sends)) now
-Putting-skip me member sends at sent now below is other putting =
-    let more = rw (not_found (goes_to me (meant sent.target) member) sent.packet other) at (to_more me member sends at sent below is) in
-    record { are = putting.are ∙ sym (append-nil _) ∙ sym more; keep = putting.keep }
+pub Putting-skip : (me member : ℕ) (sends : List Sent) (at : ℕ) (sent : Sent) (before now : List ℕ) → at < length sends → sent ≡ get_or sends at sent → goes_to me (meant sent.target) member ≡ false
+    → Putting me (packets_to me member (map said_in (take at sends))) before now → Putting me (packets_to me member (map said_in (take (at + 1) sends))) before now
+Putting-skip me member sends at sent before now below is other putting =
+    let more : packets_to me member (map said_in (take (at + 1) sends)) ≡ packets_to me member (map said_in (take at sends)) = rw other at (to_more me member sends at sent below is) ∙ append-nil _ in
+    subst (λ (packets : List Packet). Putting me packets before now) (sym more) putting
+
+-- so many packets of what was gone over go to a replica
+pub record Counting (me member : ℕ) (sends : List Sent) (at count : ℕ) : Type 0 where
+  pub counted : count ≡ length (packets_to me member (map said_in (take at sends)))
+  pub low : count ≤ at
+
+pub Counting-none : (me member : ℕ) (sends : List Sent) → Counting me member sends 0 0
+Counting-none me member sends = record { counted = refl; low = omega arith }
+
+pub Counting-next : (me member : ℕ) (sends : List Sent) (at count : ℕ) (sent : Sent) → at < length sends → sent ≡ get_or sends at sent → goes_to me (meant sent.target) member ≡ true
+    → Counting me member sends at count → Counting me member sends (at + 1) (count + 1)
+Counting-next me member sends at count sent below is goes counting =
+    let more = rw goes at (to_more me member sends at sent below is) in
+    record {
+      counted = ap (λ n. n + 1) counting.counted ∙ sym (length-append (packets_to me member (map said_in (take at sends))) (sent.packet ∷ [])) ∙ sym (ap length more);
+      low = let low = counting.low in omega (arith, low);
+    }
+
+pub Counting-skip : (me member : ℕ) (sends : List Sent) (at count : ℕ) (sent : Sent) → at < length sends → sent ≡ get_or sends at sent → goes_to me (meant sent.target) member ≡ false
+    → Counting me member sends at count → Counting me member sends (at + 1) count
+Counting-skip me member sends at count sent below is other counting =
+    let more = rw other at (to_more me member sends at sent below is) ∙ append-nil _ in
+    record {
+      counted = counting.counted ∙ sym (ap length more);
+      low = let low = counting.low in omega (arith, low);
+    }
 
 -- ---- the letters
 
-some_packets : (packets : List Packet) (count : ℕ) → count ≡ length packets → eqb count 0 ≡ false → packets ≢ []
-some_packets packets count is some none = eqb-false count 0 some (is ∙ ap length none)
+some_packets : (packets : List Packet) → 0 < length packets → packets ≢ []
+some_packets packets some none = let empty : length packets ≡ 0 = ap length none in omega (arith, some, empty)
 
-pub no_packets : (packets : List Packet) (count : ℕ) → count ≡ length packets → eqb count 0 ≡ true → packets ≡ []
+pub no_packets : (packets : List Packet) (count : ℕ) → count ≡ length packets → count ≤ 0 → packets ≡ []
 no_packets [] count is none = refl
-no_packets (first ∷ packets) count is none = let zero : count ≡ 0 = eqb-true count 0 none in absurd (omega (arith, is, zero))
+no_packets (first ∷ packets) count is none = absurd (omega (arith, is, none))
 
 -- the packets to a replica are a letter, where there are any
-pub IsLetter-to : (me member : ℕ) (said : List (Whom × Packet)) (packets : List Packet) (count : ℕ) → packets ≡ packets_to me member said → AllKeep me packets → KeepGroups me said → count ≡ length packets → eqb count 0 ≡ false
-    → IsLetter 7 me packets
-IsLetter-to me member said packets count are keep groups is some =
+pub Spells-to : (me member : ℕ) (said : List (Whom × Packet)) (bytes : List ℕ) → Putting me (packets_to me member said) [] bytes → KeepGroups me said → 0 < length (packets_to me member said)
+    → Spells 7 me (packets_to me member said) bytes
+Spells-to me member said bytes putting groups some =
     record {
-      some = some_packets packets count is some;
-      kinds = keep.kinds;
-      members_keep = keep.members_keep;
-      groups = ap (λ (packets : List Packet). keep_groups no_group (map (fields_of me) packets)) are ∙ groups member;
+      letter = record {
+        some = some_packets (packets_to me member said) some;
+        kinds = putting.keep.kinds;
+        members_keep = putting.keep.members_keep;
+        groups = groups member;
+      };
+      fits = putting.fits;
+      spelled = putting.spelled;
     }
 
 range_more : (from count : ℕ) → range_with_len from (suc count) ≡ range_with_len from count ++ (from + count) ∷ []

@@ -4,6 +4,8 @@ ghost use Rattle.replica_draft.specs.Draft.{delta_of, with_learned};
 use cron_io::OutOfMemory;
 use launch_machine::Machine;
 use paxos_base::{Ballot, Delta, Entry, EntryList, RowList, Vote};
+use std::alloc::Global;
+use std::marker::Model;
 
 /// A launch table that comes in the place of all entries below a slot.
 #[derive(Debug, Drop)]
@@ -18,6 +20,31 @@ pub struct Rebased {
     pub machine: Option<Machine>,
 }
 
+/// Such a table on the heap, so that the drafts without one stay small. Contracts see the table.
+#[derive(Debug, Drop)]
+pub struct RebasedBox {
+    pub table: Box<Rebased>,
+}
+
+impl Model for RebasedBox {
+    ghost use Rattle.replica_draft.specs.declared.change.Rebased.{Rebased};
+
+    ghost Value = { Rebased };
+
+    ghost view = { λ boxed. boxed.table.value };
+}
+
+impl RebasedBox {
+    /// Puts a table there.
+    pub fn new(alloc: Global, rebased: Rebased) -> Result<RebasedBox, OutOfMemory>
+        ensures { IfOk result (λ boxed. boxed ≡ rebased) }
+    {
+        Ok(RebasedBox {
+            table: Box::new(alloc, rebased)?,
+        })
+    }
+}
+
 /// What a step changes on the disk.
 #[derive(Debug, Drop)]
 pub enum Change {
@@ -28,7 +55,7 @@ pub enum Change {
     /// A vote was cast.
     Voted(Vote),
     /// A launch table came in the place of entries.
-    Rebased(Rebased),
+    Rebased(RebasedBox),
 }
 
 impl Change {
@@ -45,8 +72,8 @@ impl Change {
             Change::Promised(ballot) => Ok(Delta::Promised(*ballot)),
             Change::Voted(vote) => Ok(Delta::Voted(*vote)),
             Change::Rebased(rebased) => Ok(Delta::Base {
-                slot: rebased.slot,
-                rows: rebased.rows.clone()?,
+                slot: rebased.table.slot,
+                rows: rebased.table.rows.clone()?,
             }),
         }
     }
@@ -56,7 +83,7 @@ impl Change {
         ensures { OnOk result (Some self.new ≡ with_learned entry (Some self.old)) }
     {
         if let Change::Rebased(rebased) = self {
-            rebased.since.items.push(entry)?;
+            rebased.table.since.items.push(entry)?;
         }
         Ok(())
     }

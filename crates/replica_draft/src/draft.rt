@@ -6,7 +6,7 @@ ghost use Rattle.term_core.specs.Term.{after_advance, after_ballot, after_propos
 ghost use Rattle.replica_draft.specs.declared.change.Change.TheVariants as change;
 ghost use Rattle.replica_draft.specs.Draft.{Chooses, Goes, LearnsNext, SendsOnly, TakesTable, has_copied, meant, said_in};
 
-use crate::change::{Change, Rebased};
+use crate::change::{Change, Rebased, RebasedBox};
 use cluster_sched::SchedRow;
 use cron_io::OutOfMemory;
 use launch_machine::Machine;
@@ -114,20 +114,27 @@ impl Draft {
 
     /// Takes a launch table in the place of all entries below a slot, which isn't below the first that isn't learned. Where the
     /// table is another than the replica's own, its machine comes with it.
-    pub fn rebase(&mut self, alloc: Global, slot: u64, rows: RowList, machine: Option<Machine>)
+    pub fn rebase(
+        &mut self,
+        alloc: Global,
+        slot: u64,
+        rows: RowList,
+        machine: Option<Machine>,
+    ) -> Result<(), OutOfMemory>
         requires { self.old.change ≡ None }
-        ensures takes { TakesTable self.old self.new slot rows machine }
+        ensures takes { OnOk result (TakesTable self.old self.new slot rows machine) }
     {
-        let since = EntryList {
-            items: Vec::new(alloc),
-        };
-        self.change = Some(Change::Rebased(Rebased {
+        let rebased = Rebased {
             slot,
             rows,
-            since,
+            since: EntryList {
+                items: Vec::new(alloc),
+            },
             machine,
-        }));
+        };
+        self.change = Some(Change::Rebased(RebasedBox::new(alloc, rebased)?));
         self.term.advance(slot);
+        Ok(())
     }
 
     /// Learns the entry that was chosen at the first slot that isn't learned, and tells all.

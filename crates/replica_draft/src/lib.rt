@@ -9,7 +9,7 @@ mod laws;
 mod letters;
 mod tell;
 
-pub use change::{Change, Rebased};
+pub use change::{Change, Rebased, RebasedBox};
 pub use draft::{Draft, SendList, Sent, Target};
 pub use laws::acts_have_one_list_of_letters;
 pub use letters::{LetterList, write_letters};

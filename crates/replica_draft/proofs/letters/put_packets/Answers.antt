@@ -1,17 +1,17 @@
-use Rattle.std.proofs.Common.{sym, ◌∙◌, arith}
-use Rattle.paxos_letter.proofs.CallerLemmas.{BallotsKeep}
-use Rattle.replica_draft.proofs.SendLemmas.{CountsFit, Putting-next, Putting-skip}
+use Rattle.std.proofs.Common.{sym, ◌∙◌}
+use Rattle.replica_draft.proofs.SendLemmas.{Putting-next, Putting-skip, cursor_at}
 use Rattle.replica_draft.proofs.letters.put_packets.Goals as goal
-use Rattle.replica_draft.proofs.letters.put_packets.Goals.{in-Some+in_ok-push, in_default}
+use Rattle.replica_draft.proofs.letters.put_packets.Goals.{then-reaches+in_ok-put_packet, else-reaches}
+
+pub put_packet-requires-clause-cursor : goal.put_packet-requires-clause-cursor
+put_packet-requires-clause-cursor c = cursor_at c.args.sends.now c.loop-sent.sent-index c.sent-item.result c.loop-sent-test.true c.sent-item.is c.requires.cursors
 
 pub loop-sent-preserved : goal.loop-sent-preserved
 loop-sent-preserved c =
-    elim c.match-packet_to.branch [
-      | in-Some+in_ok-push w ↦
-          let fits = rw w.in-Some.is at c.packet_to.type_inv in
-          let ballots : BallotsKeep 7 w.in-Some.packet = grind (arith, fits) in
-          let counts : CountsFit w.in-Some.packet = grind (arith, fits) in
-          rw w.packets-is (Putting-next c.args.me c.args.member c.args.sends.now c.loop-sent.sent-index c.sent-item.result w.in-Some.packet c.loop-sent.packets.items w.push.new.self.items c.requires.me c.requires.cursors c.loop-sent-test.true c.sent-item.is (sym c.packet_to.ensures ∙ w.in-Some.is) ballots counts w.in_ok-push.ensures.items c.loop-sent.invariant)
-      | in_default w ↦
-          rw w.packets-is (Putting-skip c.args.me c.args.member c.args.sends.now c.loop-sent.sent-index c.sent-item.result c.loop-sent.packets.items c.loop-sent-test.true c.sent-item.is (sym c.packet_to.ensures ∙ w.in_default.is) c.loop-sent.invariant)
+    elim c.if-reaches.branch [
+      | then-reaches+in_ok-put_packet w ↦
+          rw w.into-is (Putting-next c.args.me c.args.member c.args.sends.now c.loop-sent.sent-index c.sent-item.result c.args.into.now.items c.loop-sent.into.items w.put_packet.new.into.items c.loop-sent-test.true c.sent-item.is (sym c.reaches.ensures ∙ w.if-reaches.true)
+          w.in_ok-put_packet.ensures.keep w.in_ok-put_packet.ensures.fits w.in_ok-put_packet.ensures.spelled c.loop-sent.invariant)
+      | else-reaches w ↦
+          rw w.into-is (Putting-skip c.args.me c.args.member c.args.sends.now c.loop-sent.sent-index c.sent-item.result c.args.into.now.items c.loop-sent.into.items c.loop-sent-test.true c.sent-item.is (sym c.reaches.ensures ∙ w.if-reaches.false) c.loop-sent.invariant)
     ]

@@ -7,6 +7,6 @@ use Rattle.replica_core.proofs.parts.Core.call.Goals as goal
 pub returns-clause-makes : goal.returns-clause-makes
 returns-clause-makes c =
     let at : to_z w64 (of_z w64 c.args.at) ≡ c.args.at = to_z-of_z w64 c.args.at c.ranges.at in
-    makes c.args.self.now c.begin-draft.result c.call.new.self
+    makes c.args.self.now c.args.draft.now c.call.new.self
     (Call (record { name = record { job = c.args.job; at = c.args.at }; kind = c.args.kind; now = c.args.now; by = c.args.self.now.me }) ∷ [])
-    c.begin-draft.ensures.idle (rw at at c.call.ensures.goes)
+    c.requires.idle.stands (rw at at c.call.ensures.goes)

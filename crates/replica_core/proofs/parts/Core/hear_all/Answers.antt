@@ -18,9 +18,9 @@ loop-packet-init c =
     let heard : IsHeardAs c.args.self.now.members (length c.args.table.now.jobs) bytes from (messages_of packets) =
     record { packets = packets; spells = c.requires.letter.1; heard = rw c.requires.bounds refl } in
     rw (c.from-from.ensures, c.packets-packets.ensures)
-    (hearing-none c.args.table.now c.args.self.now from packets c.begin-draft.result c.begin-draft.ensures.idle
-    (begun-ready c.args.self.now c.begin-draft.result c.requires.whole c.begin-draft.ensures.term c.begin-draft.ensures.change c.begin-draft.ensures.learnt c.args.table.now).steady
-    c.begin-draft.ensures.change c.begin-draft.ensures.learnt
+    (hearing-none c.args.table.now c.args.self.now from packets c.args.draft.now c.requires.idle.stands
+    (begun-ready c.args.self.now c.args.draft.now c.requires.whole c.requires.idle.term c.requires.idle.change c.requires.idle.learnt c.args.table.now).steady
+    c.requires.idle.change c.requires.idle.learnt
     (read-once c.args.self.now.members from packets bytes c.requires.letter.1)
     (all-rows-heard c.args.self.now.members (length c.args.table.now.jobs) bytes from (messages_of packets) heard)
     (and_parts _ _ c.requires.bounds).1)

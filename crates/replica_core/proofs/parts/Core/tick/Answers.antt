@@ -1,28 +1,29 @@
 use Rattle.std.proofs.Common.{◌∙◌, Some, None, refl, sym}
 use Rattle.replica_core.specs.Replica.{identity_of, state_of}
-use Rattle.replica_core.proofs.LeadLemmas.{begun-ready, if_ok, leads_with, makes_as, makes_nothing, tick-leads, tick-long, tick-rests, tick-waits}
+use Rattle.replica_core.proofs.LeadLemmas.{begun-ready, leads_with, makes_as, makes_nothing, tick-leads, tick-long, tick-rests, tick-waits}
+use Rattle.replica_core.proofs.SteadyLemmas.{on_ok_so}
 use Rattle.replica_core.proofs.parts.Core.tick.Goals as goal
 
 pub returns-then-is_long : goal.returns-then-is_long
 returns-then-is_long c =
     record {
-      makes = if_ok c.compact.result _ _
-          (λ draft made. (
+      makes = on_ok_so c.compact.result _ _
+          (λ made. (
             c.choose-intent.result,
             c.choose-intent.ensures,
-            makes_as c.args.self.now draft _ _ (tick-long (identity_of c.args.self.now) c.args.now.0 c.args.self.now.machine.rows c.choose-intent.result (state_of c.args.self.now) (sym c.is_long.ensures ∙ c.if-is_long.true)) made,
+            makes_as c.args.self.now c.compact.new.draft _ _ (tick-long (identity_of c.args.self.now) c.args.now.0 c.args.self.now.machine.rows c.choose-intent.result (state_of c.args.self.now) (sym c.is_long.ensures ∙ c.if-is_long.true)) made,
           ))
           c.compact.ensures.makes;
-      ready = if_ok c.compact.result _ _ (λ draft ready. ready c.args.table.now c.requires.stands) c.compact.ensures.ready;
+      ready = on_ok_so c.compact.result _ _ (λ ready. ready c.args.table.now c.requires.stands) c.compact.ensures.ready;
     }
 
 pub returns-in-Some-clause-makes : goal.returns-in-Some-clause-makes
 returns-in-Some-clause-makes c =
-    if_ok c.wait.result _ _
-    (λ draft made. (
+    on_ok_so c.wait.result _ _
+    (λ made. (
       c.choose-intent.result,
       c.choose-intent.ensures,
-      makes_as c.args.self.now draft _ _
+      makes_as c.args.self.now c.wait.new.draft _ _
           (tick-waits (identity_of c.args.self.now) c.args.now.0 c.args.self.now.machine.rows c.choose-intent.result (state_of c.args.self.now) c.in-Leader.ballot c.in-Leader.best c.in-Some.flight (sym c.is_long.ensures ∙ c.if-is_long.false)
           (leads_with c.args.self.now.term c.in-Leader.ballot c.in-Leader.best c.in-Leader.best c.in-Leader.flight (Some c.in-Some.flight) c.in-Leader.is c.in-Some.is refl))
           made,
@@ -30,15 +31,15 @@ returns-in-Some-clause-makes c =
     c.wait.ensures.makes
 
 pub returns-in-Some-clause-ready : goal.returns-in-Some-clause-ready
-returns-in-Some-clause-ready c = if_ok c.wait.result _ _ (λ draft ready. ready c.args.table.now) c.wait.ensures.ready
+returns-in-Some-clause-ready c = on_ok_so c.wait.result _ _ (λ ready. ready c.args.table.now) c.wait.ensures.ready
 
 pub returns-in-None-clause-makes : goal.returns-in-None-clause-makes
 returns-in-None-clause-makes c =
-    if_ok c.lead_on.result _ _
-    (λ draft made. (
+    on_ok_so c.lead_on.result _ _
+    (λ made. (
       c.choose-intent.result,
       c.choose-intent.ensures,
-      makes_as c.args.self.now draft _ _
+      makes_as c.args.self.now c.lead_on.new.draft _ _
           (tick-leads (identity_of c.args.self.now) c.args.now.0 c.args.self.now.machine.rows c.choose-intent.result (state_of c.args.self.now) c.in-Leader.ballot c.deref.result.now (sym c.is_long.ensures ∙ c.if-is_long.false)
           (leads_with c.args.self.now.term c.in-Leader.ballot c.in-Leader.best c.deref.result.now c.in-Leader.flight None c.in-Leader.is c.in-None.is (c.deref.ensures.value ∙ c.best.view_is)))
           made,
@@ -46,7 +47,7 @@ returns-in-None-clause-makes c =
     c.lead_on.ensures.makes
 
 pub returns-in-None-clause-ready : goal.returns-in-None-clause-ready
-returns-in-None-clause-ready c = if_ok c.lead_on.result _ _ (λ draft ready. ready c.args.table.now) c.lead_on.ensures.ready
+returns-in-None-clause-ready c = on_ok_so c.lead_on.result _ _ (λ ready. ready c.args.table.now) c.lead_on.ensures.ready
 
 pub returns-in_default : goal.returns-in_default
 returns-in_default c =
@@ -54,9 +55,9 @@ returns-in_default c =
       makes = (
         c.choose-intent.result,
         c.choose-intent.ensures,
-        makes_as c.args.self.now c.begin.result _ _
+        makes_as c.args.self.now c.args.draft.now _ _
             (tick-rests (identity_of c.args.self.now) c.args.now.0 c.args.self.now.machine.rows c.choose-intent.result (state_of c.args.self.now) c.args.self.now.term (sym c.is_long.ensures ∙ c.if-is_long.false) c.in_default.not-Leader refl)
-            (makes_nothing c.args.self.now c.begin.result c.begin.ensures.idle),
+            (makes_nothing c.args.self.now c.args.draft.now c.requires.idle.stands),
       );
-      ready = begun-ready c.args.self.now c.begin.result c.requires.whole c.begin.ensures.term c.begin.ensures.change c.begin.ensures.learnt c.args.table.now;
+      ready = begun-ready c.args.self.now c.args.draft.now c.requires.whole c.requires.idle.term c.requires.idle.change c.requires.idle.learnt c.args.table.now;
     }

@@ -1,8 +1,0 @@
-use Rattle.replica_core.proofs.replica.Replica.plan.Goals as goal
-
-pub returns-clause-planned : goal.returns-clause-planned
-returns-clause-planned c =
-    let made = c.in_ok-draft.ensures.makes in
-    let table = rw (← c.self.view_is) at c.requires.of_table in
-    rw (← c.self.view_is)
-    (record { event = made.event; event_is = made.event_is; plans = record { makes = made.makes; letters = c.in_ok-letters.ensures.letters c.args.table.now c.args.input table made; delta = c.in_ok-delta.ensures } })
