@@ -2,9 +2,9 @@
 use crate::fault::BenchFault;
 use crate::seat::{MEMBERS, Seat};
 use due_set::JobTable;
-use replica_core::{Input, LetterList, StepOut};
+use replica_core::{Input, OutLetter, StepOut};
 use std::alloc::Global;
-use std::fmt;
+use std::{fmt, mem};
 use zone_minutes::Minute;
 
 // The most letters that come of a step of the leader.
@@ -37,6 +37,8 @@ impl fmt::Display for Done {
 pub struct Group<'a> {
     table: &'a JobTable,
     seats: Vec<Seat<'a>>,
+    // Room for the letters of a step and those that come of it. It is empty between two steps of the leader.
+    letters: Vec<OutLetter>,
     done: Done,
 }
 
@@ -52,7 +54,12 @@ impl<'a> Group<'a> {
             steps: 0,
             letters: 0,
         };
-        Ok(Group { table, seats, done })
+        Ok(Group {
+            table,
+            seats,
+            letters: Vec::new(alloc),
+            done,
+        })
     }
 
     /// What they have done.
@@ -95,20 +102,25 @@ impl<'a> Group<'a> {
 
     // A step of the leader, and those of all that come of it.
     fn lead(&mut self, input: Input<'_>) -> Result<StepOut, BenchFault> {
+        let none = Vec::new(*self.letters.allocator());
+        let mut letters = mem::replace(&mut self.letters, none);
         let mut out = self.step(0, input)?;
-        self.deliver(&mut out.letters)?;
+        letters.append(&mut out.letters.items)?;
+        self.deliver(&mut letters)?;
+        letters.clear();
+        self.letters = letters;
         Ok(out)
     }
 
     // Delivers letters, and those that come of them, in turn.
-    fn deliver(&mut self, letters: &mut LetterList) -> Result<(), BenchFault> {
+    fn deliver(&mut self, letters: &mut Vec<OutLetter>) -> Result<(), BenchFault> {
         for place in 0..MOST_LETTERS {
-            let Some(letter) = letters.items.get(place) else {
+            let Some(letter) = letters.get(place) else {
                 return Ok(());
             };
             let bytes = letter.bytes.bytes();
             let mut answers = self.step(letter.to, Input::Hear { bytes })?.letters;
-            letters.items.append(&mut answers.items)?;
+            letters.append(&mut answers.items)?;
             self.done.letters = self.done.letters.saturating_add(1);
         }
         Err(BenchFault::NoEnd)
