@@ -1,10 +1,14 @@
 -- The log of a book goes on: what was in it stays, and what one of its entries was voted for.
-use Rattle.std.proofs.Common.{◌≡◌, ℕ, suc, ◌+◌, ◌≤◌, List, [], ◌∷◌, ◌++◌, length, drop, sym, ap, ◌∙◌, arith, subst}
+use Rattle.std.proofs.Common.{◌≡◌, ℕ, suc, ◌+◌, ◌≤◌, List, [], ◌∷◌, ◌++◌, length, drop, sym, ap, ◌∙◌, arith, subst, append_assoc}
 use Rattle.std.specs.List.{Contains}
 use Rattle.std.proofs.lemmas.List.{take-append-drop}
 use Rattle.paxos_base.specs.declared.entry.Entry.{Entry}
 use Rattle.due_set.specs.Table.{Table}
 use Rattle.launch_machine.specs.Clerk.{first_rows}
+use Rattle.step_law.specs.Hear.{known_from}
+use Rattle.step_law.specs.Message.{Known}
+use Rattle.step_law.specs.State.{State}
+use Rattle.step_law.proofs.Lists.{in_first, in_rest}
 use Rattle.agree_law.specs.Agree.{IsChosen, vote_for}
 use Rattle.agree_law.specs.Log.{AreChosen, IsLog}
 use Rattle.agree_law.specs.Transition.{after_transitions}
@@ -65,3 +69,47 @@ chosen_there n cast slot [] after entry chosen = let at : slot + 0 ≡ slot = om
 chosen_there n cast slot (first ∷ before) after entry chosen =
     let at : slot + 1 + length before ≡ slot + suc (length before) = omega arith in
     rw (← at) (chosen_there n cast (slot + 1) before after entry chosen.1)
+
+-- ---- what a replica has learned
+
+-- entries that are known are chosen, one behind the other
+known_chosen : (n : ℕ) (cast : List CastVote) (slot : ℕ) (entries : List Entry) → ((at : ℕ) (entry : Entry) → Contains (known_from slot entries) (Known at entry) → IsChosen n cast at entry) → AreChosen n cast slot entries
+known_chosen n cast slot [] known = tt
+known_chosen n cast slot (entry ∷ entries) known = (
+  known slot entry (in_first (Known slot entry) (known_from (slot + 1) entries)),
+  known_chosen n cast (slot + 1) entries (λ at other has. known at other (in_rest (Known slot entry) (known_from (slot + 1) entries) (Known at other) has)),
+)
+
+chosen_append : (n : ℕ) (cast : List CastVote) (slot : ℕ) (xs ys : List Entry) → AreChosen n cast slot xs → AreChosen n cast (slot + length xs) ys → AreChosen n cast slot (xs ++ ys)
+chosen_append n cast slot [] ys front back = let at : slot + 0 ≡ slot = omega arith in rw at at back
+chosen_append n cast slot (x ∷ xs) ys front back =
+    let at : slot + suc (length xs) ≡ slot + 1 + length xs = omega arith in
+    (front.0, chosen_append n cast (slot + 1) xs ys front.1 (rw at at back))
+
+-- the entries stand in the log from that slot on
+pub record StandAt (log : List Entry) (slot : ℕ) (entries : List Entry) : Type 0 where
+  pub before : List Entry
+  pub after : List Entry
+  pub parts : log ≡ before ++ (entries ++ after)
+  pub long : length before ≡ slot
+
+-- what a replica has learned stands in the log from its base on
+pub learned_stands : (n : ℕ) (table : Table) (book : List Row) (log : List Entry) (who : ℕ) → n ≤ 7 → IsLegal n table book → IsLog n (votes_in book) log
+    → StandAt log ((standing_after n (first_rows table) book).replicas who).kept.base ((standing_after n (first_rows table) book).replicas who).learned
+learned_stands n table book log who few legal is_log =
+    let there = stands n table book few legal in
+    let state = there.w.replicas who in
+    let base = there.followed.tables.bases who in
+    let at : 0 + length base.entries ≡ state.kept.base = omega (arith, base.long) in
+    let learned = known_chosen n there.w.cast state.kept.base state.learned (there.followed.whole.known.learned who) in
+    let chosen : AreChosen n there.w.cast 0 (base.entries ++ state.learned) = chosen_append n there.w.cast 0 base.entries state.learned base.chosen (rw at learned) in
+    let whole : IsLog n there.w.cast log = subst (λ some. IsLog n some log) (sym there.matches.cast) is_log in
+    let short = chosen_short n there.w (base.entries ++ state.learned) log chosen whole in
+    let front = chosen_front n there.w 0 (base.entries ++ state.learned) log there.followed.whole.kept there.followed.whole.safe chosen whole.chosen short in
+    let more = drop (length (base.entries ++ state.learned)) log in
+    subst (λ (s : State). StandAt log s.kept.base s.learned) (there.matches.replicas who) (record {
+      before = base.entries;
+      after = more;
+      parts = sym (take-append-drop (length (base.entries ++ state.learned)) log) ∙ ap (λ some. some ++ more) front ∙ append_assoc base.entries state.learned more;
+      long = base.long;
+    })

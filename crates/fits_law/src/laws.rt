@@ -3,16 +3,18 @@ ghost use Rattle.std.specs.Prelude.{◌≡◌, ◌≢◌, ◌≤◌, ◌∷◌, 
 ghost use Rattle.paxos_base.specs.declared.entry.Entry.{Entry};
 ghost use Rattle.paxos_base.specs.declared.entry.Entry.TheVariants.{Noop, End};
 ghost use Rattle.paxos_base.specs.declared.entry.Kind.{Kind};
+ghost use Rattle.paxos_base.specs.declared.entry.Kind.TheVariants.{Launch, Void};
 ghost use Rattle.paxos_base.specs.declared.rows.JobRow.{JobRow};
-ghost use Rattle.due_set.specs.Table.{Table};
+ghost use Rattle.due_set.specs.Table.{IsSound, Table};
 ghost use Rattle.cluster_sched.specs.declared.row.SchedRow.{SchedRow};
 ghost use Rattle.launch_machine.specs.Clerk.{IsClerkOf, first_rows};
-ghost use Rattle.launch_law.specs.Fits.{IsBacked, IsHeld, TakesEffectAfter};
+ghost use Rattle.launch_law.specs.Fits.{IsBacked, IsHeld, IsPeriodApart, TakesEffectAfter};
 ghost use Rattle.agree_law.specs.Log.{IsLog};
 ghost use Rattle.agree_law.specs.World.{CastVote};
 ghost use Rattle.book_law.specs.Book.{Row, standing_after, votes_in};
 ghost use Rattle.book_law.specs.Legal.{IsLegal};
 ghost use Rattle.fits_law.specs.Fitting.{FitsItsLog, TakesEffectAt, held_in};
+ghost use Rattle.fits_law.specs.Parts.{ArrivesTooLate, EndsAs, HasTwoDates};
 
 /// Each legal book of one to seven replicas fits, after each of its turns: no launch is held twice, each that is held was started
 /// and had come when it was called, an end that takes effect says what is held, no due instant is passed over, and the launches
@@ -67,4 +69,30 @@ pub fn a_log_goes_on()
     ensures { (members : ℕ) (table : Table) (book : List Row) (turns : ℕ) (log later : List Entry) → members ≤ 7
         → IsLegal members table book → IsLog members (votes_in (take turns book)) log → IsLog members (votes_in book) later
         → (more : List Entry) × (later ≡ log ++ more) }
+{}
+
+/// There is a legal book in which a call that was in time goes late, and its launch is called again too late and held as a void.
+/// Where the late call arrives behind it, the end says the void, and the void is what is held.
+pub fn a_late_call_may_come_to_a_void()
+    ensures some { (table : Table) × (book : List Row) × IsSound table × IsLegal 1 table book × ArrivesTooLate 1 table book }
+    ensures held { (members : ℕ) (table : Table) (book : List Row) (late : ArrivesTooLate members table book) (row : SchedRow)
+        → members ≤ 7 → IsLegal members table book → Contains (held_in members table book) row → row.name ≡ late.call.name
+        → row.kind ≡ Void }
+{}
+
+/// There is a legal book in which a job that runs by its period is launched on two dates; wherever one is, they are a period
+/// apart.
+pub fn a_job_may_be_launched_on_two_dates()
+    ensures some { (table : Table) × (book : List Row) × IsSound table × IsLegal 1 table book × HasTwoDates 1 table book }
+    ensures apart { (members : ℕ) (table : Table) (book : List Row) (dates : HasTwoDates members table book) → members ≤ 7
+        → IsLegal members table book → IsPeriodApart table dates.job dates.first dates.second }
+{}
+
+/// There is a legal book of two replicas in which a launch is started, called in time and ended, and both learn the end; wherever
+/// a launch ends, a row of that kind is held for it.
+pub fn a_launch_may_end_in_time()
+    ensures some { (table : Table) × (book : List Row) × (job : ℕ) × (at : ℤ) × IsSound table × IsLegal 2 table book
+        × EndsAs 2 table book job at Launch }
+    ensures held { (members : ℕ) (table : Table) (book : List Row) (job : ℕ) (at : ℤ) (kind : Kind) → members ≤ 7
+        → IsLegal members table book → EndsAs members table book job at kind → IsHeld (held_in members table book) job at kind }
 {}
