@@ -1,0 +1,12 @@
+pub mod Alone
+pub mod Books
+pub mod Dates
+pub mod Ended
+pub mod InTime
+pub mod Invariant
+pub mod Logs
+pub mod PartLemmas
+pub mod Steps
+pub mod Turns
+pub mod Void
+pub mod Whole
