@@ -1,0 +1,6 @@
+pub mod Books
+pub mod Bounded
+pub mod Counts
+pub mod Grows
+pub mod Turns
+pub mod Within
