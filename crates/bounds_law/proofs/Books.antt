@@ -1,20 +1,22 @@
 -- The numbers of a legal book.
-use Rattle.std.proofs.Common.{ℕ, ◌+◌, ◌<◌, ◌≤◌, List, length, sym, arith, subst}
+use Rattle.std.proofs.Common.{ℕ, ◌+◌, ◌^◌, ◌<◌, ◌≤◌, List, length, sym, arith, subst}
 use Rattle.std.specs.List.{Contains}
 use Rattle.paxos_base.specs.declared.rows.JobRow.{JobRow}
-use Rattle.due_set.specs.Table.{Table}
+use Rattle.due_set.specs.Table.{IsSound, Table}
 use Rattle.launch_machine.specs.Clerk.{first_rows}
 use Rattle.step_law.specs.Step.{IsLaunchTable}
 use Rattle.step_law.proofs.Lists.{nothing_in}
 use Rattle.agree_law.specs.Transition.{after_transitions}
 use Rattle.agree_law.specs.World.{CastVote, World, first_world}
+use Rattle.agree_law.proofs.Tables.{all_of}
 use Rattle.agree_law.proofs.Transitions.{IsFollowed, first_followed, transitions_followed}
 use Rattle.book_law.specs.Book.{PostedLetter, Row, learned_in, standing_after, votes_in}
 use Rattle.book_law.specs.Legal.{IsLegal}
 use Rattle.book_law.proofs.Reached.{Matches, reaches, steps_in}
-use Rattle.bounds_law.specs.Numbers.{AreRowsWithin, IsMessageWithin, IsVoteWithin, IsWithin, SpellsWithin}
+use Rattle.bounds_law.specs.Numbers.{AreRowsBelow, AreRowsWithin, IsMessageWithin, IsSmallReplica, IsVoteWithin, IsWithin, SpellsWithin}
 use Rattle.bounds_law.proofs.Bounded.{Bounded, bounded_more}
-use Rattle.bounds_law.proofs.Counts.{all_in}
+use Rattle.bounds_law.proofs.Counts.{all_in, rows_below}
+use Rattle.bounds_law.proofs.Launched.{few_launched}
 use Rattle.bounds_law.proofs.Turns.{bounded_transitions}
 use Rattle.bounds_law.proofs.Within.{launches_within, message_within, replica_within, vote_within}
 
@@ -67,4 +69,21 @@ letters_within n table book letter few legal posted =
       messages = spelled.messages;
       spells = spelled.spells;
       within = all_in (IsMessageWithin (length book)) spelled.messages (λ message has. message_within (length book) n table there.w letter.from message there.followed there.bounded (spelled.each message has));
+    }
+
+-- the launch table of a replica
+pub launched_below : (n : ℕ) (table : Table) (book : List Row) (who : ℕ) (rows : List JobRow) → n ≤ 7 → IsLegal n table book → IsSound table → IsLaunchTable table ((standing_after n (first_rows table) book).replicas who) rows → AreRowsBelow (2 ^ 27) rows
+launched_below n table book who rows few legal sound is_table =
+    let there = stands n table book few legal in
+    let at = all_of n table (first_rows table) there.w who rows there.followed.whole.known there.followed.tables (subst (λ s. IsLaunchTable table s rows) (sym (there.matches.replicas who)) is_table) in
+    few_launched table at.entries rows sound at.applied
+
+pub replicas_small : (n : ℕ) (table : Table) (book : List Row) (who : ℕ) → n ≤ 7 → IsSound table → IsLegal n table book → length book < 2 ^ 59 → who < n → IsSmallReplica table ((standing_after n (first_rows table) book).replicas who)
+replicas_small n table book who few sound legal short member =
+    let within = replicas_within n table book who few legal member in
+    record {
+      tried = omega (arith, within.tried, short);
+      seen = omega (arith, within.seen, short);
+      prefix = omega (arith, within.prefix, short);
+      counts = λ rows is_table. rows_below (2 ^ 27) (2 ^ 31) rows (omega arith) (launched_below n table book who rows few legal sound is_table);
     }

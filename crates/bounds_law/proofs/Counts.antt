@@ -1,5 +1,5 @@
 -- What a launch table has counted: one more at most by each entry.
-use Rattle.std.proofs.Common.{◌≡◌, ℕ, zero, suc, ◌+◌, ◌≤◌, inl, inr, List, [], ◌∷◌, length, map, get_or, arith, ℤ}
+use Rattle.std.proofs.Common.{◌≡◌, ℕ, zero, suc, ◌+◌, ◌<◌, ◌≤◌, inl, inr, List, [], ◌∷◌, length, map, get_or, arith, ℤ}
 use Rattle.std.specs.List.{All, Contains, range_with_len}
 use Rattle.std.proofs.lemmas.List.Elements.{All-set, All-contains, All-cons}
 use Rattle.paxos_base.specs.Rows.{fresh_row}
@@ -11,7 +11,7 @@ use Rattle.paxos_base.specs.declared.rows.JobRow.{JobRow}
 use Rattle.due_set.specs.Table.{Table}
 use Rattle.launch_machine.specs.Clerk.{Applies, AppliesAll, closed_row, first_rows, opened_row}
 use Rattle.step_law.proofs.Lists.{in_first, in_rest}
-use Rattle.bounds_law.specs.Numbers.{AreRowsWithin}
+use Rattle.bounds_law.specs.Numbers.{AreRowsBelow, AreRowsWithin}
 
 -- what holds of each that is in a list
 pub all_in : {X : Type 0} (P : X → Type 0) (xs : List X) → ((x : X) → Contains xs x → P x) → All P xs
@@ -25,6 +25,11 @@ CountsWithin most row = (row.launched ≤ most) × (row.voided ≤ most)
 pub rows_more : (most more : ℕ) (rows : List JobRow) → most ≤ more → AreRowsWithin most rows → AreRowsWithin more rows
 rows_more most more rows up within = all_in (CountsWithin more) rows (λ row has.
     let low : CountsWithin most row = All-contains (CountsWithin most) rows row within has in (omega (arith, low.0, up), omega (arith, low.1, up)))
+
+pub rows_below : (limit more : ℕ) (rows : List JobRow) → limit ≤ more → AreRowsBelow limit rows → AreRowsBelow more rows
+rows_below limit more rows up below = all_in (λ row. (row.launched < more) × (row.voided < more)) rows (λ row has.
+    let low : (row.launched < limit) × (row.voided < limit) = All-contains (λ row. (row.launched < limit) × (row.voided < limit)) rows row below has in
+    (omega (arith, low.0, up), omega (arith, low.1, up)))
 
 closed_within : (most : ℕ) (at : ℤ) (kind : Kind) (row : JobRow) → CountsWithin most row → CountsWithin (most + 1) (closed_row at kind row)
 closed_within most at Launch row (launched, voided) = (omega (arith, launched), omega (arith, voided))

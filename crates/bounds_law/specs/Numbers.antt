@@ -1,5 +1,5 @@
 -- How large the numbers of replicas and letters are.
-use Rattle.std.specs.Prelude.{ℕ, ◌<◌, ◌≤◌, ⊤, All, List, Option, None, Some}
+use Rattle.std.specs.Prelude.{ℕ, ◌^◌, ◌<◌, ◌≤◌, ⊤, All, List, Option, None, Some}
 use Rattle.std.specs.List.{flat_map}
 use Rattle.paxos_base.specs.Ballot.{round_of}
 use Rattle.paxos_base.specs.declared.entry.Vote.{Vote}
@@ -7,10 +7,12 @@ use Rattle.paxos_base.specs.declared.rows.JobRow.{JobRow}
 use Rattle.term_core.specs.declared.flight.Flight.{Flight}
 use Rattle.term_core.specs.declared.term.Term.{Term}
 use Rattle.term_core.specs.declared.term.Term.TheVariants.{Follower, Candidate, Leader}
+use Rattle.due_set.specs.Table.{Table}
 use Rattle.paxos_letter.specs.Letters.{Spells}
 use Rattle.step_law.specs.Heard.{packets_of}
 use Rattle.step_law.specs.Message.{Message, Prepare, Promise, Accept, Accepted, Nack, Known, AskFrom, Snap, Lead, Mention}
 use Rattle.step_law.specs.State.{State, prefix_of, promised_in}
+use Rattle.step_law.specs.Step.{IsLaunchTable}
 use Rattle.book_law.specs.Book.{PostedLetter}
 
 -- the vote's round is at most this, and its slot is below it
@@ -25,6 +27,10 @@ AreVotesWithin most votes = All (IsVoteWithin most) votes
 -- each count of the rows is at most this
 abbrev pub AreRowsWithin : ℕ → List JobRow → Type 0
 AreRowsWithin most rows = All (λ row. (row.launched ≤ most) × (row.voided ≤ most)) rows
+
+-- each count of the rows is below this
+abbrev pub AreRowsBelow : ℕ → List JobRow → Type 0
+AreRowsBelow limit rows = All (λ row. (row.launched < limit) × (row.voided < limit)) rows
 
 -- the slot of a flight is at most this, where there is one
 abbrev pub IsFlightWithin : ℕ → Option Flight → Type 0
@@ -50,6 +56,14 @@ pub record IsWithin (most : ℕ) (state : State) : Type 0 where
   pub base : state.kept.base ≤ most
   pub prefix : prefix_of state ≤ most
   pub rows : AreRowsWithin most state.kept.rows
+
+-- What a replica needs to be at a step so that its numbers fit: the rounds that it has tried and seen, the first slot that it has
+-- not learned, and the counts of its launch table are within bounds.
+pub record IsSmallReplica (table : Table) (state : State) : Type 0 where
+  pub tried : state.kept.tried < 2 ^ 59
+  pub seen : round_of state.seen < 2 ^ 59
+  pub prefix : prefix_of state < 2 ^ 62
+  pub counts : (rows : List JobRow) → IsLaunchTable table state rows → AreRowsBelow (2 ^ 31) rows
 
 -- the numbers that a message names
 abbrev pub IsMessageWithin : ℕ → Message → Type 0

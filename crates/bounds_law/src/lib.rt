@@ -3,4 +3,4 @@
 
 mod laws;
 
-pub use laws::a_legal_book_counts_its_turns;
+pub use laws::{a_legal_book_counts_its_turns, replicas_of_a_legal_book_are_small};
