@@ -30,7 +30,7 @@ use Rattle.step_law.specs.State.{Identity, State, started}
 use Rattle.step_law.specs.declared.out.LearntRow.{LearntRow}
 use Rattle.step_law.specs.Step.{Event, IsPlanned, step}
 use Rattle.step_law.proofs.HeardLemmas.{messages_heard}
-use Rattle.step_law.proofs.OutLemmas.{calls_in}
+use Rattle.step_law.proofs.OutLemmas.{calls_in, letters_are}
 use Rattle.agree_law.specs.Transition as taken
 use Rattle.agree_law.specs.Transition.{AreTransitions, MayTake, acts_of, after_transition, after_transitions, is_silent}
 use Rattle.agree_law.specs.World.{CastVote, Learning, World, after_all, doings_of, first_world, with_replica}
@@ -51,8 +51,9 @@ use Rattle.step_law.specs.declared.out.OutLetter.{OutLetter}
 abbrev pub ending_of : ℕ → SchedRow → Ending
 ending_of who row = record { to = who; job = row.name.job; at = row.name.at; kind = row.kind }
 
--- a letter spells messages that its sender has said
+-- a letter goes to a replica, and spells messages that its sender has said
 pub record SpellsSaid (n : ℕ) (said : List Saying) (letter : PostedLetter) : Type 0 where
+  pub to : letter.to < n
   pub messages : List Message
   pub spells : Spells n letter.from (flat_map packets_of messages) letter.bytes
   pub each : (message : Message) → Contains messages message → HasSaid said letter.from message
@@ -152,6 +153,7 @@ spelled_said n jobs said from sent heard bytes spells has is =
 -- a letter still spells what its sender has said where more was said
 spells_still : (n : ℕ) (said more : List Saying) (letter : PostedLetter) → ((saying : Saying) → Contains said saying → Contains more saying) → SpellsSaid n said letter → SpellsSaid n more letter
 spells_still n said more letter stays spelled = record {
+  to = spelled.to;
   messages = spelled.messages;
   spells = spelled.spells;
   each = λ message has. stays (record { by = letter.from; message = message }) (spelled.each message has);
@@ -218,6 +220,7 @@ step_acts n jobs st votes learned w who event answer acts letters spelled m =
 
     spelled_now : (sent : OutLetter) (addressed : Addressed) → Contains (letters_of (identity_of n who) acts) addressed → IsSpelled n who addressed sent → SpellsSaid n w'.said (record { from = who; to = sent.to; bytes = sent.bytes })
     spelled_now sent addressed there spells = record {
+      to = rw spells.to (letters_are (identity_of n who) acts addressed there).0;
       messages = addressed.messages;
       spells = spells.spells;
       each = λ message has. all_said who event answer acts w message (addressed_sends (identity_of n who) acts addressed message there has);

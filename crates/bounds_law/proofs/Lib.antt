@@ -3,5 +3,7 @@ pub mod Bounded
 pub mod Counts
 pub mod Grows
 pub mod Launched
+pub mod Posted
+pub mod Spelled
 pub mod Turns
 pub mod Within

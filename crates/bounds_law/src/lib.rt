@@ -3,4 +3,7 @@
 
 mod laws;
 
-pub use laws::{a_legal_book_counts_its_turns, replicas_of_a_legal_book_are_small};
+pub use laws::{
+    a_legal_book_counts_its_turns, a_posted_letter_is_a_letter_of_its_poster,
+    letters_of_seven_are_letters_of_the_members, replicas_of_a_legal_book_are_small,
+};
