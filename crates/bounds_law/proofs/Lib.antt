@@ -2,6 +2,8 @@ pub mod Books
 pub mod Bounded
 pub mod Counts
 pub mod Grows
+pub mod Intents
+pub mod Kept
 pub mod Launched
 pub mod Posted
 pub mod Spelled

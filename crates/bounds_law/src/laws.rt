@@ -1,18 +1,19 @@
 //! Laws of the numbers and the letters of books. Each is the contract of a function that does nothing.
-ghost use Rattle.std.specs.Prelude.{◌≡◌, ℕ, ◌^◌, ◌<◌, ◌≤◌, List, length, None, Contains};
+ghost use Rattle.std.specs.Prelude.{◌≡◌, ℕ, ◌^◌, ◌<◌, ◌≤◌, List, length, flat_map, None, Contains};
 ghost use Rattle.std.specs.List.{AllZip};
 ghost use Rattle.paxos_base.specs.declared.rows.JobRow.{JobRow};
 ghost use Rattle.paxos_letter.specs.Letters.{fault_of, sender_of};
 ghost use Rattle.due_set.specs.Table.{IsSound, Table};
 ghost use Rattle.launch_machine.specs.Clerk.{first_rows};
-ghost use Rattle.step_law.specs.Folds.{letters_of};
+ghost use Rattle.step_law.specs.Act.{Act};
+ghost use Rattle.step_law.specs.Folds.{deltas_of, letters_of};
 ghost use Rattle.step_law.specs.Letters.{AreLettersOf, IsHeardAs, IsSpelled};
 ghost use Rattle.step_law.specs.Message.{Message};
 ghost use Rattle.step_law.specs.Step.{Event, IsLaunchTable};
 ghost use Rattle.step_law.specs.declared.out.OutLetter.{OutLetter};
 ghost use Rattle.agree_law.specs.Transition.{identity_of};
 ghost use Rattle.agree_law.specs.World.{CastVote};
-ghost use Rattle.book_law.specs.Book.{PostedLetter, Row, acts_at, standing_after, votes_in};
+ghost use Rattle.book_law.specs.Book.{PostedLetter, Row, acts_at, standing_after, vote_of_delta, votes_in, votes_of};
 ghost use Rattle.book_law.specs.Legal.{IsLegal, TakesTurn};
 ghost use Rattle.book_law.specs.declared.turn.Cause.{Cause};
 ghost use Rattle.bounds_law.specs.Numbers.{AreRowsBelow, AreRowsWithin, IsSmallReplica, IsVoteWithin, IsWithin, SpellsWithin};
@@ -64,4 +65,9 @@ pub fn a_posted_letter_is_a_letter_of_its_poster()
     ensures heard { (members jobs : ℕ) (table : Table) (book : List Row) (letter : PostedLetter) → IsLegal members table book
         → Contains (standing_after members (first_rows table) book).posted letter
         → (messages : List Message) × IsHeardAs members jobs letter.bytes letter.from messages }
+{}
+
+/// The votes of some acts are those of the changes of what is kept: who has the changes of a step has its votes.
+pub fn votes_are_those_of_the_changes()
+    ensures { (acts : List Act) → votes_of acts ≡ flat_map vote_of_delta (deltas_of acts) }
 {}
