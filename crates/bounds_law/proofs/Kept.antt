@@ -18,7 +18,6 @@ use Rattle.cluster_sched.specs.declared.row.SchedRow.{SchedRow}
 use Rattle.cluster_sched.proofs.HeldLemmas.{IsLookedUp-same}
 use Rattle.due_set.specs.Table.{Table}
 use Rattle.launch_machine.specs.Answers.{IsIntent}
-use Rattle.launch_machine.specs.Clerk.{first_rows}
 use Rattle.launch_machine.proofs.ClerkLemmas.{AppliesAll-same}
 use Rattle.step_law.specs.Act.{Act, Stand, Pledge, Cast, Propose, Rebase}
 use Rattle.step_law.specs.Folds.{deltas_by, deltas_of}
@@ -28,11 +27,10 @@ use Rattle.step_law.specs.State.{State}
 use Rattle.step_law.specs.Step.{Event, IsLaunchTable, IsPlanned, Plan}
 use Rattle.step_law.specs.Step as told
 use Rattle.book_law.specs.Book.{Row, Standing, after_row, arriving, first_standing, held_after, is_name, late_after, standing_after, under, vote_of_delta, votes_by, votes_of}
-use Rattle.book_law.specs.Legal.{IsAnswered, IsHeard, IsLegal, MayFollow, TakesTurn, answered}
+use Rattle.book_law.specs.Legal.{IsAnswered, IsHeard, IsLegal, TakesTurn, answered}
 use Rattle.book_law.specs.declared.turn.CallRow.{CallRow}
 use Rattle.book_law.specs.declared.turn.Cause.{Cause}
 use Rattle.book_law.specs.declared.turn.Cause.TheVariants.{Campaign, Tick, Hear, Answer}
-use Rattle.book_law.proofs.Turns.{legal_push}
 use Rattle.bounds_law.proofs.Intents.{one_intent}
 
 -- ---- votes and changes
@@ -150,9 +148,6 @@ one_event n table standing who Answer one other a b = answer_same table standing
 
 pub empty_is_legal : (n : ℕ) (table : Table) → IsLegal n table []
 empty_is_legal n table number row is = absurd cc
-
-pub goes_on : (n : ℕ) (table : Table) (book : List Row) (row : Row) → IsLegal n table book → MayFollow n table (standing_after n (first_rows table) book) row.turn row → IsLegal n table (book ++ row ∷ [])
-goes_on = legal_push
 
 pub stands_next : (n : ℕ) (rows : List JobRow) (book : List Row) (row : Row) → standing_after n rows (book ++ row ∷ []) ≡ after_row n (standing_after n rows book) row.turn row.event row.letters
 stands_next n rows book row = fold_push _ (first_standing n rows) book row

@@ -1,8 +1,13 @@
 //! Laws of the numbers and the letters of books. Each is the contract of a function that does nothing.
-ghost use Rattle.std.specs.Prelude.{◌≡◌, ℕ, ◌^◌, ◌<◌, ◌≤◌, List, length, flat_map, None, Contains};
+ghost use Rattle.std.specs.Prelude.{◌≡◌, ℕ, ◌^◌, ◌<◌, ◌≤◌, Bool, List, [], ◌∷◌, ◌++◌, length, flat_map, Option, None, Some, Result, Contains};
 ghost use Rattle.std.specs.List.{AllZip};
 ghost use Rattle.paxos_base.specs.declared.rows.JobRow.{JobRow};
 ghost use Rattle.paxos_letter.specs.Letters.{fault_of, sender_of};
+ghost use Rattle.cluster_sched.specs.Fates.{Arrives, CallsByName, Holdings, call};
+ghost use Rattle.cluster_sched.specs.Held.{IsLookedUp};
+ghost use Rattle.cluster_sched.specs.declared.fault.CallFault.{CallFault};
+ghost use Rattle.cluster_sched.specs.declared.row.Name.{Name};
+ghost use Rattle.cluster_sched.specs.declared.row.SchedRow.{SchedRow};
 ghost use Rattle.due_set.specs.Table.{IsSound, Table};
 ghost use Rattle.launch_machine.specs.Clerk.{first_rows};
 ghost use Rattle.step_law.specs.Act.{Act};
@@ -13,8 +18,9 @@ ghost use Rattle.step_law.specs.Step.{Event, IsLaunchTable};
 ghost use Rattle.step_law.specs.declared.out.OutLetter.{OutLetter};
 ghost use Rattle.agree_law.specs.Transition.{identity_of};
 ghost use Rattle.agree_law.specs.World.{CastVote};
-ghost use Rattle.book_law.specs.Book.{PostedLetter, Row, acts_at, standing_after, vote_of_delta, votes_in, votes_of};
-ghost use Rattle.book_law.specs.Legal.{IsLegal, TakesTurn};
+ghost use Rattle.book_law.specs.Book.{PostedLetter, Row, Standing, acts_at, after_row, arriving, held_after, late_after, standing_after, under, vote_of_delta, votes_in, votes_of};
+ghost use Rattle.book_law.specs.Legal.{IsLegal, MayFollow, TakesTurn, answered};
+ghost use Rattle.book_law.specs.declared.turn.CallRow.{CallRow};
 ghost use Rattle.book_law.specs.declared.turn.Cause.{Cause};
 ghost use Rattle.bounds_law.specs.Numbers.{AreRowsBelow, AreRowsWithin, IsSmallReplica, IsVoteWithin, IsWithin, SpellsWithin};
 
@@ -70,4 +76,35 @@ pub fn a_posted_letter_is_a_letter_of_its_poster()
 /// The votes of some acts are those of the changes of what is kept: who has the changes of a step has its votes.
 pub fn votes_are_those_of_the_changes()
     ensures { (acts : List Act) → votes_of acts ≡ flat_map vote_of_delta (deltas_of acts) }
+{}
+
+/// What a ledger looks up is what is held under the name. So a call of a ledger does what it does in a turn: it adds the same rows to
+/// those that are held and to those that are late, and has the same answer; and so does a late call that arrives.
+pub fn a_ledger_does_what_turns_do()
+    ensures found { (name : Name) (held : List SchedRow) (found : Option SchedRow) → IsLookedUp held name found → under name held ≡ found }
+    ensures under { (name : Name) (held : List SchedRow) → IsLookedUp held name (under name held) }
+    ensures held { (old new : Holdings) (row : SchedRow) (result : Result SchedRow CallFault) (made : CallRow) → CallsByName old row result new
+        → made.row ≡ row → made.fate ≡ old.fate → new.held ≡ held_after (Some made) old.held }
+    ensures late { (old new : Holdings) (row : SchedRow) (result : Result SchedRow CallFault) (made : CallRow) → CallsByName old row result new
+        → made.row ≡ row → made.fate ≡ old.fate → new.late ≡ late_after (Some made) old.held old.late }
+    ensures answer { (old new : Holdings) (row : SchedRow) (result : Result SchedRow CallFault) → CallsByName old row result new
+        → answered result ≡ answered (call old.fate row (under row.name old.held)).answer }
+    ensures arrival { (old new : Holdings) (row : SchedRow) (stands : Bool) → Arrives old row stands new
+        → new.held ≡ arriving (Some row) old.held }
+{}
+
+/// A cause tells a replica one thing: what a book has of a turn beside its cause, the event, is settled by the turns before it.
+pub fn a_cause_has_one_event()
+    ensures { (members : ℕ) (table : Table) (standing : Standing) (who : ℕ) (cause : Cause) (one other : Event)
+        → TakesTurn members table standing who cause one → TakesTurn members table standing who cause other → one ≡ other }
+{}
+
+/// A book without turns is legal, and a legal book goes on by a turn that may follow; then what stands is what that turn makes of
+/// what stood.
+pub fn a_legal_book_goes_on()
+    ensures begins { (members : ℕ) (table : Table) → IsLegal members table [] }
+    ensures goes { (members : ℕ) (table : Table) (book : List Row) (row : Row) → IsLegal members table book
+        → MayFollow members table (standing_after members (first_rows table) book) row.turn row → IsLegal members table (book ++ row ∷ []) }
+    ensures stands { (members : ℕ) (rows : List JobRow) (book : List Row) (row : Row) → standing_after members rows (book ++ row ∷ [])
+        ≡ after_row members (standing_after members rows book) row.turn row.event row.letters }
 {}
