@@ -5,6 +5,7 @@ pub mod Grows
 pub mod Intents
 pub mod Kept
 pub mod Launched
+pub mod Leaves
 pub mod Posted
 pub mod Spelled
 pub mod Turns

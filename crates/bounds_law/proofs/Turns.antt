@@ -58,7 +58,7 @@ tells_still n table by w said answered (Hear from messages) stays answers_stay t
 tells_still n table by w said answered (Answer job at kind rows) stays answers_stay tells = answers_stay _ tells
 
 -- the acts of a step may be done, whatever more is said and answered meanwhile
-step_all : (n : ℕ) (table : Table) (first : List JobRow) (w : World) (by : ℕ) (event : Event) → n ≤ 7 → IsFollowed n table first w → MayTake n table w by event → MayAll n table by (Some event) w (step (identity_of n by) event (w.replicas by))
+pub step_all : (n : ℕ) (table : Table) (first : List JobRow) (w : World) (by : ℕ) (event : Event) → n ≤ 7 → IsFollowed n table first w → MayTake n table w by event → MayAll n table by (Some event) w (step (identity_of n by) event (w.replicas by))
 step_all n table first w by event few followed may said answered stays answers_stay =
     step_may (setting_with n table by (Some event) said answered) (w.replicas by) event refl (omega (arith, may.member, few)) (followed.whole.kept.sound by may.member) may.planned
     (tells_still n table by w said answered event stays answers_stay may.heard)

@@ -1,6 +1,7 @@
 //! Laws of the numbers and the letters of books. Each is the contract of a function that does nothing.
 ghost use Rattle.std.specs.Prelude.{◌≡◌, ℕ, ◌^◌, ◌<◌, ◌≤◌, Bool, List, [], ◌∷◌, ◌++◌, length, flat_map, Option, None, Some, Result, Contains};
 ghost use Rattle.std.specs.List.{AllZip};
+ghost use Rattle.paxos_base.specs.declared.durable.Durable.{Durable};
 ghost use Rattle.paxos_base.specs.declared.rows.JobRow.{JobRow};
 ghost use Rattle.paxos_letter.specs.Letters.{fault_of, sender_of};
 ghost use Rattle.cluster_sched.specs.Fates.{Arrives, CallsByName, Holdings, call};
@@ -11,9 +12,11 @@ ghost use Rattle.cluster_sched.specs.declared.row.SchedRow.{SchedRow};
 ghost use Rattle.due_set.specs.Table.{IsSound, Table};
 ghost use Rattle.launch_machine.specs.Clerk.{first_rows};
 ghost use Rattle.step_law.specs.Act.{Act};
-ghost use Rattle.step_law.specs.Folds.{deltas_of, letters_of};
+ghost use Rattle.step_law.specs.Folds.{after_acts, deltas_of, letters_of};
 ghost use Rattle.step_law.specs.Letters.{AreLettersOf, IsHeardAs, IsSpelled};
+ghost use Rattle.step_law.specs.May.{AllMay, Setting};
 ghost use Rattle.step_law.specs.Message.{Message};
+ghost use Rattle.step_law.specs.State.{State, started};
 ghost use Rattle.step_law.specs.Step.{Event, IsLaunchTable};
 ghost use Rattle.step_law.specs.declared.out.OutLetter.{OutLetter};
 ghost use Rattle.agree_law.specs.Transition.{identity_of};
@@ -22,6 +25,7 @@ ghost use Rattle.book_law.specs.Book.{PostedLetter, Row, Standing, acts_at, afte
 ghost use Rattle.book_law.specs.Legal.{IsLegal, MayFollow, TakesTurn, answered};
 ghost use Rattle.book_law.specs.declared.turn.CallRow.{CallRow};
 ghost use Rattle.book_law.specs.declared.turn.Cause.{Cause};
+ghost use Rattle.bounds_law.specs.Launches.{LeavesTable};
 ghost use Rattle.bounds_law.specs.Numbers.{AreRowsBelow, AreRowsWithin, IsSmallReplica, IsVoteWithin, IsWithin, SpellsWithin};
 
 /// In a legal book of one to seven replicas no number is above the number of its turns: of no replica, whether it runs or is
@@ -107,4 +111,22 @@ pub fn a_legal_book_goes_on()
         → MayFollow members table (standing_after members (first_rows table) book) row.turn row → IsLegal members table (book ++ row ∷ []) }
     ensures stands { (members : ℕ) (rows : List JobRow) (book : List Row) (row : Row) → standing_after members rows (book ++ row ∷ [])
         ≡ after_row members (standing_after members rows book) row.turn row.event row.letters }
+{}
+
+/// A step keeps the launch table: the entries that it learns are applied to the table, one after another, and rows that it takes in
+/// the place of entries are the table from then on. There is one such table after each list of acts, and a replica starts with the
+/// rows that it keeps.
+pub fn a_step_keeps_the_launch_table()
+    ensures acts { (setting : Setting) (event : Event) (acts : List Act) (state : State) (old new : List JobRow) → setting.event ≡ Some event
+        → AllMay setting state acts → IsLaunchTable setting.table state old → LeavesTable setting.table old acts new
+        → IsLaunchTable setting.table (after_acts acts state) new }
+    ensures turn { (members : ℕ) (table : Table) (book : List Row) (who : ℕ) (cause : Cause) (event : Event) (old new : List JobRow) → members ≤ 7
+        → IsLegal members table book → TakesTurn members table (standing_after members (first_rows table) book) who cause event
+        → IsLaunchTable table ((standing_after members (first_rows table) book).replicas who) old
+        → LeavesTable table old (acts_at members (standing_after members (first_rows table) book) who event) new
+        → IsLaunchTable table (after_acts (acts_at members (standing_after members (first_rows table) book) who event) ((standing_after members (first_rows table) book).replicas who)) new }
+    ensures some { (table : Table) (old : List JobRow) (acts : List Act) → IsSound table → (new : List JobRow) × LeavesTable table old acts new }
+    ensures one { (table : Table) (old : List JobRow) (acts : List Act) (one other : List JobRow) → LeavesTable table old acts one
+        → LeavesTable table old acts other → one ≡ other }
+    ensures start { (table : Table) (me : ℕ) (kept : Durable) → IsLaunchTable table (started me kept) kept.rows }
 {}
