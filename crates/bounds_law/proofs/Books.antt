@@ -72,7 +72,7 @@ letters_within n table book letter few legal posted =
     }
 
 -- the launch table of a replica
-pub launched_below : (n : ℕ) (table : Table) (book : List Row) (who : ℕ) (rows : List JobRow) → n ≤ 7 → IsLegal n table book → IsSound table → IsLaunchTable table ((standing_after n (first_rows table) book).replicas who) rows → AreRowsBelow (2 ^ 27) rows
+pub launched_below : (n : ℕ) (table : Table) (book : List Row) (who : ℕ) (rows : List JobRow) → n ≤ 7 → IsLegal n table book → IsSound table → IsLaunchTable table ((standing_after n (first_rows table) book).replicas who) rows → AreRowsBelow (2 ^ 20) rows
 launched_below n table book who rows few legal sound is_table =
     let there = stands n table book few legal in
     let at = all_of n table (first_rows table) there.w who rows there.followed.whole.known there.followed.tables (subst (λ s. IsLaunchTable table s rows) (sym (there.matches.replicas who)) is_table) in
@@ -85,5 +85,5 @@ replicas_small n table book who few sound legal short member =
       tried = omega (arith, within.tried, short);
       seen = omega (arith, within.seen, short);
       prefix = omega (arith, within.prefix, short);
-      counts = λ rows is_table. rows_below (2 ^ 27) (2 ^ 31) rows (omega arith) (launched_below n table book who rows few legal sound is_table);
+      counts = λ rows is_table. rows_below (2 ^ 20) (2 ^ 31) rows (omega arith) (launched_below n table book who rows few legal sound is_table);
     }

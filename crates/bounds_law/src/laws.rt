@@ -43,13 +43,13 @@ pub fn a_legal_book_counts_its_turns()
 {}
 
 /// A replica of a legal book of fewer than 2^59 turns is small enough for the numbers that a replica counts with: no caller who
-/// keeps such a book has to look. A launch table counts fewer than 2^27 launches of a job, since they are of as many different
-/// minutes or dates of the calendar.
+/// keeps such a book has to look. A launch table counts fewer than 2^20 launches of a job, since they are of as many different
+/// minutes of the window, or dates.
 pub fn replicas_of_a_legal_book_are_small()
     ensures small { (members : ℕ) (table : Table) (book : List Row) (who : ℕ) → members ≤ 7 → IsSound table → IsLegal members table book
         → length book < 2 ^ 59 → who < members → IsSmallReplica table ((standing_after members (first_rows table) book).replicas who) }
     ensures launches { (members : ℕ) (table : Table) (book : List Row) (who : ℕ) (rows : List JobRow) → members ≤ 7 → IsLegal members table book
-        → IsSound table → IsLaunchTable table ((standing_after members (first_rows table) book).replicas who) rows → AreRowsBelow (2 ^ 27) rows }
+        → IsSound table → IsLaunchTable table ((standing_after members (first_rows table) book).replicas who) rows → AreRowsBelow (2 ^ 20) rows }
 {}
 
 /// A replica's program writes letters for seven replicas, since a disk doesn't say of how many its ballots are. In a legal book each
