@@ -2,8 +2,9 @@ pub mod Books
 pub mod Bounded
 pub mod Counts
 pub mod Grows
+pub mod Heard
 pub mod Intents
-pub mod Kept
+pub mod Keeping
 pub mod Launched
 pub mod Leaves
 pub mod Posted

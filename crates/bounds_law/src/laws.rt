@@ -1,9 +1,10 @@
 //! Laws of the numbers and the letters of books. Each is the contract of a function that does nothing.
-ghost use Rattle.std.specs.Prelude.{◌≡◌, ℕ, ◌^◌, ◌<◌, ◌≤◌, Bool, List, [], ◌∷◌, ◌++◌, length, flat_map, Option, None, Some, Result, Contains};
+ghost use Rattle.std.specs.Prelude.{◌≡◌, ℕ, ◌*◌, ◌^◌, ◌<◌, ◌≤◌, Bool, true, List, [], ◌∷◌, ◌++◌, length, flat_map, Option, None, Some, Result, Contains};
 ghost use Rattle.std.specs.List.{AllZip};
 ghost use Rattle.paxos_base.specs.declared.durable.Durable.{Durable};
 ghost use Rattle.paxos_base.specs.declared.rows.JobRow.{JobRow};
-ghost use Rattle.paxos_letter.specs.Letters.{fault_of, sender_of};
+ghost use Rattle.paxos_letter.specs.Letters.{Spells, fault_of, sender_of};
+ghost use Rattle.paxos_letter.specs.declared.packet.Packet.{Packet};
 ghost use Rattle.cluster_sched.specs.Fates.{Arrives, CallsByName, Holdings, call};
 ghost use Rattle.cluster_sched.specs.Held.{IsLookedUp};
 ghost use Rattle.cluster_sched.specs.declared.fault.CallFault.{CallFault};
@@ -13,7 +14,8 @@ ghost use Rattle.due_set.specs.Table.{IsSound, Table};
 ghost use Rattle.launch_machine.specs.Clerk.{first_rows};
 ghost use Rattle.step_law.specs.Act.{Act};
 ghost use Rattle.step_law.specs.Folds.{after_acts, deltas_of, letters_of};
-ghost use Rattle.step_law.specs.Letters.{AreLettersOf, IsHeardAs, IsSpelled};
+ghost use Rattle.step_law.specs.Heard.{heard_as, packets_of};
+ghost use Rattle.step_law.specs.Letters.{AreLettersOf, IsHeardAs, IsSpelled, are_small};
 ghost use Rattle.step_law.specs.May.{AllMay, Setting};
 ghost use Rattle.step_law.specs.Message.{Message};
 ghost use Rattle.step_law.specs.State.{State, started};
@@ -129,4 +131,17 @@ pub fn a_step_keeps_the_launch_table()
     ensures one { (table : Table) (old : List JobRow) (acts : List Act) (one other : List JobRow) → LeavesTable table old acts one
         → LeavesTable table old acts other → one ≡ other }
     ensures start { (table : Table) (me : ℕ) (kept : Durable) → IsLaunchTable table (started me kept) kept.rows }
+{}
+
+/// What a letter carries that was posted in a legal book of fewer than 2^59 turns is within the bounds that a replica counts with, and a
+/// copy of a launch table has a row for each job. So a letter of fewer than 2^31 packets is heard whole: as the messages that its
+/// sender spelled, and not as none.
+pub fn posted_letters_are_heard_whole()
+    ensures within { (members : ℕ) (table : Table) (book : List Row) (letter : PostedLetter) (packets : List Packet) → members ≤ 7 → IsSound table
+        → IsLegal members table book → length book < 2 ^ 59 → Contains (standing_after members (first_rows table) book).posted letter
+        → Spells members letter.from packets letter.bytes → are_small (length table.jobs) packets ≡ true }
+    ensures whole { (members : ℕ) (table : Table) (book : List Row) (letter : PostedLetter) → members ≤ 7 → IsSound table → IsLegal members table book
+        → length book < 2 ^ 59 → Contains (standing_after members (first_rows table) book).posted letter → length letter.bytes < 56 * 2 ^ 31
+        → (sent : List Message) × Spells members letter.from (flat_map packets_of sent) letter.bytes
+        × IsHeardAs members (length table.jobs) letter.bytes letter.from (flat_map heard_as sent) }
 {}

@@ -1,4 +1,4 @@
-use Rattle.bounds_law.proofs.Kept.{arrival_holds, call_answers, call_holds, call_is_late, looked_up_under, under_looked_up}
+use Rattle.bounds_law.proofs.Keeping.{arrival_holds, call_answers, call_holds, call_is_late, looked_up_under, under_looked_up}
 use Rattle.bounds_law.proofs.laws.a_ledger_does_what_turns_do.Goals as goal
 
 pub returns-clause-found : goal.returns-clause-found

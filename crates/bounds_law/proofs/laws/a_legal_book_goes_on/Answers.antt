@@ -1,5 +1,5 @@
 use Rattle.book_law.proofs.Turns.{legal_push}
-use Rattle.bounds_law.proofs.Kept.{empty_is_legal, stands_next}
+use Rattle.bounds_law.proofs.Keeping.{empty_is_legal, stands_next}
 use Rattle.bounds_law.proofs.laws.a_legal_book_goes_on.Goals as goal
 
 pub returns-clause-begins : goal.returns-clause-begins
