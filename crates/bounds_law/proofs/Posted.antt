@@ -1,5 +1,5 @@
 -- The letters of a legal book: they are spelled for its replicas, by those who posted them.
-use Rattle.std.proofs.Common.{◌≡◌, ℕ, ◌<◌, ◌≤◌, Some, None, List, [], ◌∷◌, length, refl, sym, ap, subst}
+use Rattle.std.proofs.Common.{◌≡◌, ℕ, ◌<◌, ◌≤◌, Some, None, List, [], ◌∷◌, ◌++◌, length, Option, refl, sym, ap, subst}
 use Rattle.std.specs.List.{AllZip, Contains, flat_map}
 use Rattle.paxos_base.specs.Ballot.{member_of}
 use Rattle.paxos_base.specs.declared.entry.Vote.{Vote}
@@ -8,7 +8,7 @@ use Rattle.paxos_letter.proofs.LetterLemmas.{letter_again, letter_none}
 use Rattle.due_set.specs.Table.{Table}
 use Rattle.launch_machine.specs.Clerk.{first_rows}
 use Rattle.step_law.specs.Act.{Act}
-use Rattle.step_law.specs.Folds.{letters_of}
+use Rattle.step_law.specs.Folds.{calls_of, deltas_of, learnt_of, letters_of}
 use Rattle.step_law.specs.Heard.{packets_of}
 use Rattle.step_law.specs.Letters.{AreLettersOf, IsHeardAs, IsSpelled, heard_in}
 use Rattle.step_law.specs.May.{HasSaid}
@@ -22,10 +22,14 @@ use Rattle.agree_law.specs.Transition.{MayTake, after_transition, identity_of}
 use Rattle.agree_law.specs.World.{World}
 use Rattle.agree_law.proofs.Transitions.{IsFollowed, transitions_followed}
 use Rattle.book_law.specs.Book.{PostedLetter, Row, acts_at, learned_in, standing_after, votes_in}
-use Rattle.book_law.specs.Legal.{IsLegal, TakesTurn}
+use Rattle.book_law.specs.Legal.{IsLegal, IsMade, TakesTurn}
+use Rattle.book_law.specs.declared.turn.CallRow.{CallRow}
 use Rattle.book_law.specs.declared.turn.Cause.{Cause}
 use Rattle.book_law.proofs.Acts.{Sends, all_said}
 use Rattle.book_law.proofs.Reached.{may_take, reaches}
+use Rattle.book_law.proofs.Turns.{legal_push}
+use Rattle.bounds_law.specs.Steps.{step_row}
+use Rattle.bounds_law.proofs.Keeping.{votes_changed}
 use Rattle.bounds_law.proofs.Books.{stands}
 use Rattle.bounds_law.proofs.Bounded.{Bounded}
 use Rattle.bounds_law.proofs.Spelled.{IsMessageOf, messages_of_members, spells_of}
@@ -111,3 +115,21 @@ pub posted_heard : (n jobs : ℕ) (table : Table) (book : List Row) (letter : Po
 posted_heard n jobs table book letter legal posted =
     let spelled = (reaches n table book legal).matches.spelled letter posted in
     (heard_in jobs (flat_map packets_of spelled.messages), record { packets = flat_map packets_of spelled.messages; spells = spelled.spells; heard = refl })
+
+-- ---- the turn of a step
+
+pub step_follows : (n : ℕ) (table : Table) (book : List Row) (who : ℕ) (cause : Cause) (made : Option CallRow) (event : Event) (letters : List OutLetter) → n ≤ 7 → IsLegal n table book → TakesTurn n table (standing_after n (first_rows table) book) who cause event
+    → AllZip (IsSpelled 7 who) (letters_of (identity_of n who) (acts_at n (standing_after n (first_rows table) book) who event)) letters
+    → IsMade (standing_after n (first_rows table) book).held (calls_of (acts_at n (standing_after n (first_rows table) book) who event)) made
+    → IsLegal n table (book ++ step_row who cause made event (deltas_of (acts_at n (standing_after n (first_rows table) book) who event)) letters (learnt_of (acts_at n (standing_after n (first_rows table) book) who event)) ∷ [])
+step_follows n table book who cause made event letters few legal takes spelled call =
+    let acts : List Act = acts_at n (standing_after n (first_rows table) book) who event in
+    legal_push n table book (step_row who cause made event (deltas_of acts) letters (learnt_of acts)) legal (
+      takes,
+      record {
+        letters = letters_for_members n table book who cause event letters few legal takes spelled;
+        votes = sym (votes_changed acts);
+        learnt = refl;
+        call = call;
+      },
+    )

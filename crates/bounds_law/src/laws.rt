@@ -13,7 +13,7 @@ ghost use Rattle.cluster_sched.specs.declared.row.SchedRow.{SchedRow};
 ghost use Rattle.due_set.specs.Table.{IsSound, Table};
 ghost use Rattle.launch_machine.specs.Clerk.{first_rows};
 ghost use Rattle.step_law.specs.Act.{Act};
-ghost use Rattle.step_law.specs.Folds.{after_acts, deltas_of, letters_of};
+ghost use Rattle.step_law.specs.Folds.{after_acts, calls_of, deltas_of, learnt_of, letters_of};
 ghost use Rattle.step_law.specs.Heard.{heard_as, packets_of};
 ghost use Rattle.step_law.specs.Letters.{AreLettersOf, IsHeardAs, IsSpelled, are_small};
 ghost use Rattle.step_law.specs.May.{AllMay, Setting};
@@ -24,11 +24,12 @@ ghost use Rattle.step_law.specs.declared.out.OutLetter.{OutLetter};
 ghost use Rattle.agree_law.specs.Transition.{identity_of};
 ghost use Rattle.agree_law.specs.World.{CastVote};
 ghost use Rattle.book_law.specs.Book.{PostedLetter, Row, Standing, acts_at, after_row, arriving, held_after, late_after, standing_after, under, vote_of_delta, votes_in, votes_of};
-ghost use Rattle.book_law.specs.Legal.{IsLegal, MayFollow, TakesTurn, answered};
+ghost use Rattle.book_law.specs.Legal.{IsLegal, IsMade, MayFollow, TakesTurn, answered};
 ghost use Rattle.book_law.specs.declared.turn.CallRow.{CallRow};
 ghost use Rattle.book_law.specs.declared.turn.Cause.{Cause};
 ghost use Rattle.bounds_law.specs.Launches.{LeavesTable};
 ghost use Rattle.bounds_law.specs.Numbers.{AreRowsBelow, AreRowsWithin, IsSmallReplica, IsVoteWithin, IsWithin, SpellsWithin};
+ghost use Rattle.bounds_law.specs.Steps.{step_row};
 
 /// In a legal book of one to seven replicas no number is above the number of its turns: of no replica, whether it runs or is
 /// stopped, of no launch table, of no vote that was cast, and of no letter that was posted. A turn takes one round or one slot more
@@ -144,4 +145,15 @@ pub fn posted_letters_are_heard_whole()
         → length book < 2 ^ 59 → Contains (standing_after members (first_rows table) book).posted letter → length letter.bytes < 56 * 2 ^ 31
         → (sent : List Message) × Spells members letter.from (flat_map packets_of sent) letter.bytes
         × IsHeardAs members (length table.jobs) letter.bytes letter.from (flat_map heard_as sent) }
+{}
+
+/// A step that a replica takes in a legal book, by what a program has of it, is a turn of the book: with letters that are spelled for
+/// seven replicas, its changes of what is kept, what it has learned, and its call, where it asks for one.
+pub fn a_step_goes_on_a_legal_book()
+    ensures { (members : ℕ) (table : Table) (book : List Row) (who : ℕ) (cause : Cause) (made : Option CallRow) (event : Event) (letters : List OutLetter) → members ≤ 7
+        → IsLegal members table book → TakesTurn members table (standing_after members (first_rows table) book) who cause event
+        → AllZip (IsSpelled 7 who) (letters_of (identity_of members who) (acts_at members (standing_after members (first_rows table) book) who event)) letters
+        → IsMade (standing_after members (first_rows table) book).held (calls_of (acts_at members (standing_after members (first_rows table) book) who event)) made
+        → IsLegal members table (book ++ step_row who cause made event (deltas_of (acts_at members (standing_after members (first_rows table) book) who event)) letters
+        (learnt_of (acts_at members (standing_after members (first_rows table) book) who event)) ∷ []) }
 {}
