@@ -1,5 +1,5 @@
 -- Each legal book is a list of turns that replicas may take, and comes to the same.
-use Rattle.std.proofs.Common.{◌≡◌, ℕ, zero, suc, ◌<◌, ◌≤◌, true, false, eqb, Option, Some, None, List, [], ◌∷◌, ◌++◌, length, take, refl, sym, ap, ◌∙◌, inl, inr, arith, subst, append-nil, replicate}
+use Rattle.std.proofs.Common.{◌≡◌, ℕ, zero, suc, ◌+◌, ◌<◌, ◌≤◌, true, false, eqb, Option, Some, None, List, [], ◌∷◌, ◌++◌, length, take, refl, sym, ap, ◌∙◌, inl, inr, arith, subst, append-nil, replicate, length-append}
 use Rattle.std.specs.List.{AllByRecursion, Contains, filter, flat_map, range_with_len}
 use Rattle.std.specs.Ordering.{int_eq}
 use Rattle.std.proofs.lemmas.Bool.Decides.{Decides-int_eq}
@@ -30,7 +30,7 @@ use Rattle.step_law.specs.State.{Identity, State, started}
 use Rattle.step_law.specs.declared.out.LearntRow.{LearntRow}
 use Rattle.step_law.specs.Step.{Event, IsPlanned, step}
 use Rattle.step_law.proofs.HeardLemmas.{messages_heard}
-use Rattle.step_law.proofs.OutLemmas.{calls_in}
+use Rattle.step_law.proofs.OutLemmas.{calls_in, letters_are}
 use Rattle.agree_law.specs.Transition as taken
 use Rattle.agree_law.specs.Transition.{AreTransitions, MayTake, acts_of, after_transition, after_transitions, is_silent}
 use Rattle.agree_law.specs.World.{CastVote, Learning, World, after_all, doings_of, first_world, with_replica}
@@ -51,13 +51,21 @@ use Rattle.step_law.specs.declared.out.OutLetter.{OutLetter}
 abbrev pub ending_of : ℕ → SchedRow → Ending
 ending_of who row = record { to = who; job = row.name.job; at = row.name.at; kind = row.kind }
 
--- What a book comes to is what the turns come to in a world: what its letters are heard as was said there, and an answer that
--- waits was given.
+-- a letter goes to a replica, and spells messages that its sender has said
+pub record SpellsSaid (n : ℕ) (said : List Saying) (letter : PostedLetter) : Type 0 where
+  pub to : letter.to < n
+  pub messages : List Message
+  pub spells : Spells n letter.from (flat_map packets_of messages) letter.bytes
+  pub each : (message : Message) → Contains messages message → HasSaid said letter.from message
+
+-- What a book comes to is what the turns come to in a world: what its letters spell was said there, and so was what they are
+-- heard as, and an answer that waits was given.
 pub record Matches (n jobs : ℕ) (st : Standing) (votes : List CastVote) (learned : List Learning) (w : World) : Type 0 where
   pub replicas : (q : ℕ) → w.replicas q ≡ st.replicas q
   pub cast : w.cast ≡ votes
   pub learned_of : (x : Learning) → Contains learned x → Contains w.learned x
   pub said : (letter : PostedLetter) (messages : List Message) → Contains st.posted letter → IsHeardAs n jobs letter.bytes letter.from messages → AllByRecursion (WasSaid w.said letter.from) messages
+  pub spelled : (letter : PostedLetter) → Contains st.posted letter → SpellsSaid n w.said letter
   pub answers : (q : ℕ) (row : SchedRow) → st.waits q ≡ Some row → Contains w.answered (ending_of q row)
 
 -- ---- letters
@@ -75,7 +83,7 @@ was_said_more said more from (AskFrom slot) stays has = stays _ has
 was_said_more said more from (Snap slot rows) stays has = stays _ has
 was_said_more said more from (Lead ballot slot) stays has = stays _ has
 
-all_said_still : (said more : List Saying) (from : ℕ) (messages : List Message) → ((saying : Saying) → Contains said saying → Contains more saying) → AllByRecursion (WasSaid said from) messages → AllByRecursion (WasSaid more from) messages
+pub all_said_still : (said more : List Saying) (from : ℕ) (messages : List Message) → ((saying : Saying) → Contains said saying → Contains more saying) → AllByRecursion (WasSaid said from) messages → AllByRecursion (WasSaid more from) messages
 all_said_still said more from [] stays all = tt
 all_said_still said more from (message ∷ messages) stays all =
     (was_said_more said more from message stays all.0, all_said_still said more from messages stays all.1)
@@ -142,6 +150,15 @@ spelled_said n jobs said from sent heard bytes spells has is =
       | inr large ↦ rw large tt
     ])
 
+-- a letter still spells what its sender has said where more was said
+spells_still : (n : ℕ) (said more : List Saying) (letter : PostedLetter) → ((saying : Saying) → Contains said saying → Contains more saying) → SpellsSaid n said letter → SpellsSaid n more letter
+spells_still n said more letter stays spelled = record {
+  to = spelled.to;
+  messages = spelled.messages;
+  spells = spelled.spells;
+  each = λ message has. stays (record { by = letter.from; message = message }) (spelled.each message has);
+}
+
 -- ---- turns
 
 with_eq : (by : ℕ) (one two : State) (first second : ℕ → State) (q : ℕ) → one ≡ two → ((p : ℕ) → first p ≡ second p) → with_replica by one first q ≡ with_replica by two second q
@@ -155,6 +172,7 @@ matches_as n jobs st st' votes votes' learned learned' w replicas posted answers
   cast = m.cast ∙ same;
   learned_of = λ x has. m.learned_of x (less x has);
   said = λ letter messages has heard. m.said letter messages (subst (λ letters. Contains letters letter) (sym posted) has) heard;
+  spelled = λ letter has. m.spelled letter (subst (λ letters. Contains letters letter) (sym posted) has);
   answers = answers;
 }
 
@@ -165,6 +183,7 @@ quiet_acts n jobs st votes learned w who event answer acts m = record {
   cast = all_cast who event answer acts w ∙ ap (λ cast. cast ++ cast_rows who (votes_of acts)) m.cast;
   learned_of = λ x has. rw (all_learned who event answer acts w) (Contains-append_left w.learned (learned_rows who (learnt_of acts)) x (m.learned_of x has));
   said = λ letter messages has heard. all_said_still w.said (after_all (doings_of who event answer acts) w).said letter.from messages (all_said_more who event answer acts w) (m.said letter messages has heard);
+  spelled = λ letter has. spells_still n w.said (after_all (doings_of who event answer acts) w).said letter (all_said_more who event answer acts w) (m.spelled letter has);
   answers = λ q row is. all_answered_more who event answer acts w (ending_of q row) (m.answers q row is);
 }
 
@@ -186,11 +205,26 @@ step_acts n jobs st votes learned w who event answer acts letters spelled m =
             let beside = zip_beside (IsSpelled n who) (letters_of (identity_of n who) acts) letters came.of spelled came.has in
             new_letter letter messages came.of beside.of came.is beside.has beside.is heard
       ];
+      spelled = λ letter has. elim (Contains-append_cases st.posted (post who letters) letter has) [
+        | inl old ↦ quiet.spelled letter old
+        | inr now ↦
+            let came = map_came _ letters letter now in
+            let beside = zip_beside (IsSpelled n who) (letters_of (identity_of n who) acts) letters came.of spelled came.has in
+            subst (λ (l : PostedLetter). SpellsSaid n w'.said l) came.is (spelled_now came.of beside.of beside.has beside.is)
+      ];
       answers = quiet.answers;
     }
   where
     w' : World
     w' = after_all (doings_of who event answer acts) w
+
+    spelled_now : (sent : OutLetter) (addressed : Addressed) → Contains (letters_of (identity_of n who) acts) addressed → IsSpelled n who addressed sent → SpellsSaid n w'.said (record { from = who; to = sent.to; bytes = sent.bytes })
+    spelled_now sent addressed there spells = record {
+      to = rw spells.to (letters_are (identity_of n who) acts addressed there).0;
+      messages = addressed.messages;
+      spells = spells.spells;
+      each = λ message has. all_said who event answer acts w message (addressed_sends (identity_of n who) acts addressed message there has);
+    }
 
     new_letter : (letter : PostedLetter) (messages : List Message) (sent : OutLetter) (addressed : Addressed) → record { from = who; to = sent.to; bytes = sent.bytes } ≡ letter → Contains (letters_of (identity_of n who) acts) addressed → IsSpelled n who addressed sent → IsHeardAs n jobs letter.bytes letter.from messages → AllByRecursion (WasSaid (after_all (doings_of who event answer acts) w).said letter.from) messages
     new_letter letter messages sent addressed is there spells heard =
@@ -200,7 +234,7 @@ step_acts n jobs st votes learned w who event answer acts letters spelled m =
         (λ message has. all_said who event answer acts w message (addressed_sends (identity_of n who) acts addressed message there has))
         (subst (λ (l : PostedLetter). IsHeardAs n jobs l.bytes l.from messages) (sym is) heard))
 
-heard_event : (n : ℕ) (table : Table) (st : Standing) (votes : List CastVote) (learned : List Learning) (w : World) (who : ℕ) (cause : Cause) (event : Event) → Matches n (length table.jobs) st votes learned w → IsEventOfCause n table st who cause event → TellsWhatWasSaid (record { self = identity_of n who; table = table; event = Some event; said = w.said; answered = w.answered }) event
+pub heard_event : (n : ℕ) (table : Table) (st : Standing) (votes : List CastVote) (learned : List Learning) (w : World) (who : ℕ) (cause : Cause) (event : Event) → Matches n (length table.jobs) st votes learned w → IsEventOfCause n table st who cause event → TellsWhatWasSaid (record { self = identity_of n who; table = table; event = Some event; said = w.said; answered = w.answered }) event
 heard_event n table st votes learned w who cause.Campaign event m is = rw is tt
 heard_event n table st votes learned w who (cause.Tick now) event m (inside, plan, is) = rw is tt
 heard_event n table st votes learned w who (cause.Hear number) event m is =
@@ -208,16 +242,28 @@ heard_event n table st votes learned w who (cause.Hear number) event m is =
 heard_event n table st votes learned w who cause.Answer event m is = rw is.is (m.answers who is.row is.waits)
 
 -- what a replica takes in a book it may take in the world
-may_take : (n : ℕ) (table : Table) (st : Standing) (votes : List CastVote) (learned : List Learning) (w : World) (who : ℕ) (cause : Cause) (event : Event) → Matches n (length table.jobs) st votes learned w → TakesTurn n table st who cause event → MayTake n table w who event
+pub may_take : (n : ℕ) (table : Table) (st : Standing) (votes : List CastVote) (learned : List Learning) (w : World) (who : ℕ) (cause : Cause) (event : Event) → Matches n (length table.jobs) st votes learned w → TakesTurn n table st who cause event → MayTake n table w who event
 may_take n table st votes learned w who cause event m takes = record {
   member = takes.member;
   planned = subst (λ s. IsPlanned table s event) (sym (m.replicas who)) takes.planned;
   heard = heard_event n table st votes learned w who cause event m takes.event_of;
 }
 
--- turns that may come next, and what the world comes to by them
-pub record Goes (n : ℕ) (table : Table) (w : World) (st : Standing) (votes : List CastVote) (learned : List Learning) : Type 0 where
+-- whether a transition has acts of a step: a start has none
+abbrev pub steps_by : taken.Transition → ℕ
+steps_by (taken.Did by event answer) = 1
+steps_by (taken.Stopped by event front back) = 1
+steps_by (taken.Restarted by) = 0
+
+-- how many of some transitions have
+abbrev pub steps_in : List taken.Transition → ℕ
+steps_in [] = 0
+steps_in (transition ∷ transitions) = steps_by transition + steps_in transitions
+
+-- turns that may come next, with as many steps at most, and what the world comes to by them
+pub record Goes (n : ℕ) (table : Table) (most : ℕ) (w : World) (st : Standing) (votes : List CastVote) (learned : List Learning) : Type 0 where
   pub turns : List taken.Transition
+  pub few : steps_in turns ≤ most
   pub are : AreTransitions n table w turns
   pub matches : Matches n (length table.jobs) st votes learned (after_transitions n turns w)
 
@@ -284,7 +330,7 @@ answers_after n jobs st votes learned w who event acts made m is_made q row is =
   | inr other ↦ all_answered_more who event (kind_of_answer made) acts w (ending_of q row) (m.answers q row (rw other at is))
 ]
 
-did : (n : ℕ) (table : Table) (st : Standing) (votes : List CastVote) (learned : List Learning) (w : World) (who : ℕ) (cause : Cause) (row : Row) (made : Option CallRow) → Matches n (length table.jobs) st votes learned w → MayFollow n table st (Did who cause made) row → Goes n table w (after_row n st (Did who cause made) row.event row.letters) (votes ++ cast_rows who row.votes) (learned ++ learned_rows who row.learnt)
+did : (n : ℕ) (table : Table) (st : Standing) (votes : List CastVote) (learned : List Learning) (w : World) (who : ℕ) (cause : Cause) (row : Row) (made : Option CallRow) → Matches n (length table.jobs) st votes learned w → MayFollow n table st (Did who cause made) row → Goes n table 1 w (after_row n st (Did who cause made) row.event row.letters) (votes ++ cast_rows who row.votes) (learned ++ learned_rows who row.learnt)
 unfolding after_row
 did n table st votes learned w who cause row made m (takes, brings) =
     let acts : step (identity_of n who) row.event (w.replicas who) ≡ acts_at n st who row.event = ap (step (identity_of n who) row.event) (m.replicas who) in
@@ -294,6 +340,7 @@ did n table st votes learned w who cause row made m (takes, brings) =
     (rw brings.votes refl) (λ x has. rw (← brings.learnt) has) after in
     record {
       turns = taken.Did who row.event (kind_of_answer made) ∷ [];
+      few = omega arith;
       are = (may_take n table st votes learned w who cause row.event m takes, tt);
       matches = subst (λ some. Matches n (length table.jobs) (after_row n st (Did who cause made) row.event row.letters) (votes ++ cast_rows who row.votes) (learned ++ learned_rows who row.learnt) (after_all (doings_of who (Some row.event) (kind_of_answer made) some) w)) (sym acts) same;
     }
@@ -313,10 +360,11 @@ none_waits who waits q row is = elim (cases_Bool (eqb q who)) [
 ]
 
 -- a replica that stops and has kept what it kept
-stopped : (n : ℕ) (table : Table) (st : Standing) (votes : List CastVote) (learned : List Learning) (w : World) (who : ℕ) (row : Row) (kept : Durable) → Matches n (length table.jobs) st votes learned w → who < n → (st.replicas who).kept ≡ kept → row.votes ≡ [] → row.learnt ≡ [] → Goes n table w (after_stop who kept st) (votes ++ cast_rows who row.votes) (learned ++ learned_rows who row.learnt)
+stopped : (n : ℕ) (table : Table) (st : Standing) (votes : List CastVote) (learned : List Learning) (w : World) (who : ℕ) (row : Row) (kept : Durable) → Matches n (length table.jobs) st votes learned w → who < n → (st.replicas who).kept ≡ kept → row.votes ≡ [] → row.learnt ≡ [] → Goes n table 1 w (after_stop who kept st) (votes ++ cast_rows who row.votes) (learned ++ learned_rows who row.learnt)
 unfolding after_act
 stopped n table st votes learned w who row kept m member is no_vote none = record {
   turns = taken.Restarted who ∷ [];
+  few = omega arith;
   are = (member, tt);
   matches = matches_as n (length table.jobs) _ (after_stop who kept st) _ (votes ++ cast_rows who row.votes) learned (learned ++ learned_rows who row.learnt) _
       (λ q. with_eq who _ _ st.replicas st.replicas q (ap (started who) is) (λ p. refl)) refl
@@ -328,10 +376,11 @@ stopped n table st votes learned w who row kept m member is no_vote none = recor
     still = quiet_acts n (length table.jobs) st votes learned w who None None (Restart who ∷ []) m
 
 -- a replica that stops within a step, and has kept its change
-stopped_kept : (n : ℕ) (table : Table) (st : Standing) (votes : List CastVote) (learned : List Learning) (w : World) (who : ℕ) (cause : Cause) (row : Row) → Matches n (length table.jobs) st votes learned w → TakesTurn n table st who cause row.event → StopsWithin n st who row true → Goes n table w (after_stop who (kept_at n st who row.event true) st) (votes ++ cast_rows who row.votes) (learned ++ learned_rows who row.learnt)
+stopped_kept : (n : ℕ) (table : Table) (st : Standing) (votes : List CastVote) (learned : List Learning) (w : World) (who : ℕ) (cause : Cause) (row : Row) → Matches n (length table.jobs) st votes learned w → TakesTurn n table st who cause row.event → StopsWithin n st who row true → Goes n table 1 w (after_stop who (kept_at n st who row.event true) st) (votes ++ cast_rows who row.votes) (learned ++ learned_rows who row.learnt)
 unfolding after_act
 stopped_kept n table st votes learned w who cause row m takes within = record {
   turns = taken.Stopped who row.event (front_of acts) (back_of acts) ∷ taken.Restarted who ∷ [];
+  few = omega arith;
   are = ((may_take n table st votes learned w who cause row.event m takes, ap (step (identity_of n who) row.event) (m.replicas who) ∙ parts_of acts), (takes.member, tt));
   matches = matches_as n (length table.jobs) _ (after_stop who (kept_at n st who row.event true) st) _ (votes ++ cast_rows who row.votes) learned (learned ++ learned_rows who row.learnt) _
       (λ q. with_eq who _ _ st1.replicas st1.replicas q (ap (started who) is_kept) (λ p. refl) ∙ with_twice who (after_acts silent (st.replicas who)) (started who (kept_at n st who row.event true)) st.replicas q)
@@ -364,7 +413,7 @@ stopped_kept n table st votes learned w who cause row m takes within = record {
     cast_is = append-nil _ ∙ ap (λ some. votes ++ cast_rows who some) (stops.votes ∙ sym within.votes)
 
 -- a turn of a book is none or more turns of the world
-goes : (n : ℕ) (table : Table) (st : Standing) (votes : List CastVote) (learned : List Learning) (w : World) (turn : Turn) (row : Row) → Matches n (length table.jobs) st votes learned w → MayFollow n table st turn row → Goes n table w (after_row n st turn row.event row.letters) (votes ++ cast_rows (turn_of turn) row.votes) (learned ++ learned_rows (turn_of turn) row.learnt)
+goes : (n : ℕ) (table : Table) (st : Standing) (votes : List CastVote) (learned : List Learning) (w : World) (turn : Turn) (row : Row) → Matches n (length table.jobs) st votes learned w → MayFollow n table st turn row → Goes n table 1 w (after_row n st turn row.event row.letters) (votes ++ cast_rows (turn_of turn) row.votes) (learned ++ learned_rows (turn_of turn) row.learnt)
 unfolding after_row
 goes n table st votes learned w (Did who cause made) row m may = did n table st votes learned w who cause row made m may
 goes n table st votes learned w (Stopped who None true) row m (member, runs, kept, nothing) = absurd cc
@@ -375,12 +424,14 @@ goes n table st votes learned w (Stopped who (Some cause) false) row m (takes, w
     stopped n table st votes learned w who row (st.replicas who).kept m takes.member refl within.votes within.learnt
 goes n table st votes learned w (Restarted who) row m (member, stopped_before, nothing) = record {
   turns = [];
+  few = omega arith;
   are = tt;
   matches = matches_as n (length table.jobs) st _ votes (votes ++ cast_rows who row.votes) learned (learned ++ learned_rows who row.learnt) w
       (λ q. refl) refl (λ q answer waits. m.answers q answer waits) (sym (append-nil votes) ∙ no_votes who votes row.votes nothing.votes) (no_learned who learned row.learnt nothing.learnt) m;
 }
 goes n table st votes learned w (Arrived number) row m (late, nothing) = record {
   turns = [];
+  few = omega arith;
   are = tt;
   matches = matches_as n (length table.jobs) st _ votes (votes ++ cast_rows 0 row.votes) learned (learned ++ learned_rows 0 row.learnt) w
       (λ q. refl) refl (λ q answer waits. m.answers q answer waits) (sym (append-nil votes) ∙ no_votes 0 votes row.votes nothing.votes) (no_learned 0 learned row.learnt nothing.learnt) m;
@@ -396,15 +447,20 @@ are_append : (n : ℕ) (table : Table) (w : World) (xs ys : List taken.Transitio
 are_append n table w [] ys first second = second
 are_append n table w (x ∷ xs) ys first second = (first.0, are_append n table (after_transition n x w) xs ys first.1 second)
 
--- turns of the world that come to what a book comes to
+steps_append : (xs ys : List taken.Transition) → steps_in (xs ++ ys) ≡ steps_in xs + steps_in ys
+steps_append [] ys = omega arith
+steps_append (x ∷ xs) ys = omega (arith, steps_append xs ys)
+
+-- turns of the world that come to what a book comes to, with as many steps at most as the book has turns
 abbrev pub Reaches : ℕ → Table → List Row → Type 0
-Reaches n table book = Goes n table (first_world (first_rows table)) (standing_after n (first_rows table) book) (votes_in book) (learned_in book)
+Reaches n table book = Goes n table (length book) (first_world (first_rows table)) (standing_after n (first_rows table) book) (votes_in book) (learned_in book)
 
 reaches_first : (n : ℕ) (table : Table) → Reaches n table []
 reaches_first n table = record {
   turns = [];
+  few = omega arith;
   are = tt;
-  matches = record { replicas = λ q. refl; cast = refl; learned_of = λ x has. has; said = λ letter messages has heard. nothing_in has; answers = λ q row is. absurd (let none : None ≡ Some row = is in cc) };
+  matches = record { replicas = λ q. refl; cast = refl; learned_of = λ x has. has; said = λ letter messages has heard. nothing_in has; spelled = λ letter has. nothing_in has; answers = λ q row is. absurd (let none : None ≡ Some row = is in cc) };
 }
 
 reaches_next : (n : ℕ) (table : Table) (book : List Row) (row : Row) → Reaches n table book → MayFollow n table (standing_after n (first_rows table) book) row.turn row → Reaches n table (book ++ row ∷ [])
@@ -413,6 +469,7 @@ reaches_next n table book row before may =
     let next = goes n table (standing_after n (first_rows table) book) (votes_in book) (learned_in book) w row.turn row before.matches may in
     record {
       turns = before.turns ++ next.turns;
+      few = omega (arith, steps_append before.turns next.turns, before.few, next.few, length-append book (row ∷ []));
       are = are_append n table (first_world (first_rows table)) before.turns next.turns before.are next.are;
       matches =
           rw (after_append n before.turns next.turns (first_world (first_rows table)))

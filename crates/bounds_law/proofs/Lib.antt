@@ -1,0 +1,13 @@
+pub mod Books
+pub mod Bounded
+pub mod Counts
+pub mod Grows
+pub mod Heard
+pub mod Intents
+pub mod Keeping
+pub mod Launched
+pub mod Leaves
+pub mod Posted
+pub mod Spelled
+pub mod Turns
+pub mod Within

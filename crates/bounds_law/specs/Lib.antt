@@ -1,0 +1,3 @@
+pub mod Launches
+pub mod Numbers
+pub mod Steps
