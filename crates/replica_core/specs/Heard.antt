@@ -1,5 +1,5 @@
 -- How a packet is heard: as a message, or as a part of one before it.
-use Rattle.std.specs.Prelude.{◌≡◌, ℕ, ◌^◌, nat_lt, Bool, false, List, [], Option, None, Some, take, ⊤}
+use Rattle.std.specs.Prelude.{◌≡◌, ℕ, ◌+◌, ◌^◌, ◌<◌, ◌≤◌, nat_lt, Bool, true, false, List, [], Option, None, Some, length, take, ⊤}
 use Rattle.std.specs.List.{flat_map}
 use Rattle.paxos_base.specs.Rows.{OpenHaveCursors, RowsStand}
 use Rattle.paxos_base.specs.declared.rows.JobRow.{JobRow}
@@ -7,11 +7,14 @@ use Rattle.paxos_letter.specs.declared.packet.Packet.{Packet}
 use Rattle.paxos_letter.specs.declared.packet.Packet.TheVariants as packet
 use Rattle.step_law.specs.Act.{Act}
 use Rattle.step_law.specs.Hear.{Once, hear, line}
+use Rattle.due_set.specs.Table.{Table}
+use Rattle.learner_core.specs.Learner as learned
 use Rattle.step_law.specs.Heard.{row_in, vote_in}
+use Rattle.step_law.specs.Letters.{is_small}
 use Rattle.step_law.specs.Message.{Message, Prepare, Promise, Accept, Accepted, Nack, Known, AskFrom, Snap, Lead, Mention}
 use Rattle.step_law.specs.State.{State, Identity, prefix_of}
 use Rattle.replica_draft.specs.Draft.{done, drafted, has_copied}
-use Rattle.replica_core.specs.Replica.{CountsBelow, fixed_of}
+use Rattle.replica_core.specs.Replica.{CountsBelow, IsSteady, IsWhole, changes_in, fixed_of}
 use Rattle.replica_draft.specs.declared.draft.Draft.{Draft}
 use Rattle.replica_core.specs.declared.parts.Core.{Core}
 
@@ -82,6 +85,18 @@ BringsRows jobs message = ⊤
 abbrev pub BringsRowsIn : ℕ → Option Message → Type 0
 BringsRowsIn jobs None = ⊤
 BringsRowsIn jobs (Some message) = BringsRows jobs message
+
+-- a replica hears a packet of a letter from another, behind which these follow: its numbers are within the bounds and its rows are
+-- those of the table of jobs, and the draft has no change of what is on the disk yet where the packet asks for one
+pub record CanHear (table : Table) (core : Core) (draft : Draft) (from : ℕ) (packet : Packet) (rest : List Packet) : Type 0 where
+  pub whole : IsWhole core
+  pub prefix : learned.prefix_of core.learner < 2 ^ 62
+  pub member : from < core.members
+  pub small : is_small (length table.jobs) packet ≡ true
+  pub rows : BringsRowsIn (length table.jobs) (message_in packet rest)
+  pub once : changes_in draft.change + changes_asked packet ≤ 1
+  pub steady : IsSteady table core draft
+  pub short : length draft.learnt.items < 2 ^ 31
 
 -- a draft of a replica goes on by the acts that its state asks for
 abbrev pub HearsBy : Core → Draft → Draft → (State → List Act) → Type 0

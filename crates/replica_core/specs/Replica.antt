@@ -2,6 +2,7 @@
 use Rattle.std.specs.Prelude.{◌≡◌, ℕ, ◌≤◌, ◌<◌, ◌^◌, List, [], All, Option, None, Some, length, unwrap_or, ◌+◌, ⊤}
 use Rattle.paxos_base.specs.Ballot.{round_of}
 use Rattle.paxos_base.specs.Rows.{OpenHaveCursors}
+use Rattle.paxos_base.specs.Vote.{SlotsRise}
 use Rattle.paxos_base.specs.declared.durable.Durable.{Durable}
 use Rattle.paxos_base.specs.declared.entry.Vote.{Vote}
 use Rattle.paxos_base.specs.declared.rows.JobRow.{JobRow}
@@ -247,3 +248,11 @@ pub record IsReady (table : Table) (core : Core) (draft : Draft) : Type 0 where
 -- so it can for each table of jobs, since it has no new base
 abbrev pub IsReadyAnyhow : Core → Draft → Type 0
 IsReadyAnyhow core draft = (table : Table) → IsReady table core draft
+
+-- A leader without a flight, by the votes that bind it, before it has done anything in a step.
+pub record IsFreeToPropose (core : Core) (draft : Draft) (ballot : ℕ) (best : List Vote) : Type 0 where
+  pub idle : IsIdle core draft
+  pub whole : IsWhole core
+  pub small : IsSmall (state_of core) core.machine.rows
+  pub leads : core.term ≡ Leader ballot best None
+  pub rise : SlotsRise best

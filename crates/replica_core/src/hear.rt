@@ -6,9 +6,9 @@ ghost use Rattle.term_core.specs.Term.{after_ballot};
 ghost use Rattle.step_law.specs.Act.{Observe};
 ghost use Rattle.step_law.specs.Hear.{hear_all, not_yet};
 ghost use Rattle.step_law.specs.Heard.{messages_of};
-ghost use Rattle.step_law.specs.Letters.{is_small, is_small_letter};
+ghost use Rattle.step_law.specs.Letters.{is_small_letter};
 ghost use Rattle.replica_draft.specs.Draft.{Goes, drafted};
-ghost use Rattle.replica_core.specs.Heard.{BringsRowsIn, HearsBy, ballot_named, changes_asked, hear_in, line_in, message_in, once_in, shows_gap_in};
+ghost use Rattle.replica_core.specs.Heard.{CanHear, HearsBy, ballot_named, changes_asked, hear_in, line_in, message_in, once_in, shows_gap_in};
 ghost use Rattle.replica_core.specs.Replica.{IsIdle, IsReady, IsSmall, IsSteady, IsWhole, Makes, base_of, changes_in, identity_of, fixed_of, state_of};
 
 use crate::parts::Core;
@@ -101,14 +101,7 @@ impl Core {
         rest: &Packets<'_>,
         asked: bool,
     ) -> Result<(), OutOfMemory>
-        requires whole { IsWhole self.now }
-        requires prefix { prefix_of self.now.learner < 2 ^ 62 }
-        requires from { from < self.now.members }
-        requires small { is_small (length table.now.jobs) packet.now ≡ true }
-        requires rows { BringsRowsIn (length table.now.jobs) (message_in packet.now rest.now) }
-        requires once { changes_in draft.old.change + changes_asked packet.now ≤ 1 }
-        requires steady { IsSteady table.now self.now draft.old }
-        requires short { length draft.old.learnt.items < 2 ^ 31 }
+        requires { CanHear table.now self.now draft.old from packet.now rest.now }
         ensures does { OnOk result (HearsBy self.now draft.old draft.new (hear_in (identity_of self.now) from (message_in packet.now rest.now) (once_in asked draft.old))) }
         ensures steady { OnOk result (IsSteady table.now self.now draft.new) }
         ensures once { OnOk result (changes_in draft.new.change ≤ changes_in draft.old.change + changes_asked packet.now) }
@@ -129,14 +122,7 @@ impl Core {
         rest: &Packets<'_>,
         asked: bool,
     ) -> Result<(), OutOfMemory>
-        requires whole { IsWhole self.now }
-        requires prefix { prefix_of self.now.learner < 2 ^ 62 }
-        requires from { from < self.now.members }
-        requires small { is_small (length table.now.jobs) packet.now ≡ true }
-        requires rows { BringsRowsIn (length table.now.jobs) (message_in packet.now rest.now) }
-        requires once { changes_in draft.old.change + changes_asked packet.now ≤ 1 }
-        requires steady { IsSteady table.now self.now draft.old }
-        requires short { length draft.old.learnt.items < 2 ^ 31 }
+        requires { CanHear table.now self.now draft.old from packet.now rest.now }
         ensures does { OnOk result (HearsBy self.now draft.old draft.new (line_in (identity_of self.now) from (message_in packet.now rest.now) (once_in asked draft.old))) }
         ensures steady { OnOk result (IsSteady table.now self.now draft.new) }
         ensures once { OnOk result (changes_in draft.new.change ≤ changes_in draft.old.change + changes_asked packet.now) }

@@ -15,7 +15,7 @@ ghost use Rattle.step_law.specs.Message.{Lead, Others};
 ghost use Rattle.step_law.specs.Propose.{answer, bound_by, campaign, end_if, follow_intent, is_long, is_open, lead_on, proposal, propose, tick, wait};
 ghost use Rattle.step_law.specs.State.{prefix_of};
 ghost use Rattle.replica_core.specs.Lines.{Does};
-ghost use Rattle.replica_core.specs.Replica.{FliesAt, IsIdle, IsReady, IsReadyAnyhow, IsSmall, IsWhole, Makes, identity_of, state_of};
+ghost use Rattle.replica_core.specs.Replica.{FliesAt, IsFreeToPropose, IsIdle, IsReady, IsReadyAnyhow, IsSmall, IsWhole, Makes, identity_of, state_of};
 
 use crate::parts::Core;
 use cluster_sched::{Name, SchedRow};
@@ -160,11 +160,7 @@ impl Core {
         intent: Intent,
         now: Minute,
     ) -> Result<(), OutOfMemory>
-        requires idle { IsIdle self.now draft.old }
-        requires whole { IsWhole self.now }
-        requires small { IsSmall (state_of self.now) self.now.machine.rows }
-        requires leads { self.now.term ≡ Leader ballot best.now None }
-        requires rise { SlotsRise best.now }
+        requires { IsFreeToPropose self.now draft.old ballot best.now }
         ensures makes { OnOk result (Makes self.now (lead_on (identity_of self.now) now.0 intent ballot best.now (state_of self.now)
             (votes_from (prefix_of (state_of self.now)) best.now)) draft.new) }
         ensures ready { OnOk result (IsReadyAnyhow self.now draft.new) }
@@ -185,11 +181,7 @@ impl Core {
         intent: Intent,
         now: Minute,
     ) -> Result<(), OutOfMemory>
-        requires idle { IsIdle self.now draft.old }
-        requires whole { IsWhole self.now }
-        requires small { IsSmall (state_of self.now) self.now.machine.rows }
-        requires leads { self.now.term ≡ Leader ballot best.now None }
-        requires rise { SlotsRise best.now }
+        requires { IsFreeToPropose self.now draft.old ballot best.now }
         ensures makes { OnOk result (Makes self.now (follow_intent (identity_of self.now) now.0 intent ballot best.now (state_of self.now)) draft.new) }
         ensures ready { OnOk result (IsReadyAnyhow self.now draft.new) }
     {
@@ -243,11 +235,7 @@ impl Core {
         best: &[Vote],
         entry: Entry,
     ) -> Result<(), OutOfMemory>
-        requires idle { IsIdle self.now draft.old }
-        requires whole { IsWhole self.now }
-        requires small { IsSmall (state_of self.now) self.now.machine.rows }
-        requires leads { self.now.term ≡ Leader ballot best.now None }
-        requires rise { SlotsRise best.now }
+        requires { IsFreeToPropose self.now draft.old ballot best.now }
         ensures makes { OnOk result (Makes self.now (propose (identity_of self.now)
             (proposal ballot best.now (prefix_of (state_of self.now)) entry)) draft.new) }
         ensures ready { OnOk result (IsReadyAnyhow self.now draft.new) }
@@ -340,11 +328,7 @@ impl Core {
         entry: Entry,
         is_open: bool,
     ) -> Result<(), OutOfMemory>
-        requires idle { IsIdle self.now draft.old }
-        requires whole { IsWhole self.now }
-        requires small { IsSmall (state_of self.now) self.now.machine.rows }
-        requires leads { self.now.term ≡ Leader ballot best.now None }
-        requires rise { SlotsRise best.now }
+        requires { IsFreeToPropose self.now draft.old ballot best.now }
         ensures makes { OnOk result (Makes self.now (end_if (identity_of self.now) ballot best.now (state_of self.now) entry is_open
             (votes_from (prefix_of (state_of self.now)) best.now)) draft.new) }
         ensures ready { OnOk result (IsReadyAnyhow self.now draft.new) }

@@ -1,9 +1,9 @@
-use Rattle.std.proofs.Common.{length, refl}
-use Rattle.std.proofs.lemmas.Bool.{and_parts}
+use Rattle.std.proofs.Common.{◌<◌, ◌^◌, arith, length, refl}
+use Rattle.std.proofs.lemmas.Bool.{and_parts, ltb-true}
 use Rattle.step_law.specs.Heard.{messages_of}
 use Rattle.step_law.specs.Letters.{IsHeardAs}
 use Rattle.replica_core.proofs.HearLemmas.{first-rows, hearing-all, hearing-next, hearing-none, once-now}
-use Rattle.replica_core.proofs.LeadLemmas.{begun-ready}
+use Rattle.replica_core.proofs.LeadLemmas.{begun-ready, own-prefix}
 use Rattle.replica_core.proofs.OnceLemmas.{read-once}
 use Rattle.replica_core.proofs.PlanLemmas.{read-from}
 use Rattle.replica_core.proofs.TableLemmas.{all-rows-heard}
@@ -25,15 +25,21 @@ loop-packet-init c =
     (all-rows-heard c.args.self.now.members (length c.args.table.now.jobs) bytes from (messages_of packets) heard)
     (and_parts _ _ c.requires.bounds).1)
 
-pub hear-requires-clause-from : goal.hear-requires-clause-from
-hear-requires-clause-from c =
-    rw c.from-from.ensures (read-from c.args.self.now.members c.args.letter.now.from c.args.letter.now.packets c.requires.letter.0 c.requires.letter.1)
-
-pub hear-requires-clause-rows : goal.hear-requires-clause-rows
-hear-requires-clause-rows c = (first-rows (length c.args.table.now.jobs) c.in-Some.packet c.next.new.self (rw c.in-Some.ensures.steps at c.loop-packet.invariant.rows)).0
-
-pub hear-requires-clause-once : goal.hear-requires-clause-once
-hear-requires-clause-once c = once-now c.in-Some.packet c.next.new.self (changes_in c.loop-packet.draft.change) (rw c.in-Some.ensures.steps at c.loop-packet.invariant.once)
+pub hear-requires : goal.hear-requires
+hear-requires c =
+    let hearing = rw c.in-Some.ensures.steps at c.loop-packet.invariant in
+    let few : length c.args.letter.now.packets < 2 ^ 31 = ltb-true (length c.args.letter.now.packets) (2 ^ 31) (and_parts _ _ c.requires.bounds).0 in
+    let past = hearing.few in
+    record {
+      whole = c.requires.whole;
+      prefix = rw (own-prefix c.args.self.now c.requires.whole) c.requires.small.prefix;
+      member = rw c.from-from.ensures (read-from c.args.self.now.members c.args.letter.now.from c.args.letter.now.packets c.requires.letter.0 c.requires.letter.1);
+      small = (and_parts _ _ hearing.small).0;
+      rows = (first-rows (length c.args.table.now.jobs) c.in-Some.packet c.next.new.self hearing.rows).0;
+      once = once-now c.in-Some.packet c.next.new.self (changes_in c.loop-packet.draft.change) hearing.once;
+      steady = hearing.steady;
+      short = omega (arith, few, past);
+    }
 
 pub loop-packet-preserved-then-asked : goal.loop-packet-preserved-then-asked
 loop-packet-preserved-then-asked c =
