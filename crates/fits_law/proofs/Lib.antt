@@ -5,8 +5,10 @@ pub mod Ended
 pub mod InTime
 pub mod Invariant
 pub mod Logs
+pub mod OnceLemmas
 pub mod PartLemmas
 pub mod Steps
+pub mod Takeover
 pub mod Turns
 pub mod Void
 pub mod Whole

@@ -1,5 +1,5 @@
 //! Laws of books and of what is held. Each is the contract of a function that does nothing.
-ghost use Rattle.std.specs.Prelude.{◌≡◌, ◌≢◌, ◌≤◌, ◌∷◌, ◌++◌, ℕ, ℤ, List, Some, Contains, take};
+ghost use Rattle.std.specs.Prelude.{◌≡◌, ◌≢◌, ◌≤◌, [], ◌∷◌, ◌++◌, ℕ, ℤ, List, Some, Contains, map, take};
 ghost use Rattle.paxos_base.specs.declared.entry.Entry.{Entry};
 ghost use Rattle.paxos_base.specs.declared.entry.Entry.TheVariants.{Noop, End};
 ghost use Rattle.paxos_base.specs.declared.entry.Kind.{Kind};
@@ -13,6 +13,7 @@ ghost use Rattle.agree_law.specs.Log.{IsLog};
 ghost use Rattle.agree_law.specs.World.{CastVote};
 ghost use Rattle.book_law.specs.Book.{Row, standing_after, votes_in};
 ghost use Rattle.book_law.specs.Legal.{IsLegal};
+ghost use Rattle.book_law.specs.Takeover.{AsksFor, launch_row, takeover};
 ghost use Rattle.fits_law.specs.Fitting.{FitsItsLog, TakesEffectAt, held_in};
 ghost use Rattle.fits_law.specs.Parts.{ArrivesTooLate, EndsAs, HasTwoDates};
 
@@ -58,6 +59,13 @@ pub fn each_entry_takes_effect()
         → TakesEffectAt table log cast.vote.slot cast.vote.entry }
 {}
 
+/// In the log of a legal book a launch has one end at most, whatever it says.
+pub fn a_launch_ends_once()
+    ensures { (members : ℕ) (table : Table) (book : List Row) (log before after front back : List Entry) (job : ℕ) (at : ℤ) (one other : Kind)
+        → members ≤ 7 → IsLegal members table book → IsLog members (votes_in book) log → log ≡ before ++ End job at one ∷ after
+        → log ≡ front ++ End job at other ∷ back → before ≡ front }
+{}
+
 /// The log of a legal book leaves a launch table, whatever the table of jobs.
 pub fn a_log_leaves_a_table()
     ensures { (members : ℕ) (table : Table) (book : List Row) (log : List Entry) → members ≤ 7 → IsLegal members table book
@@ -71,16 +79,16 @@ pub fn a_log_goes_on()
         → (more : List Entry) × (later ≡ log ++ more) }
 {}
 
-/// There is a legal book in which a call that was in time goes late, and its launch is called again too late and held as a void.
-/// Where the late call arrives behind it, the end says the void, and the void is what is held.
-pub fn a_late_call_may_come_to_a_void()
+/// There is a legal book in which a call that was in time goes late, its launch is called again too late and held as a void, and
+/// the late call arrives behind that. In each such book the void is what is held.
+pub fn a_late_call_may_arrive_behind_a_void()
     ensures some { (table : Table) × (book : List Row) × IsSound table × IsLegal 1 table book × ArrivesTooLate 1 table book }
     ensures held { (members : ℕ) (table : Table) (book : List Row) (late : ArrivesTooLate members table book) (row : SchedRow)
         → members ≤ 7 → IsLegal members table book → Contains (held_in members table book) row → row.name ≡ late.call.name
         → row.kind ≡ Void }
 {}
 
-/// There is a legal book in which a job that runs by its period is launched on two dates; wherever one is, they are a period
+/// There is a legal book in which a job that runs by its period is launched on two dates. In each such book they are a period
 /// apart.
 pub fn a_job_may_be_launched_on_two_dates()
     ensures some { (table : Table) × (book : List Row) × IsSound table × IsLegal 1 table book × HasTwoDates 1 table book }
@@ -88,11 +96,19 @@ pub fn a_job_may_be_launched_on_two_dates()
         → IsLegal members table book → IsPeriodApart table dates.job dates.first dates.second }
 {}
 
-/// There is a legal book of two replicas in which a launch is started, called in time and ended, and both learn the end; wherever
-/// a launch ends, a row of that kind is held for it.
+/// There is a legal book of two replicas in which a launch is started, called in time and ended. In each legal book a row of the
+/// kind that ends a launch is held for it.
 pub fn a_launch_may_end_in_time()
     ensures some { (table : Table) × (book : List Row) × (job : ℕ) × (at : ℤ) × IsSound table × IsLegal 2 table book
         × EndsAs 2 table book job at Launch }
     ensures held { (members : ℕ) (table : Table) (book : List Row) (job : ℕ) (at : ℤ) (kind : Kind) → members ≤ 7
         → IsLegal members table book → EndsAs members table book job at kind → IsHeld (held_in members table book) job at kind }
+{}
+
+/// After the takeover, of which there is a legal book, one row is held: that of the call that went late and arrived, by which the
+/// second call was answered.
+pub fn a_takeover_holds_its_launch()
+    ensures { (table : Table) (job : ℕ) (at now : ℤ) → AsksFor table job at now
+        → (book : List Row) × (map (λ row. row.turn) book ≡ takeover job at now) × IsLegal 3 table book
+        × (held_in 3 table book ≡ launch_row job at now ∷ []) }
 {}
