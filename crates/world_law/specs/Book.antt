@@ -1,16 +1,21 @@
 -- A book as a program keeps it, and the rows that stand behind it.
-use Rattle.std.specs.Prelude.{◌≡◌, ℕ, ◌<◌, ◌≤◌, List, [], ◌∷◌, ◌++◌, length, map, Option, None}
+use Rattle.std.specs.Prelude.{◌≡◌, ℕ, ◌<◌, ◌≤◌, List, [], ◌∷◌, ◌++◌, length, map, Option, None, Some}
 use Rattle.std.specs.List.{enumerate_from, flat_map}
 use Rattle.std.specs.Option.{option_to_list}
-use Rattle.cluster_sched.specs.Fates.{Holdings}
+use Rattle.zone_minutes.specs.declared.minute.Minute.{Minute}
+use Rattle.cluster_sched.specs.Fates.{Holdings, call}
 use Rattle.cluster_sched.specs.Fates as ledger
 use Rattle.cluster_sched.specs.declared.row.SchedRow.{SchedRow}
 use Rattle.due_set.specs.Table.{Table}
 use Rattle.launch_machine.specs.Clerk.{first_rows}
+use Rattle.agree_law.specs.Transition.{identity_of}
+use Rattle.step_law.specs.Folds.{calls_of, letters_of}
+use Rattle.step_law.specs.Step.{Event}
 use Rattle.step_law.specs.declared.out.OutLetter.{OutLetter}
-use Rattle.book_law.specs.Book.{PostedLetter, Row, Standing, arriving, held_after, late_after, late_call, standing_after, turn_of, vote_of_delta}
-use Rattle.book_law.specs.Legal.{IsLegal, MayFollow}
+use Rattle.book_law.specs.Book.{PostedLetter, Row, Standing, acts_at, arriving, held_after, late_after, late_call, standing_after, turn_of, under, vote_of_delta}
+use Rattle.book_law.specs.Legal.{IsLegal, MayFollow, TakesTurn, answered}
 use Rattle.book_law.specs.declared.turn.CallRow.{CallRow}
+use Rattle.book_law.specs.declared.turn.Cause.TheVariants.{Tick}
 use Rattle.book_law.specs.declared.turn.Turn.{Turn}
 use Rattle.book_law.specs.declared.turn.Turn.TheVariants.{Did, Arrived}
 use Rattle.replica_core.specs.declared.out.StepOut.{StepOut}
@@ -100,6 +105,32 @@ pub record IsAlike (new old : BookState) : Type 0 where
   pub ledger : ledger.IsUnchanged old.ledger new.ledger
   pub arrived : new.arrived ≡ old.arrived
   pub pending : new.pending ≡ old.pending
+
+-- a ledger was called, and the call's rows joined the others as they do in a turn
+pub record HasCalled (made : CallRow) (old new : Holdings) : Type 0 where
+  pub held : new.held ≡ held_after (Some made) old.held
+  pub late : new.late ≡ late_after (Some made) old.held old.late
+  pub answer : made.answer ≡ answered (call made.fate made.row (under made.row.name old.held)).answer
+
+-- A tick may come next whose step asks for this row, and for no other; and there is room for its turn.
+pub record MayCall (table : Table) (book : BookState) (row : SchedRow) : Type 0 where
+  pub rows : List Row
+  pub behind : StandsBehind table rows book
+  pub who : ℕ
+  pub now : Minute
+  pub event : Event
+  pub takes : TakesTurn book.members table (standing_behind table rows book) who (Tick now) event
+  pub asks : calls_of (acts_at book.members (standing_behind table rows book) who event) ≡ row ∷ []
+  pub room : HasRoom (length (letters_of (identity_of book.members who) (acts_at book.members (standing_behind table rows book) who event))) book
+
+-- the ledger of a book was called, and the call is pending
+pub record MakesCall (made : CallRow) (old new : BookState) : Type 0 where
+  pub members : new.members ≡ old.members
+  pub turns : new.turns ≡ old.turns
+  pub letters : new.letters ≡ old.letters
+  pub ledger : HasCalled made old.ledger new.ledger
+  pub arrived : new.arrived ≡ old.arrived
+  pub pending : new.pending ≡ Some made
 
 -- the rows that the scheduler holds after a turn that no call is part of
 abbrev pub held_then : Turn → Holdings → List SchedRow

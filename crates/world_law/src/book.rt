@@ -1,13 +1,15 @@
 //! The book that a program keeps while replicas run.
-ghost use Rattle.std.specs.Prelude.{◌≡◌, ◌+◌, ◌<◌, ◌≤◌, ◌++◌, ◌∷◌, [], ℕ, List, None, length, OnOk, vec_len, vec_capacity};
+ghost use Rattle.std.specs.Prelude.{◌≡◌, ◌+◌, ◌<◌, ◌≤◌, ◌++◌, ◌∷◌, [], ℕ, List, None, Some, length, IfOk, OnOk, OnErr, vec_len, vec_capacity};
+ghost use Rattle.cluster_sched.specs.Fates.{IsUnchanged};
+ghost use Rattle.cluster_sched.specs.declared.fate.Fate.TheVariants.{Done};
 ghost use Rattle.due_set.specs.Table.{Table};
 ghost use Rattle.book_law.specs.Book.{Row, arriving, late_call, turn_of};
-ghost use Rattle.book_law.specs.Legal.{MayFollow};
-ghost use Rattle.world_law.specs.Book.{Commits, HasRoom, IsAlike, IsLegalBook, IsNext, IsRowOf, StandsBehind, call_of, letter_rows, standing_behind};
+ghost use Rattle.book_law.specs.Legal.{IsMade, MayFollow};
+ghost use Rattle.world_law.specs.Book.{Commits, HasCalled, HasRoom, IsAlike, IsLegalBook, IsNext, IsRowOf, MakesCall, MayCall, StandsBehind, call_of, letter_rows, standing_behind};
 
 use crate::letter::LetterRow;
 use book_law::{CallRow, Turn};
-use cluster_sched::Ledger;
+use cluster_sched::{CallFault, Fate, Ledger, SchedRow, call_by_name};
 use cron_io::OutOfMemory;
 use due_set::JobTable;
 use replica_core::{LetterList, StepOut};
@@ -109,6 +111,39 @@ impl Book {
         self.ledger.reserve()
     }
 
+    /// Calls the scheduler for a step that asks for this row, as part of the turn that comes next: from then on the call is pending
+    /// until that turn is added. Without memory the book stays as it is. The room that was made stays.
+    pub fn call(
+        &mut self,
+        table: &JobTable,
+        row: SchedRow,
+        fate: Fate,
+    ) -> Result<CallRow, OutOfMemory>
+        requires rest { self.old.pending ≡ None }
+        requires asks { MayCall table.now self.old row }
+        ensures row { IfOk result (λ made. (made.row ≡ row) × (made.fate ≡ fate)) }
+        ensures makes { IfOk result (λ made. MakesCall made self.old self.new) }
+        ensures answer { IfOk result (λ made. (rows : List Row) → StandsBehind table.now rows self.old
+            → IsMade (standing_behind table.now rows self.old).held (row ∷ []) (Some made)) }
+        ensures stands { (rows : List Row) → StandsBehind table.now rows self.old → StandsBehind table.now rows self.new }
+        ensures room { (letters : ℕ) → HasRoom letters self.old → HasRoom letters self.new }
+        ensures err { OnErr result (IsAlike self.new self.old) }
+    {
+        self.ask(row, fate)
+    }
+
+    // Calls the ledger, and keeps the call.
+    fn ask(&mut self, row: SchedRow, fate: Fate) -> Result<CallRow, OutOfMemory>
+        ensures row { IfOk result (λ made. (made.row ≡ row) × (made.fate ≡ fate)) }
+        ensures makes { IfOk result (λ made. MakesCall made self.old self.new) }
+        ensures err { OnErr result (IsAlike self.new self.old) }
+        ensures room { (letters : ℕ) → HasRoom letters self.old → HasRoom letters self.new }
+    {
+        let made = call_ledger(&mut self.ledger, row, fate)?;
+        self.pending = Some(made);
+        Ok(made)
+    }
+
     /// Adds the turn that comes next, with what came of its step: of a stop the change that was kept, where one was, and of any other
     /// turn but a step nothing. This takes no memory.
     pub fn commit(&mut self, table: &JobTable, turn: Turn, out: StepOut)
@@ -183,6 +218,33 @@ fn arrive(ledger: &mut Ledger, late: u32)
     match ledger.arrive(late) {
         Ok(_) => {}
         Err(_) => unreachable!(),
+    }
+}
+
+// Calls a ledger for a row, and lets this become of the call.
+fn call_ledger(ledger: &mut Ledger, row: SchedRow, fate: Fate) -> Result<CallRow, OutOfMemory>
+    requires { ledger.old.fate ≡ Done }
+    ensures row { IfOk result (λ made. (made.row ≡ row) × (made.fate ≡ fate)) }
+    ensures called { IfOk result (λ made. HasCalled made ledger.old ledger.new) }
+    ensures err { OnErr result (IsUnchanged ledger.old ledger.new × (ledger.old.spare ≤ ledger.new.spare)) }
+    ensures fate { ledger.new.fate ≡ Done }
+{
+    ledger.arm(fate);
+    match call_by_name(ledger, row) {
+        Ok(first) => Ok(CallRow {
+            row,
+            fate,
+            answer: Some(first),
+        }),
+        Err(CallFault::Failed) => Ok(CallRow {
+            row,
+            fate,
+            answer: None,
+        }),
+        Err(CallFault::OutOfMemory) => {
+            ledger.arm(Fate::Done);
+            Err(OutOfMemory)
+        }
     }
 }
 
