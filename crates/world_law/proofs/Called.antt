@@ -1,5 +1,5 @@
 -- A book whose ledger was called has the rows behind it that it had.
-use Rattle.std.proofs.Common.{◌≡◌, List, [], ◌∷◌, Some, None, Result, Ok, Err, IfOk, OnErr, refl, ap, ◌∙◌}
+use Rattle.std.proofs.Common.{◌≡◌, ℕ, List, [], ◌∷◌, Some, None, Result, Ok, Err, IfOk, OnErr, refl, ap, ◌∙◌, sym}
 use Rattle.cron_io.specs.declared.out_of_memory.OutOfMemory.{OutOfMemory}
 use Rattle.cluster_sched.specs.Fates.{call}
 use Rattle.cluster_sched.specs.declared.fate.Fate.{Fate}
@@ -8,7 +8,10 @@ use Rattle.due_set.specs.Table.{Table}
 use Rattle.book_law.specs.Book.{Row, held_after, late_after, under}
 use Rattle.book_law.specs.Legal.{IsMade, answered}
 use Rattle.book_law.specs.declared.turn.CallRow.{CallRow}
-use Rattle.world_law.specs.Book.{BookState, IsAlike, MakesCall, StandsBehind, standing_behind}
+use Rattle.book_law.specs.declared.turn.Cause.{Cause}
+use Rattle.book_law.specs.declared.turn.Turn.{Turn}
+use Rattle.book_law.specs.declared.turn.Turn.TheVariants.{Did, Stopped, Restarted, Arrived}
+use Rattle.world_law.specs.Book.{BookState, IsAlike, MakesCall, StandsBehind, call_of, standing_behind}
 
 -- at rest the ledger holds what the rows hold
 pub held_at_rest : (table : Table) (rows : List Row) (book : BookState) → book.pending ≡ None → StandsBehind table rows book
@@ -63,3 +66,10 @@ call_is_made table (Ok made) row becomes old new rest is makes =
           ∙ ap (λ held. answered (call made.fate row (under row.name held)).answer) (held_at_rest table rows old rest behind),
     )
 call_is_made table (Err fault) row becomes old new rest is makes = tt
+
+-- a turn that carries a call is a step
+pub carried : (turn : Turn) (made : CallRow) → Some made ≡ call_of turn → (who : ℕ) × (cause : Cause) × (turn ≡ Did who cause (Some made))
+carried (Did who cause told) made is = (who, cause, ap (Did who cause) (sym is))
+carried (Stopped who cause kept) made is = absurd cc
+carried (Restarted who) made is = absurd cc
+carried (Arrived number) made is = absurd cc

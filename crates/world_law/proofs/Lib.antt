@@ -1,3 +1,4 @@
 pub mod Behind
 pub mod Called
 pub mod Ledgers
+pub mod Steps

@@ -2,7 +2,12 @@
 #![tactic(auto)]
 
 mod book;
+mod laws;
 mod letter;
 
 pub use book::Book;
+pub use laws::{
+    a_legal_book_agrees_and_fits, a_pending_call_is_carried_by_a_step, a_step_is_the_next_turn,
+    a_tick_may_be_called_for,
+};
 pub use letter::LetterRow;
