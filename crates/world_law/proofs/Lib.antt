@@ -1,4 +1,5 @@
 pub mod Behind
 pub mod Called
 pub mod Ledgers
+pub mod Others
 pub mod Steps

@@ -1,5 +1,5 @@
 //! Laws of books that a program keeps. Each is the contract of a function that does nothing.
-ghost use Rattle.std.specs.Prelude.{◌≡◌, ◌≤◌, ℕ, List, length, take, Option, None, Some};
+ghost use Rattle.std.specs.Prelude.{◌≡◌, ◌≢◌, ◌≤◌, ◌++◌, ◌∷◌, [], ℕ, List, length, take, Option, None, Some};
 ghost use Rattle.std.specs.Option.{option_to_list};
 ghost use Rattle.zone_minutes.specs.declared.minute.Minute.{Minute};
 ghost use Rattle.paxos_base.specs.declared.entry.Entry.{Entry};
@@ -8,12 +8,12 @@ ghost use Rattle.due_set.specs.Table.{Table};
 ghost use Rattle.launch_law.specs.Fits.{Fits};
 ghost use Rattle.agree_law.specs.Log.{IsLog};
 ghost use Rattle.book_law.specs.Agrees.{Agrees};
-ghost use Rattle.book_law.specs.Book.{Row, votes_in};
+ghost use Rattle.book_law.specs.Book.{Row, turn_of, votes_in};
 ghost use Rattle.book_law.specs.Legal.{IsMade};
 ghost use Rattle.book_law.specs.declared.turn.CallRow.{CallRow};
 ghost use Rattle.book_law.specs.declared.turn.Cause.{Cause};
 ghost use Rattle.book_law.specs.declared.turn.Turn.{Turn};
-ghost use Rattle.book_law.specs.declared.turn.Turn.TheVariants.{Did};
+ghost use Rattle.book_law.specs.declared.turn.Turn.TheVariants.{Did, Arrived};
 ghost use Rattle.fits_law.specs.Fitting.{FitsItsLog};
 ghost use Rattle.replica_core.specs.Replica.{ReplicaState};
 ghost use Rattle.replica_core.specs.Step.{IsInputInside, Steps};
@@ -41,6 +41,14 @@ pub fn a_step_is_the_next_turn()
         → book.members ≤ 7 → StandsBehind table rows book → StandsAt table rows book old
         → IsInputOf (standing_behind table rows book) book old.identity.me cause input → IsInputInside table input → Steps table input old new out
         → IsMade (standing_behind table rows book).held (option_to_list out.call) made → IsTurnOf table rows book old.identity.me cause made out new }
+{}
+
+/// A turn leaves the other replicas where they stood in the book, and an arrival leaves all.
+pub fn other_replicas_stand_where_they_did()
+    ensures others { (table : Table) (rows : List Row) (row : Row) (book after : BookState) (other : ReplicaState) → after.members ≡ book.members
+        → other.identity.me ≢ turn_of row.turn → StandsAt table rows book other → StandsAt table (rows ++ row ∷ []) after other }
+    ensures arrival { (table : Table) (rows : List Row) (row : Row) (number : ℕ) (book after : BookState) (other : ReplicaState) → after.members ≡ book.members
+        → row.turn ≡ Arrived number → StandsAt table rows book other → StandsAt table (rows ++ row ∷ []) after other }
 {}
 
 /// A tick that asks for a call may be called for, once there is room for its turn.
