@@ -2,4 +2,5 @@ pub mod Behind
 pub mod Called
 pub mod Ledgers
 pub mod Others
+pub mod Settled
 pub mod Steps

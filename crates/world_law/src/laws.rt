@@ -8,7 +8,7 @@ ghost use Rattle.due_set.specs.Table.{Table};
 ghost use Rattle.launch_law.specs.Fits.{Fits};
 ghost use Rattle.agree_law.specs.Log.{IsLog};
 ghost use Rattle.book_law.specs.Agrees.{Agrees};
-ghost use Rattle.book_law.specs.Book.{Row, turn_of, votes_in};
+ghost use Rattle.book_law.specs.Book.{Row, learned_in, turn_of, votes_in};
 ghost use Rattle.book_law.specs.Legal.{IsMade};
 ghost use Rattle.book_law.specs.declared.turn.CallRow.{CallRow};
 ghost use Rattle.book_law.specs.declared.turn.Cause.{Cause};
@@ -32,6 +32,17 @@ pub fn a_legal_book_agrees_and_fits()
         → FitsItsLog book.members table (take turns rows) }
     ensures ledger { (table : Table) (rows : List Row) (book : BookState) (log : List Entry) → book.members ≤ 7 → StandsBehind table rows book
         → book.pending ≡ None → IsLog book.members (votes_in rows) log → Fits table log book.ledger.held }
+{}
+
+/// A book settles what it does not keep: whichever rows stand behind it, the votes and the learned entries in them are the same, and
+/// so is what stands after them.
+pub fn a_book_settles_what_it_does_not_keep()
+    ensures votes { (table : Table) (rows other : List Row) (book : BookState) → StandsBehind table rows book → StandsBehind table other book
+        → votes_in rows ≡ votes_in other }
+    ensures learned { (table : Table) (rows other : List Row) (book : BookState) → StandsBehind table rows book → StandsBehind table other book
+        → learned_in rows ≡ learned_in other }
+    ensures stands { (table : Table) (rows other : List Row) (book : BookState) → StandsBehind table rows book → StandsBehind table other book
+        → standing_behind table rows book ≡ standing_behind table other book }
 {}
 
 /// A step that a replica takes beside a legal book is a turn that may come next in it, with what came of the step and the call that it
