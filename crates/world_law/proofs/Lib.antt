@@ -1,0 +1,6 @@
+pub mod Behind
+pub mod Called
+pub mod Ledgers
+pub mod Others
+pub mod Settled
+pub mod Steps

@@ -1,0 +1,74 @@
+-- A turn leaves the replicas that do not take it where they stood.
+use Rattle.std.proofs.Common.{◌≡◌, ◌≢◌, ℕ, Bool, List, [], ◌∷◌, ◌++◌, refl, ap, ◌∙◌, sym}
+use Rattle.std.proofs.lemmas.Bool.{ne_eqb}
+use Rattle.due_set.specs.Table.{Table}
+use Rattle.launch_machine.specs.Clerk.{first_rows}
+use Rattle.step_law.specs.State.{State}
+use Rattle.step_law.specs.Step.{Event}
+use Rattle.step_law.specs.declared.out.OutLetter.{OutLetter}
+use Rattle.agree_law.specs.World.{with_replica}
+use Rattle.book_law.specs.Book.{Row, Standing, after_row, standing_after, turn_of, with_fact}
+use Rattle.book_law.specs.declared.turn.Turn.{Turn}
+use Rattle.book_law.specs.declared.turn.Turn.TheVariants.{Did, Stopped, Restarted, Arrived}
+use Rattle.bounds_law.proofs.Keeping.{stands_next}
+use Rattle.replica_core.specs.Replica.{ReplicaState}
+use Rattle.world_law.specs.Book.{BookState, standing_behind}
+use Rattle.world_law.specs.Replicas.{StandsAt}
+
+fact_there : {A : Type 0} (who : ℕ) (fact : A) (facts : ℕ → A) (other : ℕ) → other ≢ who → with_fact who fact facts other ≡ facts other
+fact_there who fact facts other differs = rw (ne_eqb other who differs) refl
+
+replica_there : (who : ℕ) (state : State) (replicas : ℕ → State) (other : ℕ) → other ≢ who → with_replica who state replicas other ≡ replicas other
+replica_there who state replicas other differs = rw (ne_eqb other who differs) refl
+
+others_run : (n : ℕ) (s : Standing) (turn : Turn) (event : Event) (letters : List OutLetter) (other : ℕ) → other ≢ turn_of turn
+    → (after_row n s turn event letters).runs other ≡ s.runs other
+unfolding after_row
+others_run n s (Did who cause made) event letters other differs = refl
+others_run n s (Stopped who cause kept) event letters other differs = fact_there who _ s.runs other differs
+others_run n s (Restarted who) event letters other differs = fact_there who _ s.runs other differs
+others_run n s (Arrived number) event letters other differs = refl
+
+others_stay : (n : ℕ) (s : Standing) (turn : Turn) (event : Event) (letters : List OutLetter) (other : ℕ) → other ≢ turn_of turn
+    → (after_row n s turn event letters).replicas other ≡ s.replicas other
+unfolding after_row
+others_stay n s (Did who cause made) event letters other differs = replica_there who _ s.replicas other differs
+others_stay n s (Stopped who cause kept) event letters other differs = replica_there who _ s.replicas other differs
+others_stay n s (Restarted who) event letters other differs = refl
+others_stay n s (Arrived number) event letters other differs = refl
+
+arrival_stays : (n : ℕ) (s : Standing) (turn : Turn) (number : ℕ) (event : Event) (letters : List OutLetter) → turn ≡ Arrived number
+    → ((after_row n s turn event letters).runs ≡ s.runs) × ((after_row n s turn event letters).replicas ≡ s.replicas)
+unfolding after_row
+arrival_stays n s turn number event letters is = rw is (refl, refl)
+
+-- who has the state that it had and runs as it did stands where it did
+stands_on : (table : Table) (rows : List Row) (row : Row) (book after : BookState) (other : ReplicaState) → after.members ≡ book.members
+    → (after_row book.members (standing_behind table rows book) row.turn row.event row.letters).runs other.identity.me ≡ (standing_behind table rows book).runs other.identity.me
+    → (after_row book.members (standing_behind table rows book) row.turn row.event row.letters).replicas other.identity.me
+    ≡ (standing_behind table rows book).replicas other.identity.me
+    → StandsAt table rows book other → StandsAt table (rows ++ row ∷ []) after other
+stands_on table rows row book after other members runs stays at = record {
+  identity = rw members at.identity;
+  member = rw members at.member;
+  runs = ap (λ (s : Standing). s.runs other.identity.me) next ∙ runs ∙ at.runs;
+  state = at.state ∙ sym stays ∙ sym (ap (λ (s : Standing). s.replicas other.identity.me) next);
+  of_table = at.of_table;
+}
+  where
+    next : standing_behind table (rows ++ row ∷ []) after ≡ after_row book.members (standing_behind table rows book) row.turn row.event row.letters
+    next = ap (λ n. standing_after n (first_rows table) (rows ++ row ∷ [])) members ∙ stands_next book.members (first_rows table) rows row
+
+pub others_stand : (table : Table) (rows : List Row) (row : Row) (book after : BookState) (other : ReplicaState) → after.members ≡ book.members
+    → other.identity.me ≢ turn_of row.turn → StandsAt table rows book other → StandsAt table (rows ++ row ∷ []) after other
+others_stand table rows row book after other members differs at =
+    stands_on table rows row book after other members
+    (others_run book.members (standing_behind table rows book) row.turn row.event row.letters other.identity.me differs)
+    (others_stay book.members (standing_behind table rows book) row.turn row.event row.letters other.identity.me differs) at
+
+pub all_stand : (table : Table) (rows : List Row) (row : Row) (number : ℕ) (book after : BookState) (other : ReplicaState) → after.members ≡ book.members
+    → row.turn ≡ Arrived number → StandsAt table rows book other → StandsAt table (rows ++ row ∷ []) after other
+all_stand table rows row number book after other members is at =
+    let stay = arrival_stays book.members (standing_behind table rows book) row.turn number row.event row.letters is in
+    stands_on table rows row book after other members (ap (λ (runs : ℕ → Bool). runs other.identity.me) stay.0)
+    (ap (λ (replicas : ℕ → State). replicas other.identity.me) stay.1) at

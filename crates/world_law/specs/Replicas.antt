@@ -1,0 +1,58 @@
+-- A replica beside a book: it stands where the rows of the book leave it, and is told what the book has for it.
+use Rattle.std.specs.Prelude.{◌≡◌, ℕ, ◌<◌, true, List, [], ◌∷◌, ◌++◌, Option, Some, slice_get}
+use Rattle.cluster_sched.specs.declared.row.SchedRow.{SchedRow}
+use Rattle.due_set.specs.Table.{Table}
+use Rattle.agree_law.specs.Transition.{identity_of}
+use Rattle.book_law.specs.Book.{Row, Standing}
+use Rattle.book_law.specs.Legal.{MayFollow}
+use Rattle.book_law.specs.declared.turn.CallRow.{CallRow}
+use Rattle.book_law.specs.declared.turn.Turn.TheVariants.{Did}
+use Rattle.replica_core.specs.declared.out.StepOut.{StepOut}
+use Rattle.book_law.specs.declared.turn.Cause.{Cause}
+use Rattle.book_law.specs.declared.turn.Cause.TheVariants.{Campaign, Tick, Hear, Answer}
+use Rattle.replica_core.specs.Replica.{ReplicaState}
+use Rattle.replica_core.specs.Step.{IsOfTable}
+use Rattle.replica_core.specs.declared.input.Input.{Input}
+use Rattle.replica_core.specs.declared.input.Input.TheVariants as told
+use Rattle.world_law.specs.Book.{BookState, IsRowOf, standing_behind}
+use Rattle.world_law.specs.declared.letter.LetterRow.{LetterRow}
+
+-- a replica of the book runs where these rows leave it: it has the state that it has behind them, and the launch table of that state
+pub record StandsAt (table : Table) (rows : List Row) (book : BookState) (replica : ReplicaState) : Type 0 where
+  pub identity : replica.identity ≡ identity_of book.members replica.identity.me
+  pub member : replica.identity.me < book.members
+  pub runs : (standing_behind table rows book).runs replica.identity.me ≡ true
+  pub state : replica.state ≡ (standing_behind table rows book).replicas replica.identity.me
+  pub of_table : IsOfTable table replica
+
+-- the input is a letter of these bytes
+abbrev pub IsLetterInput : Input → List ℕ → Type 0
+IsLetterInput (told.Hear bytes) letter = bytes.now ≡ letter
+IsLetterInput input letter = ⊥
+
+-- a letter of the book that goes to the replica is what it is told
+pub record IsToldLetter (book : BookState) (who number : ℕ) (input : Input) : Type 0 where
+  pub letter : LetterRow
+  pub there : slice_get book.letters number ≡ Some letter
+  pub to : letter.to ≡ who
+  pub is : IsLetterInput input letter.bytes
+
+-- the answer that waits for the replica is what it is told
+pub record IsToldAnswer (standing : Standing) (who : ℕ) (input : Input) : Type 0 where
+  pub row : SchedRow
+  pub waits : standing.waits who ≡ Some row
+  pub is : input ≡ told.Answer row.name.job row.name.at row.kind
+
+-- the input by which a replica is told of the cause of its turn
+abbrev pub IsInputOf : Standing → BookState → ℕ → Cause → Input → Type 0
+IsInputOf standing book who Campaign input = input ≡ told.Campaign
+IsInputOf standing book who (Tick now) input = input ≡ told.Tick now
+IsInputOf standing book who (Hear number) input = IsToldLetter book who number input
+IsInputOf standing book who Answer input = IsToldAnswer standing who input
+
+-- The step of a replica with this outcome is its turn, which may come next; behind it the replica stands where the step has left it.
+pub record IsTurnOf (table : Table) (rows : List Row) (book : BookState) (who : ℕ) (cause : Cause) (made : Option CallRow) (out : StepOut) (new : ReplicaState) : Type 0 where
+  pub row : Row
+  pub is : IsRowOf (Did who cause made) out row
+  pub may : MayFollow book.members table (standing_behind table rows book) row.turn row
+  pub stands : (after : BookState) → after.members ≡ book.members → StandsAt table (rows ++ row ∷ []) after new

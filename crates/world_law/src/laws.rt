@@ -1,0 +1,75 @@
+//! Laws of books that a program keeps. Each is the contract of a function that does nothing.
+ghost use Rattle.std.specs.Prelude.{◌≡◌, ◌≢◌, ◌≤◌, ◌++◌, ◌∷◌, [], ℕ, List, length, take, Option, None, Some};
+ghost use Rattle.std.specs.Option.{option_to_list};
+ghost use Rattle.zone_minutes.specs.declared.minute.Minute.{Minute};
+ghost use Rattle.paxos_base.specs.declared.entry.Entry.{Entry};
+ghost use Rattle.cluster_sched.specs.declared.row.SchedRow.{SchedRow};
+ghost use Rattle.due_set.specs.Table.{Table};
+ghost use Rattle.launch_law.specs.Fits.{Fits};
+ghost use Rattle.agree_law.specs.Log.{IsLog};
+ghost use Rattle.book_law.specs.Agrees.{Agrees};
+ghost use Rattle.book_law.specs.Book.{Row, learned_in, turn_of, votes_in};
+ghost use Rattle.book_law.specs.Legal.{IsMade};
+ghost use Rattle.book_law.specs.declared.turn.CallRow.{CallRow};
+ghost use Rattle.book_law.specs.declared.turn.Cause.{Cause};
+ghost use Rattle.book_law.specs.declared.turn.Turn.{Turn};
+ghost use Rattle.book_law.specs.declared.turn.Turn.TheVariants.{Did, Arrived};
+ghost use Rattle.fits_law.specs.Fitting.{FitsItsLog};
+ghost use Rattle.replica_core.specs.Replica.{ReplicaState};
+ghost use Rattle.replica_core.specs.Step.{IsInputInside, Steps};
+ghost use Rattle.replica_core.specs.declared.input.Input.{Input};
+ghost use Rattle.replica_core.specs.declared.input.Input.TheVariants.{Tick};
+ghost use Rattle.replica_core.specs.declared.out.StepOut.{StepOut};
+ghost use Rattle.world_law.specs.Book.{BookState, HasRoom, MayCall, StandsBehind, call_of, standing_behind};
+ghost use Rattle.world_law.specs.Replicas.{IsInputOf, IsTurnOf, StandsAt};
+
+/// A legal book of one to seven replicas agrees and fits, after each of its turns; and at rest its ledger fits its log: no launch
+/// is held twice, each that is held was started, and each end says what is held.
+pub fn a_legal_book_agrees_and_fits()
+    ensures agrees { (table : Table) (rows : List Row) (book : BookState) (turns : ℕ) → book.members ≤ 7 → StandsBehind table rows book
+        → Agrees book.members table (take turns rows) }
+    ensures fits { (table : Table) (rows : List Row) (book : BookState) (turns : ℕ) → book.members ≤ 7 → StandsBehind table rows book
+        → FitsItsLog book.members table (take turns rows) }
+    ensures ledger { (table : Table) (rows : List Row) (book : BookState) (log : List Entry) → book.members ≤ 7 → StandsBehind table rows book
+        → book.pending ≡ None → IsLog book.members (votes_in rows) log → Fits table log book.ledger.held }
+{}
+
+/// A book settles what it does not keep: whichever rows stand behind it, the votes and the learned entries in them are the same, and
+/// so is what stands after them.
+pub fn a_book_settles_what_it_does_not_keep()
+    ensures votes { (table : Table) (rows other : List Row) (book : BookState) → StandsBehind table rows book → StandsBehind table other book
+        → votes_in rows ≡ votes_in other }
+    ensures learned { (table : Table) (rows other : List Row) (book : BookState) → StandsBehind table rows book → StandsBehind table other book
+        → learned_in rows ≡ learned_in other }
+    ensures stands { (table : Table) (rows other : List Row) (book : BookState) → StandsBehind table rows book → StandsBehind table other book
+        → standing_behind table rows book ≡ standing_behind table other book }
+{}
+
+/// A step that a replica takes beside a legal book is a turn that may come next in it, with what came of the step and the call that it
+/// asks for; behind that turn the replica stands where the step has left it.
+pub fn a_step_is_the_next_turn()
+    ensures { (table : Table) (rows : List Row) (book : BookState) (cause : Cause) (made : Option CallRow) (input : Input) (old new : ReplicaState) (out : StepOut)
+        → book.members ≤ 7 → StandsBehind table rows book → StandsAt table rows book old
+        → IsInputOf (standing_behind table rows book) book old.identity.me cause input → IsInputInside table input → Steps table input old new out
+        → IsMade (standing_behind table rows book).held (option_to_list out.call) made → IsTurnOf table rows book old.identity.me cause made out new }
+{}
+
+/// A turn leaves the other replicas where they stood in the book, and an arrival leaves all.
+pub fn other_replicas_stand_where_they_did()
+    ensures others { (table : Table) (rows : List Row) (row : Row) (book after : BookState) (other : ReplicaState) → after.members ≡ book.members
+        → other.identity.me ≢ turn_of row.turn → StandsAt table rows book other → StandsAt table (rows ++ row ∷ []) after other }
+    ensures arrival { (table : Table) (rows : List Row) (row : Row) (number : ℕ) (book after : BookState) (other : ReplicaState) → after.members ≡ book.members
+        → row.turn ≡ Arrived number → StandsAt table rows book other → StandsAt table (rows ++ row ∷ []) after other }
+{}
+
+/// A tick that asks for a call may be called for, once there is room for its turn.
+pub fn a_tick_may_be_called_for()
+    ensures { (table : Table) (rows : List Row) (book : BookState) (now : Minute) (input : Input) (old new : ReplicaState) (out : StepOut) (row : SchedRow)
+        → StandsBehind table rows book → StandsAt table rows book old → input ≡ Tick now → IsInputInside table input → Steps table input old new out
+        → out.call ≡ Some row → HasRoom (length out.letters) book → MayCall table book row }
+{}
+
+/// The turn that ends a pending call is a step, and carries that call.
+pub fn a_pending_call_is_carried_by_a_step()
+    ensures { (turn : Turn) (made : CallRow) → Some made ≡ call_of turn → (who : ℕ) × (cause : Cause) × (turn ≡ Did who cause (Some made)) }
+{}

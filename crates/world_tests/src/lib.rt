@@ -1,0 +1,7 @@
+//! Tests of what no clause of world_law says: a book that replicas fill by their steps, read as a program reads it.
+#![tactic(auto)]
+
+#[cfg(test)]
+mod scene;
+#[cfg(test)]
+mod turns;
