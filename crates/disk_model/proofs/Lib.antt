@@ -2,6 +2,7 @@ pub mod CallerLemmas
 pub mod DiskLemmas
 pub mod FileLemmas
 pub mod ImageLemmas
+pub mod MadeLemmas
 pub mod MomentLemmas
 pub mod RestoreLemmas
 pub mod RunLemmas
