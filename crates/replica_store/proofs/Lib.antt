@@ -2,4 +2,5 @@ pub mod AttachLemmas
 pub mod FaultLemmas
 pub mod FileLemmas
 pub mod ImageLemmas
+pub mod MadeLemmas
 pub mod SaveLemmas
