@@ -7,4 +7,5 @@ pub mod MomentLemmas
 pub mod RestoreLemmas
 pub mod RunLemmas
 pub mod SpanLemmas
+pub mod StopLemmas
 pub mod ToldLemmas

@@ -1,5 +1,5 @@
 -- Which calls that change a file were made, one after another, and which of them were done.
-use Rattle.std.specs.Prelude.{◌≡◌, ℕ, true, List, [], ◌∷◌, ◌++◌, Result, Ok, Err, OnOk, IsErrOf}
+use Rattle.std.specs.Prelude.{◌≡◌, ℕ, ◌<◌, true, List, [], ◌∷◌, ◌++◌, length, take, slice_get, Some, Result, Ok, Err, OnOk, IsErrOf}
 use Rattle.disk_model.specs.declared.fault.DiskFault.{DiskFault}
 use Rattle.disk_model.specs.declared.fault.DiskFault.TheVariants.{Stopped, Failed, OutOfMemory}
 use Rattle.disk_model.specs.declared.fault.FileNo.{FileNo}
@@ -47,6 +47,15 @@ pub record BreaksOff (fault : DiskFault) (calls : List DiskCall) (old new : Told
   pub mid : Told
   pub made : AllDone done old mid
   pub ends : EndsAt fault rest mid new
+
+-- Of these calls so many were done, in order, and the next one was stopped within.
+pub record StopsAt (count : ℕ) (calls : List DiskCall) (old new : Told) : Type 0 where
+  pub within : count < length calls
+  pub mid : Told
+  pub made : AllDone (take count calls) old mid
+  pub call : DiskCall
+  pub is_next : slice_get calls count ≡ Some call
+  pub stopped : IsAnswered call (Err Stopped) mid new
 
 -- What an answer says of the calls that were to be made, by what each fault of the disk is among its errors: at Ok all are
 -- done, and at a fault they broke off there.
