@@ -4,3 +4,4 @@ pub mod FileLemmas
 pub mod ImageLemmas
 pub mod MadeLemmas
 pub mod SaveLemmas
+pub mod SettledLemmas

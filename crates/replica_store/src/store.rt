@@ -1,5 +1,5 @@
 ghost use Rattle.std.specs.Prelude.{◌≡◌, ◌↔◌, ◌⊎◌, ⊤, ℕ, List, length, map, Option, Ok, Err, IfOk, OnOk, OnErr, IsErrOf};
-ghost use Rattle.disk_model.specs.Images.{file_of, OthersStay, LeavesOnly, InFileOnly};
+ghost use Rattle.disk_model.specs.Images.{file_of, OthersStay, NoNewImage, LeavesOnly, InFileOnly};
 ghost use Rattle.gate_file.specs.File.{file_no, bodies_of, IsFileSettled};
 ghost use Rattle.disk_model.specs.Made.{AllDone, MadeCalls};
 ghost use Rattle.disk_model.specs.Told.{Tells};
@@ -73,6 +73,9 @@ impl Store {
         ensures damaged { (gate : ℕ) (bodies : List (List ℕ)) → result ≡ Err (Damaged gate) → HasBodies (file_of (selected (D.seen disk.old)) (D.seen disk.old)) bodies
             → IsFirstRecordAtFault jobs bodies gate }
         ensures unwritten { (gate : ℕ) → result ≡ Err (Damaged gate) → D.seen disk.new ≡ D.seen disk.old }
+        ensures damaged_image { (gate : ℕ) → result ≡ Err (Damaged gate) → D.honest disk.old → NoNewImage (D.may_leave disk.old) (D.may_leave disk.new) }
+        ensures damaged_images { (gate : ℕ) → result ≡ Err (Damaged gate) → D.honest disk.old
+            → LeavesOnly D.moment D.left_since disk.old disk.new (D.may_leave disk.old) }
         ensures told { (records : List (List ℕ)) → HasBodies (file_of (selected (D.seen disk.old)) (D.seen disk.old)) records
             → Tells (MadeCalls of_disk (attach_calls (D.seen disk.old) (length records)) result) (D.told disk.old) (D.told disk.new) }
         ensures told_damaged { (gate : ℕ) → result ≡ Err (Damaged gate)

@@ -344,3 +344,14 @@ returns-clause-told g c records has =
 
 pub returns-clause-area : goal.returns-clause-area
 returns-clause-area g c = c.in_ok-gates.ensures.file ∙ c.in_ok-read.ensures.file ∙ c.in_ok-area.ensures.selected
+
+-- ---- damage leaves everything as it was
+
+pub returns-in_err-kept-clause-damaged_image : goal.returns-in_err-kept-clause-damaged_image
+returns-in_err-kept-clause-damaged_image g c gate is honest = λ image left. c.select.ensures.no_new_image honest image (c.read.ensures.no_new_image (c.select.ensures.honest.1 honest) image left)
+
+pub returns-in_err-kept-clause-damaged_images : goal.returns-in_err-kept-clause-damaged_images
+returns-in_err-kept-clause-damaged_images g c gate is honest =
+    let old = c.args.disk.now in
+    let chosen = c.select.new.disk in
+    looks_on g.D.Disk.moment g.D.Disk.left_since old chosen c.read.new.disk (g.D.Disk.may_leave old) (g.D.Disk.may_leave chosen) (c.select.ensures.images honest) (c.select.ensures.no_new_image honest) (c.read.ensures.images (c.select.ensures.honest.1 honest))
