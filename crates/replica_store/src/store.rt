@@ -1,4 +1,4 @@
-ghost use Rattle.std.specs.Prelude.{◌≡◌, ◌↔◌, ◌⊎◌, ⊤, ℕ, List, length, map, Option, Ok, Err, IfOk, OnOk, OnErr, IsErrOf};
+ghost use Rattle.std.specs.Prelude.{◌≡◌, ◌↔◌, ◌⊎◌, ◌<◌, ◌^◌, ⊤, ℕ, List, length, map, Option, Ok, Err, IfOk, OnOk, OnErr, IsErrOf};
 ghost use Rattle.disk_model.specs.Images.{file_of, OthersStay, NoNewImage, LeavesOnly, InFileOnly};
 ghost use Rattle.gate_file.specs.File.{file_no, bodies_of, IsFileSettled};
 ghost use Rattle.disk_model.specs.Made.{AllDone, MadeCalls};
@@ -52,6 +52,9 @@ impl Store {
         ensures jobs { IfOk result (λ found. jobs_of found.0 ≡ jobs) }
         ensures keeps { IfOk result (λ found. StoreKeeps found.0 found.1) }
         ensures stand { IfOk result (λ found. FilesStand jobs found.1 (D.seen disk.old)) }
+        // So a replica can start with it.
+        ensures rows { IfOk result (λ found. RowsStand found.1.rows jobs) }
+        ensures tried { IfOk result (λ found. found.1.tried < 2 ^ 61) }
         ensures area { IfOk result (λ found. area_of found.0 ≡ selected (D.seen disk.old)) }
         // The chooser and the other area stay as they are.
         ensures others { OnOk result (OthersStay (selected (D.seen disk.old)) (D.seen disk.old) (D.seen disk.new)) }

@@ -21,6 +21,7 @@ use Rattle.gate_file.specs.ReadFile.{bodies_read}
 use Rattle.replica_store.specs.Faults.{of_disk}
 use Rattle.replica_store.specs.Made.{attach_calls, look_calls}
 use Rattle.replica_store.proofs.MadeLemmas.{all_of, disk_handed, gates_handed, records_made}
+use Rattle.replica_store.proofs.RowsLemmas.{rows_found, tried_fits}
 use Rattle.replica_store.proofs.store.Store.attach.Goals as goal
 
 -- ---- the chooser
@@ -355,3 +356,11 @@ returns-in_err-kept-clause-damaged_images g c gate is honest =
     let old = c.args.disk.now in
     let chosen = c.select.new.disk in
     looks_on g.D.Disk.moment g.D.Disk.left_since old chosen c.read.new.disk (g.D.Disk.may_leave old) (g.D.Disk.may_leave chosen) (c.select.ensures.images honest) (c.select.ensures.no_new_image honest) (c.read.ensures.images (c.select.ensures.honest.1 honest))
+
+-- ---- a replica can start with what was found
+
+pub returns-clause-rows : goal.returns-clause-rows
+returns-clause-rows g c = rows_found c.args.jobs c.bodies.result.now c.in_ok-kept.kept c.in_ok-kept.field-0-1 c.in_ok-kept.ensures.found
+
+pub returns-clause-tried : goal.returns-clause-tried
+returns-clause-tried g c = tried_fits c.args.jobs c.bodies.result.now c.in_ok-kept.kept c.in_ok-kept.field-0-1 c.in_ok-kept.ensures.found
