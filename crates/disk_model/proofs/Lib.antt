@@ -2,8 +2,10 @@ pub mod CallerLemmas
 pub mod DiskLemmas
 pub mod FileLemmas
 pub mod ImageLemmas
+pub mod MadeLemmas
 pub mod MomentLemmas
 pub mod RestoreLemmas
 pub mod RunLemmas
 pub mod SpanLemmas
+pub mod StopLemmas
 pub mod ToldLemmas

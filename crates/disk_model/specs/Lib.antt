@@ -3,6 +3,7 @@ pub mod Faults
 pub mod Files
 pub mod Images
 pub mod Left
+pub mod Made
 pub mod MemDisk
 pub mod Memory
 pub mod Past

@@ -1,10 +1,12 @@
 //! Laws of disks. Each is the contract of a function that does nothing.
-ghost use Rattle.std.specs.Prelude.{◌≡◌, ◌↔◌, ◌≤◌, ℕ, List, Result, Some, length, min, take, IsErrOf};
+ghost use Rattle.std.specs.Prelude.{◌≡◌, ◌↔◌, ◌≤◌, ◌-◌, ℕ, true, false, List, Result, None, Some, length, min, take, IsErrOf};
+ghost use Rattle.disk_model.specs.declared.armed.Arm.{Arm};
 ghost use Rattle.disk_model.specs.declared.fault.DiskFault.{DiskFault};
 ghost use Rattle.disk_model.specs.declared.fault.DiskFault.TheVariants.{Stopped, Failed};
 ghost use Rattle.disk_model.specs.declared.mem_disk.MemDisk.{MemDisk};
 ghost use Rattle.disk_model.specs.Faults.{Counts, CountsDiskAnswer};
 ghost use Rattle.disk_model.specs.Images.{Image, Cut, Elapses};
+ghost use Rattle.disk_model.specs.Made.{DiskCall, AllDone, BreaksOff, StopsAt};
 ghost use Rattle.disk_model.specs.MemDisk.{told_of, left_by};
 ghost use Rattle.disk_model.specs.Told.{Told, MayBeLeft};
 
@@ -35,4 +37,15 @@ pub fn time_keeps_what_was_left<D: Disk>()
         → Elapses (D.moment one) (D.moment two) (D.left_since one) (D.left_since two) (D.may_leave two)
         → Elapses (D.moment two) (D.moment three) (D.left_since two) (D.left_since three) (D.may_leave three)
         → start ≤ D.moment one → D.left_since one start image → D.left_since three start image }
+{}
+
+/// Within which call an armed disk stops. Calls that are done are no more than those that were to succeed, and leave so
+/// many less; a stop comes when none is left, within the call whose number, counted from 0, was to succeed no more. A
+/// disk that isn't armed never stops.
+pub fn an_armed_disk_stops_after_so_many_calls()
+    ensures passes { (calls : List DiskCall) (arm : Arm) (old new : Told) → old.arm ≡ Some arm → AllDone calls old new
+        → (length calls ≤ arm.left) × (new.arm ≡ Some (record arm { left = arm.left - length calls })) }
+    ensures stops { (calls : List DiskCall) (arm : Arm) (old new : Told) → old.stopped ≡ false → old.arm ≡ Some arm → BreaksOff Stopped calls old new
+        → StopsAt arm.left calls old new × (new.stopped ≡ true) × (new.arm ≡ Some (record arm { left = 0 })) }
+    ensures unarmed { (calls : List DiskCall) (old new : Told) → old.stopped ≡ false → old.arm ≡ None → BreaksOff Stopped calls old new → ⊥ }
 {}

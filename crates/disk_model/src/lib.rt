@@ -22,7 +22,8 @@ pub use armed::{Arm, ArmedDisk};
 pub use disk::Disk;
 pub use fault::{DiskFault, FileNo};
 pub use laws::{
-    a_cut_leaves_a_front, a_memory_disk_leaves_what_may_be_left, counts_rise_where_that_is_told,
+    a_cut_leaves_a_front, a_memory_disk_leaves_what_may_be_left,
+    an_armed_disk_stops_after_so_many_calls, counts_rise_where_that_is_told,
     time_keeps_what_was_left,
 };
 pub use mem_disk::MemDisk;

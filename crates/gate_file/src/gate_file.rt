@@ -1,7 +1,10 @@
-ghost use Rattle.std.specs.Prelude.{◌≡◌, ◌↔◌, ⊤, ℕ, List, ◌++◌, ◌∷◌, [], Option, Some, IfOk, OnOk, OnErr, IsErrOf};
+ghost use Rattle.std.specs.Prelude.{◌≡◌, ◌↔◌, ⊤, ℕ, List, ◌++◌, ◌∷◌, [], length, Option, Some, IfOk, OnOk, OnErr, IsErrOf};
 ghost use Rattle.disk_model.specs.Images.{file_of, OthersStay, LeavesOnly, InFileOnly, AllHave};
 ghost use Rattle.gate_file.specs.declared.fault.GateFault.TheVariants.{OutOfMemory};
-ghost use Rattle.gate_file.specs.Faults.{HasGateAnswer};
+ghost use Rattle.disk_model.specs.Made.{MadeCalls};
+ghost use Rattle.disk_model.specs.Told.{Tells};
+ghost use Rattle.gate_file.specs.Faults.{HasGateAnswer, fault_of};
+ghost use Rattle.gate_file.specs.Made.{read_calls, close_calls, append_calls, rewrite_calls};
 ghost use Rattle.gate_file.specs.Gates.{HasBodies, IsStaged, gated};
 
 use crate::body::Body56;
@@ -59,6 +62,9 @@ impl GateFile {
             (InFileOnly file (D.may_leave disk.old) (IsStaged bodies pending)) }
 
         ensures answer { HasGateAnswer D.honest D.counts disk.old disk.new result }
+        ensures told { (bodies : List (List ℕ)) → HasBodies (file_of file (D.seen disk.old)) bodies
+            → Tells (MadeCalls fault_of (read_calls file ++ close_calls file (file_of file (D.seen disk.old)) (length bodies)) result)
+            (D.told disk.old) (D.told disk.new) }
     {
         ReadGates::read(alloc, disk, file)?.close(disk)
     }
@@ -84,6 +90,7 @@ impl GateFile {
             (InFileOnly file (D.may_leave disk.old) (λ bytes. ⊤)) }
         ensures memory_others { IsErrOf result OutOfMemory → OthersStay file (D.seen disk.old) (D.seen disk.new) }
         ensures answer { HasGateAnswer D.honest D.counts disk.old disk.new result }
+        ensures told { Tells (MadeCalls fault_of (rewrite_calls file bodies.items) result) (D.told disk.old) (D.told disk.new) }
     {
         let bytes = gated(alloc, &bodies)?;
         disk.cut(file, 0)?;
@@ -113,6 +120,8 @@ impl GateFile {
         ensures memory { IsErrOf result OutOfMemory → IsFileSettled D.seen D.may_leave D.honest disk.new self.new }
         ensures memory_others { IsErrOf result OutOfMemory → OthersStay (file_no self.old) (D.seen disk.old) (D.seen disk.new) }
         ensures answer { HasGateAnswer D.honest D.counts disk.old disk.new result }
+        ensures told { Tells (MadeCalls fault_of (append_calls (file_no self.old) (length (bodies_of self.old)) body.now) result)
+            (D.told disk.old) (D.told disk.new) }
     {
         if self.bodies.len() >= MOST_BODIES {
             return Err(GateFault::OutOfMemory);

@@ -1,5 +1,5 @@
 -- A store and its disk.
-use Rattle.std.specs.Prelude.{◌≡◌, ℕ}
+use Rattle.std.specs.Prelude.{◌≡◌, ℕ, List}
 use Rattle.disk_model.specs.declared.fault.FileNo.{FileNo}
 use Rattle.disk_model.specs.declared.fault.FileNo.TheVariants.{Chooser}
 use Rattle.disk_model.specs.Images.{Image, IsDurable}
@@ -15,6 +15,10 @@ jobs_of store = store.jobs
 -- the area that has its records
 abbrev pub area_of : Store → FileNo
 area_of store = file_no store.gates
+
+-- the records that it has, each in its bytes
+abbrev pub records_of : Store → List (List ℕ)
+records_of store = bodies_of store.gates
 
 -- what the store's records stand for is this
 abbrev pub StoreKeeps : Store → Durable → Type 0

@@ -1,10 +1,12 @@
-ghost use Rattle.std.specs.Prelude.{◌≡◌, ℕ, []};
+ghost use Rattle.std.specs.Prelude.{◌≡◌, ◌↔◌, ℕ, List, []};
 ghost use Rattle.disk_model.specs.declared.fault.FileNo.{FileNo};
-ghost use Rattle.disk_model.specs.Images.{Image, file_of, NoNewImage};
+ghost use Rattle.disk_model.specs.declared.fault.FileNo.TheVariants.{Chooser};
+ghost use Rattle.disk_model.specs.Images.{Image, file_of, IsDurable, NoNewImage};
+ghost use Rattle.gate_file.specs.Gates.{IsAtRest};
 ghost use Rattle.paxos_base.specs.declared.durable.Durable.{Durable};
 ghost use Rattle.store_format.specs.Area.{fresh_kept};
 ghost use Rattle.replica_store.specs.declared.store.Store.{Store};
-ghost use Rattle.replica_store.specs.Files.{FilesStand, FilesStandForEither, IsRecoverable};
+ghost use Rattle.replica_store.specs.Files.{selected, BodiesStand, FilesStand, FilesStandForEither, IsRecoverable};
 ghost use Rattle.replica_store.specs.Store.{jobs_of, StoreKeeps, IsStoreSettled};
 
 use disk_model::Disk;
@@ -35,4 +37,20 @@ pub fn a_stop_leaves_one_of_two_states<D: Disk>()
 pub fn a_settled_store_is_recoverable<D: Disk>()
     ensures { (disk : D) (store : Store) (kept : Durable) → D.honest disk → IsStoreSettled D.seen D.may_leave D.honest disk store → StoreKeeps store kept
         → IsRecoverable (jobs_of store) kept kept (D.may_leave disk) }
+{}
+
+/// A law, with nothing to run: a settled store stays so while a disk's files stay as they are, as through the calls of
+/// [`disk_model::ArmedDisk`] that arm it and take that back.
+pub fn a_settled_store_stays_settled<D: Disk>()
+    ensures { (old new : D) (store : Store) → D.seen new ≡ D.seen old → NoNewImage (D.may_leave old) (D.may_leave new) → (D.honest new ↔ D.honest old)
+        → IsStoreSettled D.seen D.may_leave D.honest old store → IsStoreSettled D.seen D.may_leave D.honest new store }
+{}
+
+/// A law, with nothing to run: a disk is recoverable with the state that its files stand for, where the chooser and the
+/// selected area are synced, and a byte 0 stands at the tail gate of that area.
+pub fn synced_files_are_recoverable<D: Disk>()
+    ensures { (disk : D) (jobs : ℕ) (records : List (List ℕ)) (kept : Durable)
+        → IsDurable Chooser (D.seen disk) (D.may_leave disk) → IsDurable (selected (D.seen disk)) (D.seen disk) (D.may_leave disk)
+        → IsAtRest (file_of (selected (D.seen disk)) (D.seen disk)) records → BodiesStand jobs records kept
+        → IsRecoverable jobs kept kept (D.may_leave disk) }
 {}

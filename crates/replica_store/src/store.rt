@@ -1,17 +1,22 @@
-ghost use Rattle.std.specs.Prelude.{◌≡◌, ◌↔◌, ◌⊎◌, ⊤, ℕ, List, Ok, Err, IfOk, OnOk, IsErrOf};
-ghost use Rattle.disk_model.specs.Images.{file_of, OthersStay, LeavesOnly, InFileOnly};
+ghost use Rattle.std.specs.Prelude.{◌≡◌, ◌↔◌, ◌⊎◌, ◌<◌, ◌^◌, ⊤, ℕ, List, length, map, Option, Ok, Err, IfOk, OnOk, OnErr, IsErrOf};
+ghost use Rattle.disk_model.specs.Images.{file_of, OthersStay, NoNewImage, LeavesOnly, InFileOnly};
 ghost use Rattle.gate_file.specs.File.{file_no, bodies_of, IsFileSettled};
+ghost use Rattle.disk_model.specs.Made.{AllDone, MadeCalls};
+ghost use Rattle.disk_model.specs.Told.{Tells};
 ghost use Rattle.gate_file.specs.Gates.{HasBodies};
+ghost use Rattle.gate_file.specs.Made.{rewrite_calls};
 ghost use Rattle.paxos_base.specs.declared.durable.Delta.{Delta};
 ghost use Rattle.paxos_base.specs.declared.durable.Delta.TheVariants.{Base};
 ghost use Rattle.paxos_base.specs.declared.durable.Durable.{Durable};
 ghost use Rattle.paxos_base.specs.Durable.{after_delta};
-ghost use Rattle.store_format.specs.Area.{IsFirstRecordAtFault};
+ghost use Rattle.store_format.specs.Area.{StandFor, IsFirstRecordAtFault, base_records};
+ghost use Rattle.store_format.specs.Records.{record_bytes};
 ghost use Rattle.paxos_base.specs.Rows.{RowsStand};
 ghost use Rattle.store_format.specs.Order.{ChangeMayFollow};
 ghost use Rattle.replica_store.specs.declared.fault.StoreFault.TheVariants.{OutOfMemory, Damaged};
-ghost use Rattle.replica_store.specs.Faults.{HasStoreAnswer};
+ghost use Rattle.replica_store.specs.Faults.{HasStoreAnswer, of_disk};
 ghost use Rattle.replica_store.specs.Files.{selected, other_area, BodiesStand, FilesStand, FilesStandForEither, IsRecoverable};
+ghost use Rattle.replica_store.specs.Made.{look_calls, attach_calls, save_calls, area_after};
 
 use crate::chooser::{bit_of, other_area, select};
 use crate::fault::StoreFault;
@@ -30,7 +35,7 @@ pub struct Store {
 }
 
 impl Store {
-    ghost use Rattle.replica_store.specs.Store.{jobs_of, area_of, StoreKeeps, IsStoreSettled};
+    ghost use Rattle.replica_store.specs.Store.{jobs_of, area_of, records_of, StoreKeeps, IsStoreSettled};
 
     /// Attaches the files of a disk, of a table of that many jobs, and says what they stand for. What an earlier call that
     /// failed left is decided here.
@@ -47,6 +52,10 @@ impl Store {
         ensures jobs { IfOk result (λ found. jobs_of found.0 ≡ jobs) }
         ensures keeps { IfOk result (λ found. StoreKeeps found.0 found.1) }
         ensures stand { IfOk result (λ found. FilesStand jobs found.1 (D.seen disk.old)) }
+        // So a replica can start with it.
+        ensures rows { IfOk result (λ found. RowsStand found.1.rows jobs) }
+        ensures tried { IfOk result (λ found. found.1.tried < 2 ^ 61) }
+        ensures area { IfOk result (λ found. area_of found.0 ≡ selected (D.seen disk.old)) }
         // The chooser and the other area stay as they are.
         ensures others { OnOk result (OthersStay (selected (D.seen disk.old)) (D.seen disk.old) (D.seen disk.new)) }
         // So they do, whatever the answer is, in whatever a stop leaves.
@@ -67,6 +76,13 @@ impl Store {
         ensures damaged { (gate : ℕ) (bodies : List (List ℕ)) → result ≡ Err (Damaged gate) → HasBodies (file_of (selected (D.seen disk.old)) (D.seen disk.old)) bodies
             → IsFirstRecordAtFault jobs bodies gate }
         ensures unwritten { (gate : ℕ) → result ≡ Err (Damaged gate) → D.seen disk.new ≡ D.seen disk.old }
+        ensures damaged_image { (gate : ℕ) → result ≡ Err (Damaged gate) → D.honest disk.old → NoNewImage (D.may_leave disk.old) (D.may_leave disk.new) }
+        ensures damaged_images { (gate : ℕ) → result ≡ Err (Damaged gate) → D.honest disk.old
+            → LeavesOnly D.moment D.left_since disk.old disk.new (D.may_leave disk.old) }
+        ensures told { (records : List (List ℕ)) → HasBodies (file_of (selected (D.seen disk.old)) (D.seen disk.old)) records
+            → Tells (MadeCalls of_disk (attach_calls (D.seen disk.old) (length records)) result) (D.told disk.old) (D.told disk.new) }
+        ensures told_damaged { (gate : ℕ) → result ≡ Err (Damaged gate)
+            → Tells (AllDone (look_calls (D.seen disk.old))) (D.told disk.old) (D.told disk.new) }
         ensures answer { HasStoreAnswer D.honest D.counts disk.old disk.new result }
     {
         let area = select(disk)?;
@@ -103,6 +119,12 @@ impl Store {
         ensures memory { IsErrOf result OutOfMemory → IsStoreSettled D.seen D.may_leave D.honest disk.new self.new }
         ensures memory_keeps { (kept : Durable) → StoreKeeps self.old kept → IsErrOf result OutOfMemory → StoreKeeps self.new kept }
         ensures undamaged { (gate : ℕ) → result ≡ Err (Damaged gate) → ⊥ }
+        // It goes on in its area, and after a base in the other one.
+        ensures area { OnOk result (area_of self.new ≡ area_after delta.now (area_of self.old)) }
+        ensures same_area { OnErr result (area_of self.new ≡ area_of self.old) }
+        ensures told { (kept : Durable) (own : Option ℕ) → StandFor (jobs_of self.old) (records_of self.old) kept own
+            → Tells (MadeCalls of_disk (save_calls (area_of self.old) (length (records_of self.old)) kept own delta.now) result)
+            (D.told disk.old) (D.told disk.new) }
         ensures answer { HasStoreAnswer D.honest D.counts disk.old disk.new result }
     {
         if let Delta::Base { slot, rows } = delta {
@@ -136,6 +158,9 @@ impl Store {
             (InFileOnly (other_area (area_of self.now)) (D.may_leave disk.old) (λ bytes. ⊤)) }
         ensures memory_others { IsErrOf result OutOfMemory → OthersStay (other_area (area_of self.now)) (D.seen disk.old) (D.seen disk.new) }
         ensures undamaged { (gate : ℕ) → result ≡ Err (Damaged gate) → ⊥ }
+        ensures told { (kept : Durable) (own : Option ℕ) → StandFor (jobs_of self.now) (records_of self.now) kept own
+            → Tells (MadeCalls of_disk (rewrite_calls (other_area (area_of self.now)) (map record_bytes (base_records kept own slot rows.now))) result)
+            (D.told disk.old) (D.told disk.new) }
         ensures answer { HasStoreAnswer D.honest D.counts disk.old disk.new result }
     {
         let (kept, own) = read_records(self.alloc, self.jobs, self.gates.bodies())?;

@@ -1,10 +1,14 @@
-use Rattle.std.proofs.Common.{◌≡◌, ◌++◌, ◌∷◌, [], ◌+◌, ◌*◌, length, Some, sym, subst, arith, rules}
+use Rattle.std.proofs.Common.{◌≡◌, ◌++◌, ◌∷◌, [], ◌+◌, ◌*◌, length, Some, Ok, Err, refl, sym, subst, arith, rules}
 use Rattle.disk_model.specs.Images.{file_of, HoldsPiece, Torn, LeavesOnly, InFileOnly}
 use Rattle.gate_file.specs.File.{bodies_of, file_no}
 use Rattle.gate_file.specs.Gates.{IsAtRest, IsStaged}
 use Rattle.gate_file.proofs.AppendLemmas.{mid_behind, mid_open, mid_at_rest, new_at_rest, body_leaves, write_after}
 use Rattle.gate_file.proofs.FaultLemmas.{handed_on}
 use Rattle.gate_file.proofs.GateLemmas.{torn_gate}
+use Rattle.gate_file.proofs.MadeLemmas.{told_all, told_some, written_as}
+use Rattle.disk_model.specs.Made.{synced_write}
+use Rattle.disk_model.proofs.MadeLemmas.{tells_then, tells_weaker, all_then, breaks_later, write_breaks, write_done}
+use Rattle.gate_file.specs.Made.{append_calls}
 use Rattle.gate_file.proofs.gate_file.GateFile.append.Goals as goal
 
 -- ---- whatever a stop leaves
@@ -91,3 +95,54 @@ returns-clause-settled g c =
     let rest = new_at_rest (file_of (file_no gates) (g.D.Disk.seen c.args.disk.now)) c.args.body.now (bodies_of gates) c.requires.at_rest c.told-body (file_of (file_no gates) (g.D.Disk.seen c.write_synced.new.disk)) holds (file_of (file_no gates) (g.D.Disk.seen c.write_synced-2.new.disk)) opened in
     let more : c.push.new.self.items ≡ bodies_of gates ++ c.args.body.now ∷ [] = search rules in
     record { at_rest = subst (IsAtRest (file_of (file_no gates) (g.D.Disk.seen c.write_synced-2.new.disk))) (sym more) rest; durable = c.in_ok-write_synced-2.ensures.durable }
+
+-- ---- which of its calls were done
+
+pub returns-in_err-write_synced-clause-told : goal.returns-in_err-write_synced-clause-told
+returns-in_err-write_synced-clause-told g c =
+    let gates = c.args.self.now in
+    let count = length (bodies_of gates) in
+    let place : c.len-2.result * 57 + 1 ≡ 57 * count + 1 = omega (arith, c.len-2.ensures, c.reserve.ensures.len, c.args.self.now.bodies.ok.0) in
+    let file = file_no gates in
+    let old = g.D.Disk.told c.args.disk.now in
+    let new = g.D.Disk.told c.write_synced.new.disk in
+    let fault = c.in_err-write_synced.field-0.0 in
+    let body = c.args.body.now ++ 0 ∷ [] in
+    let written = written_as file (c.len-2.result * 57 + 1) (57 * count + 1) c.with_closed_gate.result body (Err fault) old new place c.with_closed_gate.ensures c.in_err-write_synced.ensures.told in
+    told_some (append_calls file count c.args.body.now) fault c.from_residual-in_err-write_synced.result c.from_residual-in_err-write_synced.ensures.1 old new
+    (tells_weaker (write_breaks fault file (57 * count + 1) body (synced_write file (57 * count) (1 ∷ []))) old new written)
+
+pub returns-in_err-write_synced-2-clause-told : goal.returns-in_err-write_synced-2-clause-told
+returns-in_err-write_synced-2-clause-told g c =
+    let gates = c.args.self.now in
+    let count = length (bodies_of gates) in
+    let place : c.len-2.result * 57 ≡ 57 * count = omega (arith, c.len-2.ensures, c.reserve.ensures.len, c.args.self.now.bodies.ok.0) in
+    let behind : c.len-2.result * 57 + 1 ≡ 57 * count + 1 = omega (arith, place) in
+    let file = file_no gates in
+    let old = g.D.Disk.told c.args.disk.now in
+    let mid = g.D.Disk.told c.write_synced.new.disk in
+    let new = g.D.Disk.told c.write_synced-2.new.disk in
+    let fault = c.in_err-write_synced-2.field-0.0 in
+    let body = c.args.body.now ++ 0 ∷ [] in
+    let first = written_as file (c.len-2.result * 57 + 1) (57 * count + 1) c.with_closed_gate.result body (Ok tt) old mid behind c.with_closed_gate.ensures c.in_ok-write_synced.ensures.told in
+    let second = written_as file (c.len-2.result * 57) (57 * count) (1 ∷ []) (1 ∷ []) (Err fault) mid new place refl c.in_err-write_synced-2.ensures.told in
+    told_some (append_calls file count c.args.body.now) fault c.from_residual-in_err-write_synced-2.result c.from_residual-in_err-write_synced-2.ensures.1 old new
+    (tells_then (breaks_later fault (synced_write file (57 * count + 1) body) (synced_write file (57 * count) (1 ∷ []))) old mid new
+    (tells_weaker (write_done file (57 * count + 1) body) old mid first) (tells_weaker (write_breaks fault file (57 * count) (1 ∷ []) []) mid new second))
+
+pub returns-clause-told : goal.returns-clause-told
+returns-clause-told g c =
+    let gates = c.args.self.now in
+    let count = length (bodies_of gates) in
+    let place : c.len-2.result * 57 ≡ 57 * count = omega (arith, c.len-2.ensures, c.reserve.ensures.len, c.args.self.now.bodies.ok.0) in
+    let behind : c.len-2.result * 57 + 1 ≡ 57 * count + 1 = omega (arith, place) in
+    let file = file_no gates in
+    let old = g.D.Disk.told c.args.disk.now in
+    let mid = g.D.Disk.told c.write_synced.new.disk in
+    let new = g.D.Disk.told c.write_synced-2.new.disk in
+    let body = c.args.body.now ++ 0 ∷ [] in
+    let first = written_as file (c.len-2.result * 57 + 1) (57 * count + 1) c.with_closed_gate.result body (Ok tt) old mid behind c.with_closed_gate.ensures c.in_ok-write_synced.ensures.told in
+    let second = written_as file (c.len-2.result * 57) (57 * count) (1 ∷ []) (1 ∷ []) (Ok tt) mid new place refl c.in_ok-write_synced-2.ensures.told in
+    told_all (append_calls file count c.args.body.now) tt old new
+    (tells_then (all_then (synced_write file (57 * count + 1) body) (synced_write file (57 * count) (1 ∷ []))) old mid new
+    (tells_weaker (write_done file (57 * count + 1) body) old mid first) (tells_weaker (write_done file (57 * count) (1 ∷ [])) mid new second))

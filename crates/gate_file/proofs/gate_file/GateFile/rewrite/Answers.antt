@@ -1,9 +1,14 @@
-use Rattle.std.proofs.Common.{◌≡◌, sym, ap, ◌∙◌, subst}
+use Rattle.std.proofs.Common.{◌≡◌, ◌∷◌, [], sym, ap, ◌∙◌, subst}
 use Rattle.disk_model.specs.Images.{file_of, Cut, Torn}
 use Rattle.gate_file.specs.Gates.{IsAtRest, AreWhole, gated}
 use Rattle.gate_file.proofs.GateLemmas.{gated_rest}
 use Rattle.disk_model.proofs.RunLemmas.{in_file_still}
 use Rattle.gate_file.proofs.RewriteLemmas.{Any, at_first, none_yet, next, next_leaves, written_alone}
+use Rattle.disk_model.specs.Made.{WriteAt, CutTo, SyncOf, AllDone, BreaksOff}
+use Rattle.disk_model.specs.Told.{Tells}
+use Rattle.disk_model.proofs.MadeLemmas.{tells_then, tells_weaker, all_then, breaks_here, breaks_later, one_done}
+use Rattle.gate_file.specs.Made.{rewrite_calls}
+use Rattle.gate_file.proofs.MadeLemmas.{told_some}
 use Rattle.gate_file.proofs.gate_file.GateFile.rewrite.Goals as goal
 
 pub returns-in_err-cut-clause-images : goal.returns-in_err-cut-clause-images
@@ -71,3 +76,38 @@ returns-clause-whole g c =
     let file = c.args.file in
     let alone = written_alone c.deref-2.result.now (file_of file (g.D.Disk.seen c.args.disk.now)) (file_of file (g.D.Disk.seen c.cut.new.self)) (file_of file (g.D.Disk.seen c.write_at.new.self)) c.in_ok-cut.ensures.cut.step c.in_ok-write_at.ensures.written.step in
     ap (file_of file) c.sync.ensures.seen ∙ alone ∙ c.deref-2.ensures.value ∙ c.in_ok-bytes.ensures.bytes ∙ ap gated c.deref.ensures.value
+
+-- ---- which of its calls were done
+
+pub returns-in_err-write_at-clause-told : goal.returns-in_err-write_at-clause-told
+returns-in_err-write_at-clause-told g c =
+    let file = c.args.file in
+    let bytes = gated c.args.bodies.items in
+    let is : c.deref-2.result.now ≡ bytes = c.deref-2.ensures.value ∙ c.in_ok-bytes.ensures.bytes ∙ ap gated c.deref.ensures.value in
+    let old = g.D.Disk.told c.args.disk.now in
+    let mid = g.D.Disk.told c.cut.new.self in
+    let new = g.D.Disk.told c.write_at.new.self in
+    let fault = c.in_err-write_at.field-0.0 in
+    let first : Tells (AllDone (CutTo file 0 ∷ [])) old mid = tells_weaker (one_done (CutTo file 0)) old mid c.in_ok-cut.ensures.told in
+    let second : Tells (BreaksOff fault (WriteAt file 0 bytes ∷ SyncOf file ∷ [])) mid new =
+    subst (λ piece. Tells (BreaksOff fault (WriteAt file 0 piece ∷ SyncOf file ∷ [])) mid new) is (tells_weaker (breaks_here fault (WriteAt file 0 c.deref-2.result.now) (SyncOf file ∷ [])) mid new c.in_err-write_at.ensures.told) in
+    told_some (rewrite_calls file c.args.bodies.items) fault c.from_residual-in_err-write_at.result c.from_residual-in_err-write_at.ensures.1 old new
+    (tells_then (breaks_later fault (CutTo file 0 ∷ []) (WriteAt file 0 bytes ∷ SyncOf file ∷ [])) old mid new first second)
+
+pub returns-in_err-sync-clause-told : goal.returns-in_err-sync-clause-told
+returns-in_err-sync-clause-told g c =
+    let file = c.args.file in
+    let bytes = gated c.args.bodies.items in
+    let is : c.deref-2.result.now ≡ bytes = c.deref-2.ensures.value ∙ c.in_ok-bytes.ensures.bytes ∙ ap gated c.deref.ensures.value in
+    let old = g.D.Disk.told c.args.disk.now in
+    let mid = g.D.Disk.told c.cut.new.self in
+    let last = g.D.Disk.told c.write_at.new.self in
+    let new = g.D.Disk.told c.sync.new.self in
+    let fault = c.in_err-sync.field-0.0 in
+    let first : Tells (AllDone (CutTo file 0 ∷ [])) old mid = tells_weaker (one_done (CutTo file 0)) old mid c.in_ok-cut.ensures.told in
+    let second : Tells (AllDone (WriteAt file 0 bytes ∷ [])) mid last =
+    subst (λ piece. Tells (AllDone (WriteAt file 0 piece ∷ [])) mid last) is (tells_weaker (one_done (WriteAt file 0 c.deref-2.result.now)) mid last c.in_ok-write_at.ensures.told) in
+    let third = tells_weaker (breaks_here fault (SyncOf file) []) last new c.in_err-sync.ensures.told in
+    told_some (rewrite_calls file c.args.bodies.items) fault c.from_residual-in_err-sync.result c.from_residual-in_err-sync.ensures.1 old new
+    (tells_then (breaks_later fault (CutTo file 0 ∷ WriteAt file 0 bytes ∷ []) (SyncOf file ∷ [])) old last new
+    (tells_then (all_then (CutTo file 0 ∷ []) (WriteAt file 0 bytes ∷ [])) old mid last first second) third)

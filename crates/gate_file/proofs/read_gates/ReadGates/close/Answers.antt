@@ -1,4 +1,4 @@
-use Rattle.std.proofs.Common.{◌≡◌, ◌∷◌, [], ◌*◌, length, subst, arith}
+use Rattle.std.proofs.Common.{◌≡◌, ◌∷◌, [], ◌*◌, length, Err, refl, sym, subst, arith}
 use Rattle.disk_model.specs.Images.{file_of, Torn, HoldsPiece, LeavesOnly, InFileOnly}
 use Rattle.disk_model.proofs.CallerLemmas.{started}
 use Rattle.disk_model.proofs.RunLemmas.{in_file_at_first}
@@ -7,6 +7,11 @@ use Rattle.gate_file.specs.ReadFile.{file_read, bodies_read}
 use Rattle.gate_file.proofs.AttachLemmas.{close_leaves}
 use Rattle.gate_file.proofs.GateLemmas.{rest_after_close}
 use Rattle.gate_file.proofs.RewriteLemmas.{leaves_any}
+use Rattle.gate_file.proofs.MadeLemmas.{closes, told_some, written_as}
+use Rattle.disk_model.proofs.MadeLemmas.{tells_weaker, write_breaks}
+use Rattle.disk_model.specs.Made.{BreaksOff}
+use Rattle.disk_model.specs.Told.{Tells}
+use Rattle.gate_file.specs.Made.{close_calls}
 use Rattle.gate_file.proofs.read_gates.ReadGates.close.Goals as goal
 
 pub returns-in_err-write_synced-clause-images : goal.returns-in_err-write_synced-clause-images
@@ -59,3 +64,19 @@ returns-clause-elsewhere g c honest =
     let old = c.args.disk.now in
     let file = file_read c.args.self in
     leaves_any g.D.Disk.moment g.D.Disk.left_since g.D.Disk.may_leave file old c.write_synced.new.disk (Torn (c.len.result * 57) 1 (file_of file (g.D.Disk.seen old))) (c.write_synced.ensures.images honest)
+
+-- which of its calls were done
+pub returns-in_err-write_synced-clause-told : goal.returns-in_err-write_synced-clause-told
+returns-in_err-write_synced-clause-told g c =
+    let gates = c.args.self in
+    let file = file_read gates in
+    let count = length (bodies_read gates) in
+    let bytes = file_of file (g.D.Disk.seen c.args.disk.now) in
+    let place : c.len.result * 57 ≡ 57 * count = omega (arith, c.len.ensures, gates.bodies.ok.0) in
+    let old = g.D.Disk.told c.args.disk.now in
+    let new = g.D.Disk.told c.write_synced.new.disk in
+    let fault = c.in_err-write_synced.field-0.0 in
+    let written = written_as file (c.len.result * 57) (57 * count) (0 ∷ []) (0 ∷ []) (Err fault) old new place refl c.in_err-write_synced.ensures.told in
+    let broken = tells_weaker (write_breaks fault file (57 * count) (0 ∷ []) []) old new written in
+    told_some (close_calls file bytes count) fault c.from_residual.result c.from_residual.ensures.1 old new
+    (subst (λ calls. Tells (BreaksOff fault calls) old new) (sym (closes file bytes count (c.requires.not_closed c.if-closed.false))) broken)

@@ -1,4 +1,4 @@
-use Rattle.std.proofs.Common.{◌≢◌, ◌∷◌, [], Some, rules, sym, ap, ◌∙◌, subst}
+use Rattle.std.proofs.Common.{◌≢◌, ◌∷◌, [], ◌++◌, length, map, Some, Ok, Err, rules, sym, ap, ◌∙◌, subst}
 use Rattle.std.specs.Bool.{⊤}
 use Rattle.disk_model.specs.declared.fault.FileNo.TheVariants.{Chooser}
 use Rattle.disk_model.specs.Images.{Image, file_of, Torn, HoldsPiece, InFile, InFileOnly}
@@ -14,6 +14,18 @@ use Rattle.replica_store.proofs.FaultLemmas.{handed_on, gates_handed_on}
 use Rattle.replica_store.proofs.FileLemmas.{other_is_area}
 use Rattle.replica_store.proofs.ImageLemmas.{stays_durable}
 use Rattle.replica_store.proofs.SaveLemmas.{change_stands, run_stands, run_recoverable, two_runs, append_recoverable, other_recoverable, chooser_recoverable, settled_in_area, settled_in_other, settled_in_chooser, settled_by_chooser}
+use Rattle.disk_model.specs.Made.{MadeCalls}
+use Rattle.disk_model.specs.Told.{Tells}
+use Rattle.disk_model.proofs.MadeLemmas.{all_then, handed, made_all, made_done, made_later, made_sooner, tells_then, tells_weaker, write_breaks, write_done, made_some}
+use Rattle.disk_model.specs.Told.{AfterWriteSynced}
+use Rattle.gate_file.specs.Faults.{fault_of}
+use Rattle.gate_file.specs.Made.{append_calls, rewrite_calls}
+use Rattle.store_format.specs.Area.{base_records}
+use Rattle.store_format.specs.Records.{record_bytes}
+use Rattle.replica_store.specs.Faults.{of_disk}
+use Rattle.replica_store.specs.Made.{area_after, choose_calls, save_calls}
+use Rattle.replica_store.specs.Store.{records_of}
+use Rattle.replica_store.proofs.MadeLemmas.{disk_apart, gates_handed, saves_record, stays_in_area}
 use Rattle.replica_store.proofs.store.Store.save.Goals as goal
 
 -- ---- the other area
@@ -256,3 +268,94 @@ returns-clause-settled g c =
     let stand = change_stands store.jobs (bodies_of store.gates) c.record_bytes.result c.in-Some.item keeps.0 c.args.delta.now keeps.1 (c.requires.follows keeps.0 keeps.1) (sym c.delta_record.ensures ∙ c.in-Some.is) c.record_bytes.ensures.is_record in
     settled_in_area g.D.Disk.seen g.D.Disk.may_leave g.D.Disk.honest old store c.requires.settled new now P c.append.ensures.answer.honest_still.0 c.in_ok-append.ensures.settled c.append.ensures.file c.in_ok-append.ensures.others only
     (after_delta c.args.delta.now keeps.0, subst (λ bodies. BodiesStand store.jobs bodies (after_delta c.args.delta.now keeps.0)) (sym c.in_ok-append.ensures.bodies) stand)
+
+-- ---- which calls were done
+
+pub returns-in_err-gates-clause-told : goal.returns-in_err-gates-clause-told
+returns-in_err-gates-clause-told g c kept own stand =
+    let store = c.args.self.now in
+    let area = area_of store in
+    let count = length (records_of store) in
+    let old = g.D.Disk.told c.args.disk.now in
+    let other = other_area area in
+    let new = g.D.Disk.told c.write_area.new.disk in
+    let given = c.in_err-gates.field-0.0 in
+    let result = c.from_residual.result in
+    let records = rewrite_calls other (map record_bytes (base_records kept own c.in-Base.slot c.in-Base.rows)) in
+    subst (λ delta. Tells (MadeCalls of_disk (save_calls area count kept own delta) result) old new) (sym c.in-Base.is)
+    (tells_weaker (made_sooner of_disk of_disk records (choose_calls other) (Err given) result c.from_residual.ensures.0
+    (λ fault is. handed result given c.from_residual.ensures.1 (of_disk fault) is)) old new (c.in_err-gates.ensures.told kept own stand))
+
+pub returns-in_err-write_synced-clause-told : goal.returns-in_err-write_synced-clause-told
+returns-in_err-write_synced-clause-told g c kept own stand =
+    let store = c.args.self.now in
+    let area = area_of store in
+    let count = length (records_of store) in
+    let old = g.D.Disk.told c.args.disk.now in
+    let other = other_area area in
+    let records = rewrite_calls other (map record_bytes (base_records kept own c.in-Base.slot c.in-Base.rows)) in
+    let mid = g.D.Disk.told c.write_area.new.disk in
+    let new = g.D.Disk.told c.write_synced.new.disk in
+    let written = tells_weaker (made_done of_disk records c.in_ok-gates.gates) old mid (c.in_ok-gates.ensures.told kept own stand) in
+    let bit = c.bit_of.ensures ∙ ap bit_of (c.file.ensures ∙ c.in_ok-gates.ensures.file) in
+    let given = c.in_err-write_synced.field-0.0 in
+    let result = c.from_residual-in_err-write_synced.result in
+    let chosen : Tells (AfterWriteSynced Chooser 0 (bit_of other ∷ []) (Err given)) mid new =
+    subst (λ b. Tells (AfterWriteSynced Chooser 0 (b ∷ []) (Err given)) mid new) bit c.in_err-write_synced.ensures.told in
+    subst (λ delta. Tells (MadeCalls of_disk (save_calls area count kept own delta) result) old new) (sym c.in-Base.is)
+    (tells_then (λ one two three first broken. made_later of_disk of_disk records (choose_calls other) result result c.from_residual-in_err-write_synced.ensures.0 (λ fault is. is) one two three first
+    (made_some of_disk (choose_calls other) given result disk_apart c.from_residual-in_err-write_synced.ensures.1 two three (write_breaks given Chooser 0 (bit_of other ∷ []) [] two three broken))) old mid new written chosen)
+
+pub returns-in-Base-clause-told : goal.returns-in-Base-clause-told
+returns-in-Base-clause-told g c kept own stand =
+    let store = c.args.self.now in
+    let area = area_of store in
+    let count = length (records_of store) in
+    let old = g.D.Disk.told c.args.disk.now in
+    let other = other_area area in
+    let records = rewrite_calls other (map record_bytes (base_records kept own c.in-Base.slot c.in-Base.rows)) in
+    let mid = g.D.Disk.told c.write_area.new.disk in
+    let new = g.D.Disk.told c.write_synced.new.disk in
+    let written = tells_weaker (made_done of_disk records c.in_ok-gates.gates) old mid (c.in_ok-gates.ensures.told kept own stand) in
+    let bit = c.bit_of.ensures ∙ ap bit_of (c.file.ensures ∙ c.in_ok-gates.ensures.file) in
+    let chosen : Tells (AfterWriteSynced Chooser 0 (bit_of other ∷ []) (Ok tt)) mid new =
+    subst (λ b. Tells (AfterWriteSynced Chooser 0 (b ∷ []) (Ok tt)) mid new) bit c.in_ok-write_synced.ensures.told in
+    subst (λ delta. Tells (MadeCalls of_disk (save_calls area count kept own delta) (Ok tt)) old new) (sym c.in-Base.is)
+    (tells_then (λ one two three first last. made_all of_disk (records ++ choose_calls other) tt one three (all_then records (choose_calls other) one two three first (write_done Chooser 0 (bit_of other ∷ []) two three last))) old mid new written chosen)
+
+pub returns-in_err-append-clause-told : goal.returns-in_err-append-clause-told
+returns-in_err-append-clause-told g c kept own stand =
+    let store = c.args.self.now in
+    let area = area_of store in
+    let count = length (records_of store) in
+    let old = g.D.Disk.told c.args.disk.now in
+    let new = g.D.Disk.told c.append.new.disk in
+    let item = c.in-Some.item in
+    let calls = saves_record area count kept own c.args.delta.now item (sym c.delta_record.ensures ∙ c.in-Some.is) in
+    let given = c.in_err-append.field-0.0 in
+    let result = c.from_residual-in_err-append.result in
+    subst (λ list. Tells (MadeCalls of_disk list result) old new) (sym calls)
+    (subst (λ body. Tells (MadeCalls of_disk (append_calls area count body) result) old new) c.record_bytes.ensures.spelled
+    (tells_weaker (made_sooner fault_of of_disk (append_calls area count c.record_bytes.result) [] (Err given) result c.from_residual-in_err-append.ensures.0
+    (gates_handed result given c.from_residual-in_err-append.ensures.1)) old new c.in_err-append.ensures.told))
+
+pub returns-clause-told : goal.returns-clause-told
+returns-clause-told g c kept own stand =
+    let store = c.args.self.now in
+    let area = area_of store in
+    let count = length (records_of store) in
+    let old = g.D.Disk.told c.args.disk.now in
+    let new = g.D.Disk.told c.append.new.disk in
+    let item = c.in-Some.item in
+    let calls = saves_record area count kept own c.args.delta.now item (sym c.delta_record.ensures ∙ c.in-Some.is) in
+    subst (λ list. Tells (MadeCalls of_disk list (Ok tt)) old new) (sym calls)
+    (subst (λ body. Tells (MadeCalls of_disk (append_calls area count body) (Ok tt)) old new) c.record_bytes.ensures.spelled
+    (tells_weaker (λ one two made. made_all of_disk (append_calls area count c.record_bytes.result) tt one two (made_done fault_of (append_calls area count c.record_bytes.result) tt one two made)) old new c.in_ok-append.ensures.told))
+
+-- ---- the area that it goes on in
+
+pub returns-in-Base-clause-area : goal.returns-in-Base-clause-area
+returns-in-Base-clause-area g c = c.in_ok-gates.ensures.file ∙ ap (λ delta. area_after delta (area_of c.args.self.now)) (sym c.in-Base.is)
+
+pub returns-clause-area : goal.returns-clause-area
+returns-clause-area g c = c.append.ensures.file ∙ sym (stays_in_area (area_of c.args.self.now) c.args.delta.now c.in-Some.item (sym c.delta_record.ensures ∙ c.in-Some.is))

@@ -1,6 +1,17 @@
 use Rattle.replica_store.proofs.FaultLemmas.{damaged_below, not_memory}
 use Rattle.store_format.specs.Area.{StandFor}
-use Rattle.std.proofs.Common.{sym, subst}
+use Rattle.std.proofs.Common.{◌≡◌, [], map, Ok, Err, sym, ap, ◌∙◌, subst}
+use Rattle.disk_model.specs.Made.{MadeCalls}
+use Rattle.disk_model.specs.Told.{Tells}
+use Rattle.disk_model.proofs.MadeLemmas.{made_all, made_done, made_sooner, tells_weaker}
+use Rattle.gate_file.specs.Faults.{fault_of}
+use Rattle.gate_file.specs.Made.{rewrite_calls}
+use Rattle.store_format.specs.Area.{base_records}
+use Rattle.store_format.specs.Records.{record_bytes}
+use Rattle.replica_store.specs.Faults.{of_disk}
+use Rattle.replica_store.specs.Files.{other_area}
+use Rattle.replica_store.specs.Store.{area_of}
+use Rattle.replica_store.proofs.MadeLemmas.{gates_handed}
 use Rattle.replica_store.proofs.store.Store.write_area.Goals as goal
 
 -- what the store keeps can be read
@@ -10,3 +21,39 @@ returns-in_err-kept-clause-undamaged g c gate damaged =
     let keeps = c.requires.settled.keeps in
     let stand = subst (λ bodies. StandFor c.args.self.now.jobs bodies keeps.0 keeps.1.0) (sym c.bodies.ensures) keeps.1.1 in
     not_memory fault gate (c.in_err-kept.ensures.only keeps.0 keeps.1.0 stand) (damaged_below fault gate c.from_residual.result c.from_residual.ensures.1 damaged)
+
+-- ---- which calls were done
+
+pub returns-in_err-rewrite-clause-told : goal.returns-in_err-rewrite-clause-told
+returns-in_err-rewrite-clause-told g c kept own stand =
+    let store = c.args.self.now in
+    let slot = c.args.slot in
+    let rows = c.args.rows.now in
+    let old = g.D.Disk.told c.args.disk.now in
+    let new = g.D.Disk.told c.rewrite.new.disk in
+    let same = c.in_ok-kept.ensures.only kept own (subst (λ bodies. StandFor store.jobs bodies kept own) (sym c.bodies.ensures) stand) in
+    let other : c.other_area-other.result ≡ other_area (area_of store) = c.other_area-other.ensures ∙ ap other_area c.file.ensures in
+    let items : c.in_ok-bodies.bodies.items ≡ map record_bytes (base_records kept own slot rows) =
+    c.in_ok-bodies.ensures.bodies ∙ ap (λ k. map record_bytes (base_records k c.in_ok-kept.own slot rows)) same.0 ∙ ap (λ o. map record_bytes (base_records kept o slot rows)) same.1 in
+    let given = c.in_err-rewrite.field-0.0 in
+    let result = c.from_residual-in_err-rewrite.result in
+    subst (λ no. Tells (MadeCalls of_disk (rewrite_calls no (map record_bytes (base_records kept own slot rows))) result) old new) other
+    (subst (λ bodies. Tells (MadeCalls of_disk (rewrite_calls c.other_area-other.result bodies) result) old new) items
+    (tells_weaker (made_sooner fault_of of_disk (rewrite_calls c.other_area-other.result c.in_ok-bodies.bodies.items) [] (Err given) result c.from_residual-in_err-rewrite.ensures.0
+    (gates_handed result given c.from_residual-in_err-rewrite.ensures.1)) old new c.in_err-rewrite.ensures.told))
+
+pub returns-clause-told : goal.returns-clause-told
+returns-clause-told g c kept own stand =
+    let store = c.args.self.now in
+    let slot = c.args.slot in
+    let rows = c.args.rows.now in
+    let old = g.D.Disk.told c.args.disk.now in
+    let new = g.D.Disk.told c.rewrite.new.disk in
+    let same = c.in_ok-kept.ensures.only kept own (subst (λ bodies. StandFor store.jobs bodies kept own) (sym c.bodies.ensures) stand) in
+    let other : c.other_area-other.result ≡ other_area (area_of store) = c.other_area-other.ensures ∙ ap other_area c.file.ensures in
+    let items : c.in_ok-bodies.bodies.items ≡ map record_bytes (base_records kept own slot rows) =
+    c.in_ok-bodies.ensures.bodies ∙ ap (λ k. map record_bytes (base_records k c.in_ok-kept.own slot rows)) same.0 ∙ ap (λ o. map record_bytes (base_records kept o slot rows)) same.1 in
+    let all = tells_weaker (made_done fault_of (rewrite_calls c.other_area-other.result c.in_ok-bodies.bodies.items) c.in_ok-rewrite.field-0) old new c.in_ok-rewrite.ensures.told in
+    subst (λ no. Tells (MadeCalls of_disk (rewrite_calls no (map record_bytes (base_records kept own slot rows))) (Ok c.in_ok-rewrite.field-0)) old new) other
+    (subst (λ bodies. Tells (MadeCalls of_disk (rewrite_calls c.other_area-other.result bodies) (Ok c.in_ok-rewrite.field-0)) old new) items
+    (tells_weaker (made_all of_disk (rewrite_calls c.other_area-other.result c.in_ok-bodies.bodies.items) c.in_ok-rewrite.field-0) old new all))

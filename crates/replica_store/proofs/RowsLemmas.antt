@@ -1,0 +1,72 @@
+-- The rows and the round of what records stand for.
+use Rattle.std.proofs.Common.{◌≡◌, inl, inr, ℕ, ◌+◌, ◌<◌, ◌^◌, zero, suc, Option, None, Some, List, [], ◌∷◌, length, map, refl, sym, ap, subst, arith}
+use Rattle.std.specs.Prelude.{IfSome}
+use Rattle.std.specs.List.{filter_map, last_or, range_with_len, slice_get}
+use Rattle.paxos_base.specs.declared.durable.Delta.{Delta}
+use Rattle.paxos_base.specs.declared.durable.Delta.TheVariants.{Tried, Promised, Voted, Base}
+use Rattle.paxos_base.specs.declared.durable.Durable.{Durable}
+use Rattle.paxos_base.specs.declared.rows.JobRow.{JobRow}
+use Rattle.paxos_base.specs.Durable.{after_delta}
+use Rattle.paxos_base.specs.Rows.{RowsStand, fresh_row}
+use Rattle.store_format.specs.declared.body.Record.{Record}
+use Rattle.store_format.specs.declared.body.Record.TheVariants.{Tried as TriedRecord, Promised as PromisedRecord, Voted as VotedRecord, Base as BaseRecord, Row as RowRecord}
+use Rattle.store_format.specs.Area.{Stands, StandFor, fresh_kept, after_copy}
+use Rattle.store_format.specs.Order.{ChangeMayFollow, IsChangeLog, own_round}
+use Rattle.store_format.specs.Records.{AreRecords, tried_in}
+use Rattle.store_format.proofs.LogLemmas.{IsChangeLog-uncons, IsChangeLog-empty}
+use Rattle.store_format.proofs.SoundLemmas.{StandFor-sound}
+
+rows_change : (jobs : ℕ) (kept : Durable) (change : Delta) → RowsStand kept.rows jobs → ChangeMayFollow jobs kept change → RowsStand (after_delta change kept).rows jobs
+unfolding after_delta
+rows_change jobs kept (Tried ballot) stand may = stand
+rows_change jobs kept (Promised ballot) stand may = stand
+rows_change jobs kept (Voted vote) stand may = stand
+rows_change jobs kept (Base slot rows) stand may = may.1
+
+rows_log : (jobs : ℕ) (kept last : Durable) (items : List Record) → IsChangeLog jobs kept items last → RowsStand kept.rows jobs → RowsStand last.rows jobs
+rows_log jobs kept last [] log stand = subst (λ (k : Durable). RowsStand k.rows jobs) (sym (IsChangeLog-empty jobs kept last log)) stand
+rows_log jobs kept last (item ∷ items) log stand =
+    let parts = IsChangeLog-uncons jobs kept last item items log in
+    rows_log jobs (after_delta parts.change kept) last items parts.rest (rows_change jobs kept parts.change stand parts.may_follow)
+
+fresh_count : (from count : ℕ) → length (map fresh_row (range_with_len from count)) ≡ count
+fresh_count from zero = refl
+fresh_count from (suc count) = ap (λ n. suc n) (fresh_count (from + 1) count)
+
+same_job : (one other : JobRow) → ◌≡◌ {A = Option JobRow} (Some one) (Some other) → other.job ≡ one.job
+same_job one other is = let same : one ≡ other = cc is in ap (λ (row : JobRow). row.job) (sym same)
+
+fresh_order : (from count k : ℕ) (row : JobRow) → slice_get (map fresh_row (range_with_len from count)) k ≡ Some row → row.job ≡ from + k
+fresh_order from zero k row is = absurd (cc is)
+fresh_order from (suc count) zero row is = let e : row.job ≡ from = same_job (fresh_row from) row is in omega (arith, e)
+fresh_order from (suc count) (suc k) row is = let e : row.job ≡ from + 1 + k = fresh_order (from + 1) count k row is in omega (arith, e)
+
+fresh_stand : (jobs : ℕ) → RowsStand (fresh_kept jobs).rows jobs
+fresh_stand jobs = record { count = fresh_count 0 jobs; in_order = λ k row is. let e : row.job ≡ 0 + k = fresh_order 0 jobs k row is in omega (arith, e) }
+
+rows_stand : (jobs : ℕ) (items : List Record) (kept : Durable) → Stands jobs items kept → RowsStand kept.rows jobs
+rows_stand jobs items kept (inl log) = rows_log jobs (fresh_kept jobs) kept items log (fresh_stand jobs)
+rows_stand jobs items kept (inr base) = rows_log jobs (after_copy base.slot base.rows base.copy base.promised) kept base.log base.is_log base.rows_stand
+
+pub rows_found : (jobs : ℕ) (bodies : List (List ℕ)) (kept : Durable) (own : Option ℕ) → StandFor jobs bodies kept own → RowsStand kept.rows jobs
+rows_found jobs bodies kept own stand = rows_stand jobs stand.items kept stand.stands
+
+-- ---- the round of the replica's own ballot
+
+ballot_fits : (bodies : List (List ℕ)) (items : List Record) (own : Option ℕ) → AreRecords bodies items → IfSome own (λ ballot. ballot < 2 ^ 64) → IfSome (last_or own (filter_map tried_in items)) (λ ballot. ballot < 2 ^ 64)
+ballot_fits [] [] own are fits = fits
+ballot_fits [] (item ∷ items) own are fits = absurd are
+ballot_fits (body ∷ bodies) [] own are fits = absurd are
+ballot_fits (body ∷ bodies) (TriedRecord ballot ∷ items) own are fits = ballot_fits bodies items (Some ballot) are.1 are.0.packet.fits.ballot
+ballot_fits (body ∷ bodies) (PromisedRecord ballot ∷ items) own are fits = ballot_fits bodies items own are.1 fits
+ballot_fits (body ∷ bodies) (VotedRecord vote ∷ items) own are fits = ballot_fits bodies items own are.1 fits
+ballot_fits (body ∷ bodies) (BaseRecord slot count ∷ items) own are fits = ballot_fits bodies items own are.1 fits
+ballot_fits (body ∷ bodies) (RowRecord slot row ∷ items) own are fits = ballot_fits bodies items own are.1 fits
+
+round_fits : (own : Option ℕ) (tried : ℕ) → tried ≡ own_round own → IfSome own (λ ballot. ballot < 2 ^ 64) → tried < 2 ^ 61
+round_fits None tried is fits = omega (arith, is)
+round_fits (Some ballot) tried is fits = omega (arith, is, fits)
+
+pub tried_fits : (jobs : ℕ) (bodies : List (List ℕ)) (kept : Durable) (own : Option ℕ) → StandFor jobs bodies kept own → kept.tried < 2 ^ 61
+tried_fits jobs bodies kept own stand =
+    round_fits own kept.tried (StandFor-sound jobs bodies kept own stand).round (subst (λ o. IfSome o (λ ballot. ballot < 2 ^ 64)) (sym stand.own_is) (ballot_fits bodies stand.items None stand.are_records tt))
