@@ -1,0 +1,10 @@
+//! Tests of what no clause of replica_node says: that a node over a disk in memory is recovered, does steps and finds again
+//! what it kept, and how far it comes where a call of the disk fails or stops.
+#![tactic(auto)]
+
+#[cfg(test)]
+mod nodes;
+#[cfg(test)]
+mod steps;
+#[cfg(test)]
+mod stops;

@@ -1,0 +1,118 @@
+//! A node of the first of three replicas, with an hour without jobs.
+ghost use Rattle.due_set.specs.Table.{Table};
+ghost use Rattle.replica_core.specs.Step.{IsInputInside};
+ghost use Rattle.replica_node.specs.Node.{IsNodeAtRest};
+
+use disk_model::{Disk, MemDisk};
+use due_set::JobTable;
+use paxos_base::Durable;
+use replica_core::Input;
+use replica_node::Node;
+use replica_store::{Store, StoreFault};
+use std::alloc::Global;
+use std::process::Abort;
+use std::test::*;
+use zone_minutes::{Minute, Window};
+
+// An hour of 2024.
+const HOUR: Window = Window {
+    from: Minute(28_530_720),
+    until: Minute(28_530_780),
+};
+
+pub fn empty_table(alloc: Global) -> Result<JobTable, Fail> {
+    Ok(JobTable::in_utc(alloc, HOUR, 10, Vec::new(alloc))?)
+}
+
+/// An empty disk, on which the calls of these numbers fail.
+pub fn empty_disk(alloc: Global, fails: &[u64]) -> Result<MemDisk, Fail> {
+    Ok(MemDisk::new(alloc, Vec::from_slice(alloc, fails)?))
+}
+
+/// What a node is told. Letters come from replica 1, in its ballot of round 1, and are of slot 0.
+#[derive(Clone, Copy, Debug)]
+pub enum Told {
+    Campaign,
+    Prepare,
+    /// A no-op is to be voted for.
+    Accept,
+    /// A packet of no kind.
+    NoLetter,
+}
+
+/// The packet that it is told.
+pub fn packet_of(told: Told) -> [u8; 56] {
+    let mut bytes = [0; 56];
+    bytes[0] = match told {
+        Told::Prepare => 1,
+        Told::Accept => 4,
+        Told::Campaign | Told::NoLetter => 0,
+    };
+    bytes[1] = 1;
+    bytes[15] = 9;
+    bytes
+}
+
+/// The same as an input, with its packet.
+pub fn input_of(told: Told, packet: &[u8]) -> Input<'_>
+    ensures { (table : Table) → IsInputInside table result }
+{
+    match told {
+        Told::Campaign => Input::Campaign,
+        _ => Input::Hear { bytes: packet },
+    }
+}
+
+/// How far a node came.
+#[derive(Clone, Copy, Debug, PartialEq, Eq)]
+pub enum End {
+    /// It wasn't recovered.
+    NotRecovered,
+    /// It doesn't run any more.
+    Ended,
+    /// Its step was refused, and it runs.
+    Refused,
+    /// It has done its step, and handed out so many letters.
+    Done(usize),
+}
+
+// The node does a step, and gives back its disk.
+fn end_with<D: Disk>(
+    rt: &impl Abort,
+    table: &JobTable,
+    mut node: Node<D>,
+    input: Input<'_>,
+) -> (D, End)
+    requires at_rest { IsNodeAtRest D.seen D.may_leave D.honest table.now node }
+    requires inside { IsInputInside table.now input }
+{
+    assert!(rt; node.replica().is_small());
+    let end = match node.handle(table, input) {
+        Ok(out) => End::Done(out.letters.items.len()),
+        Err(_) if node.is_running() => End::Refused,
+        Err(_) => End::Ended,
+    };
+    (node.into_disk(), end)
+}
+
+/// A node is recovered from a disk and does a step, and gives back its disk.
+pub fn play<D: Disk>(
+    rt: &impl Abort,
+    alloc: Global,
+    table: &JobTable,
+    disk: D,
+    input: Input<'_>,
+) -> (D, End)
+    requires { IsInputInside table.now input }
+{
+    match Node::recover(alloc, 0, 3, table, disk) {
+        Ok(node) => end_with(rt, table, node, input),
+        Err((disk, _)) => (disk, End::NotRecovered),
+    }
+}
+
+/// What the files of a disk stand for.
+pub fn found_on(alloc: Global, disk: &mut MemDisk) -> Result<Durable, StoreFault> {
+    let (_, durable) = Store::attach(alloc, disk, 0)?;
+    Ok(durable)
+}

@@ -1,0 +1,91 @@
+-- What holds of what bodies stand for, as a replica asks for it where it starts.
+use Rattle.std.proofs.Common.{◌≡◌, ℕ, ◌<◌, ◌≤◌, ◌^◌, Option, None, Some, List, [], ◌∷◌, refl, sym, ap, ◌∙◌, subst, inl, inr, arith}
+use Rattle.std.specs.Prelude.{IfSome}
+use Rattle.std.specs.List.{filter_map, last_or}
+use Rattle.std.proofs.lemmas.List.Elements.{All-weaker}
+use Rattle.std.proofs.lemmas.Option.{none-some}
+use Rattle.paxos_base.specs.Durable.{after_delta}
+use Rattle.paxos_base.specs.Rows.{RowsStand}
+use Rattle.paxos_base.specs.declared.durable.Delta.{Delta}
+use Rattle.paxos_base.specs.declared.durable.Delta.TheVariants.{Tried as TriedDelta, Promised as PromisedDelta, Voted as VotedDelta, Base as BaseDelta}
+use Rattle.paxos_base.specs.declared.durable.Durable.{Durable}
+use Rattle.paxos_base.specs.declared.entry.Vote.{Vote}
+use Rattle.paxos_base.specs.declared.rows.JobRow.{JobRow}
+use Rattle.launch_machine.proofs.MachineLemmas.{fresh_stand}
+use Rattle.step_law.specs.Coherent.{AreUpTo}
+use Rattle.step_law.specs.State.{promised_in}
+use Rattle.store_format.specs.declared.body.Record.{Record}
+use Rattle.store_format.specs.declared.body.Record.TheVariants.{Tried, Promised, Voted, Base, Row}
+use Rattle.store_format.specs.Area.{Stands, StandFor, fresh_kept}
+use Rattle.store_format.specs.Order.{IsChangeLog, IsKeptSound, IsPromised, delta_record, own_round}
+use Rattle.store_format.specs.Records.{AreRecords, tried_in}
+use Rattle.store_format.proofs.LogLemmas.{IsChangeLog-empty, IsChangeLog-uncons}
+use Rattle.store_format.proofs.SoundLemmas.{StandFor-sound}
+
+-- ---- the rows: a log has no base, so it leaves them
+
+same_rows : (kept : Durable) (change : Delta) (item : Record) → delta_record change ≡ Some item → (after_delta change kept).rows ≡ kept.rows
+unfolding after_delta
+same_rows kept (TriedDelta ballot) item is = refl
+same_rows kept (PromisedDelta ballot) item is = refl
+same_rows kept (VotedDelta vote) item is = refl
+same_rows kept (BaseDelta slot rows) item is = absurd (none-some item is)
+
+log_rows : (jobs : ℕ) (kept last : Durable) (items : List Record) → IsChangeLog jobs kept items last → last.rows ≡ kept.rows
+log_rows jobs kept last [] log = ap (λ (k : Durable). k.rows) (IsChangeLog-empty jobs kept last log)
+log_rows jobs kept last (item ∷ items) log =
+    let parts = IsChangeLog-uncons jobs kept last item items log in
+    log_rows jobs (after_delta parts.change kept) last items parts.rest ∙ same_rows kept parts.change item parts.is_record
+
+stands_rows : (jobs : ℕ) (items : List Record) (kept : Durable) → Stands jobs items kept → RowsStand kept.rows jobs
+stands_rows jobs items kept (inl log) = fresh_stand kept.rows jobs (log_rows jobs (fresh_kept jobs) kept items log)
+stands_rows jobs items kept (inr base) = subst (λ (rows : List JobRow). RowsStand rows jobs) (sym (log_rows jobs _ kept base.log base.is_log)) base.rows_stand
+
+-- ---- the replica's own ballot: it is written in eight bytes
+
+abbrev Fits : Option ℕ → Type 0
+Fits own = IfSome own (λ ballot. ballot < 2 ^ 64)
+
+own_fits : (own : Option ℕ) (bodies : List (List ℕ)) (items : List Record) → AreRecords bodies items → Fits own → Fits (last_or own (filter_map tried_in items))
+own_fits own [] [] are fits = fits
+own_fits own [] (item ∷ items) are fits = absurd are
+own_fits own (body ∷ bodies) [] are fits = absurd are
+own_fits own (body ∷ bodies) (Tried ballot ∷ items) are fits = own_fits (Some ballot) bodies items are.1 are.0.packet.fits.ballot
+own_fits own (body ∷ bodies) (Promised ballot ∷ items) are fits = own_fits own bodies items are.1 fits
+own_fits own (body ∷ bodies) (Voted vote ∷ items) are fits = own_fits own bodies items are.1 fits
+own_fits own (body ∷ bodies) (Base slot count ∷ items) are fits = own_fits own bodies items are.1 fits
+own_fits own (body ∷ bodies) (Row slot row ∷ items) are fits = own_fits own bodies items are.1 fits
+
+round_fits : (own : Option ℕ) → Fits own → own_round own < 2 ^ 61
+round_fits None fits = omega arith
+round_fits (Some ballot) fits = omega (arith, fits)
+
+-- ---- the promise
+
+votes_up : (promised : Option ℕ) (kept : Durable) → kept.promised ≡ promised → (vote : Vote) → IsPromised promised vote.ballot → vote.ballot ≤ promised_in kept
+votes_up None kept is vote promised = absurd promised
+votes_up (Some ballot) kept is vote promised = rw is promised
+
+pub votes_up_to : (kept : Durable) (own : Option ℕ) → IsKeptSound kept own → AreUpTo (promised_in kept) kept.votes
+votes_up_to kept own sound =
+    All-weaker (λ (vote : Vote). IsPromised kept.promised vote.ballot) (λ (vote : Vote). vote.ballot ≤ promised_in kept) (votes_up kept.promised kept refl) kept.votes sound.votes_promised
+
+-- ---- all of it
+
+-- what a replica asks of what it starts with
+pub record IsFitToStart (jobs : ℕ) (kept : Durable) : Type 0 where
+  pub rows : RowsStand kept.rows jobs
+  pub tried : kept.tried < 2 ^ 61
+  pub votes : AreUpTo (promised_in kept) kept.votes
+
+pub fit_to_start : (jobs : ℕ) (bodies : List (List ℕ)) (kept : Durable) (own : Option ℕ) → StandFor jobs bodies kept own → IsFitToStart jobs kept
+fit_to_start jobs bodies kept own stand =
+    let sound = StandFor-sound jobs bodies kept own stand in
+    let fits : Fits own = subst Fits (sym stand.own_is) (own_fits None bodies stand.items stand.are_records tt) in
+    let round : own_round own < 2 ^ 61 = round_fits own fits in
+    let same : kept.tried ≡ own_round own = sound.round in
+    record {
+      rows = stands_rows jobs stand.items kept stand.stands;
+      tried = omega (arith, round, same);
+      votes = votes_up_to kept own sound;
+    }

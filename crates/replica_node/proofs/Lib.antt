@@ -1,0 +1,4 @@
+pub mod AttachedLemmas
+pub mod FaultLemmas
+pub mod RestLemmas
+pub mod StepLemmas

@@ -1,0 +1,115 @@
+-- A step that is planned, saved and taken.
+use Rattle.std.proofs.Common.{◌≡◌, ℕ, ◌<◌, List, [], ◌∷◌, Option, None, Some, length, refl, sym, ap, ◌∙◌, subst, arith}
+use Rattle.std.specs.Option.{option_to_list}
+use Rattle.due_set.specs.Table.{Table}
+use Rattle.launch_machine.specs.Machine.{Launches}
+use Rattle.paxos_base.specs.Rows.{RowsStand}
+use Rattle.paxos_base.specs.declared.durable.Delta.{Delta}
+use Rattle.paxos_base.specs.declared.durable.Durable.{Durable}
+use Rattle.paxos_base.specs.declared.rows.JobRow.{JobRow}
+use Rattle.step_law.specs.Act.{Act, Observe, Stand, Gather, TakeLead, Pledge, Cast, Propose, Count, Wait, Learn, Rebase, Call, Send, Restart, after_act}
+use Rattle.step_law.specs.Coherent.{IsCoherent}
+use Rattle.step_law.specs.Folds.{after_acts, deltas_by, deltas_of}
+use Rattle.step_law.specs.State.{State, prefix_of}
+use Rattle.step_law.specs.Step.{Event, IsPlanned, step}
+use Rattle.step_law.specs.Step as told
+use Rattle.store_format.specs.Order.{ChangeMayFollow, after_deltas}
+use Rattle.change_law.specs.Changes.{BaseMayFollow}
+use Rattle.change_law.proofs.Changes.{changes_follow}
+use Rattle.change_law.proofs.Said.{setting_of, step_may_be_done}
+use Rattle.replica_draft.specs.Draft.{Desk, delta_of, deltas_in}
+use Rattle.replica_draft.specs.declared.change.Change.{Change}
+use Rattle.replica_draft.specs.declared.change.Change.TheVariants as change
+use Rattle.replica_core.specs.Commit.{kept_after}
+use Rattle.replica_core.specs.Replica.{IsSupplied, ReplicaState}
+use Rattle.replica_core.specs.Step.{CanTake, IsAlike, IsEventOf, IsOfTable, Plans, PlansStep}
+use Rattle.replica_core.specs.declared.input.Input.{Input}
+use Rattle.replica_core.specs.declared.input.Input.TheVariants.{Campaign, Tick, Hear, Answer}
+use Rattle.replica_core.specs.declared.replica.Planned.{Planned}
+
+-- ---- what is kept after a step
+
+-- what acts leave is what their changes do, one after another
+kept_by_acts : (acts : List Act) (state : State) → (after_acts acts state).kept ≡ after_deltas (deltas_of acts) state.kept
+unfolding after_act deltas_by
+kept_by_acts [] state = refl
+kept_by_acts (Observe ballot ∷ acts) state = kept_by_acts acts (after_act (Observe ballot) state)
+kept_by_acts (Stand me ballot ∷ acts) state = kept_by_acts acts (after_act (Stand me ballot) state)
+kept_by_acts (Gather from votes ∷ acts) state = kept_by_acts acts (after_act (Gather from votes) state)
+kept_by_acts (TakeLead ∷ acts) state = kept_by_acts acts (after_act TakeLead state)
+kept_by_acts (Pledge ballot ∷ acts) state = kept_by_acts acts (after_act (Pledge ballot) state)
+kept_by_acts (Cast vote ∷ acts) state = kept_by_acts acts (after_act (Cast vote) state)
+kept_by_acts (Propose me vote ∷ acts) state = kept_by_acts acts (after_act (Propose me vote) state)
+kept_by_acts (Count from ∷ acts) state = kept_by_acts acts (after_act (Count from) state)
+kept_by_acts (Wait ∷ acts) state = kept_by_acts acts (after_act Wait state)
+kept_by_acts (Learn slot entry ∷ acts) state = kept_by_acts acts (after_act (Learn slot entry) state)
+kept_by_acts (Rebase slot rows ∷ acts) state = kept_by_acts acts (after_act (Rebase slot rows) state)
+kept_by_acts (Call row ∷ acts) state = kept_by_acts acts (after_act (Call row) state)
+kept_by_acts (Send whom message ∷ acts) state = kept_by_acts acts (after_act (Send whom message) state)
+kept_by_acts (Restart me ∷ acts) state = kept_by_acts acts (after_act (Restart me) state)
+
+kept_by_delta : (delta : Option Delta) (kept : Durable) → after_deltas (option_to_list delta) kept ≡ kept_after delta kept
+kept_by_delta None kept = refl
+kept_by_delta (Some delta) kept = refl
+
+-- with one change at most, it is what that does
+pub kept_by_change : (acts : List Act) (state : State) (delta : Option Delta) → deltas_of acts ≡ option_to_list delta → (after_acts acts state).kept ≡ kept_after delta state.kept
+kept_by_change acts state delta is =
+    kept_by_acts acts state ∙ ap (λ (changes : List Delta). after_deltas changes state.kept) is ∙ kept_by_delta delta state.kept
+
+-- ---- that the change may follow
+
+-- the launch table says of an input's event what the event tells
+pub event_planned : (table : Table) (replica : ReplicaState) (input : Input) (event : Event) → IsOfTable table replica → IsEventOf table replica input event → IsPlanned table replica.state event
+event_planned table replica Campaign event of_table is = subst (IsPlanned table replica.state) (sym is) tt
+event_planned table replica (Tick now) event of_table is =
+    let plan = is.0 in
+    let asked = is.1 in
+    subst (IsPlanned table replica.state) (sym is.2)
+    (subst (λ (rows : List JobRow). told.IsLaunchTable table replica.state rows) (sym asked.rows) of_table.rows, asked.intent)
+event_planned table replica (Hear bytes) event of_table is = subst (IsPlanned table replica.state) (sym is.3) tt
+event_planned table replica (Answer job at kind) event of_table is = subst (IsPlanned table replica.state) (sym is) of_table.rows
+
+first_is : (one other : Delta) → one ∷ [] ≡ other ∷ [] → one ≡ other
+first_is one other is = cc
+
+base_of_change : (table : Table) (machine : Launches) (base prefix : ℕ) (kept : Durable) (made : Change) → kept.base ≡ base → IsSupplied table machine base prefix (Some made) → BaseMayFollow (length table.jobs) kept (delta_of made)
+base_of_change table machine base prefix kept (change.Tried ballot) is supplied = tt
+base_of_change table machine base prefix kept (change.Promised ballot) is supplied = tt
+base_of_change table machine base prefix kept (change.Voted vote) is supplied = tt
+base_of_change table machine base prefix kept (change.Rebased rebased) is supplied =
+    let past = supplied.past in
+    (omega (arith, is, past), subst (λ (rows : List JobRow). RowsStand rows (length table.jobs)) supplied.rows supplied.stands.rows)
+
+base_of_made : (table : Table) (machine : Launches) (base prefix : ℕ) (kept : Durable) (made : Option Change) (delta : Delta) → kept.base ≡ base → IsSupplied table machine base prefix made → deltas_in made ≡ delta ∷ [] → BaseMayFollow (length table.jobs) kept delta
+base_of_made table machine base prefix kept None delta is supplied some = absurd (cc some)
+base_of_made table machine base prefix kept (Some made) delta is supplied some =
+    subst (BaseMayFollow (length table.jobs) kept) (first_is (delta_of made) delta some) (base_of_change table machine base prefix kept made is supplied)
+
+-- a step's plan, where it is a replica's, is also that of one alike
+pub plans_alike : (old now : ReplicaState) (acts : List Act) (planned : Planned) → IsAlike now old → Plans old acts planned → Plans now acts planned
+plans_alike old now acts planned alike plans =
+    record {
+      makes = rw alike.state plans.makes;
+      letters = rw alike.identity plans.letters;
+      delta = plans.delta;
+    }
+
+-- the changes of a plan's acts are that of its draft
+drafted_deltas : (replica : ReplicaState) (acts : List Act) (planned : Planned) → Plans replica acts planned → deltas_in planned.draft.change ≡ deltas_of acts
+drafted_deltas replica acts planned plans = ap (λ (desk : Desk). desk.deltas) plans.makes
+
+-- the change of a planned step may follow what the replica keeps
+pub change_follows : (table : Table) (input : Input) (old now : ReplicaState) (planned : Planned) (delta : Option Delta) (change : Delta) → old.identity.me < 8 → IsCoherent old.identity old.state → IsOfTable table old
+    → IsAlike now old → (plans : PlansStep table input old planned) → CanTake table now planned → deltas_of (step old.identity plans.event old.state) ≡ option_to_list delta → delta ≡ Some change
+    → ChangeMayFollow (length table.jobs) now.state.kept change
+change_follows table input old now planned delta change few coherent of_table alike plans can told is =
+    let acts = step old.identity plans.event old.state in
+    let one : deltas_of acts ≡ change ∷ [] = told ∙ ap (λ (d : Option Delta). option_to_list d) is in
+    let planned_event = event_planned table old input plans.event of_table plans.event_is in
+    let base : now.state.kept.base ≡ now.state.kept.base = refl in
+    let may : BaseMayFollow (length table.jobs) now.state.kept change =
+    base_of_made table now.machine now.state.kept.base (prefix_of now.state) now.state.kept planned.draft.change change base can.steady.supplied (drafted_deltas old acts planned plans.plans ∙ one) in
+    subst (λ (state : State). ChangeMayFollow (length table.jobs) state.kept change) (sym alike.state)
+    (changes_follow (setting_of old.identity table plans.event) (length table.jobs) acts old.state change coherent (step_may_be_done old.identity table plans.event old.state few coherent planned_event) one
+    (subst (λ (state : State). BaseMayFollow (length table.jobs) state.kept change) alike.state may))

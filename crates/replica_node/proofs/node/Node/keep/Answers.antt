@@ -1,0 +1,35 @@
+use Rattle.std.proofs.Common.{◌≡◌, sym, ap, subst}
+use Rattle.std.specs.Option.{option_copied}
+use Rattle.gate_file.specs.File.{bodies_of}
+use Rattle.paxos_base.specs.declared.durable.Durable.{Durable}
+use Rattle.store_format.specs.Order.{ChangeMayFollow}
+use Rattle.replica_store.specs.Store.{jobs_of}
+use Rattle.replica_store.proofs.FileLemmas.{bodies_stand_for_one}
+use Rattle.replica_store.proofs.SaveLemmas.{settled_recoverable}
+use Rattle.replica_node.proofs.node.Node.keep.Goals as goal
+
+pub returns-in_default-clause-recoverable : goal.returns-in_default-clause-recoverable
+returns-in_default-clause-recoverable g c honest =
+    let node = c.args.self.now in
+    rw c.in_default.is (settled_recoverable g.D.Disk.seen g.D.Disk.may_leave g.D.Disk.honest node.disk node.store c.requires.settled node.replica.state.kept c.requires.keeps honest)
+
+pub save-requires-clause-follows : goal.save-requires-clause-follows
+save-requires-clause-follows g c kept keeps =
+    let node = c.args.self.now in
+    let same : kept ≡ node.replica.state.kept = bodies_stand_for_one node.store.jobs (bodies_of node.store.gates) kept node.replica.state.kept keeps c.requires.keeps in
+    subst (λ (k : Durable). ChangeMayFollow (jobs_of node.store) k c.in-Some.delta.now) (sym same) (c.requires.follows c.in-Some.delta.now (ap option_copied c.in-Some.is))
+
+pub returns-in-Ok-clause-keeps : goal.returns-in-Ok-clause-keeps
+returns-in-Ok-clause-keeps g c = rw c.in-Some.is (c.in-Ok.ensures.keeps c.args.self.now.replica.state.kept c.requires.keeps)
+
+pub returns-in-Ok-clause-images : goal.returns-in-Ok-clause-images
+returns-in-Ok-clause-images g c honest = rw c.in-Some.is (c.save.ensures.images c.args.self.now.replica.state.kept c.requires.keeps honest)
+
+pub returns-in-Err-OutOfMemory-clause-images : goal.returns-in-Err-OutOfMemory-clause-images
+returns-in-Err-OutOfMemory-clause-images g c honest = rw c.in-Some.is (c.save.ensures.images c.args.self.now.replica.state.kept c.requires.keeps honest)
+
+pub returns-in-Err-Stopped-clause-images : goal.returns-in-Err-Stopped-clause-images
+returns-in-Err-Stopped-clause-images g c honest = rw c.in-Some.is (c.save.ensures.images c.args.self.now.replica.state.kept c.requires.keeps honest)
+
+pub returns-in-Err-DiskFault-clause-images : goal.returns-in-Err-DiskFault-clause-images
+returns-in-Err-DiskFault-clause-images g c honest = rw c.in-Some.is (c.save.ensures.images c.args.self.now.replica.state.kept c.requires.keeps honest)

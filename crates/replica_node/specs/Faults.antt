@@ -1,0 +1,55 @@
+-- The answers of a node by those of what it stands on.
+use Rattle.std.specs.Prelude.{◌≡◌, ◌↔◌, ⊤, ℕ, Option, None, Some, Result, Ok, Err}
+use Rattle.disk_model.specs.Faults.{Counts, CountsAnswer}
+use Rattle.paxos_letter.specs.declared.fault.LetterFault.{LetterFault}
+use Rattle.replica_core.specs.declared.input.StepFault.{StepFault}
+use Rattle.replica_core.specs.declared.input.StepFault.TheVariants as Step
+use Rattle.replica_store.specs.declared.fault.StoreFault.{StoreFault}
+use Rattle.replica_store.specs.declared.fault.StoreFault.TheVariants as Store
+use Rattle.replica_node.specs.declared.fault.NodeFault.{NodeFault}
+use Rattle.replica_node.specs.declared.fault.NodeFault.TheVariants.{Stopped, DiskFault, OutOfMemory, Damaged, Letter}
+
+abbrev pub of_store : StoreFault → NodeFault
+of_store Store.Stopped = Stopped
+of_store Store.DiskFault = DiskFault
+of_store Store.OutOfMemory = OutOfMemory
+of_store (Store.Damaged gate) = Damaged gate
+
+abbrev pub of_step : StepFault → NodeFault
+of_step (Step.Letter letter) = Letter letter
+of_step Step.OutOfMemory = OutOfMemory
+
+-- the rule that an answer says a letter breaks, where it says so
+abbrev pub letter_told : {T : Type 0} → Result T NodeFault → Option LetterFault
+letter_told (Ok answer) = None
+letter_told (Err Stopped) = None
+letter_told (Err DiskFault) = None
+letter_told (Err OutOfMemory) = None
+letter_told (Err (Damaged gate)) = None
+letter_told (Err (Letter letter)) = Some letter
+
+-- the disk stopped or failed, so that the node doesn't run any more
+abbrev pub EndsRun : {T : Type 0} → Result T NodeFault → Type 0
+EndsRun (Ok answer) = ⊥
+EndsRun (Err Stopped) = ⊤
+EndsRun (Err DiskFault) = ⊤
+EndsRun (Err OutOfMemory) = ⊥
+EndsRun (Err (Damaged gate)) = ⊥
+EndsRun (Err (Letter letter)) = ⊥
+
+-- the step was refused: memory ran out, or the bytes are no letter
+abbrev pub IsRefused : {T : Type 0} → Result T NodeFault → Type 0
+IsRefused (Ok answer) = ⊥
+IsRefused (Err Stopped) = ⊥
+IsRefused (Err DiskFault) = ⊥
+IsRefused (Err OutOfMemory) = ⊤
+IsRefused (Err (Damaged gate)) = ⊥
+IsRefused (Err (Letter letter)) = ⊤
+
+-- What each call of a node says of its disk whatever it answers: it is as honest as it was, and its counts rose where the
+-- answer tells of it, and nowhere else.
+pub record HasNodeAnswer {D T : Type 0} (honest : D → Type 0) (counts : D → Counts) (old new : D) (result : Result T NodeFault) : Type 0 where
+  pub honest_still : honest new ↔ honest old
+  pub counted : CountsAnswer Stopped DiskFault OutOfMemory (counts old) (counts new) result
+  pub damaged : (gate : ℕ) → result ≡ Err (Damaged gate) → counts new ≡ counts old
+  pub letter : (fault : LetterFault) → result ≡ Err (Letter fault) → counts new ≡ counts old

@@ -1,0 +1,27 @@
+//! Laws of a replica on its disk. Each is the contract of a function that does nothing.
+ghost use Rattle.std.specs.Prelude.{◌≡◌, length};
+ghost use Rattle.disk_model.specs.Images.{Image};
+ghost use Rattle.due_set.specs.Table.{Table};
+ghost use Rattle.step_law.specs.State.{State};
+ghost use Rattle.replica_core.specs.Replica.{ReplicaState};
+ghost use Rattle.replica_core.specs.declared.input.Input.{Input};
+ghost use Rattle.replica_store.specs.Files.{FilesStand, IsRecoverable};
+ghost use Rattle.replica_node.specs.declared.node.Node.{Node};
+ghost use Rattle.replica_node.specs.Node.{disk_of, replica_of, IsNodeAtRest, LeadsTo};
+
+use disk_model::Disk;
+
+/// Whatever a stop leaves of a node between two of its calls stands for what its replica keeps, and a replica can go on from
+/// there with that.
+pub fn a_node_at_rest_is_recoverable<D: Disk>()
+    ensures stands { (table : Table) (node : Node D) (image : Image) → IsNodeAtRest D.seen D.may_leave D.honest table node
+        → D.honest (disk_of node) → D.may_leave (disk_of node) image → FilesStand (length table.jobs) (replica_of node).state.kept image }
+    ensures recoverable { (table : Table) (node : Node D) → IsNodeAtRest D.seen D.may_leave D.honest table node → D.honest (disk_of node)
+        → IsRecoverable (length table.jobs) (replica_of node).state.kept (replica_of node).state.kept (D.may_leave (disk_of node)) }
+{}
+
+/// A replica's step at an input leads to one state.
+pub fn a_step_leads_to_one_state()
+    ensures { (table : Table) (input : Input) (replica : ReplicaState) (one other : State)
+        → LeadsTo table input replica one → LeadsTo table input replica other → one ≡ other }
+{}

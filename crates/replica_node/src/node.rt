@@ -1,0 +1,223 @@
+ghost use Rattle.std.specs.Prelude.{◌≡◌, ◌↔◌, ◌<◌, ◌≤◌, ◌⊎◌, ⊤, ℕ, List, IsTrue, true, false, Ok, Err, Some, IfOk, OnOk, OnErr, IsErrOf, length};
+ghost use Rattle.std.specs.Option.{option_copied};
+ghost use Rattle.disk_model.specs.Images.{Image, file_of, LeavesOnly};
+ghost use Rattle.gate_file.specs.Gates.{HasBodies};
+ghost use Rattle.paxos_base.specs.declared.durable.Delta.{Delta};
+ghost use Rattle.paxos_base.specs.declared.durable.Durable.{Durable};
+ghost use Rattle.paxos_letter.specs.declared.fault.LetterFault.{LetterFault};
+ghost use Rattle.step_law.specs.State.{started};
+ghost use Rattle.store_format.specs.Area.{IsFirstRecordAtFault};
+ghost use Rattle.store_format.specs.Order.{ChangeMayFollow};
+ghost use Rattle.replica_core.specs.Commit.{kept_after};
+ghost use Rattle.replica_core.specs.Replica.{IsSmall};
+ghost use Rattle.replica_core.specs.Step.{IsAlike, IsInputInside, IsOfTable, Steps, fault_in};
+ghost use Rattle.replica_store.specs.Files.{selected, FilesStand, FilesStandForEither, IsRecoverable};
+ghost use Rattle.replica_store.specs.Store.{jobs_of, StoreKeeps, IsStoreSettled};
+ghost use Rattle.replica_node.specs.declared.fault.NodeFault.TheVariants.{OutOfMemory, Damaged, Letter};
+ghost use Rattle.replica_node.specs.Faults.{EndsRun, HasNodeAnswer, IsRefused, letter_told};
+
+use crate::fault::NodeFault;
+use disk_model::Disk;
+use due_set::JobTable;
+use paxos_base::Delta;
+use replica_core::{Input, Replica, StepOut};
+use replica_store::{Store, StoreFault};
+use std::alloc::Global;
+
+/// A replica with its disk.
+#[derive(Debug, Drop)]
+pub struct Node<D> {
+    replica: Replica,
+    store: Store,
+    disk: D,
+    running: bool,
+}
+
+impl<D: Disk> Node<D> {
+    ghost use Rattle.replica_node.specs.Node.{disk_after, disk_of, fault_of, replica_of, runs_in, store_of, FilesStandAround, IsNodeAtRest, IsRecoverableAround};
+
+    /// Whether it runs: no call has told of a stop or a fault of the disk.
+    pub fn is_running(&self) -> bool
+        ensures { result ≡ runs_in self.now }
+    {
+        self.running
+    }
+
+    /// Its replica.
+    pub fn replica(&self) -> &Replica
+        ensures { result.now ≡ replica_of self.now }
+    {
+        &self.replica
+    }
+
+    /// Its disk.
+    pub fn into_disk(self) -> D
+        ensures { result ≡ disk_of self }
+    {
+        self.disk
+    }
+
+    /// Starts a replica with what its disk keeps. What an earlier call that failed left is decided here.
+    ///
+    /// # Errors
+    ///
+    /// Those of the disk, want of memory, and `Damaged` where the files stand for no state. The disk is handed back.
+    pub fn recover(
+        alloc: Global,
+        me: u8,
+        members: u8,
+        table: &JobTable,
+        mut disk: D,
+    ) -> Result<Node<D>, (D, NodeFault)>
+        requires me { me < members }
+        requires few { members ≤ 7 }
+        ensures at_rest { IfOk result (λ node. IsNodeAtRest D.seen D.may_leave D.honest table.now node) }
+        ensures identity { IfOk result (λ node. (replica_of node).identity ≡ record { me = me; members = members }) }
+        ensures started { IfOk result (λ node. (replica_of node).state ≡ started me (replica_of node).state.kept) }
+        ensures stand { IfOk result (λ node. FilesStand (length table.now.jobs) (replica_of node).state.kept (D.seen disk)) }
+
+        // From a disk that was recoverable, with the state before a change or after it, one of the two is found; whatever a
+        // stop within this call leaves stands for one of them, and the disk stays recoverable.
+        ensures either { (before after : Durable) → D.honest disk → IsRecoverable (length table.now.jobs) before after (D.may_leave disk)
+            → IfOk result (λ node. ((replica_of node).state.kept ≡ before) ⊎ ((replica_of node).state.kept ≡ after)) }
+        ensures sound { (before after : Durable) (gate : ℕ) → D.honest disk → IsRecoverable (length table.now.jobs) before after (D.may_leave disk)
+            → fault_of result ≡ Err (Damaged gate) → ⊥ }
+        ensures images { (before after : Durable) → D.honest disk → IsRecoverable (length table.now.jobs) before after (D.may_leave disk)
+            → LeavesOnly D.moment D.left_since disk (disk_after result) (FilesStandForEither (length table.now.jobs) before after) }
+        ensures recoverable { (before after : Durable) → D.honest disk → IsRecoverable (length table.now.jobs) before after (D.may_leave disk)
+            → IsRecoverable (length table.now.jobs) before after (D.may_leave (disk_after result)) }
+
+        ensures damaged { (gate : ℕ) (bodies : List (List ℕ)) → fault_of result ≡ Err (Damaged gate) → HasBodies (file_of (selected (D.seen disk)) (D.seen disk)) bodies
+            → IsFirstRecordAtFault (length table.now.jobs) bodies gate }
+        ensures unwritten { (gate : ℕ) → fault_of result ≡ Err (Damaged gate) → D.seen (disk_after result) ≡ D.seen disk }
+        ensures no_letter { (fault : LetterFault) → fault_of result ≡ Err (Letter fault) → ⊥ }
+        ensures answer { HasNodeAnswer D.honest D.counts disk (disk_after result) (fault_of result) }
+    {
+        match start(alloc, me, members, table, &mut disk) {
+            Ok((store, replica)) => Ok(Node {
+                replica,
+                store,
+                disk,
+                running: true,
+            }),
+            Err(fault) => Err((disk, fault)),
+        }
+    }
+
+    /// Does a step at an input. Its change is safe, whatever a stop does, before its letters, its learned entries and its
+    /// call are handed out.
+    ///
+    /// # Errors
+    ///
+    /// `Letter` where the bytes are no letter, and `OutOfMemory`: the node is as it was, and its files stand for what it
+    /// keeps. `Stopped` and `DiskFault` where the disk stopped or failed: then nothing is handed out, the files stand for
+    /// what the replica kept before the step or for what it keeps after it, and the node doesn't run any more. `Damaged`
+    /// never.
+    pub fn handle(&mut self, table: &JobTable, input: Input<'_>) -> Result<StepOut, NodeFault>
+        requires at_rest { IsNodeAtRest D.seen D.may_leave D.honest table.now self.old }
+        requires small { IsSmall (replica_of self.old).state (replica_of self.old).machine.rows }
+        requires inside { IsInputInside table.now input }
+        ensures steps { IfOk result (λ out. Steps table.now input.entry (replica_of self.old) (replica_of self.new) out) }
+        ensures at_rest { OnOk result (IsNodeAtRest D.seen D.may_leave D.honest table.now self.new) }
+        // Whatever a stop leaves from now on stands for the state after the step.
+        ensures safe { D.honest (disk_of self.old) → OnOk result ((image : Image) → D.may_leave (disk_of self.new) image
+            → FilesStand (length table.now.jobs) (replica_of self.new).state.kept image) }
+
+        ensures alike { OnErr result (IsAlike (replica_of self.new) (replica_of self.old)) }
+        ensures refused { IsRefused result → IsNodeAtRest D.seen D.may_leave D.honest table.now self.new }
+        // The bytes of a letter are refused exactly where they break a rule, for the first that they break.
+        ensures fault { letter_told result ≡ fault_in (replica_of self.old).identity.members input.entry }
+        ensures untouched { (fault : LetterFault) → result ≡ Err (Letter fault) → disk_of self.new ≡ disk_of self.old }
+        ensures ended { EndsRun result → runs_in self.new ≡ false }
+        ensures undamaged { (gate : ℕ) → result ≡ Err (Damaged gate) → ⊥ }
+
+        // Whatever a stop within the call leaves stands for the state before the step or for that after it, and a replica can
+        // go on from the disk with one of the two.
+        ensures images { D.honest (disk_of self.old) → LeavesOnly D.moment D.left_since (disk_of self.old) (disk_of self.new)
+            (FilesStandAround table.now input.entry (replica_of self.old)) }
+        ensures recoverable { D.honest (disk_of self.old) → EndsRun result
+            → IsRecoverableAround table.now input.entry (replica_of self.old) (D.may_leave (disk_of self.new)) }
+        ensures answer { HasNodeAnswer D.honest D.counts (disk_of self.old) (disk_of self.new) result }
+    {
+        let planned = self.replica.plan(table, input)?;
+        self.keep(planned.delta())?;
+        Ok(self.replica.complete(table, planned))
+    }
+
+    // Saves a change, where there is one.
+    fn keep(&mut self, delta: Option<&Delta>) -> Result<(), NodeFault>
+        requires settled { IsStoreSettled D.seen D.may_leave D.honest (disk_of self.old) (store_of self.old) }
+        requires keeps { StoreKeeps (store_of self.old) (replica_of self.old).state.kept }
+        requires follows { (change : Delta) → option_copied delta ≡ Some change
+            → ChangeMayFollow (jobs_of (store_of self.old)) (replica_of self.old).state.kept change }
+        ensures replica { replica_of self.new ≡ replica_of self.old }
+        ensures jobs { jobs_of (store_of self.new) ≡ jobs_of (store_of self.old) }
+        ensures runs { OnOk result (runs_in self.new ≡ runs_in self.old) }
+        ensures settled { OnOk result (IsStoreSettled D.seen D.may_leave D.honest (disk_of self.new) (store_of self.new)) }
+        ensures keeps { OnOk result (StoreKeeps (store_of self.new) (kept_after (option_copied delta.entry) (replica_of self.old).state.kept)) }
+        ensures memory { IsErrOf result OutOfMemory → (runs_in self.new ≡ runs_in self.old)
+            × IsStoreSettled D.seen D.may_leave D.honest (disk_of self.new) (store_of self.new)
+            × StoreKeeps (store_of self.new) (replica_of self.old).state.kept }
+        ensures ended { EndsRun result → runs_in self.new ≡ false }
+        ensures images { D.honest (disk_of self.old) → LeavesOnly D.moment D.left_since (disk_of self.old) (disk_of self.new)
+            (FilesStandForEither (jobs_of (store_of self.old)) (replica_of self.old).state.kept (kept_after (option_copied delta.entry) (replica_of self.old).state.kept)) }
+        ensures recoverable { D.honest (disk_of self.old) → IsRecoverable (jobs_of (store_of self.old)) (replica_of self.old).state.kept
+            (kept_after (option_copied delta.entry) (replica_of self.old).state.kept) (D.may_leave (disk_of self.new)) }
+        ensures undamaged { (gate : ℕ) → result ≡ Err (Damaged gate) → ⊥ }
+        ensures no_letter { (fault : LetterFault) → result ≡ Err (Letter fault) → ⊥ }
+        ensures answer { HasNodeAnswer D.honest D.counts (disk_of self.old) (disk_of self.new) result }
+    {
+        let Some(delta) = delta else {
+            return Ok(());
+        };
+        match self.store.save(&mut self.disk, delta) {
+            Ok(()) => Ok(()),
+            Err(StoreFault::OutOfMemory) => Err(NodeFault::OutOfMemory),
+            Err(StoreFault::Stopped) => {
+                self.running = false;
+                Err(NodeFault::Stopped)
+            }
+            Err(StoreFault::DiskFault) => {
+                self.running = false;
+                Err(NodeFault::DiskFault)
+            }
+            Err(StoreFault::Damaged { .. }) => unreachable!(),
+        }
+    }
+}
+
+// A store attached to its disk, and the replica that starts with what it keeps.
+fn start<D: Disk>(
+    alloc: Global,
+    me: u8,
+    members: u8,
+    table: &JobTable,
+    disk: &mut D,
+) -> Result<(Store, Replica), NodeFault>
+    requires me { me < members }
+    requires few { members ≤ 7 }
+    ensures settled { IfOk result (λ found. IsStoreSettled D.seen D.may_leave D.honest disk.new found.0) }
+    ensures jobs { IfOk result (λ found. jobs_of found.0 ≡ length table.now.jobs) }
+    ensures keeps { IfOk result (λ found. StoreKeeps found.0 found.1.state.kept) }
+    ensures identity { IfOk result (λ found. found.1.identity ≡ record { me = me; members = members }) }
+    ensures started { IfOk result (λ found. found.1.state ≡ started me found.1.state.kept) }
+    ensures of_table { IfOk result (λ found. IsOfTable table.now found.1) }
+    ensures stand { IfOk result (λ found. FilesStand (length table.now.jobs) found.1.state.kept (D.seen disk.old)) }
+    ensures either { (before after : Durable) → D.honest disk.old → IsRecoverable (length table.now.jobs) before after (D.may_leave disk.old)
+        → IfOk result (λ found. (found.1.state.kept ≡ before) ⊎ (found.1.state.kept ≡ after)) }
+    ensures sound { (before after : Durable) (gate : ℕ) → D.honest disk.old → IsRecoverable (length table.now.jobs) before after (D.may_leave disk.old)
+        → result ≡ Err (Damaged gate) → ⊥ }
+    ensures images { (before after : Durable) → D.honest disk.old → IsRecoverable (length table.now.jobs) before after (D.may_leave disk.old)
+        → LeavesOnly D.moment D.left_since disk.old disk.new (FilesStandForEither (length table.now.jobs) before after) }
+    ensures recoverable { (before after : Durable) → D.honest disk.old → IsRecoverable (length table.now.jobs) before after (D.may_leave disk.old)
+        → IsRecoverable (length table.now.jobs) before after (D.may_leave disk.new) }
+    ensures damaged { (gate : ℕ) (bodies : List (List ℕ)) → result ≡ Err (Damaged gate) → HasBodies (file_of (selected (D.seen disk.old)) (D.seen disk.old)) bodies
+        → IsFirstRecordAtFault (length table.now.jobs) bodies gate }
+    ensures unwritten { (gate : ℕ) → result ≡ Err (Damaged gate) → D.seen disk.new ≡ D.seen disk.old }
+    ensures no_letter { (fault : LetterFault) → result ≡ Err (Letter fault) → ⊥ }
+    ensures answer { HasNodeAnswer D.honest D.counts disk.old disk.new result }
+{
+    let (store, kept) = Store::attach(alloc, disk, table.jobs())?;
+    let replica = Replica::start(me, members, table, kept)?;
+    Ok((store, replica))
+}
