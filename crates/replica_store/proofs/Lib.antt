@@ -2,7 +2,10 @@ pub mod AttachLemmas
 pub mod FaultLemmas
 pub mod FileLemmas
 pub mod ImageLemmas
+pub mod KeptLemmas
 pub mod MadeLemmas
+pub mod PendingLemmas
 pub mod RowsLemmas
 pub mod SaveLemmas
 pub mod SettledLemmas
+pub mod StoppedLemmas

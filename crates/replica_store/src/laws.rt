@@ -1,12 +1,20 @@
-ghost use Rattle.std.specs.Prelude.{◌≡◌, ◌↔◌, ℕ, List, []};
+ghost use Rattle.std.specs.Prelude.{◌≡◌, ◌↔◌, ◌<◌, ◌≤◌, ℕ, Option, Some, List, []};
+ghost use Rattle.disk_model.specs.declared.armed.Arm.{Arm};
 ghost use Rattle.disk_model.specs.declared.fault.FileNo.{FileNo};
 ghost use Rattle.disk_model.specs.declared.fault.FileNo.TheVariants.{Chooser};
 ghost use Rattle.disk_model.specs.Images.{Image, file_of, IsDurable, NoNewImage};
+ghost use Rattle.disk_model.specs.Told.{Told, image_left};
 ghost use Rattle.gate_file.specs.Gates.{IsAtRest};
+ghost use Rattle.paxos_base.specs.declared.durable.Delta.{Delta};
 ghost use Rattle.paxos_base.specs.declared.durable.Durable.{Durable};
+ghost use Rattle.paxos_base.specs.Durable.{after_delta};
+ghost use Rattle.store_format.specs.declared.body.Record.{Record};
 ghost use Rattle.store_format.specs.Area.{fresh_kept};
+ghost use Rattle.store_format.specs.Order.{delta_record};
+ghost use Rattle.store_format.specs.Records.{IsRecord, record_bytes};
 ghost use Rattle.replica_store.specs.declared.store.Store.{Store};
 ghost use Rattle.replica_store.specs.Files.{selected, BodiesStand, FilesStand, FilesStandForEither, IsRecoverable};
+ghost use Rattle.replica_store.specs.Kept.{StopsInSave, Shows};
 ghost use Rattle.replica_store.specs.Store.{jobs_of, StoreKeeps, IsStoreSettled};
 
 use disk_model::Disk;
@@ -53,4 +61,19 @@ pub fn synced_files_are_recoverable<D: Disk>()
         → IsDurable Chooser (D.seen disk) (D.may_leave disk) → IsDurable (selected (D.seen disk)) (D.seen disk) (D.may_leave disk)
         → IsAtRest (file_of (selected (D.seen disk)) (D.seen disk)) records → BodiesStand jobs records kept
         → IsRecoverable jobs kept kept (D.may_leave disk) }
+{}
+
+/// A law, with nothing to run: whether a change is kept that a record saves, where an armed disk stops within the save. A
+/// stop within the first two calls, which put the record behind its gate, leaves the state before the change. One within the
+/// last two, which open the gate, keeps the change exactly where the image shows the gate's byte as 1.
+pub fn a_stop_may_keep_a_record()
+    ensures early { (jobs : ℕ) (area : FileNo) (kept : Durable) (own : Option ℕ) (change : Delta) (item : Record) (arm : Arm) (old new : Told)
+        → StopsInSave jobs area kept own change arm old new → delta_record change ≡ Some item
+        → arm.left < 2 → FilesStand jobs kept (image_left new) }
+    ensures lost { (jobs : ℕ) (area : FileNo) (kept : Durable) (own : Option ℕ) (change : Delta) (item : Record) (arm : Arm) (old new : Told)
+        → StopsInSave jobs area kept own change arm old new → delta_record change ≡ Some item
+        → 2 ≤ arm.left → (Shows (λ byte. byte ≡ 1) arm.image → ⊥) → FilesStand jobs kept (image_left new) }
+    ensures saved { (jobs : ℕ) (area : FileNo) (kept : Durable) (own : Option ℕ) (change : Delta) (item : Record) (arm : Arm) (old new : Told)
+        → StopsInSave jobs area kept own change arm old new → delta_record change ≡ Some item → IsRecord (record_bytes item) item
+        → 2 ≤ arm.left → Shows (λ byte. byte ≡ 1) arm.image → FilesStand jobs (after_delta change kept) (image_left new) }
 {}
