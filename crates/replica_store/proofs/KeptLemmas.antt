@@ -30,7 +30,7 @@ use Rattle.replica_store.proofs.StoppedLemmas.{StopsLater, hidden, none_breaks, 
 pub record_long : (item : Record) → length (record_bytes item) ≡ 56
 record_long item = refl
 
-stands_in : (jobs : ℕ) (kept : Durable) (image : Image) (area : FileNo) (bodies : List (List ℕ)) → selected image ≡ area → HasBodies (file_of area image) bodies → BodiesStand jobs bodies kept → FilesStand jobs kept image
+pub stands_in : (jobs : ℕ) (kept : Durable) (image : Image) (area : FileNo) (bodies : List (List ℕ)) → selected image ≡ area → HasBodies (file_of area image) bodies → BodiesStand jobs bodies kept → FilesStand jobs kept image
 stands_in jobs kept image area bodies selects has stand =
     record { bodies = bodies; has = subst (λ file. HasBodies (file_of file image) bodies) (sym selects) has; stand = stand }
 

@@ -1,4 +1,5 @@
 pub mod AttachLemmas
+pub mod BaseLemmas
 pub mod FaultLemmas
 pub mod FileLemmas
 pub mod ImageLemmas

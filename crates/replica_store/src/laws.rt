@@ -1,4 +1,4 @@
-ghost use Rattle.std.specs.Prelude.{◌≡◌, ◌↔◌, ◌<◌, ◌≤◌, ℕ, Option, Some, List, []};
+ghost use Rattle.std.specs.Prelude.{◌≡◌, ◌↔◌, ◌<◌, ◌≤◌, ℕ, Option, Some, List, [], map};
 ghost use Rattle.disk_model.specs.declared.armed.Arm.{Arm};
 ghost use Rattle.disk_model.specs.declared.fault.FileNo.{FileNo};
 ghost use Rattle.disk_model.specs.declared.fault.FileNo.TheVariants.{Chooser};
@@ -6,14 +6,16 @@ ghost use Rattle.disk_model.specs.Images.{Image, file_of, IsDurable, NoNewImage}
 ghost use Rattle.disk_model.specs.Told.{Told, image_left};
 ghost use Rattle.gate_file.specs.Gates.{IsAtRest};
 ghost use Rattle.paxos_base.specs.declared.durable.Delta.{Delta};
+ghost use Rattle.paxos_base.specs.declared.durable.Delta.TheVariants.{Base};
 ghost use Rattle.paxos_base.specs.declared.durable.Durable.{Durable};
+ghost use Rattle.paxos_base.specs.declared.rows.JobRow.{JobRow};
 ghost use Rattle.paxos_base.specs.Durable.{after_delta};
 ghost use Rattle.store_format.specs.declared.body.Record.{Record};
-ghost use Rattle.store_format.specs.Area.{fresh_kept};
+ghost use Rattle.store_format.specs.Area.{fresh_kept, base_records};
 ghost use Rattle.store_format.specs.Order.{delta_record};
-ghost use Rattle.store_format.specs.Records.{IsRecord, record_bytes};
+ghost use Rattle.store_format.specs.Records.{AreRecords, IsRecord, record_bytes};
 ghost use Rattle.replica_store.specs.declared.store.Store.{Store};
-ghost use Rattle.replica_store.specs.Files.{selected, BodiesStand, FilesStand, FilesStandForEither, IsRecoverable};
+ghost use Rattle.replica_store.specs.Files.{selected, selected_by, other_area, BodiesStand, FilesStand, FilesStandForEither, IsRecoverable};
 ghost use Rattle.replica_store.specs.Kept.{StopsInSave, Shows};
 ghost use Rattle.replica_store.specs.Store.{jobs_of, StoreKeeps, IsStoreSettled};
 
@@ -76,4 +78,20 @@ pub fn a_stop_may_keep_a_record()
     ensures saved { (jobs : ℕ) (area : FileNo) (kept : Durable) (own : Option ℕ) (change : Delta) (item : Record) (arm : Arm) (old new : Told)
         → StopsInSave jobs area kept own change arm old new → delta_record change ≡ Some item → IsRecord (record_bytes item) item
         → 2 ≤ arm.left → Shows (λ byte. byte ≡ 1) arm.image → FilesStand jobs (after_delta change kept) (image_left new) }
+{}
+
+/// A law, with nothing to run: whether a base is kept, where an armed disk stops within its save. A stop within the first
+/// three calls, which write the other area, leaves the state before the base. One within the last two, which write the
+/// chooser's byte, keeps the base exactly where the image shows a byte that selects the other area.
+pub fn a_stop_may_keep_a_base()
+    ensures early { (jobs : ℕ) (area : FileNo) (kept : Durable) (own : Option ℕ) (slot : ℕ) (rows : List JobRow) (arm : Arm) (old new : Told)
+        → StopsInSave jobs area kept own (Base slot rows) arm old new
+        → arm.left < 3 → FilesStand jobs kept (image_left new) }
+    ensures lost { (jobs : ℕ) (area : FileNo) (kept : Durable) (own : Option ℕ) (slot : ℕ) (rows : List JobRow) (arm : Arm) (old new : Told)
+        → StopsInSave jobs area kept own (Base slot rows) arm old new
+        → 3 ≤ arm.left → (Shows (λ byte. selected_by byte ≡ other_area area) arm.image → ⊥) → FilesStand jobs kept (image_left new) }
+    ensures saved { (jobs : ℕ) (area : FileNo) (kept : Durable) (own : Option ℕ) (slot : ℕ) (rows : List JobRow) (arm : Arm) (old new : Told)
+        → StopsInSave jobs area kept own (Base slot rows) arm old new
+        → AreRecords (map record_bytes (base_records kept own slot rows)) (base_records kept own slot rows)
+        → 3 ≤ arm.left → Shows (λ byte. selected_by byte ≡ other_area area) arm.image → FilesStand jobs (after_delta (Base slot rows) kept) (image_left new) }
 {}
