@@ -30,12 +30,12 @@ use Rattle.replica_store.proofs.PendingLemmas.{IsPending, clean_left, file_of-sa
 use Rattle.replica_store.proofs.StoppedLemmas.{StopsLater, breaks_first, hidden, none_breaks, shown, stops_in_write}
 
 -- a file was cut to nothing, or that was stopped within
-record IsEmptied (file : FileNo) (old new : Told) : Type 0 where
-  done : new.done ≡ with_file file (take 0 (file_of file old.done)) old.done
-  synced : new.synced ≡ old.synced
-  touched : new.touched ≡ old.touched
+pub record IsEmptied (file : FileNo) (old new : Told) : Type 0 where
+  pub done : new.done ≡ with_file file (take 0 (file_of file old.done)) old.done
+  pub synced : new.synced ≡ old.synced
+  pub touched : new.touched ≡ old.touched
 
-cut_passed : (file : FileNo) (old new : Told) → IsAnswered (CutTo file 0) (Ok tt) old new → IsEmptied file old new
+pub cut_passed : (file : FileNo) (old new : Told) → IsAnswered (CutTo file 0) (Ok tt) old new → IsEmptied file old new
 cut_passed file old new passed = record { done = ap (λ (told : Told). told.done) passed.2; synced = ap (λ (told : Told). told.synced) passed.2; touched = ap (λ (told : Told). told.touched) passed.2 }
 
 cut_stopped : (file : FileNo) (old new : Told) → old.stopped ≡ false → IsAnswered (CutTo file 0) (Err Stopped) old new → IsEmptied file old new
@@ -47,7 +47,7 @@ module _ (file other : FileNo) (old new : Told) (differs : other ≢ file) (empt
   emptied_same : file_of other new.done ≡ file_of other old.done
   emptied_same = ap (file_of other) emptied.done ∙ file_of-other file other (take 0 (file_of file old.done)) old.done differs
 
-  emptied_clean : IsClean other old → IsClean other new
+  pub emptied_clean : IsClean other old → IsClean other new
   emptied_clean clean = record { synced = ap (file_of other) emptied.synced ∙ clean.synced ∙ sym emptied_same; untouched = λ place. ap (λ (touched : FileNo → ℕ → Bool). touched other place) emptied.touched ∙ clean.untouched place }
 
 all_whole : (items : List Record) → AreWhole (map record_bytes items)

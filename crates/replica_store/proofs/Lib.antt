@@ -1,5 +1,6 @@
 pub mod AttachLemmas
 pub mod BaseLemmas
+pub mod CleanLemmas
 pub mod FaultLemmas
 pub mod FileLemmas
 pub mod ImageLemmas

@@ -98,7 +98,7 @@ pub record IsSynced (file : FileNo) (at : ℕ) (piece : List ℕ) (old new : Tol
   pub others_clean : (other : FileNo) → other ≢ file → IsClean other old → IsClean other new
   pub same : (other : FileNo) → other ≢ file → file_of other new.done ≡ file_of other old.done
 
-synced_then : (file : FileNo) (at : ℕ) (piece : List ℕ) (old mid new : Told) → IsPending file at piece old mid → IsAnswered (SyncOf file) (Ok tt) mid new → IsSynced file at piece old new
+pub synced_then : (file : FileNo) (at : ℕ) (piece : List ℕ) (old mid new : Told) → IsPending file at piece old mid → IsAnswered (SyncOf file) (Ok tt) mid new → IsSynced file at piece old new
 synced_then file at piece old mid new pending passed =
     record {
       clean = sync_cleans file mid new passed;

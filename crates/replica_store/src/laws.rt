@@ -1,9 +1,10 @@
-ghost use Rattle.std.specs.Prelude.{◌≡◌, ◌↔◌, ◌<◌, ◌≤◌, ℕ, Option, Some, List, [], map};
+ghost use Rattle.std.specs.Prelude.{◌≡◌, ◌↔◌, ◌<◌, ◌≤◌, ℕ, true, false, Option, Some, List, [], length, map};
 ghost use Rattle.disk_model.specs.declared.armed.Arm.{Arm};
 ghost use Rattle.disk_model.specs.declared.fault.FileNo.{FileNo};
 ghost use Rattle.disk_model.specs.declared.fault.FileNo.TheVariants.{Chooser};
 ghost use Rattle.disk_model.specs.Images.{Image, file_of, IsDurable, NoNewImage};
-ghost use Rattle.disk_model.specs.Told.{Told, image_left};
+ghost use Rattle.disk_model.specs.Made.{AllDone};
+ghost use Rattle.disk_model.specs.Told.{Told, image_left, after_arm, after_disarm, after_revive};
 ghost use Rattle.gate_file.specs.Gates.{IsAtRest};
 ghost use Rattle.paxos_base.specs.declared.durable.Delta.{Delta};
 ghost use Rattle.paxos_base.specs.declared.durable.Delta.TheVariants.{Base};
@@ -16,8 +17,9 @@ ghost use Rattle.store_format.specs.Order.{delta_record};
 ghost use Rattle.store_format.specs.Records.{AreRecords, IsRecord, record_bytes};
 ghost use Rattle.replica_store.specs.declared.store.Store.{Store};
 ghost use Rattle.replica_store.specs.Files.{selected, selected_by, other_area, BodiesStand, FilesStand, FilesStandForEither, IsRecoverable};
-ghost use Rattle.replica_store.specs.Kept.{StopsInSave, Shows};
-ghost use Rattle.replica_store.specs.Store.{jobs_of, StoreKeeps, IsStoreSettled};
+ghost use Rattle.replica_store.specs.Kept.{IsClean, IsReady, StopsInSave, Shows};
+ghost use Rattle.replica_store.specs.Made.{attach_calls, save_calls, area_after};
+ghost use Rattle.replica_store.specs.Store.{jobs_of, area_of, records_of, StoreKeeps, IsStoreSettled};
 
 use disk_model::Disk;
 
@@ -94,4 +96,20 @@ pub fn a_stop_may_keep_a_base()
         → StopsInSave jobs area kept own (Base slot rows) arm old new
         → AreRecords (map record_bytes (base_records kept own slot rows)) (base_records kept own slot rows)
         → 3 ≤ arm.left → Shows (λ byte. selected_by byte ≡ other_area area) arm.image → FilesStand jobs (after_delta (Base slot rows) kept) (image_left new) }
+{}
+
+/// A law, with nothing to run: a disk that runs is ready for a save where the store is settled, and the chooser and its area
+/// are clean in what the disk tells. They are so after an attach and after a save that were done, whether the disk is armed
+/// then or not; and a revival leaves every file clean.
+pub fn a_disk_is_ready_for_a_save<D: Disk>()
+    ensures ready { (disk : D) (store : Store) (told : Told) → IsStoreSettled D.seen D.may_leave D.honest disk store → D.told disk ≡ Some told
+        → told.stopped ≡ false → IsClean Chooser told → IsClean (area_of store) told → IsReady (area_of store) (records_of store) told }
+    ensures attached { (image : Image) (count : ℕ) (old new : Told) → AllDone (attach_calls image count) old new
+        → IsClean Chooser new × IsClean (selected image) new }
+    ensures saved { (area : FileNo) (records : List (List ℕ)) (kept : Durable) (own : Option ℕ) (change : Delta) (old new : Told)
+        → IsReady area records old → AllDone (save_calls area (length records) kept own change) old new
+        → IsClean Chooser new × IsClean (area_after change area) new }
+    ensures armed { (pass image : ℕ) (file : FileNo) (told : Told) → IsClean file told → IsClean file (after_arm pass image told) }
+    ensures disarmed { (file : FileNo) (told : Told) → IsClean file told → IsClean file (after_disarm told) }
+    ensures revived { (file : FileNo) (told : Told) → told.stopped ≡ true → IsClean file (after_revive told) }
 {}
