@@ -1,8 +1,13 @@
 pub mod AttachLemmas
+pub mod BaseLemmas
+pub mod CleanLemmas
 pub mod FaultLemmas
 pub mod FileLemmas
 pub mod ImageLemmas
+pub mod KeptLemmas
 pub mod MadeLemmas
+pub mod PendingLemmas
 pub mod RowsLemmas
 pub mod SaveLemmas
 pub mod SettledLemmas
+pub mod StoppedLemmas

@@ -1,13 +1,25 @@
-ghost use Rattle.std.specs.Prelude.{◌≡◌, ◌↔◌, ℕ, List, []};
+ghost use Rattle.std.specs.Prelude.{◌≡◌, ◌↔◌, ◌<◌, ◌≤◌, ℕ, true, false, Option, Some, List, [], length, map};
+ghost use Rattle.disk_model.specs.declared.armed.Arm.{Arm};
 ghost use Rattle.disk_model.specs.declared.fault.FileNo.{FileNo};
 ghost use Rattle.disk_model.specs.declared.fault.FileNo.TheVariants.{Chooser};
 ghost use Rattle.disk_model.specs.Images.{Image, file_of, IsDurable, NoNewImage};
+ghost use Rattle.disk_model.specs.Made.{AllDone};
+ghost use Rattle.disk_model.specs.Told.{Told, image_left, after_arm, after_disarm, after_revive};
 ghost use Rattle.gate_file.specs.Gates.{IsAtRest};
+ghost use Rattle.paxos_base.specs.declared.durable.Delta.{Delta};
+ghost use Rattle.paxos_base.specs.declared.durable.Delta.TheVariants.{Base};
 ghost use Rattle.paxos_base.specs.declared.durable.Durable.{Durable};
-ghost use Rattle.store_format.specs.Area.{fresh_kept};
+ghost use Rattle.paxos_base.specs.declared.rows.JobRow.{JobRow};
+ghost use Rattle.paxos_base.specs.Durable.{after_delta};
+ghost use Rattle.store_format.specs.declared.body.Record.{Record};
+ghost use Rattle.store_format.specs.Area.{fresh_kept, base_records};
+ghost use Rattle.store_format.specs.Order.{delta_record};
+ghost use Rattle.store_format.specs.Records.{AreRecords, IsRecord, record_bytes};
 ghost use Rattle.replica_store.specs.declared.store.Store.{Store};
-ghost use Rattle.replica_store.specs.Files.{selected, BodiesStand, FilesStand, FilesStandForEither, IsRecoverable};
-ghost use Rattle.replica_store.specs.Store.{jobs_of, StoreKeeps, IsStoreSettled};
+ghost use Rattle.replica_store.specs.Files.{selected, selected_by, other_area, BodiesStand, FilesStand, FilesStandForEither, IsRecoverable};
+ghost use Rattle.replica_store.specs.Kept.{IsClean, IsReady, StopsInSave, Shows};
+ghost use Rattle.replica_store.specs.Made.{attach_calls, save_calls, area_after};
+ghost use Rattle.replica_store.specs.Store.{jobs_of, area_of, records_of, StoreKeeps, IsStoreSettled};
 
 use disk_model::Disk;
 
@@ -53,4 +65,51 @@ pub fn synced_files_are_recoverable<D: Disk>()
         → IsDurable Chooser (D.seen disk) (D.may_leave disk) → IsDurable (selected (D.seen disk)) (D.seen disk) (D.may_leave disk)
         → IsAtRest (file_of (selected (D.seen disk)) (D.seen disk)) records → BodiesStand jobs records kept
         → IsRecoverable jobs kept kept (D.may_leave disk) }
+{}
+
+/// A law, with nothing to run: whether a change is kept that a record saves, where an armed disk stops within the save. A
+/// stop within the first two calls, which put the record behind its gate, leaves the state before the change. One within the
+/// last two, which open the gate, keeps the change exactly where the image shows the gate's byte as 1.
+pub fn a_stop_may_keep_a_record()
+    ensures early { (jobs : ℕ) (area : FileNo) (kept : Durable) (own : Option ℕ) (change : Delta) (item : Record) (arm : Arm) (old new : Told)
+        → StopsInSave jobs area kept own change arm old new → delta_record change ≡ Some item
+        → arm.left < 2 → FilesStand jobs kept (image_left new) }
+    ensures lost { (jobs : ℕ) (area : FileNo) (kept : Durable) (own : Option ℕ) (change : Delta) (item : Record) (arm : Arm) (old new : Told)
+        → StopsInSave jobs area kept own change arm old new → delta_record change ≡ Some item
+        → 2 ≤ arm.left → (Shows (λ byte. byte ≡ 1) arm.image → ⊥) → FilesStand jobs kept (image_left new) }
+    ensures saved { (jobs : ℕ) (area : FileNo) (kept : Durable) (own : Option ℕ) (change : Delta) (item : Record) (arm : Arm) (old new : Told)
+        → StopsInSave jobs area kept own change arm old new → delta_record change ≡ Some item → IsRecord (record_bytes item) item
+        → 2 ≤ arm.left → Shows (λ byte. byte ≡ 1) arm.image → FilesStand jobs (after_delta change kept) (image_left new) }
+{}
+
+/// A law, with nothing to run: whether a base is kept, where an armed disk stops within its save. A stop within the first
+/// three calls, which write the other area, leaves the state before the base. One within the last two, which write the
+/// chooser's byte, keeps the base exactly where the image shows a byte that selects the other area.
+pub fn a_stop_may_keep_a_base()
+    ensures early { (jobs : ℕ) (area : FileNo) (kept : Durable) (own : Option ℕ) (slot : ℕ) (rows : List JobRow) (arm : Arm) (old new : Told)
+        → StopsInSave jobs area kept own (Base slot rows) arm old new
+        → arm.left < 3 → FilesStand jobs kept (image_left new) }
+    ensures lost { (jobs : ℕ) (area : FileNo) (kept : Durable) (own : Option ℕ) (slot : ℕ) (rows : List JobRow) (arm : Arm) (old new : Told)
+        → StopsInSave jobs area kept own (Base slot rows) arm old new
+        → 3 ≤ arm.left → (Shows (λ byte. selected_by byte ≡ other_area area) arm.image → ⊥) → FilesStand jobs kept (image_left new) }
+    ensures saved { (jobs : ℕ) (area : FileNo) (kept : Durable) (own : Option ℕ) (slot : ℕ) (rows : List JobRow) (arm : Arm) (old new : Told)
+        → StopsInSave jobs area kept own (Base slot rows) arm old new
+        → AreRecords (map record_bytes (base_records kept own slot rows)) (base_records kept own slot rows)
+        → 3 ≤ arm.left → Shows (λ byte. selected_by byte ≡ other_area area) arm.image → FilesStand jobs (after_delta (Base slot rows) kept) (image_left new) }
+{}
+
+/// A law, with nothing to run: a disk that runs is ready for a save where the store is settled, and the chooser and its area
+/// are clean in what the disk tells. They are so after an attach and after a save that were done, whether the disk is armed
+/// then or not; and a revival leaves every file clean.
+pub fn a_disk_is_ready_for_a_save<D: Disk>()
+    ensures ready { (disk : D) (store : Store) (told : Told) → IsStoreSettled D.seen D.may_leave D.honest disk store → D.told disk ≡ Some told
+        → told.stopped ≡ false → IsClean Chooser told → IsClean (area_of store) told → IsReady (area_of store) (records_of store) told }
+    ensures attached { (image : Image) (count : ℕ) (old new : Told) → AllDone (attach_calls image count) old new
+        → IsClean Chooser new × IsClean (selected image) new }
+    ensures saved { (area : FileNo) (records : List (List ℕ)) (kept : Durable) (own : Option ℕ) (change : Delta) (old new : Told)
+        → IsReady area records old → AllDone (save_calls area (length records) kept own change) old new
+        → IsClean Chooser new × IsClean (area_after change area) new }
+    ensures armed { (pass image : ℕ) (file : FileNo) (told : Told) → IsClean file told → IsClean file (after_arm pass image told) }
+    ensures disarmed { (file : FileNo) (told : Told) → IsClean file told → IsClean file (after_disarm told) }
+    ensures revived { (file : FileNo) (told : Told) → told.stopped ≡ true → IsClean file (after_revive told) }
 {}
