@@ -81,6 +81,7 @@ impl Store {
         ensures damaged_image { (gate : ℕ) → result ≡ Err (Damaged gate) → D.honest disk.old → NoNewImage (D.may_leave disk.old) (D.may_leave disk.new) }
         ensures damaged_images { (gate : ℕ) → result ≡ Err (Damaged gate) → D.honest disk.old
             → LeavesOnly D.moment D.left_since disk.old disk.new (D.may_leave disk.old) }
+        ensures memory_image { IsErrOf result OutOfMemory → D.honest disk.old → NoNewImage (D.may_leave disk.old) (D.may_leave disk.new) }
         ensures told { (records : List (List ℕ)) → HasBodies (file_of (selected (D.seen disk.old)) (D.seen disk.old)) records
             → Tells (MadeCalls of_disk (attach_calls (D.seen disk.old) (length records)) result) (D.told disk.old) (D.told disk.new) }
         ensures told_damaged { (gate : ℕ) → result ≡ Err (Damaged gate)
