@@ -27,6 +27,7 @@ pub fn write_synced<D: Disk>(
         (InFileOnly file (D.may_leave disk.old) (Torn at (length bytes.now) (file_of file (D.seen disk.old)))) }
     ensures unchanged { IsErrOf result OutOfMemory → D.seen disk.new ≡ D.seen disk.old }
     ensures still_durable { IsErrOf result OutOfMemory → D.honest disk.new → IsDurable file (D.seen disk.new) (D.may_leave disk.new) }
+    ensures no_new_image { IsErrOf result OutOfMemory → D.honest disk.old → NoNewImage (D.may_leave disk.old) (D.may_leave disk.new) }
     ensures honest { D.honest disk.new ↔ D.honest disk.old }
     ensures counts { CountsDiskAnswer (D.counts disk.old) (D.counts disk.new) result }
     ensures told { Tells (AfterWriteSynced file at bytes.now result) (D.told disk.old) (D.told disk.new) }

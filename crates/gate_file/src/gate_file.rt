@@ -1,5 +1,5 @@
 ghost use Rattle.std.specs.Prelude.{◌≡◌, ◌↔◌, ⊤, ℕ, List, ◌++◌, ◌∷◌, [], length, Option, Some, IfOk, OnOk, OnErr, IsErrOf};
-ghost use Rattle.disk_model.specs.Images.{file_of, OthersStay, LeavesOnly, InFileOnly, AllHave};
+ghost use Rattle.disk_model.specs.Images.{file_of, OthersStay, NoNewImage, LeavesOnly, InFileOnly, AllHave};
 ghost use Rattle.gate_file.specs.declared.fault.GateFault.TheVariants.{OutOfMemory};
 ghost use Rattle.disk_model.specs.Made.{MadeCalls};
 ghost use Rattle.disk_model.specs.Told.{Tells};
@@ -61,6 +61,7 @@ impl GateFile {
             → LeavesOnly D.moment D.left_since disk.old disk.new
             (InFileOnly file (D.may_leave disk.old) (IsStaged bodies pending)) }
 
+        ensures memory_image { IsErrOf result OutOfMemory → D.honest disk.old → NoNewImage (D.may_leave disk.old) (D.may_leave disk.new) }
         ensures answer { HasGateAnswer D.honest D.counts disk.old disk.new result }
         ensures told { (bodies : List (List ℕ)) → HasBodies (file_of file (D.seen disk.old)) bodies
             → Tells (MadeCalls fault_of (read_calls file ++ close_calls file (file_of file (D.seen disk.old)) (length bodies)) result)

@@ -2,6 +2,7 @@ ghost use Rattle.std.specs.Prelude.{◌≡◌, ◌↔◌, ⊤, ℕ, List, length
 ghost use Rattle.disk_model.specs.Images.{file_of, OthersStay, NoNewImage, LeavesOnly, InFileOnly, AllHave};
 ghost use Rattle.disk_model.specs.Made.{MadeCalls};
 ghost use Rattle.disk_model.specs.Told.{Tells};
+ghost use Rattle.gate_file.specs.declared.fault.GateFault.TheVariants.{OutOfMemory};
 ghost use Rattle.gate_file.specs.Faults.{HasGateAnswer, fault_of};
 ghost use Rattle.gate_file.specs.Made.{read_calls, close_calls};
 ghost use Rattle.gate_file.specs.Gates.{HasBodies, IsStaged};
@@ -82,6 +83,7 @@ impl ReadGates {
         // And whatever the file had, the other files are as they were.
         ensures elsewhere { D.honest disk.old → LeavesOnly D.moment D.left_since disk.old disk.new
             (InFileOnly (file_read self) (D.may_leave disk.old) (λ bytes. ⊤)) }
+        ensures memory_image { IsErrOf result OutOfMemory → D.honest disk.old → NoNewImage (D.may_leave disk.old) (D.may_leave disk.new) }
         ensures answer { HasGateAnswer D.honest D.counts disk.old disk.new result }
         ensures told { Tells (MadeCalls fault_of (close_calls (file_read self) (file_of (file_read self) (D.seen disk.old)) (length (bodies_read self))) result)
             (D.told disk.old) (D.told disk.new) }

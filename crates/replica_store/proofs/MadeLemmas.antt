@@ -1,5 +1,5 @@
 -- The calls that a store makes, by what those that it stands on say of each.
-use Rattle.std.proofs.Common.{◌≡◌, ℕ, Option, Some, List, [], ◌∷◌, ◌++◌, Result, Ok, Err, IsErrAnd, IsErrOf, refl, sym, ap, ◌∙◌, subst}
+use Rattle.std.proofs.Common.{◌≡◌, ℕ, Option, Some, List, map, [], ◌∷◌, ◌++◌, Result, Ok, Err, IsErrAnd, IsErrOf, refl, sym, ap, ◌∙◌, subst}
 use Rattle.disk_model.specs.declared.fault.DiskFault.{DiskFault}
 use Rattle.disk_model.specs.declared.fault.DiskFault.TheVariants as Disk
 use Rattle.disk_model.specs.declared.fault.FileNo.{FileNo}
@@ -17,7 +17,9 @@ use Rattle.store_format.specs.declared.body.Record.{Record}
 use Rattle.store_format.specs.declared.fault.ReadFault.{ReadFault}
 use Rattle.store_format.specs.declared.fault.ReadFault.TheVariants as Read
 use Rattle.store_format.specs.Order.{delta_record}
-use Rattle.store_format.specs.Records.{record_bytes}
+use Rattle.paxos_base.specs.declared.rows.JobRow.{JobRow}
+use Rattle.store_format.specs.Area.{base_records}
+use Rattle.store_format.specs.Records.{AreRecords, record_bytes}
 use Rattle.replica_store.specs.declared.fault.StoreFault.{StoreFault}
 use Rattle.replica_store.specs.Faults.{of_disk, of_gates, of_records}
 use Rattle.replica_store.specs.Made.{area_after, record_calls, save_calls}
@@ -99,3 +101,24 @@ stays_in_area area (Base slot rows) item is = absurd (cc is)
 -- the calls of an answer that is known
 pub all_of : {T E : Type 0} (fault_as : DiskFault → E) (calls : List DiskCall) (result : Result T E) (value : T) → result ≡ Ok value → (old new : Told) → MadeCalls fault_as calls result old new → AllDone calls old new
 all_of fault_as calls result value is old new made = (subst (λ r. MadeCalls fault_as calls r old new) is made).all
+
+-- ---- records
+
+-- the records of a base are spelled, as they were for what was read
+pub base_is_spelled : (bodies : List (List ℕ)) (found kept : Durable) (found_own own : Option ℕ) (slot : ℕ) (rows : List JobRow) → bodies ≡ map record_bytes (base_records found found_own slot rows) → AreRecords bodies (base_records found found_own slot rows)
+    → found ≡ kept → found_own ≡ own → AreRecords (map record_bytes (base_records kept own slot rows)) (base_records kept own slot rows)
+base_is_spelled bodies found kept found_own own slot rows is are same_kept same_own =
+    subst (λ o. AreRecords (map record_bytes (base_records kept o slot rows)) (base_records kept o slot rows)) same_own
+    (subst (λ k. AreRecords (map record_bytes (base_records k found_own slot rows)) (base_records k found_own slot rows)) same_kept
+    (subst (λ b. AreRecords b (base_records found found_own slot rows)) is are))
+
+base_inner : (one other : ℕ) (rows others : List JobRow) → Base one rows ≡ Base other others → (one ≡ other) × (rows ≡ others)
+base_inner one other rows others is = (cc is, cc is)
+
+-- and so are those of the same base
+pub same_base_spelled : (change : Delta) (kept : Durable) (own : Option ℕ) (found slot : ℕ) (found_rows rows : List JobRow) → change ≡ Base found found_rows → change ≡ Base slot rows
+    → AreRecords (map record_bytes (base_records kept own found found_rows)) (base_records kept own found found_rows) → AreRecords (map record_bytes (base_records kept own slot rows)) (base_records kept own slot rows)
+same_base_spelled change kept own found slot found_rows rows was is are =
+    let same = base_inner found slot found_rows rows (sym was ∙ is) in
+    subst (λ r. AreRecords (map record_bytes (base_records kept own slot r)) (base_records kept own slot r)) same.1
+    (subst (λ s. AreRecords (map record_bytes (base_records kept own s found_rows)) (base_records kept own s found_rows)) same.0 are)

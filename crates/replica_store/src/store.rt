@@ -1,4 +1,4 @@
-ghost use Rattle.std.specs.Prelude.{◌≡◌, ◌↔◌, ◌⊎◌, ◌<◌, ◌^◌, ⊤, ℕ, List, length, map, Option, Ok, Err, IfOk, OnOk, OnErr, IsErrOf};
+ghost use Rattle.std.specs.Prelude.{◌≡◌, ◌↔◌, ◌⊎◌, ◌<◌, ◌^◌, ⊤, ℕ, List, length, map, Option, Some, Ok, Err, IfOk, OnOk, OnErr, IsErrOf};
 ghost use Rattle.disk_model.specs.Images.{file_of, OthersStay, NoNewImage, LeavesOnly, InFileOnly};
 ghost use Rattle.gate_file.specs.File.{file_no, bodies_of, IsFileSettled};
 ghost use Rattle.disk_model.specs.Made.{AllDone, MadeCalls};
@@ -10,10 +10,12 @@ ghost use Rattle.paxos_base.specs.declared.durable.Delta.TheVariants.{Base};
 ghost use Rattle.paxos_base.specs.declared.durable.Durable.{Durable};
 ghost use Rattle.paxos_base.specs.Durable.{after_delta};
 ghost use Rattle.store_format.specs.Area.{StandFor, IsFirstRecordAtFault, base_records};
-ghost use Rattle.store_format.specs.Records.{record_bytes};
+ghost use Rattle.store_format.specs.declared.body.Record.{Record};
+ghost use Rattle.store_format.specs.Records.{AreRecords, IsRecord, record_bytes};
+ghost use Rattle.paxos_base.specs.declared.rows.JobRow.{JobRow};
 ghost use Rattle.paxos_base.specs.Rows.{RowsStand};
-ghost use Rattle.store_format.specs.Order.{ChangeMayFollow};
-ghost use Rattle.replica_store.specs.declared.fault.StoreFault.TheVariants.{OutOfMemory, Damaged};
+ghost use Rattle.store_format.specs.Order.{ChangeMayFollow, delta_record};
+ghost use Rattle.replica_store.specs.declared.fault.StoreFault.TheVariants.{Stopped, OutOfMemory, Damaged};
 ghost use Rattle.replica_store.specs.Faults.{HasStoreAnswer, of_disk};
 ghost use Rattle.replica_store.specs.Files.{selected, other_area, BodiesStand, FilesStand, FilesStandForEither, IsRecoverable};
 ghost use Rattle.replica_store.specs.Made.{look_calls, attach_calls, save_calls, area_after};
@@ -79,6 +81,7 @@ impl Store {
         ensures damaged_image { (gate : ℕ) → result ≡ Err (Damaged gate) → D.honest disk.old → NoNewImage (D.may_leave disk.old) (D.may_leave disk.new) }
         ensures damaged_images { (gate : ℕ) → result ≡ Err (Damaged gate) → D.honest disk.old
             → LeavesOnly D.moment D.left_since disk.old disk.new (D.may_leave disk.old) }
+        ensures memory_image { IsErrOf result OutOfMemory → D.honest disk.old → NoNewImage (D.may_leave disk.old) (D.may_leave disk.new) }
         ensures told { (records : List (List ℕ)) → HasBodies (file_of (selected (D.seen disk.old)) (D.seen disk.old)) records
             → Tells (MadeCalls of_disk (attach_calls (D.seen disk.old) (length records)) result) (D.told disk.old) (D.told disk.new) }
         ensures told_damaged { (gate : ℕ) → result ≡ Err (Damaged gate)
@@ -125,6 +128,11 @@ impl Store {
         ensures told { (kept : Durable) (own : Option ℕ) → StandFor (jobs_of self.old) (records_of self.old) kept own
             → Tells (MadeCalls of_disk (save_calls (area_of self.old) (length (records_of self.old)) kept own delta.now) result)
             (D.told disk.old) (D.told disk.new) }
+        // What is said of a stop within it asks that its records are spelled.
+        ensures spelled { (item : Record) → delta_record delta.now ≡ Some item → IsRecord (record_bytes item) item }
+        ensures base_spelled { (kept : Durable) (own : Option ℕ) (slot : ℕ) (rows : List JobRow) → StandFor (jobs_of self.old) (records_of self.old) kept own
+            → delta.now ≡ Base slot rows → IsErrOf result Stopped
+            → AreRecords (map record_bytes (base_records kept own slot rows)) (base_records kept own slot rows) }
         ensures answer { HasStoreAnswer D.honest D.counts disk.old disk.new result }
     {
         if let Delta::Base { slot, rows } = delta {
@@ -161,6 +169,10 @@ impl Store {
         ensures told { (kept : Durable) (own : Option ℕ) → StandFor (jobs_of self.now) (records_of self.now) kept own
             → Tells (MadeCalls of_disk (rewrite_calls (other_area (area_of self.now)) (map record_bytes (base_records kept own slot rows.now))) result)
             (D.told disk.old) (D.told disk.new) }
+        ensures spelled { (kept : Durable) (own : Option ℕ) → StandFor (jobs_of self.now) (records_of self.now) kept own
+            → OnOk result (AreRecords (map record_bytes (base_records kept own slot rows.now)) (base_records kept own slot rows.now)) }
+        ensures stopped_spelled { (kept : Durable) (own : Option ℕ) → StandFor (jobs_of self.now) (records_of self.now) kept own → IsErrOf result Stopped
+            → AreRecords (map record_bytes (base_records kept own slot rows.now)) (base_records kept own slot rows.now) }
         ensures answer { HasStoreAnswer D.honest D.counts disk.old disk.new result }
     {
         let (kept, own) = read_records(self.alloc, self.jobs, self.gates.bodies())?;

@@ -364,3 +364,8 @@ returns-clause-rows g c = rows_found c.args.jobs c.bodies.result.now c.in_ok-kep
 
 pub returns-clause-tried : goal.returns-clause-tried
 returns-clause-tried g c = tried_fits c.args.jobs c.bodies.result.now c.in_ok-kept.kept c.in_ok-kept.field-0-1 c.in_ok-kept.ensures.found
+
+-- ---- no new image at want of memory
+
+pub returns-in_err-kept-clause-memory_image : goal.returns-in_err-kept-clause-memory_image
+returns-in_err-kept-clause-memory_image g c memory honest = λ image left. c.select.ensures.no_new_image honest image (c.read.ensures.no_new_image (c.select.ensures.honest.1 honest) image left)

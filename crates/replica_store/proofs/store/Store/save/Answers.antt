@@ -25,7 +25,7 @@ use Rattle.store_format.specs.Records.{record_bytes}
 use Rattle.replica_store.specs.Faults.{of_disk}
 use Rattle.replica_store.specs.Made.{area_after, choose_calls, save_calls}
 use Rattle.replica_store.specs.Store.{records_of}
-use Rattle.replica_store.proofs.MadeLemmas.{disk_apart, gates_handed, saves_record, stays_in_area}
+use Rattle.replica_store.proofs.MadeLemmas.{disk_apart, gates_handed, same_base_spelled, saves_record, stays_in_area}
 use Rattle.replica_store.proofs.store.Store.save.Goals as goal
 
 -- ---- the other area
@@ -359,3 +359,13 @@ returns-in-Base-clause-area g c = c.in_ok-gates.ensures.file ∙ ap (λ delta. a
 
 pub returns-clause-area : goal.returns-clause-area
 returns-clause-area g c = c.append.ensures.file ∙ sym (stays_in_area (area_of c.args.self.now) c.args.delta.now c.in-Some.item (sym c.delta_record.ensures ∙ c.in-Some.is))
+
+-- ---- what is spelled
+
+pub returns-in_err-gates-clause-base_spelled : goal.returns-in_err-gates-clause-base_spelled
+returns-in_err-gates-clause-base_spelled g c kept own slot rows stand is stopped =
+    same_base_spelled c.args.delta.now kept own c.in-Base.slot slot c.in-Base.rows rows c.in-Base.is is (c.write_area.ensures.stopped_spelled kept own stand (search rules))
+
+pub returns-in_err-write_synced-clause-base_spelled : goal.returns-in_err-write_synced-clause-base_spelled
+returns-in_err-write_synced-clause-base_spelled g c kept own slot rows stand is stopped =
+    same_base_spelled c.args.delta.now kept own c.in-Base.slot slot c.in-Base.rows rows c.in-Base.is is (c.in_ok-gates.ensures.spelled kept own stand)

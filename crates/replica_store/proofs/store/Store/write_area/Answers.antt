@@ -11,7 +11,7 @@ use Rattle.store_format.specs.Records.{record_bytes}
 use Rattle.replica_store.specs.Faults.{of_disk}
 use Rattle.replica_store.specs.Files.{other_area}
 use Rattle.replica_store.specs.Store.{area_of}
-use Rattle.replica_store.proofs.MadeLemmas.{gates_handed}
+use Rattle.replica_store.proofs.MadeLemmas.{base_is_spelled, gates_handed}
 use Rattle.replica_store.proofs.store.Store.write_area.Goals as goal
 
 -- what the store keeps can be read
@@ -57,3 +57,17 @@ returns-clause-told g c kept own stand =
     subst (λ no. Tells (MadeCalls of_disk (rewrite_calls no (map record_bytes (base_records kept own slot rows))) (Ok c.in_ok-rewrite.field-0)) old new) other
     (subst (λ bodies. Tells (MadeCalls of_disk (rewrite_calls c.other_area-other.result bodies) (Ok c.in_ok-rewrite.field-0)) old new) items
     (tells_weaker (made_all of_disk (rewrite_calls c.other_area-other.result c.in_ok-bodies.bodies.items) c.in_ok-rewrite.field-0) old new all))
+
+-- ---- what is spelled
+
+pub returns-in_err-rewrite-clause-stopped_spelled : goal.returns-in_err-rewrite-clause-stopped_spelled
+returns-in_err-rewrite-clause-stopped_spelled g c kept own stand stopped =
+    let store = c.args.self.now in
+    let same = c.in_ok-kept.ensures.only kept own (subst (λ bodies. StandFor store.jobs bodies kept own) (sym c.bodies.ensures) stand) in
+    base_is_spelled c.in_ok-bodies.bodies.items c.in_ok-kept.kept kept c.in_ok-kept.own own c.args.slot c.args.rows.now c.in_ok-bodies.ensures.bodies c.in_ok-bodies.ensures.records same.0 same.1
+
+pub returns-clause-spelled : goal.returns-clause-spelled
+returns-clause-spelled g c kept own stand =
+    let store = c.args.self.now in
+    let same = c.in_ok-kept.ensures.only kept own (subst (λ bodies. StandFor store.jobs bodies kept own) (sym c.bodies.ensures) stand) in
+    base_is_spelled c.in_ok-bodies.bodies.items c.in_ok-kept.kept kept c.in_ok-kept.own own c.args.slot c.args.rows.now c.in_ok-bodies.ensures.bodies c.in_ok-bodies.ensures.records same.0 same.1
