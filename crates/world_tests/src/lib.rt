@@ -4,4 +4,8 @@
 #[cfg(test)]
 mod scene;
 #[cfg(test)]
+mod seat;
+#[cfg(test)]
+mod takeover;
+#[cfg(test)]
 mod turns;

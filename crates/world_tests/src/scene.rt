@@ -48,15 +48,15 @@ fn first_durable(alloc: Global, table: &JobTable) -> Result<Durable, Fail>
     })
 }
 
-// The first of so many replicas, before it has done anything.
-fn first_replica(alloc: Global, table: &JobTable, members: u8) -> Result<Replica, Fail>
-    requires some { 0 < members }
+/// A replica of so many, before it has done anything.
+pub fn first_replica(alloc: Global, table: &JobTable, who: u8, members: u8) -> Result<Replica, Fail>
+    requires member { who < members }
     requires few { members ≤ 7 }
     ensures at { IfOk result (λ replica. (book : BookState) → book.members ≡ members → StandsAt table.now [] book replica) }
-    ensures first { IfOk result (λ replica. replica.identity.me ≡ 0) }
+    ensures first { IfOk result (λ replica. replica.identity.me ≡ who) }
 {
     let durable = first_durable(alloc, table)?;
-    Ok(Replica::start(0, members, table, durable)?)
+    Ok(Replica::start(who, members, table, durable)?)
 }
 
 // Makes the call that a step asks for, where it asks for one.
@@ -80,8 +80,8 @@ fn call_for(
     }
 }
 
-// A step of the replica.
-fn step_of(table: &JobTable, replica: &mut Replica, input: Input<'_>) -> Result<StepOut, Fail>
+/// A step of the replica.
+pub fn step_of(table: &JobTable, replica: &mut Replica, input: Input<'_>) -> Result<StepOut, Fail>
     requires of_table { IsOfTable table.now replica.old }
     requires small { IsSmall replica.old.state replica.old.machine.rows }
     requires inside { IsInputInside table.now input }
@@ -176,6 +176,6 @@ pub fn begin(alloc: Global, table: &JobTable, members: u8) -> Result<(Book, Repl
     requires few { members ≤ 7 }
     ensures { IfOk result (λ both. StandTogether table.now both.0 both.1) }
 {
-    let replica = first_replica(alloc, table, members)?;
+    let replica = first_replica(alloc, table, 0, members)?;
     Ok((Book::new(alloc, members), replica))
 }

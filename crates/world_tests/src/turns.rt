@@ -54,8 +54,8 @@ fn each_twenty_minutes() -> Option<Fields> {
     })
 }
 
-// An hour, in which a job runs each twenty minutes.
-fn table_of_one(alloc: Global) -> Result<JobTable, Fail> {
+/// An hour, in which a job runs each twenty minutes.
+pub fn table_of_one(alloc: Global) -> Result<JobTable, Fail> {
     let fields = each_twenty_minutes().ok_or("no fields")?;
     let mut jobs = Vec::new(alloc);
     jobs.push(JobSpec::new(alloc, "alice:1", 0, JobKind::Crontab { fields })?)?;
@@ -83,8 +83,8 @@ fn a_campaign_is_a_turn_with_two_letters(rt: HostRuntime) -> Result<(), Fail> {
     Ok(())
 }
 
-// The window's first instant.
-fn first_instant(table: &JobTable) -> Option<Minute>
+/// The window's first instant.
+pub fn first_instant(table: &JobTable) -> Option<Minute>
     ensures { IfSome result (λ now. IsInWindow table.now.window now.0) }
 {
     let window = table.window();
