@@ -1,6 +1,8 @@
 ghost use Rattle.std.specs.Prelude.{◌≡◌, ◌↔◌, ◌<◌, ◌≤◌, ◌⊎◌, ⊤, ℕ, List, IsTrue, true, false, Ok, Err, Some, IfOk, OnOk, OnErr, IsErrOf, length};
 ghost use Rattle.std.specs.Option.{option_copied};
 ghost use Rattle.disk_model.specs.Images.{Image, file_of, LeavesOnly};
+ghost use Rattle.disk_model.specs.Told.{Tells, after_arm, after_disarm};
+ghost use Rattle.due_set.specs.Table.{Table};
 ghost use Rattle.gate_file.specs.Gates.{HasBodies};
 ghost use Rattle.paxos_base.specs.declared.durable.Delta.{Delta};
 ghost use Rattle.paxos_base.specs.declared.durable.Durable.{Durable};
@@ -17,7 +19,7 @@ ghost use Rattle.replica_node.specs.declared.fault.NodeFault.TheVariants.{OutOfM
 ghost use Rattle.replica_node.specs.Faults.{EndsRun, HasNodeAnswer, IsRefused, letter_told};
 
 use crate::fault::NodeFault;
-use disk_model::Disk;
+use disk_model::{ArmedDisk, Disk};
 use due_set::JobTable;
 use paxos_base::Delta;
 use replica_core::{Input, Replica, StepOut};
@@ -183,6 +185,47 @@ impl<D: Disk> Node<D> {
             }
             Err(StoreFault::Damaged { .. }) => unreachable!(),
         }
+    }
+}
+
+impl<D: ArmedDisk> Node<D> {
+    ghost use Rattle.replica_node.specs.Node.{disk_of, replica_of, runs_in, store_of, IsNodeAtRest};
+
+    /// Lets `pass` more writes, cuts and syncs of its disk succeed, and the next one stop within and leave the image of that
+    /// number. Nothing else of the node changes.
+    pub fn arm(&mut self, pass: u32, image: u32)
+        ensures told { Tells (λ old new. new ≡ after_arm pass image old) (D.told (disk_of self.old)) (D.told (disk_of self.new)) }
+        ensures seen { D.seen (disk_of self.new) ≡ D.seen (disk_of self.old) }
+        ensures images { (left : Image) → D.may_leave (disk_of self.new) left ↔ D.may_leave (disk_of self.old) left }
+        ensures moment { D.moment (disk_of self.new) ≡ D.moment (disk_of self.old) }
+        ensures time { (start : ℕ) (left : Image) → D.left_since (disk_of self.new) start left ↔ D.left_since (disk_of self.old) start left }
+        ensures honest { D.honest (disk_of self.new) ↔ D.honest (disk_of self.old) }
+        ensures counts { D.counts (disk_of self.new) ≡ D.counts (disk_of self.old) }
+        ensures replica { replica_of self.new ≡ replica_of self.old }
+        ensures store { store_of self.new ≡ store_of self.old }
+        ensures runs { runs_in self.new ≡ runs_in self.old }
+        ensures at_rest { (table : Table) → IsNodeAtRest D.seen D.may_leave D.honest table self.old
+            → IsNodeAtRest D.seen D.may_leave D.honest table self.new }
+    {
+        self.disk.arm(pass, image);
+    }
+
+    /// Takes [`Node::arm`] back, where no stop has come. Nothing else of the node changes.
+    pub fn disarm(&mut self)
+        ensures told { Tells (λ old new. new ≡ after_disarm old) (D.told (disk_of self.old)) (D.told (disk_of self.new)) }
+        ensures seen { D.seen (disk_of self.new) ≡ D.seen (disk_of self.old) }
+        ensures images { (left : Image) → D.may_leave (disk_of self.new) left ↔ D.may_leave (disk_of self.old) left }
+        ensures moment { D.moment (disk_of self.new) ≡ D.moment (disk_of self.old) }
+        ensures time { (start : ℕ) (left : Image) → D.left_since (disk_of self.new) start left ↔ D.left_since (disk_of self.old) start left }
+        ensures honest { D.honest (disk_of self.new) ↔ D.honest (disk_of self.old) }
+        ensures counts { D.counts (disk_of self.new) ≡ D.counts (disk_of self.old) }
+        ensures replica { replica_of self.new ≡ replica_of self.old }
+        ensures store { store_of self.new ≡ store_of self.old }
+        ensures runs { runs_in self.new ≡ runs_in self.old }
+        ensures at_rest { (table : Table) → IsNodeAtRest D.seen D.may_leave D.honest table self.old
+            → IsNodeAtRest D.seen D.may_leave D.honest table self.new }
+    {
+        self.disk.disarm();
     }
 }
 
