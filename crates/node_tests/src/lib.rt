@@ -3,6 +3,8 @@
 #![tactic(auto)]
 
 #[cfg(test)]
+mod arms;
+#[cfg(test)]
 mod nodes;
 #[cfg(test)]
 mod steps;

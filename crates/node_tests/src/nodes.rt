@@ -76,8 +76,8 @@ pub enum End {
     Done(usize),
 }
 
-// The node does a step, and gives back its disk.
-fn end_with<D: Disk>(
+/// The node does a step, and gives back its disk.
+pub fn end_with<D: Disk>(
     rt: &impl Abort,
     table: &JobTable,
     mut node: Node<D>,

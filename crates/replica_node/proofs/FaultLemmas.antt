@@ -2,11 +2,14 @@
 use Rattle.std.proofs.Common.{◌≡◌, ◌⊎◌, ℕ, Result, Err, IsErrAnd, refl, ap, ◌∙◌, subst, inl, inr}
 use Rattle.std.proofs.lemmas.Result.{err_from_is_err_and}
 use Rattle.disk_model.specs.Faults.{Counts}
+use Rattle.disk_model.specs.declared.fault.DiskFault.{DiskFault}
+use Rattle.disk_model.specs.declared.fault.DiskFault.TheVariants as Disk
 use Rattle.paxos_letter.specs.declared.fault.LetterFault.{LetterFault}
 use Rattle.replica_store.specs.Faults.{HasStoreAnswer}
+use Rattle.replica_store.specs.Faults as stored
 use Rattle.replica_store.specs.declared.fault.StoreFault.{StoreFault}
 use Rattle.replica_store.specs.declared.fault.StoreFault.TheVariants as Store
-use Rattle.replica_node.specs.Faults.{HasNodeAnswer, IsRefused, of_store}
+use Rattle.replica_node.specs.Faults.{HasNodeAnswer, IsRefused, of_disk, of_store}
 use Rattle.replica_node.specs.declared.fault.NodeFault.{NodeFault}
 use Rattle.replica_node.specs.declared.fault.NodeFault.TheVariants as Node
 
@@ -39,6 +42,12 @@ no_letter_of Store.Stopped letter is = absurd (cc is)
 no_letter_of Store.DiskFault letter is = absurd (cc is)
 no_letter_of Store.OutOfMemory letter is = absurd (cc is)
 no_letter_of (Store.Damaged other) letter is = absurd (cc is)
+
+-- a fault of the disk by that which the store made of it
+pub stored_of : (fault : StoreFault) (of : DiskFault) → of_store fault ≡ of_disk of → fault ≡ stored.of_disk of
+stored_of fault Disk.Stopped is = stopped_of fault is
+stored_of fault Disk.Failed is = failed_of fault is
+stored_of fault Disk.OutOfMemory is = memory_of fault is
 
 pub same_fault : {U : Type 0} (one other : NodeFault) → ◌≡◌ {A = Result U NodeFault} (Err one) (Err other) → one ≡ other
 same_fault one other is = cc

@@ -2,3 +2,4 @@ pub mod AttachedLemmas
 pub mod FaultLemmas
 pub mod RestLemmas
 pub mod StepLemmas
+pub mod ToldLemmas

@@ -1,9 +1,11 @@
 -- The answers of a node by those of what it stands on.
 use Rattle.std.specs.Prelude.{◌≡◌, ◌↔◌, ⊤, ℕ, Option, None, Some, Result, Ok, Err}
 use Rattle.disk_model.specs.Faults.{Counts, CountsAnswer}
+use Rattle.disk_model.specs.declared.fault.DiskFault.{DiskFault as DiskAnswer}
 use Rattle.paxos_letter.specs.declared.fault.LetterFault.{LetterFault}
 use Rattle.replica_core.specs.declared.input.StepFault.{StepFault}
 use Rattle.replica_core.specs.declared.input.StepFault.TheVariants as Step
+use Rattle.replica_store.specs.Faults as stored
 use Rattle.replica_store.specs.declared.fault.StoreFault.{StoreFault}
 use Rattle.replica_store.specs.declared.fault.StoreFault.TheVariants as Store
 use Rattle.replica_node.specs.declared.fault.NodeFault.{NodeFault}
@@ -14,6 +16,9 @@ of_store Store.Stopped = Stopped
 of_store Store.DiskFault = DiskFault
 of_store Store.OutOfMemory = OutOfMemory
 of_store (Store.Damaged gate) = Damaged gate
+
+abbrev pub of_disk : DiskAnswer → NodeFault
+of_disk fault = of_store (stored.of_disk fault)
 
 abbrev pub of_step : StepFault → NodeFault
 of_step (Step.Letter letter) = Letter letter

@@ -1,16 +1,21 @@
 -- A replica on its disk.
-use Rattle.std.specs.Prelude.{◌≡◌, ◌<◌, ◌≤◌, ◌⊎◌, Bool, true, Result, Ok, Err, length}
+use Rattle.std.specs.Prelude.{◌≡◌, ◌<◌, ◌≤◌, ◌⊎◌, ℕ, Bool, true, Option, None, Some, Result, Ok, Err, List, [], length}
+use Rattle.std.specs.Option.{option_to_list}
 use Rattle.disk_model.specs.Images.{Image}
+use Rattle.disk_model.specs.Made.{DiskCall}
 use Rattle.due_set.specs.Table.{Table}
+use Rattle.paxos_base.specs.declared.durable.Delta.{Delta}
 use Rattle.step_law.specs.Coherent.{IsCoherent}
-use Rattle.step_law.specs.Folds.{after_acts}
+use Rattle.step_law.specs.Folds.{after_acts, deltas_of}
 use Rattle.step_law.specs.State.{State}
 use Rattle.step_law.specs.Step.{Event, step}
+use Rattle.store_format.specs.Area.{StandFor}
 use Rattle.replica_core.specs.Replica.{ReplicaState}
 use Rattle.replica_core.specs.Step.{IsEventOf, IsOfTable}
 use Rattle.replica_core.specs.declared.input.Input.{Input}
 use Rattle.replica_store.specs.Files.{FilesStand, IsRecoverable}
-use Rattle.replica_store.specs.Store.{jobs_of, StoreKeeps, IsStoreSettled}
+use Rattle.replica_store.specs.Made.{save_calls}
+use Rattle.replica_store.specs.Store.{area_of, jobs_of, records_of, StoreKeeps, IsStoreSettled}
 use Rattle.replica_store.specs.declared.store.Store.{Store}
 use Rattle.replica_node.specs.declared.fault.NodeFault.{NodeFault}
 use Rattle.replica_node.specs.declared.node.Node.{Node}
@@ -56,6 +61,21 @@ pub record LeadsTo (table : Table) (input : Input) (replica : ReplicaState) (aft
   pub event : Event
   pub event_is : IsEventOf table replica input event
   pub after_is : after ≡ after_acts (step replica.identity event replica.state) replica.state
+
+-- the replica's step at an input brings this change, or none
+pub record IsChangeOf (table : Table) (input : Input) (replica : ReplicaState) (change : Option Delta) : Type 0 where
+  pub event : Event
+  pub event_is : IsEventOf table replica input event
+  pub change_is : deltas_of (step replica.identity event replica.state) ≡ option_to_list change
+
+-- the node's records stand for what its replica keeps, with this ballot as the replica's own
+abbrev pub RecordsStand : {D : Type 0} → Node D → Option ℕ → Type 0
+RecordsStand node own = StandFor (jobs_of (store_of node)) (records_of (store_of node)) (replica_of node).state.kept own
+
+-- the calls of its disk that save a change, where there is one
+abbrev pub calls_for : {D : Type 0} → Node D → Option ℕ → Option Delta → List DiskCall
+calls_for node own None = []
+calls_for node own (Some change) = save_calls (area_of (store_of node)) (length (records_of (store_of node))) (replica_of node).state.kept own change
 
 -- the files stand for what the replica keeps before its step at an input, or for what it keeps after it
 abbrev pub FilesStandAround : Table → Input → ReplicaState → Image → Type 0

@@ -1,6 +1,9 @@
-ghost use Rattle.std.specs.Prelude.{◌≡◌, ◌↔◌, ◌<◌, ◌≤◌, ◌⊎◌, ⊤, ℕ, List, IsTrue, true, false, Ok, Err, Some, IfOk, OnOk, OnErr, IsErrOf, length};
+ghost use Rattle.std.specs.Prelude.{◌≡◌, ◌↔◌, ◌<◌, ◌≤◌, ◌⊎◌, ⊤, ℕ, List, IsTrue, true, false, Ok, Err, Some, IfOk, OnOk, OnErr, IsErrOf, length, Option};
 ghost use Rattle.std.specs.Option.{option_copied};
 ghost use Rattle.disk_model.specs.Images.{Image, file_of, LeavesOnly};
+ghost use Rattle.disk_model.specs.Made.{MadeCalls};
+ghost use Rattle.disk_model.specs.Told.{Tells, after_arm, after_disarm};
+ghost use Rattle.due_set.specs.Table.{Table};
 ghost use Rattle.gate_file.specs.Gates.{HasBodies};
 ghost use Rattle.paxos_base.specs.declared.durable.Delta.{Delta};
 ghost use Rattle.paxos_base.specs.declared.durable.Durable.{Durable};
@@ -14,10 +17,10 @@ ghost use Rattle.replica_core.specs.Step.{IsAlike, IsInputInside, IsOfTable, Ste
 ghost use Rattle.replica_store.specs.Files.{selected, FilesStand, FilesStandForEither, IsRecoverable};
 ghost use Rattle.replica_store.specs.Store.{jobs_of, StoreKeeps, IsStoreSettled};
 ghost use Rattle.replica_node.specs.declared.fault.NodeFault.TheVariants.{OutOfMemory, Damaged, Letter};
-ghost use Rattle.replica_node.specs.Faults.{EndsRun, HasNodeAnswer, IsRefused, letter_told};
+ghost use Rattle.replica_node.specs.Faults.{of_disk, EndsRun, HasNodeAnswer, IsRefused, letter_told};
 
 use crate::fault::NodeFault;
-use disk_model::Disk;
+use disk_model::{ArmedDisk, Disk};
 use due_set::JobTable;
 use paxos_base::Delta;
 use replica_core::{Input, Replica, StepOut};
@@ -34,7 +37,7 @@ pub struct Node<D> {
 }
 
 impl<D: Disk> Node<D> {
-    ghost use Rattle.replica_node.specs.Node.{disk_after, disk_of, fault_of, replica_of, runs_in, store_of, FilesStandAround, IsNodeAtRest, IsRecoverableAround};
+    ghost use Rattle.replica_node.specs.Node.{disk_after, disk_of, fault_of, calls_for, replica_of, runs_in, store_of, FilesStandAround, IsChangeOf, IsNodeAtRest, IsRecoverableAround, RecordsStand};
 
     /// Whether it runs: no call has told of a stop or a fault of the disk.
     pub fn is_running(&self) -> bool
@@ -137,6 +140,9 @@ impl<D: Disk> Node<D> {
             (FilesStandAround table.now input.entry (replica_of self.old)) }
         ensures recoverable { D.honest (disk_of self.old) → EndsRun result
             → IsRecoverableAround table.now input.entry (replica_of self.old) (D.may_leave (disk_of self.new)) }
+        // At Ok each call of the disk was made that saves the step's change, and at a fault of the disk they broke off there.
+        ensures told { (own : Option ℕ) (change : Option Delta) → RecordsStand self.old own → IsChangeOf table.now input.entry (replica_of self.old) change
+            → Tells (MadeCalls of_disk (calls_for self.old own change) result) (D.told (disk_of self.old)) (D.told (disk_of self.new)) }
         ensures answer { HasNodeAnswer D.honest D.counts (disk_of self.old) (disk_of self.new) result }
     {
         let planned = self.replica.plan(table, input)?;
@@ -165,6 +171,8 @@ impl<D: Disk> Node<D> {
             (kept_after (option_copied delta.entry) (replica_of self.old).state.kept) (D.may_leave (disk_of self.new)) }
         ensures undamaged { (gate : ℕ) → result ≡ Err (Damaged gate) → ⊥ }
         ensures no_letter { (fault : LetterFault) → result ≡ Err (Letter fault) → ⊥ }
+        ensures told { (own : Option ℕ) → RecordsStand self.old own
+            → Tells (MadeCalls of_disk (calls_for self.old own (option_copied delta.entry)) result) (D.told (disk_of self.old)) (D.told (disk_of self.new)) }
         ensures answer { HasNodeAnswer D.honest D.counts (disk_of self.old) (disk_of self.new) result }
     {
         let Some(delta) = delta else {
@@ -183,6 +191,47 @@ impl<D: Disk> Node<D> {
             }
             Err(StoreFault::Damaged { .. }) => unreachable!(),
         }
+    }
+}
+
+impl<D: ArmedDisk> Node<D> {
+    ghost use Rattle.replica_node.specs.Node.{disk_of, replica_of, runs_in, store_of, IsNodeAtRest};
+
+    /// Lets `pass` more writes, cuts and syncs of its disk succeed, and the next one stop within and leave the image of that
+    /// number. Nothing else of the node changes.
+    pub fn arm(&mut self, pass: u32, image: u32)
+        ensures told { Tells (λ old new. new ≡ after_arm pass image old) (D.told (disk_of self.old)) (D.told (disk_of self.new)) }
+        ensures seen { D.seen (disk_of self.new) ≡ D.seen (disk_of self.old) }
+        ensures images { (left : Image) → D.may_leave (disk_of self.new) left ↔ D.may_leave (disk_of self.old) left }
+        ensures moment { D.moment (disk_of self.new) ≡ D.moment (disk_of self.old) }
+        ensures time { (start : ℕ) (left : Image) → D.left_since (disk_of self.new) start left ↔ D.left_since (disk_of self.old) start left }
+        ensures honest { D.honest (disk_of self.new) ↔ D.honest (disk_of self.old) }
+        ensures counts { D.counts (disk_of self.new) ≡ D.counts (disk_of self.old) }
+        ensures replica { replica_of self.new ≡ replica_of self.old }
+        ensures store { store_of self.new ≡ store_of self.old }
+        ensures runs { runs_in self.new ≡ runs_in self.old }
+        ensures at_rest { (table : Table) → IsNodeAtRest D.seen D.may_leave D.honest table self.old
+            → IsNodeAtRest D.seen D.may_leave D.honest table self.new }
+    {
+        self.disk.arm(pass, image);
+    }
+
+    /// Takes [`Node::arm`] back, where no stop has come. Nothing else of the node changes.
+    pub fn disarm(&mut self)
+        ensures told { Tells (λ old new. new ≡ after_disarm old) (D.told (disk_of self.old)) (D.told (disk_of self.new)) }
+        ensures seen { D.seen (disk_of self.new) ≡ D.seen (disk_of self.old) }
+        ensures images { (left : Image) → D.may_leave (disk_of self.new) left ↔ D.may_leave (disk_of self.old) left }
+        ensures moment { D.moment (disk_of self.new) ≡ D.moment (disk_of self.old) }
+        ensures time { (start : ℕ) (left : Image) → D.left_since (disk_of self.new) start left ↔ D.left_since (disk_of self.old) start left }
+        ensures honest { D.honest (disk_of self.new) ↔ D.honest (disk_of self.old) }
+        ensures counts { D.counts (disk_of self.new) ≡ D.counts (disk_of self.old) }
+        ensures replica { replica_of self.new ≡ replica_of self.old }
+        ensures store { store_of self.new ≡ store_of self.old }
+        ensures runs { runs_in self.new ≡ runs_in self.old }
+        ensures at_rest { (table : Table) → IsNodeAtRest D.seen D.may_leave D.honest table self.old
+            → IsNodeAtRest D.seen D.may_leave D.honest table self.new }
+    {
+        self.disk.disarm();
     }
 }
 

@@ -1,4 +1,4 @@
-use Rattle.std.proofs.Common.{sym, subst}
+use Rattle.std.proofs.Common.{Ok, refl, sym, subst}
 use Rattle.std.specs.Option.{option_copied}
 use Rattle.step_law.specs.Step.{step}
 use Rattle.store_format.specs.Order.{ChangeMayFollow}
@@ -6,10 +6,12 @@ use Rattle.replica_core.specs.Commit.{kept_after}
 use Rattle.replica_core.specs.Replica.{ReplicaState}
 use Rattle.replica_core.specs.Step.{IsAlike}
 use Rattle.replica_store.specs.Files.{FilesStandForEither}
-use Rattle.replica_node.specs.Node.{FilesStandAround}
+use Rattle.replica_node.specs.Faults.{of_disk}
+use Rattle.replica_node.specs.Node.{FilesStandAround, calls_for}
 use Rattle.replica_node.proofs.FaultLemmas.{memory_below}
 use Rattle.replica_node.proofs.RestLemmas.{at_rest_after, at_rest_still, either_around, few_members, leaves_weaker, recoverable_around, stands_at_rest}
 use Rattle.replica_node.proofs.StepLemmas.{change_follows, plans_alike}
+use Rattle.replica_node.proofs.ToldLemmas.{told_done, told_failed, told_of_step}
 use Rattle.replica_node.proofs.node.Node.handle.Goals as goal
 
 pub keep-requires-clause-follows : goal.keep-requires-clause-follows
@@ -82,3 +84,24 @@ returns-clause-images g c honest =
     let told = c.delta.ensures old.replica (step old.replica.identity plans.event old.replica.state) plans.plans in
     leaves_weaker g.D.Disk.moment g.D.Disk.left_since old.disk c.keep.new.self.disk (FilesStandForEither jobs now.state.kept (kept_after delta now.state.kept)) (FilesStandAround table c.args.input old.replica)
     (either_around table c.args.input old.replica now jobs delta plans.event plans.event_is c.plan.ensures.alike c.requires.at_rest.jobs told) (c.keep.ensures.images honest)
+
+pub returns-in_err-keep-clause-told : goal.returns-in_err-keep-clause-told
+returns-in_err-keep-clause-told g c =
+    let old = c.args.self.now in
+    let now = record old { replica = c.plan.new.self } in
+    let delta = option_copied c.delta.result in
+    let plans = c.in_ok-planned.ensures.planned in
+    let told = c.delta.ensures old.replica (step old.replica.identity plans.event old.replica.state) plans.plans in
+    told_of_step c.args.table.now c.args.input old now plans.event delta c.from_residual-in_err-keep.result (g.D.Disk.told old.disk) (g.D.Disk.told c.keep.new.self.disk) plans.event_is told c.plan.ensures.alike refl
+    (λ own stand. told_failed (calls_for now own delta) c.in_err-keep.field-0.0 c.keep.result c.from_residual-in_err-keep.result c.in_err-keep.was c.from_residual-in_err-keep.ensures.1 (g.D.Disk.told old.disk) (g.D.Disk.told c.keep.new.self.disk)
+    (c.keep.ensures.told own stand))
+
+pub returns-clause-told : goal.returns-clause-told
+returns-clause-told g c =
+    let old = c.args.self.now in
+    let now = record old { replica = c.plan.new.self } in
+    let delta = option_copied c.delta.result in
+    let plans = c.in_ok-planned.ensures.planned in
+    let told = c.delta.ensures old.replica (step old.replica.identity plans.event old.replica.state) plans.plans in
+    told_of_step c.args.table.now c.args.input old now plans.event delta (Ok c.complete.result) (g.D.Disk.told old.disk) (g.D.Disk.told c.keep.new.self.disk) plans.event_is told c.plan.ensures.alike refl
+    (λ own stand. told_done of_disk of_disk (calls_for now own delta) tt c.complete.result (g.D.Disk.told old.disk) (g.D.Disk.told c.keep.new.self.disk) (c.in_ok-keep.ensures.told own stand))

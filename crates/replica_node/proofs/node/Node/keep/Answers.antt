@@ -1,11 +1,16 @@
-use Rattle.std.proofs.Common.{◌≡◌, sym, ap, subst}
+use Rattle.std.proofs.Common.{◌≡◌, length, sym, ap, subst}
 use Rattle.std.specs.Option.{option_copied}
 use Rattle.gate_file.specs.File.{bodies_of}
 use Rattle.paxos_base.specs.declared.durable.Durable.{Durable}
 use Rattle.store_format.specs.Order.{ChangeMayFollow}
-use Rattle.replica_store.specs.Store.{jobs_of}
+use Rattle.replica_store.specs.Faults as stored
+use Rattle.replica_store.specs.Made.{save_calls}
+use Rattle.replica_store.specs.Store.{area_of, jobs_of, records_of}
+use Rattle.replica_store.specs.declared.fault.StoreFault.TheVariants as Store
 use Rattle.replica_store.proofs.FileLemmas.{bodies_stand_for_one}
 use Rattle.replica_store.proofs.SaveLemmas.{settled_recoverable}
+use Rattle.replica_node.specs.Faults.{of_disk}
+use Rattle.replica_node.proofs.ToldLemmas.{told_done, told_stored}
 use Rattle.replica_node.proofs.node.Node.keep.Goals as goal
 
 pub returns-in_default-clause-recoverable : goal.returns-in_default-clause-recoverable
@@ -33,3 +38,23 @@ returns-in-Err-Stopped-clause-images g c honest = rw c.in-Some.is (c.save.ensure
 
 pub returns-in-Err-DiskFault-clause-images : goal.returns-in-Err-DiskFault-clause-images
 returns-in-Err-DiskFault-clause-images g c honest = rw c.in-Some.is (c.save.ensures.images c.args.self.now.replica.state.kept c.requires.keeps honest)
+
+pub returns-in-Ok-clause-told : goal.returns-in-Ok-clause-told
+returns-in-Ok-clause-told g c own stand =
+    let node = c.args.self.now in
+    rw c.in-Some.is (told_done stored.of_disk of_disk (save_calls (area_of node.store) (length (records_of node.store)) node.replica.state.kept own c.in-Some.delta.now) tt tt (g.D.Disk.told node.disk) (g.D.Disk.told c.save.new.disk) (c.in-Ok.ensures.told node.replica.state.kept own stand))
+
+pub returns-in-Err-OutOfMemory-clause-told : goal.returns-in-Err-OutOfMemory-clause-told
+returns-in-Err-OutOfMemory-clause-told g c own stand =
+    let node = c.args.self.now in
+    rw c.in-Some.is (told_stored (save_calls (area_of node.store) (length (records_of node.store)) node.replica.state.kept own c.in-Some.delta.now) c.in-Err-OutOfMemory.field-0 Store.OutOfMemory (g.D.Disk.told node.disk) (g.D.Disk.told c.save.new.disk) c.in-Err-OutOfMemory.field-0-is (c.in-Err-OutOfMemory.ensures.told node.replica.state.kept own stand))
+
+pub returns-in-Err-Stopped-clause-told : goal.returns-in-Err-Stopped-clause-told
+returns-in-Err-Stopped-clause-told g c own stand =
+    let node = c.args.self.now in
+    rw c.in-Some.is (told_stored (save_calls (area_of node.store) (length (records_of node.store)) node.replica.state.kept own c.in-Some.delta.now) c.in-Err-Stopped.field-0 Store.Stopped (g.D.Disk.told node.disk) (g.D.Disk.told c.save.new.disk) c.in-Err-Stopped.field-0-is (c.in-Err-Stopped.ensures.told node.replica.state.kept own stand))
+
+pub returns-in-Err-DiskFault-clause-told : goal.returns-in-Err-DiskFault-clause-told
+returns-in-Err-DiskFault-clause-told g c own stand =
+    let node = c.args.self.now in
+    rw c.in-Some.is (told_stored (save_calls (area_of node.store) (length (records_of node.store)) node.replica.state.kept own c.in-Some.delta.now) c.in-Err-DiskFault.field-0 Store.DiskFault (g.D.Disk.told node.disk) (g.D.Disk.told c.save.new.disk) c.in-Err-DiskFault.field-0-is (c.in-Err-DiskFault.ensures.told node.replica.state.kept own stand))
