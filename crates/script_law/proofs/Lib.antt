@@ -1,0 +1,2 @@
+pub mod CoordinatorLemmas
+pub mod TurnLemmas

@@ -1,0 +1,6 @@
+pub mod Commands
+pub mod Parts
+pub mod Round
+pub mod Script
+pub mod Settling
+pub mod Situation
