@@ -1,2 +1,4 @@
-pub mod Together
-pub mod Joined
+pub mod Kept
+pub mod Left
+pub mod Goes
+pub mod Scenes

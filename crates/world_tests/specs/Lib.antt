@@ -1,2 +1,2 @@
+pub mod Seat
 pub mod Scene
-pub mod Seats

@@ -1,29 +1,28 @@
--- The first replica of some, and the book of its turns.
-use Rattle.std.specs.Prelude.{◌≡◌, ℕ, ◌≤◌, List, None}
+-- Some replicas, and the book of their turns.
+use Rattle.std.specs.Prelude.{◌≡◌, ℕ, List, ◌∷◌, [], ◌++◌, Some, slice_get}
 use Rattle.due_set.specs.Table.{Table}
-use Rattle.book_law.specs.Book.{Row, Standing}
-use Rattle.book_law.specs.declared.turn.Cause.{Cause}
-use Rattle.replica_core.specs.Replica.{ReplicaState}
-use Rattle.replica_core.specs.Step.{IsInputInside, Steps}
-use Rattle.replica_core.specs.declared.input.Input.{Input}
-use Rattle.replica_core.specs.declared.out.StepOut.{StepOut}
-use Rattle.world_law.specs.Book.{BookState, StandsBehind}
-use Rattle.world_law.specs.Replicas.{IsInputOf, StandsAt}
+use Rattle.book_law.specs.Book.{Row}
+use Rattle.book_law.specs.declared.turn.Turn.TheVariants.{Arrived}
+use Rattle.world_law.specs.Book.{BookState}
+use Rattle.world_tests.specs.Seat.{IsAtRest, IsNew, IsSeated, SeatState}
 
--- the replica stands where the book has it, and no call is pending
-pub record StandTogether (table : Table) (book : BookState) (replica : ReplicaState) : Type 0 where
+-- each of them has started for the first time
+abbrev pub AreNew : Table → (members : ℕ) → List SeatState → Type 0
+AreNew table members seats = (who : ℕ) (seat : SeatState) → slice_get seats who ≡ Some seat → IsNew table who members seat
+
+-- each of them is as these rows leave it
+abbrev pub AreSeated : Table → List Row → BookState → List SeatState → Type 0
+AreSeated table rows book seats = (who : ℕ) (seat : SeatState) → slice_get seats who ≡ Some seat → IsSeated table rows book who seat
+
+-- the book is legal, and each of them is as its rows leave it
+pub record IsLegalScene (table : Table) (book : BookState) (seats : List SeatState) : Type 0 where
   pub rows : List Row
-  pub behind : StandsBehind table rows book
-  pub at : StandsAt table rows book replica
-  pub first : replica.identity.me ≡ 0
-  pub few : book.members ≤ 7
-  pub rest : book.pending ≡ None
+  pub rests : IsAtRest table rows book
+  pub seated : AreSeated table rows book seats
 
--- the replica stood where the book has it, and has taken a step with this outcome, of which it was told without a look at the book
-pub record HasStepped (table : Table) (book : BookState) (cause : Cause) (out : StepOut) (new : ReplicaState) : Type 0 where
-  pub old : ReplicaState
-  pub input : Input
-  pub together : StandTogether table book old
-  pub told : (standing : Standing) (other : BookState) (who : ℕ) → IsInputOf standing other who cause input
-  pub inside : IsInputInside table input
-  pub steps : Steps table input old new out
+-- one row more stands behind the book, that of an arrival
+pub record HasArrived (table : Table) (rows : List Row) (old new : BookState) (late : ℕ) : Type 0 where
+  pub row : Row
+  pub turn : row.turn ≡ Arrived late
+  pub rests : IsAtRest table (rows ++ row ∷ []) new
+  pub members : new.members ≡ old.members

@@ -2,10 +2,14 @@
 #![tactic(auto)]
 
 #[cfg(test)]
+mod hour;
+#[cfg(test)]
 mod scene;
 #[cfg(test)]
 mod seat;
 #[cfg(test)]
 mod takeover;
+#[cfg(test)]
+mod turn;
 #[cfg(test)]
 mod turns;

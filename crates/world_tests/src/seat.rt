@@ -1,156 +1,127 @@
-//! Two of some replicas, and the book of what they do.
-ghost use Rattle.std.specs.Prelude.{◌≡◌, ◌<◌, ◌≤◌, None, Some, IfOk, OnOk, slice_get};
-ghost use Rattle.zone_minutes.specs.Window.{IsInWindow};
-ghost use Rattle.replica_core.specs.Replica.{ReplicaState};
-ghost use Rattle.world_tests.specs.Seats.{BothStand, GoesOn, HasTaken, IsAtRest};
+//! One of some replicas, with what is on its disk.
+ghost use Rattle.std.specs.Prelude.{◌≡◌, ◌<◌, ◌≤◌, ◌^◌, [], None, IfOk, IfSome, OnOk, length};
+ghost use Rattle.std.specs.Option.{option_to_list};
+ghost use Rattle.paxos_base.specs.Rows.{RowsStand};
+ghost use Rattle.launch_machine.specs.Clerk.{first_rows};
+ghost use Rattle.agree_law.specs.World.{fresh};
+ghost use Rattle.book_law.specs.Book.{durable_after};
+ghost use Rattle.replica_core.specs.Step.{IsInputInside, IsOfTable};
+ghost use Rattle.world_tests.specs.Seat.{IsNew, IsStarted, StepsSeat};
 
-use crate::scene::{first_replica, step_of};
-use book_law::{Cause, Turn};
+use cluster_sched::SchedRow;
 use due_set::JobTable;
-use replica_core::{Input, Replica, StepOut};
+use launch_machine::Machine;
+use paxos_base::{Durable, VoteList, rows_stand};
+use replica_core::{Input, LearntRow, Replica, StepOut};
 use std::alloc::Global;
+use std::marker::Model;
 use std::process::Abort;
 use std::test::*;
-use world_law::{Book, LetterRow};
-use zone_minutes::Minute;
 
-// The turn of a step that asks for no call.
-fn add_quiet(
-    table: &JobTable,
-    book: &mut Book,
-    who: u8,
-    cause: Cause,
-    out: StepOut,
-) -> Result<(), Fail>
-    requires rests { IsAtRest table.now book.old }
-    requires steps { (old : ReplicaState) × (new : ReplicaState) × (old.identity.me ≡ who) × HasTaken table.now book.old cause old out new }
-    requires call { out.call ≡ None }
-    ensures { OnOk result ((old new : ReplicaState) → old.identity.me ≡ who → HasTaken table.now book.old cause old out new
-        → GoesOn table.now book.old book.new who new) }
-{
-    book.reserve(&out)?;
-    book.commit(
-        table,
-        Turn::Did {
-            who,
-            cause,
-            call: None,
-        },
-        out,
-    );
-    Ok(())
+/// One of so many replicas.
+#[derive(Drop)]
+pub struct Seat {
+    pub members: u8,
+    /// The replica, while it runs.
+    pub running: Option<Replica>,
+    /// What is on its disk.
+    pub durable: Durable,
+    /// The scheduler's answer that waits for it.
+    pub waits: Option<SchedRow>,
+    /// The entries that it has learned since it started last.
+    pub learned: Vec<LearntRow>,
 }
 
-/// The replica stands for leader.
-pub fn campaign(
-    rt: &impl Abort,
-    table: &JobTable,
-    book: &mut Book,
-    replica: &mut Replica,
-    who: u8,
-    whom: u8,
-    other: &Replica,
-) -> Result<(), Fail>
-    requires both { BothStand table.now book.old replica.old other.now who whom }
-    ensures { OnOk result (BothStand table.now book.new replica.new other.now who whom) }
-{
-    assert!(rt; replica.is_small());
-    let out = step_of(table, replica, Input::Campaign)?;
-    assert!(rt; out.call.is_none());
-    add_quiet(table, book, who, Cause::Campaign, out)?;
-    Ok(())
+impl Model for Seat {
+    ghost use Rattle.world_tests.specs.Seat.{SeatState};
+
+    ghost Value = { SeatState };
+
+    ghost view = { λ seat. record { members = seat.members; running = seat.running; durable = seat.durable; waits = seat.waits } };
 }
 
-/// The replica's clock ticks, at a minute of the window at which it asks for no call.
-pub fn tick(
-    rt: &impl Abort,
-    table: &JobTable,
-    book: &mut Book,
-    replica: &mut Replica,
-    who: u8,
-    whom: u8,
-    other: &Replica,
-    now: Minute,
-) -> Result<(), Fail>
-    requires inside { IsInWindow table.now.window now.0 }
-    requires both { BothStand table.now book.old replica.old other.now who whom }
-    ensures { OnOk result (BothStand table.now book.new replica.new other.now who whom) }
+fn first_durable(alloc: Global, table: &JobTable) -> Result<Durable, Fail>
+    ensures { IfOk result (λ durable. durable ≡ fresh (first_rows table.now)) }
 {
-    assert!(rt; replica.is_small());
-    let out = step_of(table, replica, Input::Tick { now })?;
-    assert!(rt; out.call.is_none());
-    add_quiet(table, book, who, Cause::Tick { now }, out)?;
-    Ok(())
-}
-
-// The letter of a number, which goes to the replica.
-fn letter_to<'b>(
-    rt: &impl Abort,
-    book: &'b Book,
-    who: u8,
-    number: u32,
-) -> Result<&'b LetterRow, Fail>
-    ensures there { IfOk result (λ letter. slice_get book.now.letters number ≡ Some letter.now) }
-    ensures to { IfOk result (λ letter. letter.now.to ≡ who) }
-{
-    let letter = book.letters().get(number as usize).ok_or("no such letter")?;
-    assert!(rt; letter.to == who);
-    Ok(letter)
-}
-
-/// The replica hears the letter of a number, which goes to it.
-pub fn hear(
-    rt: &impl Abort,
-    table: &JobTable,
-    book: &mut Book,
-    replica: &mut Replica,
-    who: u8,
-    whom: u8,
-    other: &Replica,
-    number: u32,
-) -> Result<(), Fail>
-    requires both { BothStand table.now book.old replica.old other.now who whom }
-    ensures { OnOk result (BothStand table.now book.new replica.new other.now who whom) }
-{
-    assert!(rt; replica.is_small());
-    let letter = letter_to(rt, book, who, number)?;
-    let bytes = letter.bytes.bytes();
-    let out = step_of(table, replica, Input::Hear { bytes })?;
-    assert!(rt; out.call.is_none());
-    let cause = Cause::Hear {
-        letter: u64::from(number),
+    let rows = Machine::new(alloc, table)?.copy_rows(alloc)?;
+    let votes = VoteList {
+        items: Vec::new(alloc),
     };
-    add_quiet(table, book, who, cause, out)?;
-    Ok(())
+    Ok(Durable {
+        tried: 0,
+        promised: None,
+        votes,
+        base: 0,
+        rows,
+    })
 }
 
-/// The second of two replicas hears the letter of a number.
-pub fn second_hears(
+/// A replica that starts with what is on its disk.
+pub fn start(
     rt: &impl Abort,
     table: &JobTable,
-    book: &mut Book,
-    first: &Replica,
-    second: &mut Replica,
-    number: u32,
-) -> Result<(), Fail>
-    requires both { BothStand table.now book.old first.now second.old 0 1 }
-    ensures { OnOk result (BothStand table.now book.new first.now second.new 0 1) }
+    who: u8,
+    members: u8,
+    durable: &Durable,
+) -> Result<Replica, Fail>
+    ensures { IfOk result (λ replica. IsStarted table.now who members durable.now replica) }
 {
-    hear(rt, table, book, second, 1, 0, first, number)?;
-    Ok(())
+    assert!(rt; members <= 7);
+    assert!(rt; who < members);
+    assert!(rt; durable.tried < 1 << 61);
+    assert!(rt; rows_stand(&durable.rows, table.jobs(), table.versions()));
+    Ok(Replica::start(who, members, table, durable.clone()?)?)
 }
 
-/// The first two of so many replicas, and their book.
-pub fn begin_two(
+/// A replica of so many that starts for the first time.
+pub fn first_seat(
+    rt: &impl Abort,
     alloc: Global,
     table: &JobTable,
+    who: u8,
     members: u8,
-) -> Result<(Book, Replica, Replica), Fail>
-    requires two { 1 < members }
-    requires few { members ≤ 7 }
-    ensures { IfOk result (λ all. BothStand table.now all.0 all.1 all.2 0 1) }
+) -> Result<Seat, Fail>
+    ensures { IfOk result (λ seat. IsNew table.now who members seat) }
 {
-    let zero = first_replica(alloc, table, 0, members)?;
-    let one = first_replica(alloc, table, 1, members)?;
-    Ok((Book::new(alloc, members), zero, one))
+    let durable = first_durable(alloc, table)?;
+    let replica = start(rt, table, who, members, &durable)?;
+    Ok(Seat {
+        members,
+        running: Some(replica),
+        durable,
+        waits: None,
+        learned: Vec::new(alloc),
+    })
+}
+
+// Stores what a step changes on the disk.
+fn store(durable: &mut Durable, out: &StepOut) -> Result<(), Fail>
+    ensures { OnOk result (durable.new ≡ durable_after (option_to_list out.now.delta) durable.old) }
+{
+    match &out.delta {
+        None => Ok(()),
+        Some(delta) => Ok(durable.apply(delta.clone()?)?),
+    }
+}
+
+/// A step of the replica, whose change is stored.
+pub fn step_seat(
+    rt: &impl Abort,
+    table: &JobTable,
+    seat: &mut Seat,
+    input: Input<'_>,
+) -> Result<StepOut, Fail>
+    requires of_table { IfSome seat.old.running (λ replica. IsOfTable table.now replica) }
+    requires inside { IsInputInside table.now input }
+    ensures { IfOk result (λ out. StepsSeat table.now input.entry seat.old seat.new out) }
+{
+    let replica = seat.running.as_mut().ok_or("the replica is stopped")?;
+    assert!(rt; replica.is_small());
+    let out = replica
+        .step(table, input)
+        .ok()
+        .ok_or("the step is refused")?;
+    store(&mut seat.durable, &out)?;
+    seat.learned.extend_from_slice(&out.learnt.items)?;
+    Ok(out)
 }
