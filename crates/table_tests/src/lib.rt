@@ -1,4 +1,5 @@
-//! Tests of what a table of jobs says: fields, crontabs, anacrontabs, run files, and the jobs that these name.
+//! Tests of what a table of jobs says: fields, crontabs, anacrontabs, run files, the jobs that these name, and the
+//! commands of scripts.
 #![tactic(auto)]
 
 #[cfg(test)]
@@ -27,3 +28,5 @@ mod refused_tests;
 mod rows;
 #[cfg(test)]
 mod run_file_tests;
+#[cfg(test)]
+mod script_tests;

@@ -1,0 +1,5 @@
+mod CommandLemmas
+mod CutLemmas
+mod LineLemmas
+mod OperandLemmas
+mod UniqueLemmas
