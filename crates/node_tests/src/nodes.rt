@@ -29,13 +29,16 @@ pub fn empty_disk(alloc: Global, fails: &[u64]) -> Result<MemDisk, Fail> {
     Ok(MemDisk::new(alloc, Vec::from_slice(alloc, fails)?))
 }
 
-/// What a node is told. Letters come from replica 1, in its ballot of round 1, and are of slot 0.
+/// What a node is told. Letters come from replica 1, those of a ballot in its own of round 1, and are
+/// of slot 0 where none is named.
 #[derive(Clone, Copy, Debug)]
 pub enum Told {
     Campaign,
     Prepare,
     /// A no-op is to be voted for.
     Accept,
+    /// The launch table, which has no rows, as it is at this slot.
+    Snap(u8),
     /// A packet of no kind.
     NoLetter,
 }
@@ -46,10 +49,14 @@ pub fn packet_of(told: Told) -> [u8; 56] {
     bytes[0] = match told {
         Told::Prepare => 1,
         Told::Accept => 4,
+        Told::Snap(_) => 9,
         Told::Campaign | Told::NoLetter => 0,
     };
     bytes[1] = 1;
-    bytes[15] = 9;
+    match told {
+        Told::Snap(slot) => bytes[23] = slot,
+        _ => bytes[15] = 9,
+    }
     bytes
 }
 
@@ -70,6 +77,10 @@ pub enum End {
     NotRecovered,
     /// It doesn't run any more.
     Ended,
+    /// Its disk stopped within its step, and it was reopened with the step's change.
+    Kept,
+    /// Its disk stopped within its step, and it was reopened without the step's change.
+    Lost,
     /// Its step was refused, and it runs.
     Refused,
     /// It has done its step, and handed out so many letters.

@@ -62,6 +62,9 @@ pub damaged_below : {T U : Type 0} (fault : StoreFault) (gate : ℕ) (below : Re
     → below ≡ Err (Store.Damaged gate)
 damaged_below fault gate below result was gives is = was ∙ ap Err (damaged_of fault gate (handed_on fault (Node.Damaged gate) result gives is))
 
+pub stopped_below : {T U : Type 0} (fault : StoreFault) (below : Result T StoreFault) (result : Result U NodeFault) → below ≡ Err fault → IsErrAnd result (λ e. e ≡ of_store fault) → result ≡ Err Node.Stopped → below ≡ Err Store.Stopped
+stopped_below fault below result was gives is = was ∙ ap Err (stopped_of fault (handed_on fault Node.Stopped result gives is))
+
 pub no_letter_below : {U : Type 0} (fault : StoreFault) (letter : LetterFault) (result : Result U NodeFault) → IsErrAnd result (λ e. e ≡ of_store fault) → result ≡ Err (Node.Letter letter) → ⊥
 no_letter_below fault letter result gives is = no_letter_of fault letter (handed_on fault (Node.Letter letter) result gives is)
 

@@ -1,5 +1,10 @@
+pub mod AgainLemmas
 pub mod AttachedLemmas
+pub mod ChangeLemmas
 pub mod FaultLemmas
+pub mod QuietLemmas
+pub mod ReopenLemmas
 pub mod RestLemmas
 pub mod StepLemmas
+pub mod StoppedLemmas
 pub mod ToldLemmas

@@ -45,7 +45,7 @@ stands_at_rest seen may_leave honest table node rest is image left =
     let kept = (replica_of node).state.kept in
     elim (recoverable_stands (length table.jobs) kept kept (may_leave (disk_of node)) (recoverable_at_rest seen may_leave honest table node rest is) image left) [ inl before ↦ before | inr after ↦ after ]
 
-of_table_alike : (table : Table) (old now : ReplicaState) → IsAlike now old → IsOfTable table old → IsOfTable table now
+pub of_table_alike : (table : Table) (old now : ReplicaState) → IsAlike now old → IsOfTable table old → IsOfTable table now
 of_table_alike table old now alike of_table =
     record {
       stands = subst (λ (machine : Launches). StandsFor table machine) (sym alike.machine) of_table.stands;

@@ -72,7 +72,7 @@ told_failed {T} {U} calls fault below result was gives old new tells =
 
 -- ---- the change of a step
 
-one_or_none : (one other : Option Delta) → option_to_list one ≡ option_to_list other → one ≡ other
+pub one_or_none : (one other : Option Delta) → option_to_list one ≡ option_to_list other → one ≡ other
 one_or_none None None is = refl
 one_or_none None (Some other) is = absurd (cc is)
 one_or_none (Some one) None is = absurd (cc is)

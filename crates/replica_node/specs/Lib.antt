@@ -1,2 +1,4 @@
+pub mod Change
 pub mod Faults
 pub mod Node
+pub mod Stopped

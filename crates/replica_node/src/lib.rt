@@ -4,9 +4,11 @@
 //! that is safe, whatever a stop does, the step is taken, and its letters, its learned entries and its call are handed out.
 #![tactic(auto)]
 
+mod change;
 mod fault;
 mod laws;
 mod node;
+mod reopen;
 
 pub use fault::NodeFault;
 pub use laws::{a_node_at_rest_is_recoverable, a_step_leads_to_one_state};

@@ -1,10 +1,11 @@
-ghost use Rattle.std.specs.Prelude.{◌≡◌, ◌↔◌, ◌<◌, ◌≤◌, ◌⊎◌, ⊤, ℕ, List, IsTrue, true, false, Ok, Err, Some, IfOk, OnOk, OnErr, IsErrOf, length, Option};
+ghost use Rattle.std.specs.Prelude.{◌≡◌, ◌↔◌, ◌<◌, ◌≤◌, ◌⊎◌, ⊤, ℕ, List, IsTrue, true, false, Ok, Err, None, Some, IsSome, IfOk, OnOk, OnErr, IsErrOf, length, Option};
 ghost use Rattle.std.specs.Option.{option_copied};
 ghost use Rattle.disk_model.specs.Images.{Image, file_of, LeavesOnly};
 ghost use Rattle.disk_model.specs.Made.{MadeCalls};
-ghost use Rattle.disk_model.specs.Told.{Tells, after_arm, after_disarm};
+ghost use Rattle.disk_model.specs.Told.{Tells, Told, after_arm, after_disarm, image_left};
 ghost use Rattle.due_set.specs.Table.{Table};
 ghost use Rattle.gate_file.specs.Gates.{HasBodies};
+ghost use Rattle.paxos_base.specs.Durable.{after_delta};
 ghost use Rattle.paxos_base.specs.declared.durable.Delta.{Delta};
 ghost use Rattle.paxos_base.specs.declared.durable.Durable.{Durable};
 ghost use Rattle.paxos_letter.specs.declared.fault.LetterFault.{LetterFault};
@@ -16,14 +17,15 @@ ghost use Rattle.replica_core.specs.Replica.{IsSmall};
 ghost use Rattle.replica_core.specs.Step.{IsAlike, IsInputInside, IsOfTable, Steps, fault_in};
 ghost use Rattle.replica_store.specs.Files.{selected, FilesStand, FilesStandForEither, IsRecoverable};
 ghost use Rattle.replica_store.specs.Store.{jobs_of, StoreKeeps, IsStoreSettled};
-ghost use Rattle.replica_node.specs.declared.fault.NodeFault.TheVariants.{OutOfMemory, Damaged, Letter};
+ghost use Rattle.replica_node.specs.declared.fault.NodeFault.TheVariants.{Stopped, OutOfMemory, Damaged, Letter};
 ghost use Rattle.replica_node.specs.Faults.{of_disk, EndsRun, HasNodeAnswer, IsRefused, letter_told};
 
 use crate::fault::NodeFault;
+use crate::reopen::{attach_stopped, take_kept};
 use disk_model::{ArmedDisk, Disk};
 use due_set::JobTable;
 use paxos_base::Delta;
-use replica_core::{Input, Replica, StepOut};
+use replica_core::{Input, Planned, Replica, StepOut};
 use replica_store::{Store, StoreFault};
 use std::alloc::Global;
 
@@ -34,10 +36,13 @@ pub struct Node<D> {
     store: Store,
     disk: D,
     running: bool,
+    // The step whose save was stopped, where one was.
+    stopped: Option<Planned>,
 }
 
 impl<D: Disk> Node<D> {
     ghost use Rattle.replica_node.specs.Node.{disk_after, disk_of, fault_of, calls_for, replica_of, runs_in, store_of, FilesStandAround, IsChangeOf, IsNodeAtRest, IsRecoverableAround, RecordsStand};
+    ghost use Rattle.replica_node.specs.Stopped.{IsStoppedWithin, cut_short};
 
     /// Whether it runs: no call has told of a stop or a fault of the disk.
     pub fn is_running(&self) -> bool
@@ -102,6 +107,7 @@ impl<D: Disk> Node<D> {
                 store,
                 disk,
                 running: true,
+                stopped: None,
             }),
             Err(fault) => Err((disk, fault)),
         }
@@ -132,6 +138,9 @@ impl<D: Disk> Node<D> {
         ensures fault { letter_told result ≡ fault_in (replica_of self.old).identity.members input.entry }
         ensures untouched { (fault : LetterFault) → result ≡ Err (Letter fault) → disk_of self.new ≡ disk_of self.old }
         ensures ended { EndsRun result → runs_in self.new ≡ false }
+        // Where the disk stopped, that was within the save of the step's change, and the node can be reopened.
+        ensures stopped { IsSome (D.told (disk_of self.old)) → IsErrOf result Stopped
+            → IsStoppedWithin D.may_leave D.honest D.told table.now input.entry (replica_of self.old) self.new }
         ensures undamaged { (gate : ℕ) → result ≡ Err (Damaged gate) → ⊥ }
 
         // Whatever a stop within the call leaves stands for the state before the step or for that after it, and a replica can
@@ -146,8 +155,14 @@ impl<D: Disk> Node<D> {
         ensures answer { HasNodeAnswer D.honest D.counts (disk_of self.old) (disk_of self.new) result }
     {
         let planned = self.replica.plan(table, input)?;
-        self.keep(planned.delta())?;
-        Ok(self.replica.complete(table, planned))
+        match self.keep(planned.delta()) {
+            Ok(()) => Ok(self.replica.complete(table, planned)),
+            Err(NodeFault::Stopped) => {
+                self.stopped = Some(planned);
+                Err(NodeFault::Stopped)
+            }
+            Err(fault) => Err(fault),
+        }
     }
 
     // Saves a change, where there is one.
@@ -157,6 +172,7 @@ impl<D: Disk> Node<D> {
         requires follows { (change : Delta) → option_copied delta ≡ Some change
             → ChangeMayFollow (jobs_of (store_of self.old)) (replica_of self.old).state.kept change }
         ensures replica { replica_of self.new ≡ replica_of self.old }
+        ensures changed { IsErrOf result Stopped → IsSome (option_copied delta.entry) }
         ensures jobs { jobs_of (store_of self.new) ≡ jobs_of (store_of self.old) }
         ensures runs { OnOk result (runs_in self.new ≡ runs_in self.old) }
         ensures settled { OnOk result (IsStoreSettled D.seen D.may_leave D.honest (disk_of self.new) (store_of self.new)) }
@@ -195,7 +211,8 @@ impl<D: Disk> Node<D> {
 }
 
 impl<D: ArmedDisk> Node<D> {
-    ghost use Rattle.replica_node.specs.Node.{disk_of, replica_of, runs_in, store_of, IsNodeAtRest};
+    ghost use Rattle.replica_node.specs.Node.{disk_after, disk_of, fault_of, replica_of, runs_in, store_of, IsNodeAtRest};
+    ghost use Rattle.replica_node.specs.Stopped.{IsQuiet, IsStopped, reopened};
 
     /// Lets `pass` more writes, cuts and syncs of its disk succeed, and the next one stop within and leave the image of that
     /// number. Nothing else of the node changes.
@@ -232,6 +249,71 @@ impl<D: ArmedDisk> Node<D> {
             → IsNodeAtRest D.seen D.may_leave D.honest table self.new }
     {
         self.disk.disarm();
+    }
+
+    /// Revives the disk of a node whose last step was stopped, attaches it, and says whether the files kept the step's change:
+    /// the answer is that change exactly where they did. The replica keeps then what the files stand for. The node runs no
+    /// more than before: it is started again from its disk, which is neither armed nor stopped.
+    ///
+    /// # Errors
+    ///
+    /// Those of [`Node::recover`] but `Stopped`. The disk is handed back.
+    pub fn reopen(
+        self,
+        alloc: Global,
+        table: &JobTable,
+    ) -> Result<(Node<D>, Option<Delta>), (D, NodeFault)>
+        requires stopped { IsStopped D.may_leave D.honest D.told table.now self }
+        ensures ended { IfOk result (λ found. runs_in found.0 ≡ false) }
+        // The answer is the change of the step that was cut short, or none; the replica keeps what it kept before the step
+        // with that change, or without.
+        ensures change { (stop : IsStopped D.may_leave D.honest D.told table.now self)
+            → IfOk result (λ found. (found.1 ≡ Some stop.change) ⊎ (found.1 ≡ None)) }
+        ensures kept { IfOk result (λ found. (replica_of found.0).state.kept ≡ kept_after found.1 (replica_of self).state.kept) }
+        // The files stand for that, as did the image that the stop left; and where the answer is none, they don't stand for
+        // the state after the change.
+        ensures stand { D.honest (disk_of self) → IfOk result (λ found. FilesStand (length table.now.jobs) (replica_of found.0).state.kept (D.seen (disk_of found.0))) }
+        ensures image { (told : Told) → D.honest (disk_of self) → D.told (disk_of self) ≡ Some told
+            → IfOk result (λ found. FilesStand (length table.now.jobs) (replica_of found.0).state.kept (image_left told)) }
+        ensures lost { (stop : IsStopped D.may_leave D.honest D.told table.now self) → D.honest (disk_of self)
+            → IfOk result (λ found. found.1 ≡ None
+            → FilesStand (length table.now.jobs) (after_delta stop.change (replica_of self).state.kept) (D.seen (disk_of found.0)) → ⊥) }
+        ensures recoverable { D.honest (disk_of self) → IfOk result (λ found. IsRecoverable (length table.now.jobs) (replica_of found.0).state.kept (replica_of found.0).state.kept
+            (D.may_leave (disk_of found.0))) }
+
+        ensures still_recoverable { (stop : IsStopped D.may_leave D.honest D.told table.now self) → D.honest (disk_of self)
+            → IsRecoverable (length table.now.jobs) (replica_of self).state.kept (after_delta stop.change (replica_of self).state.kept) (D.may_leave (disk_after (reopened result))) }
+        ensures quiet { IsQuiet (D.told (disk_after (reopened result))) }
+        ensures never_stopped { fault_of (reopened result) ≡ Err Stopped → ⊥ }
+        ensures sound { (gate : ℕ) → D.honest (disk_of self) → fault_of (reopened result) ≡ Err (Damaged gate) → ⊥ }
+        ensures damaged { (gate : ℕ) (bodies : List (List ℕ)) → fault_of (reopened result) ≡ Err (Damaged gate)
+            → HasBodies (file_of (selected (D.seen (disk_after (reopened result)))) (D.seen (disk_after (reopened result)))) bodies → IsFirstRecordAtFault (length table.now.jobs) bodies gate }
+        ensures no_letter { (fault : LetterFault) → fault_of (reopened result) ≡ Err (Letter fault) → ⊥ }
+        ensures answer { HasNodeAnswer D.honest D.counts (disk_of self) (disk_after (reopened result)) (fault_of (reopened result)) }
+    {
+        let Node {
+            mut replica,
+            mut disk,
+            stopped,
+            ..
+        } = self;
+        let Some(planned) = stopped else {
+            unreachable!()
+        };
+        match attach_stopped(alloc, &mut disk, table.jobs()) {
+            Ok((store, kept)) => {
+                let change = take_kept(&mut replica, table, planned, &kept);
+                let node = Node {
+                    replica,
+                    store,
+                    disk,
+                    running: false,
+                    stopped: None,
+                };
+                Ok((node, change))
+            }
+            Err(fault) => Err((disk, fault)),
+        }
     }
 }
 

@@ -4,3 +4,4 @@ pub mod Ledgers
 pub mod Others
 pub mod Settled
 pub mod Steps
+pub mod Stops

@@ -3,6 +3,7 @@ use Rattle.std.proofs.Common.{◌≡◌, ◌≢◌, ℕ, Bool, List, [], ◌∷�
 use Rattle.std.proofs.lemmas.Bool.{ne_eqb}
 use Rattle.due_set.specs.Table.{Table}
 use Rattle.launch_machine.specs.Clerk.{first_rows}
+use Rattle.paxos_base.specs.declared.durable.Durable.{Durable}
 use Rattle.step_law.specs.State.{State}
 use Rattle.step_law.specs.Step.{Event}
 use Rattle.step_law.specs.declared.out.OutLetter.{OutLetter}
@@ -13,7 +14,7 @@ use Rattle.book_law.specs.declared.turn.Turn.TheVariants.{Did, Stopped, Restarte
 use Rattle.bounds_law.proofs.Keeping.{stands_next}
 use Rattle.replica_core.specs.Replica.{ReplicaState}
 use Rattle.world_law.specs.Book.{BookState, standing_behind}
-use Rattle.world_law.specs.Replicas.{StandsAt}
+use Rattle.world_law.specs.Replicas.{StandsAt, StandsStopped}
 
 fact_there : {A : Type 0} (who : ℕ) (fact : A) (facts : ℕ → A) (other : ℕ) → other ≢ who → with_fact who fact facts other ≡ facts other
 fact_there who fact facts other differs = rw (ne_eqb other who differs) refl
@@ -72,3 +73,31 @@ all_stand table rows row number book after other members is at =
     let stay = arrival_stays book.members (standing_behind table rows book) row.turn number row.event row.letters is in
     stands_on table rows row book after other members (ap (λ (runs : ℕ → Bool). runs other.identity.me) stay.0)
     (ap (λ (replicas : ℕ → State). replicas other.identity.me) stay.1) at
+
+-- ---- the same of a replica that is stopped
+
+stopped_on : (table : Table) (rows : List Row) (row : Row) (book after : BookState) (who : ℕ) (kept : Durable) → after.members ≡ book.members
+    → (after_row book.members (standing_behind table rows book) row.turn row.event row.letters).runs who ≡ (standing_behind table rows book).runs who
+    → (after_row book.members (standing_behind table rows book) row.turn row.event row.letters).replicas who ≡ (standing_behind table rows book).replicas who
+    → StandsStopped table rows book who kept → StandsStopped table (rows ++ row ∷ []) after who kept
+stopped_on table rows row book after who kept members runs stays at =
+    let next : standing_behind table (rows ++ row ∷ []) after ≡ after_row book.members (standing_behind table rows book) row.turn row.event row.letters =
+    ap (λ n. standing_after n (first_rows table) (rows ++ row ∷ [])) members ∙ stands_next book.members (first_rows table) rows row in
+    record {
+      member = rw members at.member;
+      stopped = ap (λ (s : Standing). s.runs who) next ∙ runs ∙ at.stopped;
+      state = ap (λ (s : Standing). s.replicas who) next ∙ stays ∙ at.state;
+    }
+
+pub others_stopped : (table : Table) (rows : List Row) (row : Row) (book after : BookState) (who : ℕ) (kept : Durable) → after.members ≡ book.members → who ≢ turn_of row.turn
+    → StandsStopped table rows book who kept → StandsStopped table (rows ++ row ∷ []) after who kept
+others_stopped table rows row book after who kept members differs at =
+    stopped_on table rows row book after who kept members
+    (others_run book.members (standing_behind table rows book) row.turn row.event row.letters who differs)
+    (others_stay book.members (standing_behind table rows book) row.turn row.event row.letters who differs) at
+
+pub all_stopped : (table : Table) (rows : List Row) (row : Row) (number : ℕ) (book after : BookState) (who : ℕ) (kept : Durable) → after.members ≡ book.members → row.turn ≡ Arrived number
+    → StandsStopped table rows book who kept → StandsStopped table (rows ++ row ∷ []) after who kept
+all_stopped table rows row number book after who kept members is at =
+    let stay = arrival_stays book.members (standing_behind table rows book) row.turn number row.event row.letters is in
+    stopped_on table rows row book after who kept members (ap (λ (runs : ℕ → Bool). runs who) stay.0) (ap (λ (replicas : ℕ → State). replicas who) stay.1) at

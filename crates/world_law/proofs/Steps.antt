@@ -74,7 +74,7 @@ is_heard table rows book number input old event behind at is told =
       is = found.3 ∙ ap (λ from. heard.Hear from found.1) from;
     }
 
-takes_turn : (table : Table) (rows : List Row) (book : BookState) (cause : Cause) (input : Input) (old : ReplicaState) (event : Event) → StandsBehind table rows book
+pub takes_turn : (table : Table) (rows : List Row) (book : BookState) (cause : Cause) (input : Input) (old : ReplicaState) (event : Event) → StandsBehind table rows book
     → StandsAt table rows book old → IsInputOf (standing_behind table rows book) book old.identity.me cause input → IsInputInside table input → IsEventOf table old input event
     → TakesTurn book.members table (standing_behind table rows book) old.identity.me cause event
 takes_turn table rows book cause input old event behind at is inside told =

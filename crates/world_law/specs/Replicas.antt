@@ -1,12 +1,15 @@
 -- A replica beside a book: it stands where the rows of the book leave it, and is told what the book has for it.
-use Rattle.std.specs.Prelude.{◌≡◌, ℕ, ◌<◌, true, List, [], ◌∷◌, ◌++◌, Option, Some, slice_get}
+use Rattle.std.specs.Prelude.{◌≡◌, ℕ, ◌<◌, true, false, is_some, List, [], ◌∷◌, ◌++◌, Option, None, Some, slice_get}
+use Rattle.paxos_base.specs.declared.durable.Delta.{Delta}
+use Rattle.paxos_base.specs.declared.durable.Durable.{Durable}
 use Rattle.cluster_sched.specs.declared.row.SchedRow.{SchedRow}
 use Rattle.due_set.specs.Table.{Table}
 use Rattle.agree_law.specs.Transition.{identity_of}
 use Rattle.book_law.specs.Book.{Row, Standing}
 use Rattle.book_law.specs.Legal.{MayFollow}
 use Rattle.book_law.specs.declared.turn.CallRow.{CallRow}
-use Rattle.book_law.specs.declared.turn.Turn.TheVariants.{Did}
+use Rattle.book_law.specs.declared.turn.Turn.TheVariants.{Did, Stopped, Restarted}
+use Rattle.step_law.specs.State.{started}
 use Rattle.replica_core.specs.declared.out.StepOut.{StepOut}
 use Rattle.book_law.specs.declared.turn.Cause.{Cause}
 use Rattle.book_law.specs.declared.turn.Cause.TheVariants.{Campaign, Tick, Hear, Answer}
@@ -54,5 +57,32 @@ IsInputOf standing book who Answer input = IsToldAnswer standing who input
 pub record IsTurnOf (table : Table) (rows : List Row) (book : BookState) (who : ℕ) (cause : Cause) (made : Option CallRow) (out : StepOut) (new : ReplicaState) : Type 0 where
   pub row : Row
   pub is : IsRowOf (Did who cause made) out row
+  pub may : MayFollow book.members table (standing_behind table rows book) row.turn row
+  pub stands : (after : BookState) → after.members ≡ book.members → StandsAt table (rows ++ row ∷ []) after new
+
+-- ---- a replica that stops, and starts again
+
+-- a replica of the book is stopped where these rows leave it, and keeps this
+pub record StandsStopped (table : Table) (rows : List Row) (book : BookState) (who : ℕ) (kept : Durable) : Type 0 where
+  pub member : who < book.members
+  pub stopped : (standing_behind table rows book).runs who ≡ false
+  pub state : (standing_behind table rows book).replicas who ≡ started who kept
+
+-- what comes of a turn that is no step: the change that was kept, where one was
+abbrev pub change_alone : Option Delta → StepOut
+change_alone change = record { delta = change; letters = []; learnt = []; call = None }
+
+-- A stop of a replica, within a step or between two, is its turn, which may come next; it has the change that was kept, where one
+-- was, and behind it the replica is stopped and keeps this.
+pub record IsStopOf (table : Table) (rows : List Row) (book : BookState) (who : ℕ) (cause : Option Cause) (change : Option Delta) (kept : Durable) : Type 0 where
+  pub row : Row
+  pub is : IsRowOf (Stopped who cause (is_some change)) (change_alone change) row
+  pub may : MayFollow book.members table (standing_behind table rows book) row.turn row
+  pub stands : (after : BookState) → after.members ≡ book.members → StandsStopped table (rows ++ row ∷ []) after who kept
+
+-- A replica that starts again does so in its turn, which may come next; behind it the replica stands as it has started.
+pub record IsRestartOf (table : Table) (rows : List Row) (book : BookState) (new : ReplicaState) : Type 0 where
+  pub row : Row
+  pub is : IsRowOf (Restarted new.identity.me) (change_alone None) row
   pub may : MayFollow book.members table (standing_behind table rows book) row.turn row
   pub stands : (after : BookState) → after.members ≡ book.members → StandsAt table (rows ++ row ∷ []) after new

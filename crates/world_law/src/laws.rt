@@ -1,12 +1,18 @@
 //! Laws of books that a program keeps. Each is the contract of a function that does nothing.
-ghost use Rattle.std.specs.Prelude.{◌≡◌, ◌≢◌, ◌≤◌, ◌++◌, ◌∷◌, [], ℕ, List, length, take, Option, None, Some};
+ghost use Rattle.std.specs.Prelude.{◌≡◌, ◌≢◌, ◌⊎◌, ◌≤◌, ◌++◌, ◌∷◌, [], ℕ, List, length, take, Option, None, Some};
 ghost use Rattle.std.specs.Option.{option_to_list};
 ghost use Rattle.zone_minutes.specs.declared.minute.Minute.{Minute};
+ghost use Rattle.paxos_base.specs.declared.durable.Delta.{Delta};
+ghost use Rattle.paxos_base.specs.declared.durable.Durable.{Durable};
 ghost use Rattle.paxos_base.specs.declared.entry.Entry.{Entry};
 ghost use Rattle.cluster_sched.specs.declared.row.SchedRow.{SchedRow};
 ghost use Rattle.due_set.specs.Table.{Table};
 ghost use Rattle.launch_law.specs.Fits.{Fits};
+ghost use Rattle.step_law.specs.Folds.{deltas_of};
+ghost use Rattle.step_law.specs.State.{started};
+ghost use Rattle.step_law.specs.Step.{Event, step};
 ghost use Rattle.agree_law.specs.Log.{IsLog};
+ghost use Rattle.agree_law.specs.Transition.{identity_of};
 ghost use Rattle.book_law.specs.Agrees.{Agrees};
 ghost use Rattle.book_law.specs.Book.{Row, learned_in, turn_of, votes_in};
 ghost use Rattle.book_law.specs.Legal.{IsMade};
@@ -15,13 +21,14 @@ ghost use Rattle.book_law.specs.declared.turn.Cause.{Cause};
 ghost use Rattle.book_law.specs.declared.turn.Turn.{Turn};
 ghost use Rattle.book_law.specs.declared.turn.Turn.TheVariants.{Did, Arrived};
 ghost use Rattle.fits_law.specs.Fitting.{FitsItsLog};
+ghost use Rattle.replica_core.specs.Commit.{kept_after};
 ghost use Rattle.replica_core.specs.Replica.{ReplicaState};
-ghost use Rattle.replica_core.specs.Step.{IsInputInside, Steps};
+ghost use Rattle.replica_core.specs.Step.{IsEventOf, IsInputInside, IsOfTable, Steps};
 ghost use Rattle.replica_core.specs.declared.input.Input.{Input};
 ghost use Rattle.replica_core.specs.declared.input.Input.TheVariants.{Tick};
 ghost use Rattle.replica_core.specs.declared.out.StepOut.{StepOut};
 ghost use Rattle.world_law.specs.Book.{BookState, HasRoom, MayCall, StandsBehind, call_of, standing_behind};
-ghost use Rattle.world_law.specs.Replicas.{IsInputOf, IsTurnOf, StandsAt};
+ghost use Rattle.world_law.specs.Replicas.{IsInputOf, IsRestartOf, IsStopOf, IsTurnOf, StandsAt, StandsStopped};
 
 /// A legal book of one to seven replicas agrees and fits, after each of its turns; and at rest its ledger fits its log: no launch
 /// is held twice, each that is held was started, and each end says what is held.
@@ -60,6 +67,29 @@ pub fn other_replicas_stand_where_they_did()
         → other.identity.me ≢ turn_of row.turn → StandsAt table rows book other → StandsAt table (rows ++ row ∷ []) after other }
     ensures arrival { (table : Table) (rows : List Row) (row : Row) (number : ℕ) (book after : BookState) (other : ReplicaState) → after.members ≡ book.members
         → row.turn ≡ Arrived number → StandsAt table rows book other → StandsAt table (rows ++ row ∷ []) after other }
+    ensures stopped { (table : Table) (rows : List Row) (row : Row) (book after : BookState) (who : ℕ) (kept : Durable) → after.members ≡ book.members
+        → who ≢ turn_of row.turn → StandsStopped table rows book who kept → StandsStopped table (rows ++ row ∷ []) after who kept }
+    ensures stopped_arrival { (table : Table) (rows : List Row) (row : Row) (number : ℕ) (book after : BookState) (who : ℕ) (kept : Durable) → after.members ≡ book.members
+        → row.turn ≡ Arrived number → StandsStopped table rows book who kept → StandsStopped table (rows ++ row ∷ []) after who kept }
+{}
+
+/// A stop of a replica beside a legal book is a turn that may come next in it: within a step that changes what it keeps, with the
+/// change where that was kept, or between two steps. Behind it the replica is stopped, and keeps what it kept before the step, with
+/// that change or without.
+pub fn a_stop_is_the_next_turn()
+    ensures within { (table : Table) (rows : List Row) (book : BookState) (cause : Cause) (input : Input) (old : ReplicaState) (event : Event) (change : Delta) (answer : Option Delta)
+        → StandsBehind table rows book → StandsAt table rows book old → IsInputOf (standing_behind table rows book) book old.identity.me cause input
+        → IsInputInside table input → IsEventOf table old input event → deltas_of (step old.identity event old.state) ≡ change ∷ []
+        → (answer ≡ Some change) ⊎ (answer ≡ None) → IsStopOf table rows book old.identity.me (Some cause) answer (kept_after answer old.state.kept) }
+    ensures between { (table : Table) (rows : List Row) (book : BookState) (old : ReplicaState) → StandsAt table rows book old
+        → IsStopOf table rows book old.identity.me None None old.state.kept }
+{}
+
+/// A replica that starts with what it kept where it stopped does so in a turn that may come next.
+pub fn a_restart_is_the_next_turn()
+    ensures { (table : Table) (rows : List Row) (book : BookState) (kept : Durable) (new : ReplicaState) → StandsStopped table rows book new.identity.me kept
+        → new.identity ≡ identity_of book.members new.identity.me → new.state ≡ started new.identity.me kept → IsOfTable table new
+        → IsRestartOf table rows book new }
 {}
 
 /// A tick that asks for a call may be called for, once there is room for its turn.

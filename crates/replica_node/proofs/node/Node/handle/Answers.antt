@@ -1,4 +1,4 @@
-use Rattle.std.proofs.Common.{Ok, refl, sym, subst}
+use Rattle.std.proofs.Common.{◌≡◌, ℕ, Some, Result, Ok, Err, length, refl, sym, ap, ◌∙◌, subst}
 use Rattle.std.specs.Option.{option_copied}
 use Rattle.step_law.specs.Step.{step}
 use Rattle.store_format.specs.Order.{ChangeMayFollow}
@@ -6,12 +6,22 @@ use Rattle.replica_core.specs.Commit.{kept_after}
 use Rattle.replica_core.specs.Replica.{ReplicaState}
 use Rattle.replica_core.specs.Step.{IsAlike}
 use Rattle.replica_store.specs.Files.{FilesStandForEither}
+use Rattle.replica_core.specs.declared.out.StepOut.{StepOut}
 use Rattle.replica_node.specs.Faults.{of_disk}
+use Rattle.replica_node.specs.declared.fault.NodeFault.TheVariants as Node
 use Rattle.replica_node.specs.Node.{FilesStandAround, calls_for}
 use Rattle.replica_node.proofs.FaultLemmas.{memory_below}
 use Rattle.replica_node.proofs.RestLemmas.{at_rest_after, at_rest_still, either_around, few_members, leaves_weaker, recoverable_around, stands_at_rest}
 use Rattle.replica_node.proofs.StepLemmas.{change_follows, plans_alike}
 use Rattle.replica_node.proofs.ToldLemmas.{told_done, told_failed, told_of_step}
+use Rattle.replica_node.proofs.StoppedLemmas.{stopped_within, tells_stopped}
+use Rattle.std.specs.Prelude.{IsErrOf}
+use Rattle.store_format.specs.Area.{StandFor}
+use Rattle.replica_core.specs.Step.{CanTake}
+use Rattle.replica_store.specs.Files.{IsRecoverable}
+use Rattle.replica_store.specs.Store.{records_of}
+use Rattle.replica_node.specs.Faults.{EndsRun}
+use Rattle.replica_node.specs.declared.fault.NodeFault.{NodeFault}
 use Rattle.replica_node.proofs.node.Node.handle.Goals as goal
 
 pub keep-requires-clause-follows : goal.keep-requires-clause-follows
@@ -25,36 +35,10 @@ keep-requires-clause-follows g c change is =
     (change_follows table c.args.input old c.plan.new.self c.in_ok-planned.planned (option_copied c.delta.result) change (few_members old.identity.me old.identity.members rest.member rest.few) rest.coherent rest.of_table
     c.plan.ensures.alike plans c.in_ok-planned.ensures.can told is)
 
-pub returns-in_err-keep-clause-refused : goal.returns-in_err-keep-clause-refused
-returns-in_err-keep-clause-refused g c refused =
-    let old = c.args.self.now in
-    let new = c.keep.new.self in
-    let alike : IsAlike new.replica old.replica = subst (λ (now : ReplicaState). IsAlike now old.replica) (sym c.keep.ensures.replica) c.plan.ensures.alike in
-    let memory = c.keep.ensures.memory (memory_below c.in_err-keep.field-0.0 c.keep.result c.from_residual-in_err-keep.result c.in_err-keep.was c.from_residual-in_err-keep.ensures.1 c.keep.ensures.no_letter refused) in
-    at_rest_still g.D.Disk.seen g.D.Disk.may_leave g.D.Disk.honest c.args.table.now old new c.requires.at_rest alike memory.0 c.keep.ensures.jobs memory.1 (rw c.keep.ensures.replica memory.2)
+-- ---- the change is saved
 
-pub returns-in_err-keep-clause-images : goal.returns-in_err-keep-clause-images
-returns-in_err-keep-clause-images g c honest =
-    let old = c.args.self.now in
-    let now = c.plan.new.self in
-    let table = c.args.table.now in
-    let jobs = old.store.jobs in
-    let delta = option_copied c.delta.result in
-    let plans = c.in_ok-planned.ensures.planned in
-    let told = c.delta.ensures old.replica (step old.replica.identity plans.event old.replica.state) plans.plans in
-    leaves_weaker g.D.Disk.moment g.D.Disk.left_since old.disk c.keep.new.self.disk (FilesStandForEither jobs now.state.kept (kept_after delta now.state.kept)) (FilesStandAround table c.args.input old.replica)
-    (either_around table c.args.input old.replica now jobs delta plans.event plans.event_is c.plan.ensures.alike c.requires.at_rest.jobs told) (c.keep.ensures.images honest)
-
-pub returns-in_err-keep-clause-recoverable : goal.returns-in_err-keep-clause-recoverable
-returns-in_err-keep-clause-recoverable g c honest ends =
-    let old = c.args.self.now in
-    let plans = c.in_ok-planned.ensures.planned in
-    let told = c.delta.ensures old.replica (step old.replica.identity plans.event old.replica.state) plans.plans in
-    recoverable_around c.args.table.now c.args.input old.replica c.plan.new.self old.store.jobs (option_copied c.delta.result) plans.event (g.D.Disk.may_leave c.keep.new.self.disk) plans.event_is c.plan.ensures.alike c.requires.at_rest.jobs
-    told (c.keep.ensures.recoverable honest)
-
-pub returns-clause-at_rest : goal.returns-clause-at_rest
-returns-clause-at_rest g c =
+pub returns-in-Ok-clause-at_rest : goal.returns-in-Ok-clause-at_rest
+returns-in-Ok-clause-at_rest g c =
     let old = c.args.self.now in
     let kept = c.keep.new.self in
     let table = c.args.table.now in
@@ -64,17 +48,17 @@ returns-clause-at_rest g c =
     let told = c.delta.ensures old.replica acts plans.plans in
     let alike : IsAlike kept.replica old.replica = subst (λ (now : ReplicaState). IsAlike now old.replica) (sym c.keep.ensures.replica) c.plan.ensures.alike in
     let takes = c.complete.ensures acts (plans_alike old.replica kept.replica acts planned alike plans.plans) in
-    at_rest_after g.D.Disk.seen g.D.Disk.may_leave g.D.Disk.honest table c.args.input old (record { replica = c.complete.new.self; store = kept.store; disk = kept.disk; running = kept.running }) kept.replica planned (option_copied c.delta.result)
-    c.complete.result c.requires.at_rest alike plans takes told c.in_ok-keep.ensures.runs c.keep.ensures.jobs c.in_ok-keep.ensures.settled (rw c.keep.ensures.replica c.in_ok-keep.ensures.keeps)
+    at_rest_after g.D.Disk.seen g.D.Disk.may_leave g.D.Disk.honest table c.args.input old (record { replica = c.complete.new.self; store = kept.store; disk = kept.disk; running = kept.running; stopped = kept.stopped }) kept.replica planned (option_copied c.delta.result)
+    c.complete.result c.requires.at_rest alike plans takes told c.in-Ok.ensures.runs c.keep.ensures.jobs c.in-Ok.ensures.settled (rw c.keep.ensures.replica c.in-Ok.ensures.keeps)
 
-pub returns-clause-safe : goal.returns-clause-safe
-returns-clause-safe g c honest image left =
+pub returns-in-Ok-clause-safe : goal.returns-in-Ok-clause-safe
+returns-in-Ok-clause-safe g c honest image left =
     let kept = c.keep.new.self in
-    stands_at_rest g.D.Disk.seen g.D.Disk.may_leave g.D.Disk.honest c.args.table.now (record { replica = c.complete.new.self; store = kept.store; disk = kept.disk; running = kept.running }) (returns-clause-at_rest g c)
+    stands_at_rest g.D.Disk.seen g.D.Disk.may_leave g.D.Disk.honest c.args.table.now (record { replica = c.complete.new.self; store = kept.store; disk = kept.disk; running = kept.running; stopped = kept.stopped }) (returns-in-Ok-clause-at_rest g c)
     (c.keep.ensures.answer.honest_still.1 honest) image left
 
-pub returns-clause-images : goal.returns-clause-images
-returns-clause-images g c honest =
+pub returns-in-Ok-clause-images : goal.returns-in-Ok-clause-images
+returns-in-Ok-clause-images g c honest =
     let old = c.args.self.now in
     let now = c.plan.new.self in
     let table = c.args.table.now in
@@ -85,23 +69,112 @@ returns-clause-images g c honest =
     leaves_weaker g.D.Disk.moment g.D.Disk.left_since old.disk c.keep.new.self.disk (FilesStandForEither jobs now.state.kept (kept_after delta now.state.kept)) (FilesStandAround table c.args.input old.replica)
     (either_around table c.args.input old.replica now jobs delta plans.event plans.event_is c.plan.ensures.alike c.requires.at_rest.jobs told) (c.keep.ensures.images honest)
 
-pub returns-in_err-keep-clause-told : goal.returns-in_err-keep-clause-told
-returns-in_err-keep-clause-told g c =
-    let old = c.args.self.now in
-    let now = record old { replica = c.plan.new.self } in
-    let delta = option_copied c.delta.result in
-    let plans = c.in_ok-planned.ensures.planned in
-    let told = c.delta.ensures old.replica (step old.replica.identity plans.event old.replica.state) plans.plans in
-    told_of_step c.args.table.now c.args.input old now plans.event delta c.from_residual-in_err-keep.result (g.D.Disk.told old.disk) (g.D.Disk.told c.keep.new.self.disk) plans.event_is told c.plan.ensures.alike refl
-    (λ own stand. told_failed (calls_for now own delta) c.in_err-keep.field-0.0 c.keep.result c.from_residual-in_err-keep.result c.in_err-keep.was c.from_residual-in_err-keep.ensures.1 (g.D.Disk.told old.disk) (g.D.Disk.told c.keep.new.self.disk)
-    (c.keep.ensures.told own stand))
-
-pub returns-clause-told : goal.returns-clause-told
-returns-clause-told g c =
+pub returns-in-Ok-clause-told : goal.returns-in-Ok-clause-told
+returns-in-Ok-clause-told g c =
     let old = c.args.self.now in
     let now = record old { replica = c.plan.new.self } in
     let delta = option_copied c.delta.result in
     let plans = c.in_ok-planned.ensures.planned in
     let told = c.delta.ensures old.replica (step old.replica.identity plans.event old.replica.state) plans.plans in
     told_of_step c.args.table.now c.args.input old now plans.event delta (Ok c.complete.result) (g.D.Disk.told old.disk) (g.D.Disk.told c.keep.new.self.disk) plans.event_is told c.plan.ensures.alike refl
-    (λ own stand. told_done of_disk of_disk (calls_for now own delta) tt c.complete.result (g.D.Disk.told old.disk) (g.D.Disk.told c.keep.new.self.disk) (c.in_ok-keep.ensures.told own stand))
+    (λ own stand. told_done of_disk of_disk (calls_for now own delta) tt c.complete.result (g.D.Disk.told old.disk) (g.D.Disk.told c.keep.new.self.disk) (c.in-Ok.ensures.told own stand))
+
+-- ---- the disk stopped
+
+pub returns-in-Err-Stopped-clause-stopped : goal.returns-in-Err-Stopped-clause-stopped
+returns-in-Err-Stopped-clause-stopped g c some is =
+    let old = c.args.self.now in
+    let now = c.plan.new.self in
+    let table = c.args.table.now in
+    let rest = c.requires.at_rest in
+    let planned = c.in_ok-planned.planned in
+    let delta = option_copied c.delta.result in
+    let plans = c.in_ok-planned.ensures.planned in
+    let changes = c.delta.ensures old.replica (step old.replica.identity plans.event old.replica.state) plans.plans in
+    let node = record c.keep.new.self { stopped = Some planned } in
+    let alike : IsAlike node.replica old.replica = subst (λ (r : ReplicaState). IsAlike r old.replica) (sym c.keep.ensures.replica) c.plan.ensures.alike in
+    let failed : c.keep.result ≡ Err Node.Stopped = c.in-Err-Stopped.is ∙ ap Err c.in-Err-Stopped.field-0-is in
+    let stops : IsErrOf c.keep.result Node.Stopped = subst (λ (r : Result Unit NodeFault). IsErrOf r Node.Stopped) (sym failed) refl in
+    let own = rest.keeps in
+    let mid = record old { replica = now } in
+    let stand : StandFor old.store.jobs (records_of old.store) now.state.kept own.0 = rw c.plan.ensures.alike.state own.1 in
+    stopped_within g.D.Disk.may_leave g.D.Disk.honest g.D.Disk.told table c.args.input old.replica node planned delta
+    (c.keep.ensures.ended (subst (λ (r : Result Unit NodeFault). EndsRun r) (sym failed) tt)) refl alike rest.of_table c.requires.small
+    (subst (λ (r : ReplicaState). CanTake table r planned) (sym c.keep.ensures.replica) c.in_ok-planned.ensures.can) plans changes (c.keep.ensures.changed stops)
+    (λ change is_change. subst (λ (r : ReplicaState). ChangeMayFollow (length table.jobs) r.state.kept change) (sym c.keep.ensures.replica)
+    (change_follows table c.args.input old.replica now planned delta change (few_members old.replica.identity.me old.replica.identity.members rest.member rest.few) rest.coherent rest.of_table c.plan.ensures.alike plans c.in_ok-planned.ensures.can changes is_change))
+    (tells_stopped (calls_for mid own.0 delta) c.keep.result (g.D.Disk.told old.disk) (g.D.Disk.told node.disk) some stops (c.keep.ensures.told own.0 stand))
+    (λ honest. subst (λ (r : ReplicaState). IsRecoverable (length table.jobs) r.state.kept (kept_after delta r.state.kept) (g.D.Disk.may_leave node.disk)) (sym c.keep.ensures.replica)
+    (subst (λ (jobs : ℕ). IsRecoverable jobs now.state.kept (kept_after delta now.state.kept) (g.D.Disk.may_leave node.disk)) rest.jobs (c.keep.ensures.recoverable (c.keep.ensures.answer.honest_still.0 honest))))
+
+pub returns-in-Err-Stopped-clause-images : goal.returns-in-Err-Stopped-clause-images
+returns-in-Err-Stopped-clause-images g c honest =
+    let old = c.args.self.now in
+    let now = c.plan.new.self in
+    let table = c.args.table.now in
+    let jobs = old.store.jobs in
+    let delta = option_copied c.delta.result in
+    let plans = c.in_ok-planned.ensures.planned in
+    let told = c.delta.ensures old.replica (step old.replica.identity plans.event old.replica.state) plans.plans in
+    leaves_weaker g.D.Disk.moment g.D.Disk.left_since old.disk c.keep.new.self.disk (FilesStandForEither jobs now.state.kept (kept_after delta now.state.kept)) (FilesStandAround table c.args.input old.replica)
+    (either_around table c.args.input old.replica now jobs delta plans.event plans.event_is c.plan.ensures.alike c.requires.at_rest.jobs told) (c.keep.ensures.images honest)
+
+pub returns-in-Err-Stopped-clause-recoverable : goal.returns-in-Err-Stopped-clause-recoverable
+returns-in-Err-Stopped-clause-recoverable g c honest ends =
+    let old = c.args.self.now in
+    let plans = c.in_ok-planned.ensures.planned in
+    let told = c.delta.ensures old.replica (step old.replica.identity plans.event old.replica.state) plans.plans in
+    recoverable_around c.args.table.now c.args.input old.replica c.plan.new.self old.store.jobs (option_copied c.delta.result) plans.event (g.D.Disk.may_leave c.keep.new.self.disk) plans.event_is c.plan.ensures.alike c.requires.at_rest.jobs
+    told (c.keep.ensures.recoverable honest)
+
+pub returns-in-Err-Stopped-clause-told : goal.returns-in-Err-Stopped-clause-told
+returns-in-Err-Stopped-clause-told g c =
+    let old = c.args.self.now in
+    let now = record old { replica = c.plan.new.self } in
+    let delta = option_copied c.delta.result in
+    let plans = c.in_ok-planned.ensures.planned in
+    let told = c.delta.ensures old.replica (step old.replica.identity plans.event old.replica.state) plans.plans in
+    told_of_step c.args.table.now c.args.input old now plans.event delta (Err Node.Stopped) (g.D.Disk.told old.disk) (g.D.Disk.told c.keep.new.self.disk) plans.event_is told c.plan.ensures.alike refl
+    (λ own stand. told_failed {U = StepOut} (calls_for now own delta) Node.Stopped c.keep.result (Err Node.Stopped) (c.in-Err-Stopped.is ∙ ap Err c.in-Err-Stopped.field-0-is) refl (g.D.Disk.told old.disk) (g.D.Disk.told c.keep.new.self.disk)
+    (c.keep.ensures.told own stand))
+
+-- ---- another fault
+
+pub returns-in-Err-clause-images : goal.returns-in-Err-clause-images
+returns-in-Err-clause-images g c honest =
+    let old = c.args.self.now in
+    let now = c.plan.new.self in
+    let table = c.args.table.now in
+    let jobs = old.store.jobs in
+    let delta = option_copied c.delta.result in
+    let plans = c.in_ok-planned.ensures.planned in
+    let told = c.delta.ensures old.replica (step old.replica.identity plans.event old.replica.state) plans.plans in
+    leaves_weaker g.D.Disk.moment g.D.Disk.left_since old.disk c.keep.new.self.disk (FilesStandForEither jobs now.state.kept (kept_after delta now.state.kept)) (FilesStandAround table c.args.input old.replica)
+    (either_around table c.args.input old.replica now jobs delta plans.event plans.event_is c.plan.ensures.alike c.requires.at_rest.jobs told) (c.keep.ensures.images honest)
+
+pub returns-in-Err-clause-recoverable : goal.returns-in-Err-clause-recoverable
+returns-in-Err-clause-recoverable g c honest ends =
+    let old = c.args.self.now in
+    let plans = c.in_ok-planned.ensures.planned in
+    let told = c.delta.ensures old.replica (step old.replica.identity plans.event old.replica.state) plans.plans in
+    recoverable_around c.args.table.now c.args.input old.replica c.plan.new.self old.store.jobs (option_copied c.delta.result) plans.event (g.D.Disk.may_leave c.keep.new.self.disk) plans.event_is c.plan.ensures.alike c.requires.at_rest.jobs
+    told (c.keep.ensures.recoverable honest)
+
+pub returns-in-Err-clause-refused : goal.returns-in-Err-clause-refused
+returns-in-Err-clause-refused g c refused =
+    let old = c.args.self.now in
+    let new = c.keep.new.self in
+    let alike : IsAlike new.replica old.replica = subst (λ (now : ReplicaState). IsAlike now old.replica) (sym c.keep.ensures.replica) c.plan.ensures.alike in
+    let memory = c.keep.ensures.memory (memory_below {U = StepOut} c.in-Err.fault c.keep.result (Err c.in-Err.fault) c.in-Err.is refl c.keep.ensures.no_letter refused) in
+    at_rest_still g.D.Disk.seen g.D.Disk.may_leave g.D.Disk.honest c.args.table.now old new c.requires.at_rest alike memory.0 c.keep.ensures.jobs memory.1 (rw c.keep.ensures.replica memory.2)
+
+pub returns-in-Err-clause-told : goal.returns-in-Err-clause-told
+returns-in-Err-clause-told g c =
+    let old = c.args.self.now in
+    let now = record old { replica = c.plan.new.self } in
+    let delta = option_copied c.delta.result in
+    let plans = c.in_ok-planned.ensures.planned in
+    let told = c.delta.ensures old.replica (step old.replica.identity plans.event old.replica.state) plans.plans in
+    told_of_step c.args.table.now c.args.input old now plans.event delta (Err c.in-Err.fault) (g.D.Disk.told old.disk) (g.D.Disk.told c.keep.new.self.disk) plans.event_is told c.plan.ensures.alike refl
+    (λ own stand. told_failed {U = StepOut} (calls_for now own delta) c.in-Err.fault c.keep.result (Err c.in-Err.fault) c.in-Err.is refl (g.D.Disk.told old.disk) (g.D.Disk.told c.keep.new.self.disk)
+    (c.keep.ensures.told own stand))

@@ -1,0 +1,58 @@
+-- What a node says where it is reopened.
+use Rattle.std.proofs.Common.{◌≡◌, ◌⊎◌, ℕ, Option, None, Some, sym, ◌∙◌, subst, inl, inr}
+use Rattle.std.proofs.lemmas.Option.{same_Some}
+use Rattle.due_set.specs.Table.{Table}
+use Rattle.gate_file.specs.File.{bodies_of}
+use Rattle.disk_model.specs.Images.{Image}
+use Rattle.paxos_base.specs.Durable.{after_delta}
+use Rattle.paxos_base.specs.declared.durable.Delta.{Delta}
+use Rattle.paxos_base.specs.declared.durable.Durable.{Durable}
+use Rattle.store_format.specs.Order.{ChangeMayFollow}
+use Rattle.store_format.proofs.SoundLemmas.{StandFor-sound}
+use Rattle.replica_core.specs.Commit.{kept_after}
+use Rattle.replica_core.specs.Replica.{ReplicaState}
+use Rattle.replica_core.specs.declared.replica.Planned.{Planned}
+use Rattle.replica_store.specs.Files.{FilesStand, IsRecoverable}
+use Rattle.replica_store.specs.Store.{IsStoreSettled, StoreKeeps, jobs_of}
+use Rattle.replica_store.specs.declared.store.Store.{Store}
+use Rattle.replica_store.proofs.FileLemmas.{files_stand_for_one, recoverable_stands}
+use Rattle.replica_store.proofs.SaveLemmas.{settled_recoverable}
+use Rattle.replica_node.specs.Change.{IsDecided}
+use Rattle.replica_node.specs.Stopped.{HasPlanned}
+use Rattle.replica_node.proofs.ChangeLemmas.{decided_kept, decided_lost}
+
+-- the step that was cut short is the one that was planned
+pub planned_as : (table : Table) (replica : ReplicaState) (one other : Planned) (change : Delta) (held : Option Planned) → held ≡ Some one → held ≡ Some other → HasPlanned table replica other change → HasPlanned table replica one change
+planned_as table replica one other change held first second planned = subst (λ (p : Planned). HasPlanned table replica p change) (same_Some other one (sym second ∙ first)) planned
+
+pub change_or_none : (change : Delta) (found : Durable) (answer : Option Delta) → IsDecided change found answer → (answer ≡ Some change) ⊎ (answer ≡ None)
+change_or_none change found answer (inl shown) = inl shown.1
+change_or_none change found answer (inr hidden) = inr hidden.1
+
+-- What was found, with the answer of a node that is reopened, and what its replica keeps then.
+pub record Reopens (jobs : ℕ) (before found now : Durable) (change : Delta) (answer : Option Delta) : Type 0 where
+  pub same : now ≡ found
+  pub lost : answer ≡ None → found ≡ after_delta change before → ⊥
+
+pub reopens : (jobs : ℕ) (before found now : Durable) (change : Delta) (answer : Option Delta) (store : Store) → StoreKeeps store found → ChangeMayFollow jobs before change → (found ≡ before) ⊎ (found ≡ after_delta change before) → IsDecided change found answer
+    → now ≡ kept_after answer before → Reopens jobs before found now change answer
+reopens jobs before found now change answer store keeps follows either decided kept =
+    let rise = (StandFor-sound store.jobs (bodies_of store.gates) found keeps.0 keeps.1).votes_rise in
+    record {
+      same = kept ∙ sym (decided_kept jobs before found change rise follows either answer decided);
+      lost = decided_lost jobs before found change rise follows either answer decided;
+    }
+
+-- a replica can go on from the disk with what its replica keeps
+pub found_recoverable : {D : Type 0} (seen : D → Image) (may_leave : D → Image → Type 0) (honest : D → Type 0) (disk : D) (store : Store) (jobs : ℕ) (found now : Durable) → IsStoreSettled seen may_leave honest disk store → StoreKeeps store found
+    → jobs_of store ≡ jobs → now ≡ found → honest disk → IsRecoverable jobs now now (may_leave disk)
+found_recoverable seen may_leave honest disk store jobs found now settled keeps count same is =
+    subst (λ (k : Durable). IsRecoverable jobs k k (may_leave disk)) (sym same)
+    (subst (λ (n : ℕ). IsRecoverable n found found (may_leave disk)) count (settled_recoverable seen may_leave honest disk store settled found keeps is))
+
+pub found_stands : (jobs : ℕ) (now : Durable) (may_leave : Image → Type 0) (image : Image) → IsRecoverable jobs now now may_leave → may_leave image → FilesStand jobs now image
+found_stands jobs now may_leave image recoverable left =
+    elim (recoverable_stands jobs now now may_leave recoverable image left) [ inl before ↦ before | inr after ↦ after ]
+
+pub not_both : (jobs : ℕ) (found now after : Durable) (image : Image) → now ≡ found → (found ≡ after → ⊥) → FilesStand jobs now image → FilesStand jobs after image → ⊥
+not_both jobs found now after image same lost stand other = lost (sym same ∙ files_stand_for_one jobs image now after stand other)

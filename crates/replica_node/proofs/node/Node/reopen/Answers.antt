@@ -1,0 +1,130 @@
+use Rattle.std.proofs.Common.{ℕ, Err, length, sym, ap, ◌∙◌, subst}
+use Rattle.disk_model.specs.Told.{image_left}
+use Rattle.paxos_base.specs.Durable.{after_delta}
+use Rattle.paxos_base.specs.declared.durable.Durable.{Durable}
+use Rattle.store_format.specs.Area.{IsFirstRecordAtFault}
+use Rattle.replica_store.specs.Files.{FilesStand, IsRecoverable}
+use Rattle.replica_node.proofs.FaultLemmas.{same_fault}
+use Rattle.replica_node.proofs.ReopenLemmas.{Reopens, change_or_none, found_recoverable, found_stands, not_both, planned_as, reopens}
+use Rattle.replica_node.proofs.node.Node.reopen.Goals as goal
+
+-- ---- it is attached
+
+pub returns-in-Ok-clause-change : goal.returns-in-Ok-clause-change
+returns-in-Ok-clause-change g c stop =
+    let planned = planned_as c.args.table.now c.args.self.replica c.in-Some.planned stop.planned stop.change c.args.self.stopped c.in-Some.is stop.is_cut_short stop.has_planned in
+    change_or_none stop.change c.in-Ok.kept c.take_kept-change.result (c.take_kept-change.ensures.answer stop.change planned)
+
+pub returns-in-Ok-clause-kept : goal.returns-in-Ok-clause-kept
+returns-in-Ok-clause-kept g c =
+    let stop = c.requires.stopped in
+    let planned = planned_as c.args.table.now c.args.self.replica c.in-Some.planned stop.planned stop.change c.args.self.stopped c.in-Some.is stop.is_cut_short stop.has_planned in
+    c.take_kept-change.ensures.kept stop.change planned
+
+pub returns-in-Ok-clause-recoverable : goal.returns-in-Ok-clause-recoverable
+returns-in-Ok-clause-recoverable g c honest =
+    let stop = c.requires.stopped in
+    let before = c.args.self.replica.state.kept in
+    let after = after_delta stop.change before in
+    let jobs = length c.args.table.now.jobs in
+    let disk = c.attach_stopped.new.disk in
+    let count = c.jobs.ensures.count in
+    let found = c.in-Ok.kept in
+    let store = c.in-Ok.store in
+    let now = c.take_kept-change.new.replica.state.kept in
+    let planned = planned_as c.args.table.now c.args.self.replica c.in-Some.planned stop.planned stop.change c.args.self.stopped c.in-Some.is stop.is_cut_short stop.has_planned in
+    let recoverable : IsRecoverable c.jobs.result before after (g.D.Disk.may_leave c.args.self.disk) = rw count (stop.recoverable honest) in
+    let facts : Reopens jobs before found now stop.change c.take_kept-change.result =
+    reopens jobs before found now stop.change c.take_kept-change.result store c.in-Ok.ensures.keeps stop.has_planned.follows (c.in-Ok.ensures.either before after honest recoverable)
+    (c.take_kept-change.ensures.answer stop.change planned) (c.take_kept-change.ensures.kept stop.change planned) in
+    let still = c.attach_stopped.ensures.answer.honest_still.1 honest in
+    let here : IsRecoverable jobs now now (g.D.Disk.may_leave disk) =
+    found_recoverable g.D.Disk.seen g.D.Disk.may_leave g.D.Disk.honest disk store jobs found now c.in-Ok.ensures.settled c.in-Ok.ensures.keeps (c.in-Ok.ensures.jobs ∙ count) facts.same still in
+    here
+
+pub returns-in-Ok-clause-stand : goal.returns-in-Ok-clause-stand
+returns-in-Ok-clause-stand g c honest =
+    let stop = c.requires.stopped in
+    let before = c.args.self.replica.state.kept in
+    let after = after_delta stop.change before in
+    let jobs = length c.args.table.now.jobs in
+    let disk = c.attach_stopped.new.disk in
+    let count = c.jobs.ensures.count in
+    let found = c.in-Ok.kept in
+    let store = c.in-Ok.store in
+    let now = c.take_kept-change.new.replica.state.kept in
+    let planned = planned_as c.args.table.now c.args.self.replica c.in-Some.planned stop.planned stop.change c.args.self.stopped c.in-Some.is stop.is_cut_short stop.has_planned in
+    let recoverable : IsRecoverable c.jobs.result before after (g.D.Disk.may_leave c.args.self.disk) = rw count (stop.recoverable honest) in
+    let facts : Reopens jobs before found now stop.change c.take_kept-change.result =
+    reopens jobs before found now stop.change c.take_kept-change.result store c.in-Ok.ensures.keeps stop.has_planned.follows (c.in-Ok.ensures.either before after honest recoverable)
+    (c.take_kept-change.ensures.answer stop.change planned) (c.take_kept-change.ensures.kept stop.change planned) in
+    let still = c.attach_stopped.ensures.answer.honest_still.1 honest in
+    let here : IsRecoverable jobs now now (g.D.Disk.may_leave disk) =
+    found_recoverable g.D.Disk.seen g.D.Disk.may_leave g.D.Disk.honest disk store jobs found now c.in-Ok.ensures.settled c.in-Ok.ensures.keeps (c.in-Ok.ensures.jobs ∙ count) facts.same still in
+    found_stands jobs now (g.D.Disk.may_leave disk) (g.D.Disk.seen disk) here (g.met.D.Disk.seen_is_left disk still)
+
+pub returns-in-Ok-clause-image : goal.returns-in-Ok-clause-image
+returns-in-Ok-clause-image g c told honest is =
+    let stop = c.requires.stopped in
+    let before = c.args.self.replica.state.kept in
+    let after = after_delta stop.change before in
+    let jobs = length c.args.table.now.jobs in
+    let disk = c.attach_stopped.new.disk in
+    let count = c.jobs.ensures.count in
+    let found = c.in-Ok.kept in
+    let store = c.in-Ok.store in
+    let now = c.take_kept-change.new.replica.state.kept in
+    let planned = planned_as c.args.table.now c.args.self.replica c.in-Some.planned stop.planned stop.change c.args.self.stopped c.in-Some.is stop.is_cut_short stop.has_planned in
+    let recoverable : IsRecoverable c.jobs.result before after (g.D.Disk.may_leave c.args.self.disk) = rw count (stop.recoverable honest) in
+    let facts : Reopens jobs before found now stop.change c.take_kept-change.result =
+    reopens jobs before found now stop.change c.take_kept-change.result store c.in-Ok.ensures.keeps stop.has_planned.follows (c.in-Ok.ensures.either before after honest recoverable)
+    (c.take_kept-change.ensures.answer stop.change planned) (c.take_kept-change.ensures.kept stop.change planned) in
+    let still = c.attach_stopped.ensures.answer.honest_still.1 honest in
+    let here : IsRecoverable jobs now now (g.D.Disk.may_leave disk) =
+    found_recoverable g.D.Disk.seen g.D.Disk.may_leave g.D.Disk.honest disk store jobs found now c.in-Ok.ensures.settled c.in-Ok.ensures.keeps (c.in-Ok.ensures.jobs ∙ count) facts.same still in
+    subst (λ (k : Durable). FilesStand jobs k (image_left told)) (sym facts.same) (subst (λ (n : ℕ). FilesStand n found (image_left told)) count (c.in-Ok.ensures.image told is))
+
+pub returns-in-Ok-clause-lost : goal.returns-in-Ok-clause-lost
+returns-in-Ok-clause-lost g c stop honest none =
+    let before = c.args.self.replica.state.kept in
+    let after = after_delta stop.change before in
+    let jobs = length c.args.table.now.jobs in
+    let disk = c.attach_stopped.new.disk in
+    let count = c.jobs.ensures.count in
+    let found = c.in-Ok.kept in
+    let store = c.in-Ok.store in
+    let now = c.take_kept-change.new.replica.state.kept in
+    let planned = planned_as c.args.table.now c.args.self.replica c.in-Some.planned stop.planned stop.change c.args.self.stopped c.in-Some.is stop.is_cut_short stop.has_planned in
+    let recoverable : IsRecoverable c.jobs.result before after (g.D.Disk.may_leave c.args.self.disk) = rw count (stop.recoverable honest) in
+    let facts : Reopens jobs before found now stop.change c.take_kept-change.result =
+    reopens jobs before found now stop.change c.take_kept-change.result store c.in-Ok.ensures.keeps stop.has_planned.follows (c.in-Ok.ensures.either before after honest recoverable)
+    (c.take_kept-change.ensures.answer stop.change planned) (c.take_kept-change.ensures.kept stop.change planned) in
+    let still = c.attach_stopped.ensures.answer.honest_still.1 honest in
+    let here : IsRecoverable jobs now now (g.D.Disk.may_leave disk) =
+    found_recoverable g.D.Disk.seen g.D.Disk.may_leave g.D.Disk.honest disk store jobs found now c.in-Ok.ensures.settled c.in-Ok.ensures.keeps (c.in-Ok.ensures.jobs ∙ count) facts.same still in
+    not_both jobs found now after (g.D.Disk.seen disk) facts.same (facts.lost none) (found_stands jobs now (g.D.Disk.may_leave disk) (g.D.Disk.seen disk) here (g.met.D.Disk.seen_is_left disk still))
+
+pub returns-in-Ok-clause-still_recoverable : goal.returns-in-Ok-clause-still_recoverable
+returns-in-Ok-clause-still_recoverable g c stop honest =
+    let before = c.args.self.replica.state.kept in
+    let after = after_delta stop.change before in
+    rw (← c.jobs.ensures.count) (c.attach_stopped.ensures.recoverable before after honest (rw c.jobs.ensures.count (stop.recoverable honest)))
+
+-- ---- it is not
+
+pub returns-clause-still_recoverable : goal.returns-clause-still_recoverable
+returns-clause-still_recoverable g c stop honest =
+    let before = c.args.self.replica.state.kept in
+    let after = after_delta stop.change before in
+    rw (← c.jobs.ensures.count) (c.attach_stopped.ensures.recoverable before after honest (rw c.jobs.ensures.count (stop.recoverable honest)))
+
+pub returns-clause-sound : goal.returns-clause-sound
+returns-clause-sound g c gate honest is =
+    let stop = c.requires.stopped in
+    let before = c.args.self.replica.state.kept in
+    let after = after_delta stop.change before in
+    c.attach_stopped.ensures.sound before after gate honest (rw c.jobs.ensures.count (stop.recoverable honest)) (c.in-Err.is ∙ ap Err (same_fault c.in-Err.fault _ is))
+
+pub returns-clause-damaged : goal.returns-clause-damaged
+returns-clause-damaged g c gate bodies is has =
+    subst (λ (n : ℕ). IsFirstRecordAtFault n bodies gate) c.jobs.ensures.count (c.attach_stopped.ensures.damaged gate bodies (c.in-Err.is ∙ ap Err (same_fault c.in-Err.fault _ is)) has)

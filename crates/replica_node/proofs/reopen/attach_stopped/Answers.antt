@@ -1,0 +1,71 @@
+use Rattle.std.proofs.Common.{length, subst}
+use Rattle.disk_model.specs.Images.{Image, file_of}
+use Rattle.gate_file.specs.Gates.{HasBodies}
+use Rattle.gate_file.proofs.GateLemmas.{some_list}
+use Rattle.replica_store.specs.Files.{FilesStand, selected}
+use Rattle.replica_store.specs.Made.{attach_calls, look_calls}
+use Rattle.replica_store.proofs.FileLemmas.{fewer_recoverable}
+use Rattle.replica_node.proofs.FaultLemmas.{damaged_below, stopped_below}
+use Rattle.replica_node.proofs.QuietLemmas.{attach_never, attach_quiet, revived_seen, tells_revived}
+use Rattle.replica_node.proofs.reopen.attach_stopped.Goals as goal
+
+-- ---- the disk is not attached
+
+pub returns-in_err-attach-clause-sound : goal.returns-in_err-attach-clause-sound
+returns-in_err-attach-clause-sound g c before after gate honest recoverable is =
+    c.attach.ensures.sound before after gate (c.revive.ensures.honest.1 honest)
+    (fewer_recoverable c.args.jobs before after (g.D.Disk.may_leave c.args.disk.now) (g.D.Disk.may_leave c.revive.new.self) (c.revive.ensures.no_new_image honest) recoverable)
+    (damaged_below c.in_err-attach.field-0.0 gate c.attach.result c.from_residual.result c.in_err-attach.was c.from_residual.ensures.1 is)
+
+pub returns-in_err-attach-clause-recoverable : goal.returns-in_err-attach-clause-recoverable
+returns-in_err-attach-clause-recoverable g c before after honest recoverable =
+    c.attach.ensures.recoverable before after (c.revive.ensures.honest.1 honest)
+    (fewer_recoverable c.args.jobs before after (g.D.Disk.may_leave c.args.disk.now) (g.D.Disk.may_leave c.revive.new.self) (c.revive.ensures.no_new_image honest) recoverable)
+
+pub returns-in_err-attach-clause-damaged : goal.returns-in_err-attach-clause-damaged
+returns-in_err-attach-clause-damaged g c gate bodies is has =
+    let below = damaged_below c.in_err-attach.field-0.0 gate c.attach.result c.from_residual.result c.in_err-attach.was c.from_residual.ensures.1 is in
+    c.attach.ensures.damaged gate bodies below (subst (λ (image : Image). HasBodies (file_of (selected image) image) bodies) (c.attach.ensures.unwritten gate below) has)
+
+pub returns-in_err-attach-clause-quiet : goal.returns-in_err-attach-clause-quiet
+returns-in_err-attach-clause-quiet g c =
+    let mid = c.revive.new.self in
+    let seen = g.D.Disk.seen mid in
+    let found = some_list (file_of (selected seen) seen) in
+    attach_quiet (attach_calls seen (length found.0)) (look_calls seen) c.attach.result (g.D.Disk.told mid) (g.D.Disk.told c.attach.new.disk) (g.met.D.ArmedDisk.tells mid)
+    (tells_revived (g.D.Disk.told c.args.disk.now) (g.D.Disk.told mid) c.requires.stopped c.revive.ensures.told) (c.attach.ensures.told found.0 found.1) c.attach.ensures.told_damaged
+
+pub returns-in_err-attach-clause-never_stopped : goal.returns-in_err-attach-clause-never_stopped
+returns-in_err-attach-clause-never_stopped g c is =
+    let mid = c.revive.new.self in
+    let seen = g.D.Disk.seen mid in
+    let found = some_list (file_of (selected seen) seen) in
+    attach_never (attach_calls seen (length found.0)) c.attach.result (g.D.Disk.told mid) (g.D.Disk.told c.attach.new.disk) (g.met.D.ArmedDisk.tells mid) (g.met.D.ArmedDisk.tells c.attach.new.disk)
+    (tells_revived (g.D.Disk.told c.args.disk.now) (g.D.Disk.told mid) c.requires.stopped c.revive.ensures.told) (c.attach.ensures.told found.0 found.1)
+    (stopped_below c.in_err-attach.field-0.0 c.attach.result c.from_residual.result c.in_err-attach.was c.from_residual.ensures.1 is)
+
+-- ---- it is attached
+
+pub returns-clause-quiet : goal.returns-clause-quiet
+returns-clause-quiet g c =
+    let mid = c.revive.new.self in
+    let seen = g.D.Disk.seen mid in
+    let found = some_list (file_of (selected seen) seen) in
+    attach_quiet (attach_calls seen (length found.0)) (look_calls seen) c.attach.result (g.D.Disk.told mid) (g.D.Disk.told c.attach.new.disk) (g.met.D.ArmedDisk.tells mid)
+    (tells_revived (g.D.Disk.told c.args.disk.now) (g.D.Disk.told mid) c.requires.stopped c.revive.ensures.told) (c.attach.ensures.told found.0 found.1) c.attach.ensures.told_damaged
+
+pub returns-clause-image : goal.returns-clause-image
+returns-clause-image g c told is =
+    let mid = c.revive.new.self in
+    subst (λ (image : Image). FilesStand c.args.jobs c.in_ok-attach.field-0.1 image)
+    (revived_seen (g.D.Disk.told c.args.disk.now) (g.D.Disk.told mid) told (g.D.Disk.seen mid) (g.met.D.ArmedDisk.tells mid) c.requires.stopped c.revive.ensures.told is (g.met.D.Disk.done_is_seen mid)) c.in_ok-attach.ensures.stand
+
+pub returns-clause-either : goal.returns-clause-either
+returns-clause-either g c before after honest recoverable =
+    c.in_ok-attach.ensures.either before after (c.revive.ensures.honest.1 honest)
+    (fewer_recoverable c.args.jobs before after (g.D.Disk.may_leave c.args.disk.now) (g.D.Disk.may_leave c.revive.new.self) (c.revive.ensures.no_new_image honest) recoverable)
+
+pub returns-clause-recoverable : goal.returns-clause-recoverable
+returns-clause-recoverable g c before after honest recoverable =
+    c.attach.ensures.recoverable before after (c.revive.ensures.honest.1 honest)
+    (fewer_recoverable c.args.jobs before after (g.D.Disk.may_leave c.args.disk.now) (g.D.Disk.may_leave c.revive.new.self) (c.revive.ensures.no_new_image honest) recoverable)

@@ -1,0 +1,58 @@
+-- A node that was stopped within the save of a step's change, and what a node that is reopened says of it.
+use Rattle.std.specs.Prelude.{◌≡◌, false, Option, None, Some, Result, Ok, Err, List, [], ◌∷◌, length, IfSome}
+use Rattle.disk_model.specs.Images.{Image}
+use Rattle.disk_model.specs.Told.{Told, HasStopped}
+use Rattle.due_set.specs.Table.{Table}
+use Rattle.paxos_base.specs.Durable.{after_delta}
+use Rattle.paxos_base.specs.declared.durable.Delta.{Delta}
+use Rattle.store_format.specs.Order.{ChangeMayFollow}
+use Rattle.step_law.specs.Act.{Act}
+use Rattle.step_law.specs.Folds.{deltas_of}
+use Rattle.replica_core.specs.Replica.{IsSmall, ReplicaState}
+use Rattle.replica_core.specs.Step.{CanTake, IsOfTable, Plans}
+use Rattle.replica_core.specs.declared.input.Input.{Input}
+use Rattle.replica_core.specs.declared.replica.Planned.{Planned}
+use Rattle.replica_store.specs.Files.{IsRecoverable}
+use Rattle.replica_node.specs.Node.{disk_of, replica_of, runs_in, IsChangeOf}
+use Rattle.replica_node.specs.declared.fault.NodeFault.{NodeFault}
+use Rattle.replica_node.specs.declared.node.Node.{Node}
+
+-- the step whose save was stopped, where one was
+abbrev pub cut_short : {D : Type 0} → Node D → Option Planned
+cut_short node = node.stopped
+
+-- a replica has planned a step that makes this one change, and can take it
+pub record HasPlanned (table : Table) (replica : ReplicaState) (planned : Planned) (change : Delta) : Type 0 where
+  pub of_table : IsOfTable table replica
+  pub small : IsSmall replica.state replica.machine.rows
+  pub can_take : CanTake table replica planned
+  pub acts : List Act
+  pub plans : Plans replica acts planned
+  pub changes : deltas_of acts ≡ change ∷ []
+  pub follows : ChangeMayFollow (length table.jobs) replica.state.kept change
+
+-- A node was stopped within the save of a step's change: it doesn't run, its replica is as before the step, its disk tells that it
+-- has stopped, and a replica can go on from there with what is kept before the change or after it.
+pub record IsStopped {D : Type 0} (may_leave : D → Image → Type 0) (honest : D → Type 0) (told : D → Option Told) (table : Table) (node : Node D) : Type 0 where
+  pub ended : runs_in node ≡ false
+  pub change : Delta
+  pub planned : Planned
+  pub is_cut_short : cut_short node ≡ Some planned
+  pub has_planned : HasPlanned table (replica_of node) planned change
+  pub stopped : HasStopped (told (disk_of node))
+  pub recoverable : honest (disk_of node)
+      → IsRecoverable (length table.jobs) (replica_of node).state.kept (after_delta change (replica_of node).state.kept) (may_leave (disk_of node))
+
+-- a node was stopped within the save of a replica's step at an input
+pub record IsStoppedWithin {D : Type 0} (may_leave : D → Image → Type 0) (honest : D → Type 0) (told : D → Option Told) (table : Table) (input : Input) (replica : ReplicaState) (node : Node D) : Type 0 where
+  pub stop : IsStopped may_leave honest told table node
+  pub change_of : IsChangeOf table input replica (Some stop.change)
+
+-- a disk that tells of itself is neither armed nor stopped
+abbrev pub IsQuiet : Option Told → Type 0
+IsQuiet told = IfSome told (λ now. (now.stopped ≡ false) × (now.arm ≡ None))
+
+-- the answer of a node that is reopened, without the change
+abbrev pub reopened : {D : Type 0} → Result (Node D × Option Delta) (D × NodeFault) → Result (Node D) (D × NodeFault)
+reopened (Ok found) = Ok found.0
+reopened (Err refused) = Err refused

@@ -1,0 +1,88 @@
+//! What a node does where it is reopened.
+ghost use Rattle.std.specs.Prelude.{◌≡◌, ◌↔◌, ◌⊎◌, ℕ, List, IsTrue, None, Some, Err, IfOk};
+ghost use Rattle.disk_model.specs.Images.{file_of, LeavesOnly, NoNewImage};
+ghost use Rattle.disk_model.specs.Told.{Told, HasStopped, image_left};
+ghost use Rattle.due_set.specs.Table.{Table};
+ghost use Rattle.gate_file.specs.Gates.{HasBodies};
+ghost use Rattle.replica_core.specs.Commit.{kept_after};
+ghost use Rattle.paxos_base.specs.declared.durable.Delta.{Delta};
+ghost use Rattle.paxos_base.specs.declared.durable.Durable.{Durable};
+ghost use Rattle.paxos_letter.specs.declared.fault.LetterFault.{LetterFault};
+ghost use Rattle.store_format.specs.Area.{IsFirstRecordAtFault};
+ghost use Rattle.replica_core.specs.Replica.{IsSmall, ReplicaState};
+ghost use Rattle.replica_core.specs.Step.{CanTake, IsOfTable};
+ghost use Rattle.replica_store.specs.Files.{selected, FilesStand, IsRecoverable};
+ghost use Rattle.replica_store.specs.Store.{jobs_of, StoreKeeps, IsStoreSettled};
+ghost use Rattle.replica_node.specs.Change.{ShowsChange, IsDecided};
+ghost use Rattle.replica_node.specs.Faults.{HasNodeAnswer};
+ghost use Rattle.replica_node.specs.Stopped.{HasPlanned, IsQuiet};
+ghost use Rattle.replica_node.specs.declared.fault.NodeFault.TheVariants.{Stopped, Damaged, Letter};
+
+use crate::change::shows_change;
+use crate::fault::NodeFault;
+use disk_model::ArmedDisk;
+use due_set::JobTable;
+use paxos_base::{Delta, Durable};
+use replica_core::{Planned, Replica};
+use replica_store::Store;
+use std::alloc::Global;
+
+/// Attaches a disk that has stopped, as the stop left it, and says what its files stand for.
+pub fn attach_stopped<D: ArmedDisk>(
+    alloc: Global,
+    disk: &mut D,
+    jobs: u32,
+) -> Result<(Store, Durable), NodeFault>
+    requires stopped { HasStopped (D.told disk.old) }
+    ensures settled { IfOk result (λ found. IsStoreSettled D.seen D.may_leave D.honest disk.new found.0) }
+    ensures jobs { IfOk result (λ found. jobs_of found.0 ≡ jobs) }
+    ensures keeps { IfOk result (λ found. StoreKeeps found.0 found.1) }
+    ensures image { (told : Told) → D.told disk.old ≡ Some told → IfOk result (λ found. FilesStand jobs found.1 (image_left told)) }
+    ensures either { (before after : Durable) → D.honest disk.old → IsRecoverable jobs before after (D.may_leave disk.old)
+        → IfOk result (λ found. (found.1 ≡ before) ⊎ (found.1 ≡ after)) }
+    ensures sound { (before after : Durable) (gate : ℕ) → D.honest disk.old → IsRecoverable jobs before after (D.may_leave disk.old)
+        → result ≡ Err (Damaged gate) → ⊥ }
+    ensures recoverable { (before after : Durable) → D.honest disk.old → IsRecoverable jobs before after (D.may_leave disk.old)
+        → IsRecoverable jobs before after (D.may_leave disk.new) }
+    ensures damaged { (gate : ℕ) (bodies : List (List ℕ)) → result ≡ Err (Damaged gate) → HasBodies (file_of (selected (D.seen disk.new)) (D.seen disk.new)) bodies
+        → IsFirstRecordAtFault jobs bodies gate }
+    ensures quiet { IsQuiet (D.told disk.new) }
+    ensures never_stopped { result ≡ Err Stopped → ⊥ }
+    ensures no_letter { (fault : LetterFault) → result ≡ Err (Letter fault) → ⊥ }
+    ensures answer { HasNodeAnswer D.honest D.counts disk.old disk.new result }
+{
+    disk.revive();
+    Ok(Store::attach(alloc, disk, jobs)?)
+}
+
+/// Takes a step that was cut short where what is kept shows its change, and gives that change.
+pub fn take_kept(
+    replica: &mut Replica,
+    table: &JobTable,
+    planned: Planned,
+    kept: &Durable,
+) -> Option<Delta>
+    requires of_table { IsOfTable table.now replica.old }
+    requires small { IsSmall replica.old.state replica.old.machine.rows }
+    requires can_take { CanTake table.now replica.old planned }
+    ensures answer { (change : Delta) → HasPlanned table.now replica.old planned change → IsDecided change kept.now result }
+    ensures kept { (change : Delta) → HasPlanned table.now replica.old planned change
+        → replica.new.state.kept ≡ kept_after result replica.old.state.kept }
+{
+    if shows_planned(&planned, kept) {
+        replica.complete(table, planned).delta
+    } else {
+        None
+    }
+}
+
+// Whether what is kept shows the change of a planned step.
+fn shows_planned(planned: &Planned, kept: &Durable) -> bool
+    ensures { (table : Table) (replica : ReplicaState) (change : Delta) → HasPlanned table replica planned.now change
+        → (IsTrue result ↔ ShowsChange change kept.now) }
+{
+    match planned.delta() {
+        Some(change) => shows_change(kept, change),
+        None => false,
+    }
+}
