@@ -1,0 +1,15 @@
+pub mod ActLemmas
+pub mod BeginLemmas
+pub mod CountLemmas
+pub mod DateLemmas
+pub mod FlightLemmas
+pub mod FollowerLemmas
+pub mod FreeLemmas
+pub mod LeaderLemmas
+pub mod Lists
+pub mod MailLemmas
+pub mod RuledLemmas
+pub mod SendLemmas
+pub mod SomeCalm
+pub mod TickLemmas
+pub mod WorkLemmas
