@@ -21,12 +21,13 @@ use Rattle.launch_machine.specs.declared.machine.Intent.TheVariants as intent
 use Rattle.launch_machine.proofs.ExistLemmas.{all_applied}
 use Rattle.term_core.specs.Term.{after_proposal, new_flight}
 use Rattle.step_law.specs.Act.{Act, Call, after_act}
-use Rattle.step_law.specs.Folds.{after_acts, sent_by, sent_to}
+use Rattle.step_law.specs.Folds.{after_acts, calls_by, calls_of, sent_by, sent_to}
 use Rattle.step_law.specs.Message.{Accept}
 use Rattle.step_law.specs.Propose.{answer_of, bound_by, end_if, follow_intent, is_at, is_open, is_row_open, lead_on, propose, proposal, tick_of}
 use Rattle.step_law.specs.State.{Identity, State, prefix_of}
 use Rattle.step_law.proofs.Lists.{in_first}
-use Rattle.calm_law.specs.Flights.{IsNeeded, Proposal, Proposes}
+use Rattle.calm_law.specs.Begins.{NextEntry, proposal_of}
+use Rattle.calm_law.specs.Flights.{IsNeeded, Proposes}
 use Rattle.calm_law.specs.Ruled.{IsLeading, Progress}
 use Rattle.calm_law.proofs.CountLemmas.{few_alone, in_with}
 
@@ -36,18 +37,10 @@ use Rattle.calm_law.proofs.CountLemmas.{few_alone, in_with}
 pub decides : (table : Table) → IsSound table → (rows : List JobRow) (entry : Entry) → (later : List JobRow) × Applies table rows entry later
 decides table sound rows entry = let all = all_applied table sound rows (entry ∷ []) in (all.1.0, all.1.1)
 
--- the entry as the proposal of a leader
-abbrev pub proposal_of : Identity → (at : Progress) → List Vote → IsSound at.table → Entry → Proposal
-proposal_of self at best sound entry =
-    record {
-      self = self;
-      at = at;
-      best = best;
-      entry = entry;
-      later = (decides at.table sound at.rows entry).0;
-      applies = (decides at.table sound at.rows entry).1;
-      waited = 0;
-    }
+-- an entry for a leader's prefix
+abbrev pub next_entry : (at : Progress) → IsSound at.table → Entry → NextEntry at
+next_entry at sound entry =
+    record { entry = entry; later = (decides at.table sound at.rows entry).0; applies = (decides at.table sound at.rows entry).1 }
 
 -- the acts of proposing it
 abbrev pub proposing : Identity → Progress → Entry → List Act
@@ -58,7 +51,7 @@ pub asks_votes : (self : Identity) (vote : Vote) (q : ℕ) → (q ≡ self.me �
 unfolding propose sent_by
 asks_votes self vote q apart = rw (ne_eqb q self.me apart) (in_first (Accept vote) _)
 
-pub proposes_it : (self : Identity) (at : Progress) (best : List Vote) (sound : IsSound at.table) (entry : Entry) (state : State) → 2 ≤ self.members → self.me < 8 → IsLeading best None at state → Proposes (proposal_of self at best sound entry) (new_flight at.prefix entry self.me) (after_acts (proposing self at entry) state)
+pub proposes_it : (self : Identity) (at : Progress) (best : List Vote) (sound : IsSound at.table) (entry : Entry) (state : State) → 2 ≤ self.members → self.me < 8 → IsLeading best None at state → Proposes (proposal_of self best at (next_entry at sound entry) 0) (new_flight at.prefix entry self.me) (after_acts (proposing self at entry) state)
 unfolding propose after_act after_delta
 proposes_it self at best sound entry state more small leading =
     rw (few_alone self.members self.me more small) (record {
@@ -93,12 +86,12 @@ called_open table rows job at now may = rw (may.is_row, may.is_open, may.cursor)
 
 -- what the acts of a tick begin
 pub data Begun (self : Identity) (at : Progress) (best : List Vote) (sound : IsSound at.table) (now : ℤ) (wanted : Intent) (acts : List Act) (state : State) : Type 0 where
-  begins_entry : (entry : Entry) → IsNeeded (proposal_of self at best sound entry) → acts ≡ proposing self at entry → Begun self at best sound now wanted acts state
+  begins_entry : (entry : Entry) → IsNeeded (proposal_of self best at (next_entry at sound entry) 0) → acts ≡ proposing self at entry → Begun self at best sound now wanted acts state
   calls_for : (row : SchedRow) → votes_from at.prefix best ≡ [] → wanted ≡ intent.Call row.name.job row.name.at row.kind → is_open row.name.job row.name.at at.rows ≡ true → acts ≡ Call row ∷ [] → Begun self at best sound now wanted acts state
-  has_nothing : votes_from at.prefix best ≡ [] → wanted ≡ intent.Rest → after_acts acts state ≡ state → Begun self at best sound now wanted acts state
+  has_nothing : votes_from at.prefix best ≡ [] → wanted ≡ intent.Rest → after_acts acts state ≡ state → calls_of acts ≡ [] → Begun self at best sound now wanted acts state
 
 pub tick_begins : (self : Identity) (at : Progress) (best : List Vote) (sound : IsSound at.table) (now : ℤ) (wanted : Intent) (state : State) → IsIntent at.table at.rows now wanted → IsLeading best None at state → Begun self at best sound now wanted (tick_of self now wanted state state.term) state
-unfolding after_act
+unfolding after_act calls_by
 tick_begins self at best sound now wanted state asked leading =
     subst (λ t. Begun self at best sound now wanted (tick_of self now wanted state t) state) (sym leading.is) (go (votes_from at.prefix best) refl)
   where
@@ -114,7 +107,7 @@ tick_begins self at best sound now wanted state asked leading =
         begins_entry (bound_by (vote_at at.prefix best) (Start job instant now))
         (rw (none_at at.prefix best none) (inr asked.1.takes))
         (ap (λ vote. propose self vote) (vote_is (Start job instant now)))
-    follow none intent.Rest asked = has_nothing none refl refl
+    follow none intent.Rest asked = has_nothing none refl refl refl
 
     go : (bound : List Vote) → votes_from at.prefix best ≡ bound → Begun self at best sound now wanted (lead_on self now wanted at.ballot best state (votes_from (prefix_of state) best)) state
     go [] is = rw (at_prefix, is) (follow is wanted asked)

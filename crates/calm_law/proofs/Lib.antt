@@ -8,8 +8,12 @@ pub mod FreeLemmas
 pub mod LeaderLemmas
 pub mod Lists
 pub mod MailLemmas
+pub mod NearLemmas
+pub mod OutcomeLemmas
+pub mod RoundLemmas
 pub mod RuledLemmas
 pub mod SendLemmas
 pub mod SomeCalm
+pub mod StageLemmas
 pub mod TickLemmas
 pub mod WorkLemmas

@@ -1,5 +1,5 @@
 -- Two replicas over a table of one job, of which one leads alone: without a flight, with an answer that waits, and with a flight.
-use Rattle.std.proofs.Common.{◌≡◌, ℕ, zero, suc, ◌<◌, ◌≤◌, List, [], ◌∷◌, Option, None, Some, ℤ, refl, sym, ap, inl, inr, arith, subst, lit<}
+use Rattle.std.proofs.Common.{◌≡◌, ℕ, zero, suc, ◌<◌, ◌≤◌, List, [], ◌∷◌, Option, None, Some, ℤ, refl, sym, inl, inr, arith, subst, lit<}
 use Rattle.std.proofs.lemmas.List.Elements.{All-cons, All-nil}
 use Rattle.paxos_base.specs.Durable.{after_delta}
 use Rattle.paxos_base.specs.Members.{with_member}
@@ -20,19 +20,21 @@ use Rattle.step_law.specs.Act.{after_act}
 use Rattle.step_law.specs.Coherent.{IsCoherent}
 use Rattle.step_law.specs.Hear.{hear, hear_all, line, on_accept, on_accepted}
 use Rattle.step_law.specs.Message.{Accept, Accepted}
-use Rattle.step_law.specs.Folds.{after_acts}
-use Rattle.step_law.specs.Propose.{answer, is_open, propose}
+use Rattle.step_law.specs.Folds.{after_acts, calls_by}
+use Rattle.step_law.specs.Propose.{answer, is_open, propose, tick}
 use Rattle.step_law.specs.State.{State, prefix_of, promised_in}
 use Rattle.step_law.specs.Step.{Answer, Hear, IsPlanned, Plan, Tick, step}
 use Rattle.step_law.proofs.Lists.{in_first}
 use Rattle.agree_law.specs.Transition.{identity_of}
 use Rattle.book_law.proofs.Asks.{busy, call_asked, is_open_then, minute, opened, sound}
 use Rattle.due_set.specs.Table.{Table}
-use Rattle.calm_law.specs.Begins.{DoesNext, calls, proposes, rebases, rests, IsAnswerable, IsFreeNow}
-use Rattle.calm_law.specs.Calm.{Advice, ArePlanned, Calm, HeardLetter, IsAdvised, events_at, calm_round}
-use Rattle.calm_law.specs.Flights.{IsAccepted, IsAsked, IsUnderWay, Proposal, Proposes, asked_vote, with_base}
+use Rattle.calm_law.specs.Rounds.{IsAnswerTo, IsAnswerable, IsFreeNow}
+use Rattle.calm_law.specs.Calm.{Advice, ArePlanned, Calm, HeardLetter, IsAdvised, events_at, calm_round, calls_at}
+use Rattle.calm_law.specs.Flights.{IsAccepted, IsAsked, IsUnderWay, Proposal, Proposes, asked_vote}
 use Rattle.calm_law.proofs.BeginLemmas.{ends, proposing}
 use Rattle.calm_law.proofs.FreeLemmas.{free_next}
+use Rattle.calm_law.proofs.NearLemmas.{begun_leads}
+use Rattle.calm_law.proofs.TickLemmas.{LeadsOn}
 use Rattle.calm_law.proofs.CountLemmas.{few_alone, in_with}
 use Rattle.calm_law.specs.Ruled.{AreFrom, AreWithin, IsBehind, IsLeading, IsRuled, Progress}
 
@@ -298,29 +300,26 @@ some_asked = (proposal, flight, asked_now, minute 0, advice_now, asked_under_way
 pub some_accepted : (proposal : Proposal) × (flight : Flight) × (calm : Calm) × (now : ℤ) × (advice : ℕ → Advice) × IsUnderWay proposal flight calm × IsAdvised proposal.self.members proposal.at.table now advice calm × IsAccepted proposal.self.members proposal.self.me proposal.at.ballot proposal.at.prefix calm
 some_accepted = (proposal, flight, accepted_now, minute 0, advice_now, accepted_under_way, advised_accepted, is_accepted)
 
-pub some_free : (members : ℕ) × (leader : ℕ) × (best : List Vote) × (at : Progress) × (calm : Calm) × (now : ℤ) × (advice : ℕ → Advice) × IsFreeNow members leader best at calm × IsAdvised members at.table now advice calm
-some_free = (2, 0, [], far, free_with None, minute 0, advice_now, free_now, advised_free)
-
 pub some_answer : (members : ℕ) × (leader : ℕ) × (best : List Vote) × (at : Progress) × (row : SchedRow) × (calm : Calm) × (now : ℤ) × (advice : ℕ → Advice) × IsAnswerable members leader best at row calm × IsAdvised members at.table now advice calm
 some_answer = (2, 0, [], far, answer_row, free_with (Some answer_row), minute 0, advice_now, answerable, advised_answer)
 
--- a free leader has promised and learned no more after its round
-stays_so : (members leader : ℕ) (best : List Vote) (at : Progress) (now : ℤ) (advice : ℕ → Advice) (calm next : Calm) → DoesNext members leader best at now advice calm next → (promised_in (next.replicas leader).kept ≤ at.ballot) × (prefix_of (next.replicas leader) ≤ at.prefix)
-stays_so members leader best at now advice calm next (proposes it) = stays_with it.asks.is_self it.asks.is_at it.waits.proposes.leading
-  where
-    stays_with : it.proposal.self ≡ identity_of members leader → it.proposal.at ≡ at → IsLeading it.proposal.best (Some it.waits.flight) (with_base it.waits.base it.proposal.at) (next.replicas it.proposal.self.me) → (promised_in (next.replicas leader).kept ≤ at.ballot) × (prefix_of (next.replicas leader) ≤ at.prefix)
-    stays_with self far leading =
-        let mine : promised_in (next.replicas leader).kept ≡ it.proposal.at.ballot = subst (λ who. promised_in (next.replicas who.me).kept ≡ it.proposal.at.ballot) self leading.promised in
-        let learned : prefix_of (next.replicas leader) ≡ it.proposal.at.prefix = subst (λ who. prefix_of (next.replicas who.me) ≡ it.proposal.at.prefix) self leading.learned in
-        let ballots = ap (λ p. p.ballot) far in
-        let prefixes = ap (λ p. p.prefix) far in
-        (omega (arith, mine, ballots), omega (arith, learned, prefixes))
-stays_so members leader best at now advice calm next (rebases it) = (omega (arith, it.leading.promised), omega (arith, it.leading.learned))
-stays_so members leader best at now advice calm next (calls it) = (omega (arith, it.leading.promised), omega (arith, it.leading.learned))
-stays_so members leader best at now advice calm next (rests it) = (omega (arith, it.leading.promised), omega (arith, it.leading.learned))
+-- a leader that leads on has promised and learned no more
+stays_so : (best : List Vote) (at : Progress) (state : State) → LeadsOn best at state → (promised_in state.kept ≤ at.ballot) × (prefix_of state ≤ at.prefix)
+stays_so best at state on = (omega (arith, on.leading.promised), omega (arith, on.leading.learned))
 
 pub some_leads_on : (members : ℕ) × (leader : ℕ) × (ballot : ℕ) × (prefix : ℕ) × (table : Table) × (now : ℤ) × (advice : ℕ → Advice) × (answers : ℕ → Option SchedRow) × (calm : Calm) × IsRuled members leader ballot prefix calm × IsAdvised members table now advice calm × (promised_in ((calm_round members now advice answers calm).replicas leader).kept ≤ ballot) × (prefix_of ((calm_round members now advice answers calm).replicas leader) ≤ prefix)
 some_leads_on =
     let answers : ℕ → Option SchedRow = λ who. None in
-    let after = stays_so 2 0 [] far (minute 0) advice_now (free_with None) (calm_round 2 (minute 0) advice_now answers (free_with None)) (free_next 2 0 [] far (minute 0) advice_now answers (free_with None) free_now advised_free) in
+    let next : Calm = calm_round 2 (minute 0) advice_now answers (free_with None) in
+    let begins = free_next 2 0 [] far (minute 0) advice_now answers (free_with None) free_now advised_free in
+    let after = stays_so [] far (next.replicas 0) (begun_leads 2 0 [] far (minute 0) advice_now (free_with None) next begins) in
     (2, 0, 16, 1, busy, minute 0, advice_now, answers, free_with None, ruled_free None, advised_free, after.0, after.1)
+
+-- the call of its tick
+one_call : calls_at 2 (minute 0) advice_now (free_with None) 0 ≡ answer_row ∷ []
+unfolding step tick calls_by votes_from
+one_call = refl
+
+pub some_answered : (members : ℕ) × (leader : ℕ) × (best : List Vote) × (at : Progress) × (now : ℤ) × (advice : ℕ → Advice) × (answers : ℕ → Option SchedRow) × (calm : Calm) × IsFreeNow members leader best at calm × IsAdvised members at.table now advice calm × IsAnswerTo (calls_at members now advice calm leader) (answers leader)
+some_answered =
+    (2, 0, [], far, minute 0, advice_now, (λ who. Some answer_row), free_with None, free_now, advised_free, subst (λ rows. IsAnswerTo rows (Some answer_row)) (sym one_call) (answer_row, refl, refl))

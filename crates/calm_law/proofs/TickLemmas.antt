@@ -1,29 +1,24 @@
 -- A leader's tick: its base rises where that is due; else its flight waits one tick more, or it begins something.
-use Rattle.std.proofs.Common.{◌≡◌, ℕ, ◌+◌, ◌-◌, ◌<◌, ◌≤◌, nat_le, Bool, true, false, List, [], ◌∷◌, Option, None, Some, ℤ, refl, sym, ap, ◌∙◌, inl, inr, arith, subst, if◌then◌else◌}
+use Rattle.std.proofs.Common.{◌≡◌, ℕ, ◌+◌, ◌-◌, ◌<◌, ◌≤◌, nat_le, Bool, true, false, List, [], ◌∷◌, Option, Some, ℤ, refl, sym, ap, ◌∙◌, inl, inr, arith, subst, if◌then◌else◌}
 use Rattle.std.proofs.lemmas.Bool.{cases_Bool, leb-true, le-ltb}
 use Rattle.paxos_base.specs.Durable.{after_delta}
-use Rattle.paxos_base.specs.Vote.{votes_from}
-use Rattle.paxos_base.specs.declared.entry.Entry.{Entry}
-use Rattle.paxos_base.specs.declared.entry.Entry.TheVariants.{Noop, Start}
 use Rattle.paxos_base.specs.declared.entry.Vote.{Vote}
 use Rattle.paxos_base.specs.declared.rows.JobRow.{JobRow}
 use Rattle.launch_machine.specs.declared.machine.Intent.{Intent}
-use Rattle.launch_machine.specs.declared.machine.Intent.TheVariants as intent
 use Rattle.launch_machine.proofs.ClerkLemmas.{AppliesAll-same}
-use Rattle.term_core.specs.Term.{after_advance, after_proposal, after_tick, is_fourth, new_flight, ticked}
+use Rattle.term_core.specs.Term.{after_advance, after_tick, is_fourth, ticked}
 use Rattle.term_core.specs.declared.flight.Flight.{Flight}
 use Rattle.term_core.specs.declared.term.Term.{Term}
 use Rattle.term_core.specs.declared.term.Term.TheVariants.{Leader}
 use Rattle.step_law.specs.Act.{Rebase, Wait, after_act}
 use Rattle.step_law.specs.Folds.{after_acts}
-use Rattle.step_law.specs.Propose.{follow_intent, is_long, lead_on, propose, proposal, tick, tick_of, wait}
+use Rattle.step_law.specs.Propose.{is_long, proposal, tick, tick_of, wait}
 use Rattle.step_law.specs.State.{Identity, State, prefix_of}
 use Rattle.step_law.specs.Step.{IsLaunchTable}
 use Rattle.calm_law.specs.Flights.{IsFlight, Proposal, Proposes, waiting, with_base}
 use Rattle.calm_law.specs.Measure.{due_one}
 use Rattle.calm_law.specs.Ruled.{IsHolding, IsLeading, Progress}
 use Rattle.calm_law.proofs.ActLemmas.{rebased_learned, rebased_prefix}
-use Rattle.calm_law.proofs.CountLemmas.{few_alone}
 
 -- ---- the base
 
@@ -31,7 +26,7 @@ use Rattle.calm_law.proofs.CountLemmas.{few_alone}
 abbrev pub due_by : Progress → ℕ
 due_by at = if nat_le (at.base + 64) at.prefix then 1 else 0
 
-long_is : (held : Term) (at : Progress) (state : State) → IsHolding held at state → is_long state ≡ nat_le (at.base + 64) at.prefix
+pub long_is : (held : Term) (at : Progress) (state : State) → IsHolding held at state → is_long state ≡ nat_le (at.base + 64) at.prefix
 long_is held at state holding =
     ap (λ k. nat_le (k + 64) (prefix_of state)) holding.from_base ∙ ap (λ k. nat_le (at.base + 64) k) holding.learned
 
@@ -46,9 +41,6 @@ none_due at = elim (cases_Bool (nat_le (at.prefix + 64) at.prefix)) [
 
 pub due_then : (held : Term) (at : Progress) (state : State) → IsHolding held at state → is_long state ≡ true → due_by at ≡ 1
 due_then held at state holding long = ap (λ is. if is then 1 else 0) (sym (long_is held at state holding) ∙ long)
-
-not_due : (held : Term) (at : Progress) (state : State) → IsHolding held at state → is_long state ≡ false → due_by at ≡ 0
-not_due held at state holding short = ap (λ is. if is then 1 else 0) (sym (long_is held at state holding) ∙ short)
 
 -- its launch table takes the place of the entries below its prefix, and is the same
 pub holds_rebased : (held : Term) (at : Progress) (rows : List JobRow) (state : State) → IsHolding held at state → IsLaunchTable at.table state rows → after_advance at.prefix held ≡ held → IsHolding held (with_base at.prefix at) (after_acts (Rebase (prefix_of state) rows ∷ []) state)
@@ -142,38 +134,3 @@ pub record LeadsOn (best : List Vote) (at : Progress) (after : State) : Type 0 w
   pub flight : Option Flight
   pub base : ℕ
   pub leading : IsLeading best flight (with_base base at) after
-
-propose_leads : (best : List Vote) (at : Progress) (self : Identity) (entry : Entry) (state : State) → 2 ≤ self.members → self.me < 8 → IsLeading best None at state → LeadsOn best at (after_acts (propose self (proposal at.ballot best (prefix_of state) entry)) state)
-unfolding propose after_act after_delta
-propose_leads best at self entry state more small leading =
-    let vote : Vote = proposal at.ballot best (prefix_of state) entry in
-    rw (few_alone self.members self.me more small) (record {
-      flight = Some (new_flight vote.slot vote.entry self.me);
-      base = at.base;
-      leading = record { is = ap (after_proposal vote.slot vote.entry self.me) leading.is; promised = refl; launch = leading.launch; learned = leading.learned; from_base = leading.from_base };
-    })
-
-begins : (best : List Vote) (at : Progress) (self : Identity) (now : ℤ) (wanted : Intent) (state : State) → 2 ≤ self.members → self.me < 8 → IsLeading best None at state → LeadsOn best at (after_acts (tick_of self now wanted state state.term) state)
-unfolding after_act
-begins best at self now wanted state more small leading =
-    subst (λ t. LeadsOn best at (after_acts (tick_of self now wanted state t) state)) (sym leading.is) (go (votes_from (prefix_of state) best))
-  where
-    stays : LeadsOn best at state
-    stays = record { flight = None; base = at.base; leading = leading }
-
-    go : (bound : List Vote) → LeadsOn best at (after_acts (lead_on self now wanted at.ballot best state bound) state)
-    go [] = follow wanted
-      where
-        follow : (wanted : Intent) → LeadsOn best at (after_acts (follow_intent self now wanted at.ballot best state) state)
-        follow (intent.Call job instant kind) = stays
-        follow (intent.Start job instant) = propose_leads best at self (Start job instant now) state more small leading
-        follow intent.Rest = stays
-    go (bound ∷ others) = propose_leads best at self Noop state more small leading
-
-pub free_tick : (best : List Vote) (at : Progress) (self : Identity) (now : ℤ) (rows : List JobRow) (wanted : Intent) (state : State) → 2 ≤ self.members → self.me < 8 → IsLeading best None at state → IsLaunchTable at.table state rows → LeadsOn best at (after_acts (tick self now rows wanted state) state)
-unfolding tick
-free_tick best at self now rows wanted state more small leading planned =
-    elim (cases_Bool (is_long state)) [
-      | inl long ↦ rw long (record { flight = None; base = at.prefix; leading = holds_rebased (Leader at.ballot best None) at rows state leading planned refl })
-      | inr short ↦ rw short (begins best at self now wanted state more small leading)
-    ]

@@ -5,7 +5,7 @@ use Rattle.paxos_base.specs.declared.rows.JobRow.{JobRow}
 use Rattle.due_set.specs.Table.{Table}
 use Rattle.cluster_sched.specs.declared.row.SchedRow.{SchedRow}
 use Rattle.step_law.specs.Coherent.{IsCoherent}
-use Rattle.step_law.specs.Folds.{after_acts, sent_to}
+use Rattle.step_law.specs.Folds.{after_acts, calls_of, sent_to}
 use Rattle.step_law.specs.Heard.{heard_as}
 use Rattle.step_law.specs.Message.{Message}
 use Rattle.step_law.specs.State.{Identity, State}
@@ -67,6 +67,11 @@ abbrev pub before_tick : ℕ → (ℕ → Advice) → Calm → ℕ → State
 before_tick members advice calm who =
     after_events (identity_of members who)
     (answer_events (calm.waits who) (advice who).rows ++ hear_events (calm.mails who)) (calm.replicas who)
+
+-- what its tick calls the scheduler for
+abbrev pub calls_at : ℕ → ℤ → (ℕ → Advice) → Calm → ℕ → List SchedRow
+calls_at members now advice calm who =
+    calls_of (step (identity_of members who) (Tick now (advice who).plan) (before_tick members advice calm who))
 
 -- **A round**: all have their parts at once, and then their letters are in the mails. The answers that wait after it come of the
 -- scheduler.

@@ -1,5 +1,5 @@
 -- A leader's proposal on its way: who has accepted it, what it comes to in a round, and when it is learned.
-use Rattle.std.specs.Prelude.{◌≡◌, ◌⊎◌, ℕ, ◌+◌, ◌<◌, ◌≤◌, false, List, ◌∷◌, Option, None, Some}
+use Rattle.std.specs.Prelude.{◌≡◌, ◌⊎◌, ℕ, ◌+◌, ◌<◌, false, List, ◌∷◌, None, Some}
 use Rattle.paxos_base.specs.Members.{HasMember, has_majority}
 use Rattle.paxos_base.specs.Vote.{votes_from}
 use Rattle.paxos_base.specs.declared.entry.Entry.{Entry}
@@ -12,7 +12,6 @@ use Rattle.step_law.specs.Message.{Accept, Accepted}
 use Rattle.step_law.specs.State.{Identity, State}
 use Rattle.agree_law.specs.Agree.{vote_for}
 use Rattle.calm_law.specs.Calm.{Calm}
-use Rattle.calm_law.specs.Measure.{IsNearer, Reckoned}
 use Rattle.calm_law.specs.Ruled.{IsLeading, IsRuled, Occurs, Progress}
 
 -- A proposal: the leader that makes it, at its prefix, bound by these votes; the entry, the launch table after it; and for how many
@@ -51,12 +50,6 @@ learned_by proposal = record proposal.at { rows = proposal.later; prefix = propo
 abbrev pub with_base : ℕ → Progress → Progress
 with_base base at = record at { base = base }
 
--- it leads on, and has learned the proposal; something else may be its flight
-pub record LeadsBeyond (proposal : Proposal) (state : State) : Type 0 where
-  pub flight : Option Flight
-  pub base : ℕ
-  pub leading : IsLeading proposal.best flight (with_base base (learned_by proposal)) state
-
 -- ---- among all
 
 -- all others are asked for their votes
@@ -84,28 +77,6 @@ pub record IsUnderWay (proposal : Proposal) (flight : Flight) (calm : Calm) : Ty
   pub early : proposal.waited < 3
   pub sound : IsSound proposal.at.table
 
--- ---- after a round
-
 -- the proposal, where its leader has this base and it has waited for so many ticks
 abbrev pub waiting : (base waited : ℕ) → Proposal → Proposal
 waiting base waited proposal = record proposal { at = with_base base proposal.at; waited = waited }
-
--- the leader in a situation, with these rows as its launch table
-abbrev pub reckoned : ℕ → List JobRow → Calm → Reckoned
-reckoned leader rows calm = record { rows = rows; waits = calm.waits leader; state = calm.replicas leader }
-
--- it is under way still, one tick later at most, and its leader is nearer to rest
-pub record WaitsOn (proposal : Proposal) (calm next : Calm) : Type 0 where
-  pub base : ℕ
-  pub waited : ℕ
-  pub later : waited ≤ proposal.waited + 1
-  pub flight : Flight
-  pub proposes : Proposes (waiting base waited proposal) flight (next.replicas proposal.self.me)
-  pub nearer : IsNearer proposal.at.table proposal.best
-      (reckoned proposal.self.me proposal.at.rows calm) (reckoned proposal.self.me proposal.at.rows next)
-
--- it is learned, and its leader is nearer to rest
-pub record Lands (proposal : Proposal) (calm next : Calm) : Type 0 where
-  pub learned : LeadsBeyond proposal (next.replicas proposal.self.me)
-  pub nearer : IsNearer proposal.at.table proposal.best
-      (reckoned proposal.self.me proposal.at.rows calm) (reckoned proposal.self.me proposal.later next)

@@ -1,14 +1,21 @@
 //! Laws of calm rounds. Each is the contract of a function that does nothing.
-ghost use Rattle.std.specs.Prelude.{◌≡◌, ◌⊎◌, ℕ, ◌≤◌, ℤ, List, Option};
+ghost use Rattle.std.specs.Prelude.{◌≡◌, ◌⊎◌, ℕ, ◌+◌, ◌≤◌, ◌<◌, ℤ, List, [], ◌∷◌, Option};
+ghost use Rattle.paxos_base.specs.Vote.{votes_from};
+ghost use Rattle.paxos_base.specs.declared.entry.Entry.{Entry};
 ghost use Rattle.paxos_base.specs.declared.entry.Entry.TheVariants.{End};
 ghost use Rattle.paxos_base.specs.declared.entry.Vote.{Vote};
 ghost use Rattle.due_set.specs.Table.{Table};
 ghost use Rattle.cluster_sched.specs.declared.row.SchedRow.{SchedRow};
+ghost use Rattle.launch_machine.specs.declared.machine.Intent.TheVariants.{Call, Rest};
 ghost use Rattle.term_core.specs.declared.flight.Flight.{Flight};
 ghost use Rattle.step_law.specs.State.{prefix_of, promised_in};
-ghost use Rattle.calm_law.specs.Begins.{DoesNext, HasAnswered, IsAnswerable, IsFreeNow};
-ghost use Rattle.calm_law.specs.Calm.{Advice, Calm, IsAdvised, calm_round};
-ghost use Rattle.calm_law.specs.Flights.{IsAccepted, IsAsked, IsUnderWay, Lands, Proposal, WaitsOn, asked_vote};
+ghost use Rattle.step_law.specs.Step.{IsLaunchTable};
+ghost use Rattle.agree_law.specs.Agree.{vote_for};
+ghost use Rattle.calm_law.specs.Begins.{Begins, HasAskedForCall, HasProposed, HasRested};
+ghost use Rattle.calm_law.specs.Calm.{Advice, Calm, IsAdvised, calls_at, calm_round};
+ghost use Rattle.calm_law.specs.Flights.{IsAccepted, IsAsked, IsUnderWay, Proposal, asked_vote};
+ghost use Rattle.calm_law.specs.Measure.{IsNearer, Reckoned, rounds_left};
+ghost use Rattle.calm_law.specs.Rounds.{ComesNearer, HasAnswered, IsAnswerTo, IsAnswerable, IsFreeNow, Lands, Stage, StaysFree, WaitsOn, reckoned};
 ghost use Rattle.calm_law.specs.Ruled.{IsRuled, Progress};
 
 /// A proposal for which all others are asked is accepted by all in one round, and learned in the next, and each round brings its
@@ -19,12 +26,12 @@ pub fn a_flight_lands()
         → IsAccepted proposal.self.members proposal.self.me proposal.at.ballot proposal.at.prefix (calm_round proposal.self.members now advice answers calm) }
     ensures first { (proposal : Proposal) (flight : Flight) (calm : Calm) (now : ℤ) (advice : ℕ → Advice) (answers : ℕ → Option SchedRow)
         → IsUnderWay proposal flight calm → IsAdvised proposal.self.members proposal.at.table now advice calm
-        → WaitsOn proposal calm (calm_round proposal.self.members now advice answers calm)
-        ⊎ Lands proposal calm (calm_round proposal.self.members now advice answers calm) }
+        → WaitsOn proposal now advice calm (calm_round proposal.self.members now advice answers calm)
+        ⊎ Lands proposal now advice calm (calm_round proposal.self.members now advice answers calm) }
     ensures second { (proposal : Proposal) (flight : Flight) (calm : Calm) (now : ℤ) (advice : ℕ → Advice) (answers : ℕ → Option SchedRow)
         → IsUnderWay proposal flight calm → IsAdvised proposal.self.members proposal.at.table now advice calm
         → IsAccepted proposal.self.members proposal.self.me proposal.at.ballot proposal.at.prefix calm
-        → Lands proposal calm (calm_round proposal.self.members now advice answers calm) }
+        → Lands proposal now advice calm (calm_round proposal.self.members now advice answers calm) }
 {}
 
 /// Once one replica leads alone, it leads alone after each round.
@@ -36,19 +43,55 @@ pub fn one_leads_on()
         → IsRuled members leader ballot later (calm_round members now advice answers calm) }
 {}
 
-/// A leader without a flight, for which no answer waits, proposes what is needed and asks all others for their votes, or puts its
-/// launch table in the place of the entries below its prefix, or calls the scheduler for a launch that is open, or rests.
+/// A leader without a flight, for which no answer waits, proposes what is needed and asks all others for their votes, or its base
+/// rises, or it calls the scheduler for a launch that is open, or it rests. But where it rests it is nearer to rest, once a call is
+/// answered.
 pub fn a_free_leader_begins()
-    ensures { (members leader : ℕ) (best : List Vote) (at : Progress) (now : ℤ) (advice : ℕ → Advice) (answers : ℕ → Option SchedRow) (calm : Calm)
+    ensures begins { (members leader : ℕ) (best : List Vote) (at : Progress) (now : ℤ) (advice : ℕ → Advice) (answers : ℕ → Option SchedRow) (calm : Calm)
         → IsFreeNow members leader best at calm → IsAdvised members at.table now advice calm
-        → DoesNext members leader best at now advice calm (calm_round members now advice answers calm) }
+        → Begins members leader best at now advice calm (calm_round members now advice answers calm) }
+    ensures nearer { (members leader : ℕ) (best : List Vote) (at : Progress) (now : ℤ) (advice : ℕ → Advice) (answers : ℕ → Option SchedRow) (calm : Calm)
+        → IsFreeNow members leader best at calm → IsAdvised members at.table now advice calm
+        → IsAnswerTo (calls_at members now advice calm leader) (answers leader)
+        → IsNearer at.table best (reckoned leader at.rows calm) (reckoned leader at.rows (calm_round members now advice answers calm))
+        ⊎ HasRested members leader best at now advice calm (calm_round members now advice answers calm) }
 {}
 
 /// A leader for which an answer waits proposes the end of its launch, and asks all others for their votes.
 pub fn an_answer_is_proposed()
     ensures { (members leader : ℕ) (best : List Vote) (at : Progress) (row : SchedRow) (now : ℤ) (advice : ℕ → Advice) (answers : ℕ → Option SchedRow) (calm : Calm)
         → IsAnswerable members leader best at row calm → IsAdvised members at.table now advice calm
-        → HasAnswered members leader best at (End row.name.job row.name.at row.kind) calm (calm_round members now advice answers calm) }
+        → HasAnswered members leader best at (End row.name.job row.name.at row.kind) now advice calm (calm_round members now advice answers calm) }
+{}
+
+/// A leader that leads alone does so after each round, and is nearer to rest then, or rests.
+pub fn each_round_brings_a_leader_nearer()
+    ensures { (members leader : ℕ) (best : List Vote) (at : Progress) (now : ℤ) (advice : ℕ → Advice) (answers : ℕ → Option SchedRow) (calm : Calm)
+        → Stage members leader best at calm → IsAdvised members at.table now advice calm
+        → IsAnswerTo (calls_at members now advice calm leader) (answers leader)
+        → ComesNearer members leader best at calm (calm_round members now advice answers calm)
+        ⊎ StaysFree members leader best at now advice calm (calm_round members now advice answers calm) }
+{}
+
+/// What a round tells of a leader. One that is nearer to rest has fewer rounds left. Once its proposal is learned, its prefix is behind
+/// it, and its launch table is the one after the entry. What it proposes is asked for at its prefix, in its ballot. Its call is the one
+/// that its launch table asks for. Where it rests, nothing is asked for, no vote binds it, and it calls for nothing.
+pub fn what_a_round_tells()
+    ensures nearer { (table : Table) (best : List Vote) (old new : Reckoned) → IsNearer table best old new
+        → rounds_left table.window.until.0 new.rows best new.waits new.state < rounds_left table.window.until.0 old.rows best old.waits old.state }
+    ensures learned { (proposal : Proposal) (now : ℤ) (advice : ℕ → Advice) (calm next : Calm) → Lands proposal now advice calm next
+        → (prefix_of (next.replicas proposal.self.me) ≡ proposal.at.prefix + 1)
+        × IsLaunchTable proposal.at.table (next.replicas proposal.self.me) proposal.later }
+    ensures proposed { (members leader : ℕ) (best : List Vote) (at : Progress) (now : ℤ) (advice : ℕ → Advice) (calm next : Calm)
+        → HasProposed members leader best at now advice calm next
+        → (entry : Entry) × IsAsked members leader (vote_for at.prefix at.ballot entry) next × (calls_at members now advice calm leader ≡ []) }
+    ensures called { (members leader : ℕ) (best : List Vote) (at : Progress) (now : ℤ) (advice : ℕ → Advice) (calm next : Calm)
+        → HasAskedForCall members leader best at now advice calm next
+        → (row : SchedRow) × (calls_at members now advice calm leader ≡ row ∷ [])
+        × ((advice leader).plan.intent ≡ Call row.name.job row.name.at row.kind) }
+    ensures rested { (members leader : ℕ) (best : List Vote) (at : Progress) (now : ℤ) (advice : ℕ → Advice) (calm next : Calm)
+        → HasRested members leader best at now advice calm next
+        → ((advice leader).plan.intent ≡ Rest) × (votes_from at.prefix best ≡ []) × (calls_at members now advice calm leader ≡ []) }
 {}
 
 /// There are replicas of which one leads alone with a proposal under way: one for which the other is asked, and one that the other
@@ -62,11 +105,12 @@ pub fn a_proposal_may_be_under_way()
         × IsAccepted proposal.self.members proposal.self.me proposal.at.ballot proposal.at.prefix calm }
 {}
 
-/// There are replicas of which one leads alone without a flight: one for which nothing waits, and one for which an answer waits. The
-/// first has promised and learned no more after its round.
+/// There are replicas of which one leads alone without a flight: one for which nothing waits, whose call is answered, and one for
+/// which an answer waits. The first has promised and learned no more after its round.
 pub fn a_leader_may_be_free()
-    ensures alone { (members : ℕ) × (leader : ℕ) × (best : List Vote) × (at : Progress) × (calm : Calm) × (now : ℤ) × (advice : ℕ → Advice)
-        × IsFreeNow members leader best at calm × IsAdvised members at.table now advice calm }
+    ensures alone { (members : ℕ) × (leader : ℕ) × (best : List Vote) × (at : Progress) × (now : ℤ) × (advice : ℕ → Advice)
+        × (answers : ℕ → Option SchedRow) × (calm : Calm) × IsFreeNow members leader best at calm × IsAdvised members at.table now advice calm
+        × IsAnswerTo (calls_at members now advice calm leader) (answers leader) }
     ensures answer { (members : ℕ) × (leader : ℕ) × (best : List Vote) × (at : Progress) × (row : SchedRow) × (calm : Calm) × (now : ℤ)
         × (advice : ℕ → Advice) × IsAnswerable members leader best at row calm × IsAdvised members at.table now advice calm }
     ensures on { (members : ℕ) × (leader : ℕ) × (ballot : ℕ) × (prefix : ℕ) × (table : Table) × (now : ℤ) × (advice : ℕ → Advice)

@@ -1,8 +1,8 @@
-use Rattle.calm_law.proofs.SomeCalm.{some_answer, some_free, some_leads_on}
+use Rattle.calm_law.proofs.SomeCalm.{some_answer, some_answered, some_leads_on}
 use Rattle.calm_law.proofs.laws.a_leader_may_be_free.Goals as goal
 
 pub returns-clause-alone : goal.returns-clause-alone
-returns-clause-alone c = some_free
+returns-clause-alone c = some_answered
 
 pub returns-clause-answer : goal.returns-clause-answer
 returns-clause-answer c = some_answer
