@@ -27,13 +27,14 @@ use Rattle.step_law.specs.Step.{Answer, Hear, IsPlanned, Plan, Tick, step}
 use Rattle.step_law.proofs.Lists.{in_first}
 use Rattle.agree_law.specs.Transition.{identity_of}
 use Rattle.book_law.proofs.Asks.{busy, call_asked, is_open_then, minute, opened, sound}
-use Rattle.due_set.specs.Table.{Table}
+use Rattle.due_set.specs.Table.{IsSound, Table}
 use Rattle.calm_law.specs.Rounds.{IsAnswerTo, IsAnswerable, IsFreeNow}
-use Rattle.calm_law.specs.Calm.{Advice, ArePlanned, Calm, HeardLetter, IsAdvised, events_at, calm_round, calls_at}
+use Rattle.calm_law.specs.Calm.{Advice, ArePlanned, Calm, HeardLetter, IsAdvised, events_at, calm_round, calls_at, before_tick}
 use Rattle.calm_law.specs.Flights.{IsAccepted, IsAsked, IsUnderWay, Proposal, Proposes, asked_vote}
 use Rattle.calm_law.proofs.BeginLemmas.{ends, proposing}
 use Rattle.calm_law.proofs.FreeLemmas.{free_next}
 use Rattle.calm_law.proofs.NearLemmas.{begun_leads}
+use Rattle.calm_law.proofs.StageLemmas.{ruled_then}
 use Rattle.calm_law.proofs.TickLemmas.{LeadsOn}
 use Rattle.calm_law.proofs.CountLemmas.{few_alone, in_with}
 use Rattle.calm_law.specs.Ruled.{AreFrom, AreWithin, IsBehind, IsLeading, IsRuled, Progress}
@@ -323,3 +324,24 @@ one_call = refl
 pub some_answered : (members : ℕ) × (leader : ℕ) × (best : List Vote) × (at : Progress) × (now : ℤ) × (advice : ℕ → Advice) × (answers : ℕ → Option SchedRow) × (calm : Calm) × IsFreeNow members leader best at calm × IsAdvised members at.table now advice calm × IsAnswerTo (calls_at members now advice calm leader) (answers leader)
 some_answered =
     (2, 0, [], far, minute 0, advice_now, (λ who. Some answer_row), free_with None, free_now, advised_free, subst (λ rows. IsAnswerTo rows (Some answer_row)) (sym one_call) (answer_row, refl, refl))
+
+-- it leads at its tick, and leads alone after the round
+pub some_at_tick : (members : ℕ) × (leader : ℕ) × (best : List Vote) × (at : Progress) × (now : ℤ) × (advice : ℕ → Advice) × (answers : ℕ → Option SchedRow) × (calm : Calm) × IsLeading best None at (before_tick members advice calm leader) × IsSound at.table × IsAdvised members at.table now advice calm × IsAnswerTo (calls_at members now advice calm leader) (answers leader) × IsRuled members leader at.ballot at.prefix (calm_round members now advice answers calm)
+some_at_tick =
+    let answers : ℕ → Option SchedRow = λ who. Some answer_row in
+    let begins = free_next 2 0 [] far (minute 0) advice_now answers (free_with None) free_now advised_free in
+    let on = begun_leads 2 0 [] far (minute 0) advice_now (free_with None) (calm_round 2 (minute 0) advice_now answers (free_with None)) begins in (
+      2,
+      0,
+      [],
+      far,
+      minute 0,
+      advice_now,
+      answers,
+      free_with None,
+      leading_free,
+      sound,
+      advised_free,
+      subst (λ rows. IsAnswerTo rows (Some answer_row)) (sym one_call) (answer_row, refl, refl),
+      ruled_then 2 0 far far [] (minute 0) advice_now answers (free_with None) (ruled_free None) advised_free refl (omega arith) on,
+    )

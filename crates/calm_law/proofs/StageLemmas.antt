@@ -6,10 +6,11 @@ use Rattle.due_set.specs.Table.{IsSound}
 use Rattle.step_law.specs.Propose.{is_open}
 use Rattle.agree_law.specs.Transition.{identity_of}
 use Rattle.calm_law.specs.Begins.{Begins, calls, proposes, rebases, rests, NextEntry, proposal_of}
-use Rattle.calm_law.specs.Calm.{Advice, Calm, IsAdvised, calls_at, calm_round}
+use Rattle.calm_law.specs.Calm.{Advice, Calm, IsAdvised, before_tick, calls_at, calm_round}
 use Rattle.calm_law.specs.Flights.{IsNeeded, IsUnderWay, asked_vote, learned_by, with_base}
 use Rattle.calm_law.specs.Rounds.{ComesNearer, IsAnswerTo, Lands, Stage, accepted, answer, asked, free, StaysFree, WaitsOn}
-use Rattle.calm_law.specs.Ruled.{IsRuled, Progress}
+use Rattle.calm_law.specs.Ruled.{IsLeading, IsRuled, Progress}
+use Rattle.calm_law.proofs.OutcomeLemmas.{tick_outcome}
 use Rattle.calm_law.proofs.FlightLemmas.{first_round, second_round}
 use Rattle.calm_law.proofs.FreeLemmas.{answer_next, free_next}
 use Rattle.calm_law.proofs.MailLemmas.{accepted_next}
@@ -18,7 +19,7 @@ use Rattle.calm_law.proofs.RuledLemmas.{ruled_next}
 use Rattle.calm_law.proofs.TickLemmas.{LeadsOn}
 
 -- one that leads on leads alone
-ruled_then : (members leader : ℕ) (old at : Progress) (best : List Vote) (now : ℤ) (advice : ℕ → Advice) (answers : ℕ → Option SchedRow) (calm : Calm) → IsRuled members leader old.ballot old.prefix calm → IsAdvised members old.table now advice calm → at.ballot ≡ old.ballot → old.prefix ≤ at.prefix → LeadsOn best at ((calm_round members now advice answers calm).replicas leader) → IsRuled members leader at.ballot at.prefix (calm_round members now advice answers calm)
+pub ruled_then : (members leader : ℕ) (old at : Progress) (best : List Vote) (now : ℤ) (advice : ℕ → Advice) (answers : ℕ → Option SchedRow) (calm : Calm) → IsRuled members leader old.ballot old.prefix calm → IsAdvised members old.table now advice calm → at.ballot ≡ old.ballot → old.prefix ≤ at.prefix → LeadsOn best at ((calm_round members now advice answers calm).replicas leader) → IsRuled members leader at.ballot at.prefix (calm_round members now advice answers calm)
 ruled_then members leader old at best now advice answers calm ruled advised same up on =
     subst (λ ballot. IsRuled members leader ballot at.prefix (calm_round members now advice answers calm)) (sym same)
     (ruled_next members leader old.ballot old.prefix at.prefix old.table now advice answers calm ruled advised up
@@ -26,11 +27,11 @@ ruled_then members leader old at best now advice answers calm ruled advised same
 
 -- ---- the stage after what it begins
 
-record Staged (members leader : ℕ) (best : List Vote) (at : Progress) (next : Calm) : Type 0 where
-  base : ℕ
-  stage : Stage members leader best (with_base base at) next
+pub record Staged (members leader : ℕ) (best : List Vote) (at : Progress) (next : Calm) : Type 0 where
+  pub base : ℕ
+  pub stage : Stage members leader best (with_base base at) next
 
-stage_begun : (members leader : ℕ) (best : List Vote) (at : Progress) (now : ℤ) (advice : ℕ → Advice) (calm next : Calm) → IsRuled members leader at.ballot at.prefix next → IsSound at.table → IsAnswerTo (calls_at members now advice calm leader) (next.waits leader) → Begins members leader best at now advice calm next → Staged members leader best at next
+pub stage_begun : (members leader : ℕ) (best : List Vote) (at : Progress) (now : ℤ) (advice : ℕ → Advice) (calm next : Calm) → IsRuled members leader at.ballot at.prefix next → IsSound at.table → IsAnswerTo (calls_at members now advice calm leader) (next.waits leader) → Begins members leader best at now advice calm next → Staged members leader best at next
 stage_begun members leader best at now advice calm next ruled sound answered begins = go begins
   where
     none : calls_at members now advice calm leader ≡ [] → next.waits leader ≡ None
@@ -60,6 +61,13 @@ stage_begun members leader best at now advice calm next ruled sound answered beg
       base = at.base;
       stage = free (record { free = record { ruled = ruled; leading = it.leading; sound = sound }; alone = none it.uncalled });
     }
+
+-- one that leads at its tick begins something, and so is at a stage
+pub stage_at_tick : (members leader : ℕ) (best : List Vote) (at : Progress) (now : ℤ) (advice : ℕ → Advice) (answers : ℕ → Option SchedRow) (calm : Calm) → IsLeading best None at (before_tick members advice calm leader) → IsSound at.table → IsAdvised members at.table now advice calm → IsAnswerTo (calls_at members now advice calm leader) (answers leader) → IsRuled members leader at.ballot at.prefix (calm_round members now advice answers calm) → (base : ℕ) × Stage members leader best (with_base base at) (calm_round members now advice answers calm)
+stage_at_tick members leader best at now advice answers calm leading sound advised answered ruled =
+    let begins = tick_outcome members leader best at now advice answers calm ruled.member ruled.few ruled.more sound advised leading in
+    let staged = stage_begun members leader best at now advice calm (calm_round members now advice answers calm) ruled sound answered begins in
+    (staged.base, staged.stage)
 
 -- ---- a round
 

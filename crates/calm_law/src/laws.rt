@@ -1,10 +1,10 @@
 //! Laws of calm rounds. Each is the contract of a function that does nothing.
-ghost use Rattle.std.specs.Prelude.{◌≡◌, ◌⊎◌, ℕ, ◌+◌, ◌≤◌, ◌<◌, ℤ, List, [], ◌∷◌, Option};
+ghost use Rattle.std.specs.Prelude.{◌≡◌, ◌⊎◌, ℕ, ◌+◌, ◌≤◌, ◌<◌, ℤ, List, [], ◌∷◌, Option, None};
 ghost use Rattle.paxos_base.specs.Vote.{votes_from};
 ghost use Rattle.paxos_base.specs.declared.entry.Entry.{Entry};
 ghost use Rattle.paxos_base.specs.declared.entry.Entry.TheVariants.{End};
 ghost use Rattle.paxos_base.specs.declared.entry.Vote.{Vote};
-ghost use Rattle.due_set.specs.Table.{Table};
+ghost use Rattle.due_set.specs.Table.{IsSound, Table};
 ghost use Rattle.cluster_sched.specs.declared.row.SchedRow.{SchedRow};
 ghost use Rattle.launch_machine.specs.declared.machine.Intent.TheVariants.{Call, Rest};
 ghost use Rattle.term_core.specs.declared.flight.Flight.{Flight};
@@ -12,11 +12,11 @@ ghost use Rattle.step_law.specs.State.{prefix_of, promised_in};
 ghost use Rattle.step_law.specs.Step.{IsLaunchTable};
 ghost use Rattle.agree_law.specs.Agree.{vote_for};
 ghost use Rattle.calm_law.specs.Begins.{Begins, HasAskedForCall, HasProposed, HasRested};
-ghost use Rattle.calm_law.specs.Calm.{Advice, Calm, IsAdvised, calls_at, calm_round};
-ghost use Rattle.calm_law.specs.Flights.{IsAccepted, IsAsked, IsUnderWay, Proposal, asked_vote};
+ghost use Rattle.calm_law.specs.Calm.{Advice, Calm, IsAdvised, before_tick, calls_at, calm_round};
+ghost use Rattle.calm_law.specs.Flights.{IsAccepted, IsAsked, IsUnderWay, Proposal, asked_vote, with_base};
 ghost use Rattle.calm_law.specs.Measure.{IsNearer, Reckoned, rounds_left};
 ghost use Rattle.calm_law.specs.Rounds.{ComesNearer, HasAnswered, IsAnswerTo, IsAnswerable, IsFreeNow, Lands, Stage, StaysFree, WaitsOn, reckoned};
-ghost use Rattle.calm_law.specs.Ruled.{IsRuled, Progress};
+ghost use Rattle.calm_law.specs.Ruled.{IsLeading, IsRuled, Progress};
 
 /// A proposal for which all others are asked is accepted by all in one round, and learned in the next, and each round brings its
 /// leader nearer to rest.
@@ -64,6 +64,15 @@ pub fn an_answer_is_proposed()
         → HasAnswered members leader best at (End row.name.job row.name.at row.kind) now advice calm (calm_round members now advice answers calm) }
 {}
 
+/// One that leads once it has heard its mail, and leads alone after the round, is at a stage then: it has begun something at its tick.
+pub fn a_leader_begins_at_its_tick()
+    ensures { (members leader : ℕ) (best : List Vote) (at : Progress) (now : ℤ) (advice : ℕ → Advice) (answers : ℕ → Option SchedRow) (calm : Calm)
+        → IsLeading best None at (before_tick members advice calm leader) → IsSound at.table → IsAdvised members at.table now advice calm
+        → IsAnswerTo (calls_at members now advice calm leader) (answers leader)
+        → IsRuled members leader at.ballot at.prefix (calm_round members now advice answers calm)
+        → (base : ℕ) × Stage members leader best (with_base base at) (calm_round members now advice answers calm) }
+{}
+
 /// A leader that leads alone does so after each round, and is nearer to rest then, or rests.
 pub fn each_round_brings_a_leader_nearer()
     ensures { (members leader : ℕ) (best : List Vote) (at : Progress) (now : ℤ) (advice : ℕ → Advice) (answers : ℕ → Option SchedRow) (calm : Calm)
@@ -106,7 +115,7 @@ pub fn a_proposal_may_be_under_way()
 {}
 
 /// There are replicas of which one leads alone without a flight: one for which nothing waits, whose call is answered, and one for
-/// which an answer waits. The first has promised and learned no more after its round.
+/// which an answer waits. The first has promised and learned no more after its round, leads at its tick, and leads alone after it.
 pub fn a_leader_may_be_free()
     ensures alone { (members : ℕ) × (leader : ℕ) × (best : List Vote) × (at : Progress) × (now : ℤ) × (advice : ℕ → Advice)
         × (answers : ℕ → Option SchedRow) × (calm : Calm) × IsFreeNow members leader best at calm × IsAdvised members at.table now advice calm
@@ -117,4 +126,8 @@ pub fn a_leader_may_be_free()
         × (answers : ℕ → Option SchedRow) × (calm : Calm) × IsRuled members leader ballot prefix calm × IsAdvised members table now advice calm
         × (promised_in ((calm_round members now advice answers calm).replicas leader).kept ≤ ballot)
         × (prefix_of ((calm_round members now advice answers calm).replicas leader) ≤ prefix) }
+    ensures tick { (members : ℕ) × (leader : ℕ) × (best : List Vote) × (at : Progress) × (now : ℤ) × (advice : ℕ → Advice)
+        × (answers : ℕ → Option SchedRow) × (calm : Calm) × IsLeading best None at (before_tick members advice calm leader) × IsSound at.table
+        × IsAdvised members at.table now advice calm × IsAnswerTo (calls_at members now advice calm leader) (answers leader)
+        × IsRuled members leader at.ballot at.prefix (calm_round members now advice answers calm) }
 {}
