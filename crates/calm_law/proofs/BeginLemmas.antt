@@ -20,9 +20,9 @@ use Rattle.launch_machine.specs.declared.machine.Intent.{Intent}
 use Rattle.launch_machine.specs.declared.machine.Intent.TheVariants as intent
 use Rattle.launch_machine.proofs.ExistLemmas.{all_applied}
 use Rattle.term_core.specs.Term.{after_proposal, new_flight}
-use Rattle.step_law.specs.Act.{Act, Call, after_act}
-use Rattle.step_law.specs.Folds.{after_acts, calls_by, calls_of, sent_by, sent_to}
-use Rattle.step_law.specs.Message.{Accept}
+use Rattle.step_law.specs.Act.{Act, Call, Send, after_act}
+use Rattle.step_law.specs.Folds.{after_acts, calls_by, sent_by, sent_to}
+use Rattle.step_law.specs.Message.{Message, Accept, Lead, Others}
 use Rattle.step_law.specs.Propose.{answer_of, bound_by, end_if, follow_intent, is_at, is_open, is_row_open, lead_on, propose, proposal, tick_of}
 use Rattle.step_law.specs.State.{Identity, State, prefix_of}
 use Rattle.step_law.proofs.Lists.{in_first}
@@ -65,6 +65,11 @@ proposes_it self at best sound entry state more small leading =
       };
     })
 
+-- what is said to all others is among what goes to each of them
+pub says_to_all : (me q : ℕ) (message : Message) → (q ≡ me → ⊥) → Contains (sent_to me q (Send Others message ∷ [])) message
+unfolding sent_by
+says_to_all me q message apart = rw (ne_eqb q me apart) (in_first message [])
+
 -- no vote from a slot on, so none at it
 none_at : (p : ℕ) (best : List Vote) → votes_from p best ≡ [] → vote_at p best ≡ None
 unfolding votes_from vote_at
@@ -88,7 +93,7 @@ called_open table rows job at now may = rw (may.is_row, may.is_open, may.cursor)
 pub data Begun (self : Identity) (at : Progress) (best : List Vote) (sound : IsSound at.table) (now : ℤ) (wanted : Intent) (acts : List Act) (state : State) : Type 0 where
   begins_entry : (entry : Entry) → IsNeeded (proposal_of self best at (next_entry at sound entry) 0) → acts ≡ proposing self at entry → Begun self at best sound now wanted acts state
   calls_for : (row : SchedRow) → votes_from at.prefix best ≡ [] → wanted ≡ intent.Call row.name.job row.name.at row.kind → is_open row.name.job row.name.at at.rows ≡ true → acts ≡ Call row ∷ [] → Begun self at best sound now wanted acts state
-  has_nothing : votes_from at.prefix best ≡ [] → wanted ≡ intent.Rest → after_acts acts state ≡ state → calls_of acts ≡ [] → Begun self at best sound now wanted acts state
+  says_lead : votes_from at.prefix best ≡ [] → wanted ≡ intent.Rest → acts ≡ Send Others (Lead at.ballot at.prefix) ∷ [] → Begun self at best sound now wanted acts state
 
 pub tick_begins : (self : Identity) (at : Progress) (best : List Vote) (sound : IsSound at.table) (now : ℤ) (wanted : Intent) (state : State) → IsIntent at.table at.rows now wanted → IsLeading best None at state → Begun self at best sound now wanted (tick_of self now wanted state state.term) state
 unfolding after_act calls_by
@@ -107,7 +112,7 @@ tick_begins self at best sound now wanted state asked leading =
         begins_entry (bound_by (vote_at at.prefix best) (Start job instant now))
         (rw (none_at at.prefix best none) (inr asked.1.takes))
         (ap (λ vote. propose self vote) (vote_is (Start job instant now)))
-    follow none intent.Rest asked = has_nothing none refl refl refl
+    follow none intent.Rest asked = says_lead none refl (ap (λ k. Send Others (Lead at.ballot k) ∷ []) leading.learned)
 
     go : (bound : List Vote) → votes_from at.prefix best ≡ bound → Begun self at best sound now wanted (lead_on self now wanted at.ballot best state (votes_from (prefix_of state) best)) state
     go [] is = rw (at_prefix, is) (follow is wanted asked)

@@ -14,9 +14,9 @@ use Rattle.launch_machine.proofs.ClerkLemmas.{AppliesAll-same}
 use Rattle.term_core.specs.Term.{is_fourth, new_flight}
 use Rattle.term_core.specs.declared.flight.Flight.{Flight}
 use Rattle.term_core.specs.declared.term.Term.TheVariants.{Leader}
-use Rattle.step_law.specs.Act.{Act, Call, Rebase, after_act}
+use Rattle.step_law.specs.Act.{Act, Call, Rebase, Send, after_act}
 use Rattle.step_law.specs.Folds.{after_acts, calls_by, calls_of, sent_to}
-use Rattle.step_law.specs.Message.{Accept}
+use Rattle.step_law.specs.Message.{Message, Accept, Lead, Others}
 use Rattle.step_law.specs.Propose.{is_long, is_open, propose, tick, tick_of, wait}
 use Rattle.step_law.specs.State.{Identity, State, prefix_of}
 use Rattle.step_law.specs.Step.{IsLaunchTable, Plan, step}
@@ -26,7 +26,7 @@ use Rattle.calm_law.specs.Begins.{Begins, calls, proposes, rebases, rests, HasAs
 use Rattle.calm_law.specs.Calm.{Advice, Calm, IsAdvised, before_tick, calm_round, letter_from}
 use Rattle.calm_law.specs.Flights.{IsNeeded, Proposes, with_base}
 use Rattle.calm_law.specs.Ruled.{IsLeading, Occurs, Progress}
-use Rattle.calm_law.proofs.BeginLemmas.{Begun, begins_entry, calls_for, has_nothing, asks_votes, next_entry, proposes_it, proposing, tick_begins}
+use Rattle.calm_law.proofs.BeginLemmas.{Begun, begins_entry, calls_for, says_lead, says_to_all, asks_votes, next_entry, proposes_it, proposing, tick_begins}
 use Rattle.calm_law.proofs.CountLemmas.{few_alone}
 use Rattle.calm_law.proofs.MailLemmas.{occurs_letter}
 use Rattle.calm_law.proofs.RoundLemmas.{round_after, round_occurs, round_planned}
@@ -63,6 +63,15 @@ no_call_propose self vote more small = rw (few_alone self.members self.me more s
 pub no_call_wait : (ballot : ℕ) (flight : Flight) → calls_of (wait ballot flight) ≡ []
 unfolding calls_by
 no_call_wait ballot flight = elim (cases_Bool (is_fourth flight)) [ inl again ↦ rw again refl | inr not_yet ↦ rw not_yet refl ]
+
+-- nor does what it says, which changes nothing
+no_call_saying : (message : Message) → calls_of (Send Others message ∷ []) ≡ []
+unfolding calls_by
+no_call_saying message = refl
+
+saying_stays : (message : Message) (state : State) → after_acts (Send Others message ∷ []) state ≡ state
+unfolding after_act
+saying_stays message state = refl
 
 -- a proposal whose acts are a step's is asked of each other replica in its letters
 pub asks_in : (self : Identity) (at : Progress) (entry : Entry) (acts : List Act) (who : ℕ) → acts ≡ proposing self at entry → (who ≡ self.me → ⊥) → Occurs (letter_from self.me (sent_to self.me who acts)) self.me (Accept (record { slot = at.prefix; ballot = at.ballot; entry = entry }))
@@ -135,17 +144,21 @@ tick_outcome members leader best at now advice answers calm member few more soun
       open_there = open_there;
     }
 
-    rested : votes_from at.prefix best ≡ [] → plan.intent ≡ intent.Rest → after_acts acts state ≡ state → calls_of acts ≡ [] → HasRested members leader best at now advice calm next
-    rested none wants same silent = record {
-      leading = subst (λ s. IsLeading best None at s) (sym (after ∙ same)) leading;
+    rested : votes_from at.prefix best ≡ [] → plan.intent ≡ intent.Rest → acts ≡ Send Others (Lead at.ballot at.prefix) ∷ [] → HasRested members leader best at now advice calm next
+    rested none wants is = record {
+      leading = subst (λ s. IsLeading best None at s) (sym (after ∙ (ap (λ some. after_acts some state) is ∙ saying_stays (Lead at.ballot at.prefix) state))) leading;
       free = none;
       asked = wants;
-      uncalled = silent;
+      rests = subst (λ some. IsIntent at.table at.rows now some) wants asked;
+      told = λ who below apart. round_occurs members now advice answers calm leader who (Lead at.ballot at.prefix) member
+          (subst (λ some. Occurs (letter_from leader (sent_to leader who some)) leader (Lead at.ballot at.prefix)) (sym is)
+          (occurs_letter leader (Lead at.ballot at.prefix) (sent_to leader who (Send Others (Lead at.ballot at.prefix) ∷ [])) (in_first (Lead at.ballot at.prefix) []) (says_to_all leader who (Lead at.ballot at.prefix) apart)));
+      uncalled = ap calls_of is ∙ no_call_saying (Lead at.ballot at.prefix);
     }
 
     goes : acts ≡ tick_of self now plan.intent state state.term → Begun self at best sound now plan.intent (tick_of self now plan.intent state state.term) state → Begins members leader best at now advice calm next
     goes is begun = elim begun [
       | begins_entry entry needed such ↦ proposes (proposed entry needed (is ∙ such))
       | calls_for row none wants open_there such ↦ calls (called row none wants open_there (is ∙ such))
-      | has_nothing none wants same silent ↦ rests (rested none wants (ap (λ some. after_acts some state) is ∙ same) (ap calls_of is ∙ silent))
+      | says_lead none wants such ↦ rests (rested none wants (is ∙ such))
     ]

@@ -105,6 +105,7 @@ stage_next members leader best at now advice answers calm stage advised answered
         elim (begun_nearer members leader best at now advice calm next it answered begins) [
           | inl nearer ↦ inl (record { later = with_base staged.base at; ballot = refl; table = refl; stage = staged.stage; nearer = nearer })
           | inr rested ↦ inr (record {
+            was = it;
             free = record {
               free = record { ruled = ruled; leading = rested.leading; sound = it.free.sound };
               alone = subst (λ rows. IsAnswerTo rows (answers leader)) rested.uncalled answered;

@@ -96,5 +96,6 @@ pub record ComesNearer (members leader : ℕ) (best : List Vote) (at : Progress)
 
 -- it was free and rests, and is free still
 pub record StaysFree (members leader : ℕ) (best : List Vote) (at : Progress) (now : ℤ) (advice : ℕ → Advice) (calm next : Calm) : Type 0 where
+  pub was : IsFreeNow members leader best at calm
   pub free : IsFreeNow members leader best at next
   pub rested : HasRested members leader best at now advice calm next

@@ -6,8 +6,10 @@ ghost use Rattle.paxos_base.specs.declared.entry.Entry.TheVariants.{End};
 ghost use Rattle.paxos_base.specs.declared.entry.Vote.{Vote};
 ghost use Rattle.due_set.specs.Table.{IsSound, Table};
 ghost use Rattle.cluster_sched.specs.declared.row.SchedRow.{SchedRow};
+ghost use Rattle.launch_machine.specs.Answers.{IsIntent};
 ghost use Rattle.launch_machine.specs.declared.machine.Intent.TheVariants.{Call, Rest};
 ghost use Rattle.term_core.specs.declared.flight.Flight.{Flight};
+ghost use Rattle.step_law.specs.Message.{Lead};
 ghost use Rattle.step_law.specs.State.{prefix_of, promised_in};
 ghost use Rattle.step_law.specs.Step.{IsLaunchTable};
 ghost use Rattle.agree_law.specs.Agree.{vote_for};
@@ -16,7 +18,7 @@ ghost use Rattle.calm_law.specs.Calm.{Advice, Calm, IsAdvised, before_tick, call
 ghost use Rattle.calm_law.specs.Flights.{IsAccepted, IsAsked, IsUnderWay, Proposal, asked_vote, with_base};
 ghost use Rattle.calm_law.specs.Measure.{IsNearer, Reckoned, rounds_left};
 ghost use Rattle.calm_law.specs.Rounds.{ComesNearer, HasAnswered, IsAnswerTo, IsAnswerable, IsFreeNow, Lands, Stage, StaysFree, WaitsOn, reckoned};
-ghost use Rattle.calm_law.specs.Ruled.{IsLeading, IsRuled, Progress};
+ghost use Rattle.calm_law.specs.Ruled.{IsLeading, IsRuled, Occurs, Progress};
 
 /// A proposal for which all others are asked is accepted by all in one round, and learned in the next, and each round brings its
 /// leader nearer to rest.
@@ -84,7 +86,8 @@ pub fn each_round_brings_a_leader_nearer()
 
 /// What a round tells of a leader. One that is nearer to rest has fewer rounds left. Once its proposal is learned, its prefix is behind
 /// it, and its launch table is the one after the entry. What it proposes is asked for at its prefix, in its ballot. Its call is the one
-/// that its launch table asks for. Where it rests, nothing is asked for, no vote binds it, and it calls for nothing.
+/// that its launch table asks for. Where it rests, its launch table asks for nothing, no vote binds it, and it tells all others how far
+/// it has learned.
 pub fn what_a_round_tells()
     ensures nearer { (table : Table) (best : List Vote) (old new : Reckoned) → IsNearer table best old new
         → rounds_left table.window.until.0 new.rows best new.waits new.state < rounds_left table.window.until.0 old.rows best old.waits old.state }
@@ -100,7 +103,10 @@ pub fn what_a_round_tells()
         × ((advice leader).plan.intent ≡ Call row.name.job row.name.at row.kind) }
     ensures rested { (members leader : ℕ) (best : List Vote) (at : Progress) (now : ℤ) (advice : ℕ → Advice) (calm next : Calm)
         → HasRested members leader best at now advice calm next
-        → ((advice leader).plan.intent ≡ Rest) × (votes_from at.prefix best ≡ []) × (calls_at members now advice calm leader ≡ []) }
+        → IsIntent at.table at.rows now Rest × (votes_from at.prefix best ≡ []) × (calls_at members now advice calm leader ≡ []) }
+    ensures told { (members leader : ℕ) (best : List Vote) (at : Progress) (now : ℤ) (advice : ℕ → Advice) (calm next : Calm) (who : ℕ)
+        → HasRested members leader best at now advice calm next → who < members → (who ≡ leader → ⊥)
+        → Occurs (next.mails who) leader (Lead at.ballot at.prefix) }
 {}
 
 /// There are replicas of which one leads alone with a proposal under way: one for which the other is asked, and one that the other

@@ -17,4 +17,7 @@ pub returns-clause-called : goal.returns-clause-called
 returns-clause-called c = λ members leader best at now advice calm next it. (it.row, it.called, it.asked)
 
 pub returns-clause-rested : goal.returns-clause-rested
-returns-clause-rested c = λ members leader best at now advice calm next it. (it.asked, it.free, it.uncalled)
+returns-clause-rested c = λ members leader best at now advice calm next it. (it.rests, it.free, it.uncalled)
+
+pub returns-clause-told : goal.returns-clause-told
+returns-clause-told c = λ members leader best at now advice calm next who it below apart. it.told who below apart
