@@ -1,0 +1,55 @@
+//! Measures the step of a replica on its disk: a leader that is alone, over 20,000 launches of one job, without a disk and on
+//! a disk in memory. What it did is written to standard output, and how much in a second of the processor to standard error.
+#![tactic(auto)]
+
+mod fault;
+mod leader;
+mod seat;
+
+use crate::fault::BenchFault;
+use crate::leader::Leader;
+use crate::seat::{Bare, OnDisk, Steps};
+use due_set::JobTable;
+use job_table::build_table;
+use run_text::read_run;
+use std::time::{CpuClock, Duration};
+
+// A run of one job, which is due in each of 20,000 minutes.
+const RUN: &str = "cronrun 1\nreplicas 1\nwindow 2024-01-01T00:00Z 2024-01-14T21:20Z\ngrace 60\n\
+                   crontab bench UTC 1\n* * * * * job\nscript\nend\n";
+
+fn main(rt: HostRuntime) -> Result<(), BenchFault> {
+    let alloc = rt.alloc();
+    let Ok(run) = read_run(alloc, RUN) else {
+        return Err(BenchFault::NoTable);
+    };
+    let Ok(table) = build_table(alloc, &run) else {
+        return Err(BenchFault::NoTable);
+    };
+    measure(&rt, "without a disk", &table, Bare::start(alloc, &table)?)?;
+    measure(&rt, "on a disk", &table, OnDisk::start(alloc, &table)?)
+}
+
+// Measures a leader.
+fn measure<S: Steps>(
+    rt: &HostRuntime,
+    name: &str,
+    table: &JobTable,
+    seat: S,
+) -> Result<(), BenchFault> {
+    let mut leader = Leader::new(seat);
+    let start = rt.thread_cpu_time()?;
+    leader.run(table)?;
+    let took = rt.thread_cpu_time()?.saturating_sub(start);
+    let done = leader.done();
+    println!(rt; "{name}: {done}")?;
+    let rate = rate(done.steps, took);
+    eprintln!(rt; "{name}: {rate} steps a second")?;
+    Ok(())
+}
+
+// How many in a second.
+fn rate(count: u64, took: Duration) -> u64 {
+    let micros = u64::try_from(took.as_micros()).unwrap_or(u64::MAX);
+    count.saturating_mul(1_000_000) / micros.max(1)
+}
