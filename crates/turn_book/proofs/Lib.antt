@@ -1,0 +1,10 @@
+pub mod CallerLemmas
+pub mod CloseLemmas
+pub mod EndLemmas
+pub mod HandLemmas
+pub mod KeptLemmas
+pub mod LineLemmas
+pub mod SeatLemmas
+pub mod SeatListLemmas
+pub mod RowLemmas
+pub mod ViewLemmas
