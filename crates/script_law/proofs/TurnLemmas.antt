@@ -1,5 +1,5 @@
 -- Turns of tasks.
-use Rattle.std.proofs.Common.{◌≡◌, ℕ, List, [], ◌∷◌, length, refl, ap, sym, suc}
+use Rattle.std.proofs.Common.{◌≡◌, ℕ, List, [], ◌∷◌, length, ap, suc}
 use Rattle.book_law.specs.Book.{Row}
 use Rattle.script_law.specs.Situation.{AreTurnsFor, Situation, Task, after_turn}
 

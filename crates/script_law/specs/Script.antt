@@ -1,5 +1,5 @@
 -- When a book obeys a script: a part for each command, each from the situation in which the one before it ended.
-use Rattle.std.specs.Prelude.{◌≡◌, ℕ, List, [], ◌∷◌, ℤ, pos, ◌-ℤ◌}
+use Rattle.std.specs.Prelude.{ℕ, List, [], ◌∷◌, pos, ◌-ℤ◌}
 use Rattle.due_set.specs.Table.{Table}
 use Rattle.script_text.specs.declared.command.Command.{Command}
 use Rattle.script_text.specs.declared.command.Command.TheVariants.{Round, Settle, Walk, Break, Free}

@@ -1,5 +1,5 @@
 -- Rounds until nothing is left to do at an instant, and from one instant to the next at which there is something.
-use Rattle.std.specs.Prelude.{◌≡◌, ℕ, zero, suc, ◌-◌, ◌<◌, nat_lt, List, [], ◌∷◌, Option, None, Some, ℤ, pos, ◌≤ℤ◌, ◌<ℤ◌, if◌then◌else◌}
+use Rattle.std.specs.Prelude.{◌≡◌, ℕ, zero, suc, ◌-◌, ◌<◌, nat_lt, List, [], ◌∷◌, None, ℤ, pos, ◌≤ℤ◌, ◌<ℤ◌, if◌then◌else◌}
 use Rattle.std.specs.List.{flat_map, range_with_len}
 use Rattle.std.specs.Int.{int_min}
 use Rattle.cluster_sched.specs.declared.fate.Fate.TheVariants as fate

@@ -2,7 +2,6 @@
 use Rattle.std.specs.Prelude.{◌≡◌, ℕ, ◌-◌, ◌==◌, ◌&&◌, not, Bool, true, false, List, [], ◌∷◌, ◌++◌, length, drop, Option, None, Some, IfSome, ℤ, pos, if◌then◌else◌, slice_get}
 use Rattle.std.specs.List.{filter, fold, range_with_len}
 use Rattle.std.specs.Int.{int_max}
-use Rattle.zone_minutes.specs.declared.minute.Window.{Window}
 use Rattle.cluster_sched.specs.declared.fate.Fate.{Fate}
 use Rattle.cluster_sched.specs.declared.fate.Fate.TheVariants as fate
 use Rattle.due_set.specs.Table.{Table}

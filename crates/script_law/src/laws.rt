@@ -1,23 +1,183 @@
 //! Laws of scripts. Each is the contract of a function that does nothing.
-ghost use Rattle.std.specs.Prelude.{◌≡◌, ℕ, ◌<◌, ◌≤◌, ◌<ℤ◌, ℤ, List, length};
+ghost use Rattle.std.specs.Prelude.{◌≡◌, ◌≢◌, ℕ, ◌-◌, ◌<◌, ◌≤◌, ◌<ℤ◌, ◌≤ℤ◌, ℤ, ◌+ℤ◌, Bool, true, false, List, [], ◌∷◌, ◌++◌, drop, length, Option, None, Some, IsSome, AllPairs, Contains, get_or, slice_get};
 ghost use Rattle.zone_minutes.specs.Window.{IsInWindow};
+ghost use Rattle.zone_minutes.specs.declared.minute.Minute.{Minute};
 ghost use Rattle.zone_minutes.specs.declared.minute.Window.{Window};
+ghost use Rattle.cluster_sched.specs.declared.fate.Fate.TheVariants as fate;
+ghost use Rattle.cluster_sched.specs.declared.row.SchedRow.{SchedRow};
 ghost use Rattle.due_set.specs.Table.{Table};
-ghost use Rattle.step_law.specs.State.{prefix_of};
-ghost use Rattle.book_law.specs.Book.{Row};
-ghost use Rattle.script_law.specs.Round.{clock_reading};
-ghost use Rattle.script_law.specs.Settling.{coordinator};
-ghost use Rattle.script_law.specs.Situation.{AreTurnsFor, Situation, Task};
+ghost use Rattle.step_law.specs.State.{State, prefix_of};
+ghost use Rattle.script_text.specs.declared.command.Command.TheVariants as command;
+ghost use Rattle.script_text.specs.declared.command.FateWord.{FateWord};
+ghost use Rattle.book_law.specs.Book.{PostedLetter, Row, turn_of};
+ghost use Rattle.book_law.specs.Legal.{IsLate, IsLegal};
+ghost use Rattle.book_law.specs.Some.{no_jobs};
+ghost use Rattle.book_law.specs.declared.turn.CallRow.{CallRow};
+ghost use Rattle.book_law.specs.declared.turn.Cause.{Cause};
+ghost use Rattle.book_law.specs.declared.turn.Cause.TheVariants.{Tick, Hear, Answer};
+ghost use Rattle.book_law.specs.declared.turn.Turn.TheVariants.{Did, Stopped};
+ghost use Rattle.script_law.specs.Commands.{arrival_tasks, each_once, from_one, set_by};
+ghost use Rattle.script_law.specs.Round.{clock_reading, round_tasks};
+ghost use Rattle.script_law.specs.Script.{IsPartOf, Obeys};
+ghost use Rattle.script_law.specs.Settling.{AsksNothingUntil, Drains, IsNextMinute, IsQuiet, Settles, Walks, coordinator, restart_tasks};
+ghost use Rattle.script_law.specs.Situation.{AreTurnsFor, IsTurnFor, Situation, Task, Arrive, Do, after_turn, after_turns, reaches};
 
-/// A clock reads a minute of the window, however far it is ahead or behind.
+/// A clock reads a minute of the window, however far it is ahead or behind; and where it is right within the window, it reads
+/// the instant.
 pub fn a_clock_reads_a_minute_of_the_window()
-    ensures { (window : Window) (at skew : ℤ) → window.from.0 <ℤ window.until.0 → IsInWindow window (clock_reading window at skew).0 }
+    ensures within { (window : Window) (at skew : ℤ) → window.from.0 <ℤ window.until.0 → IsInWindow window (clock_reading window at skew).0 }
+    ensures ahead { (window : Window) (at skew : ℤ) → IsInWindow window (at +ℤ skew) → (clock_reading window at skew).0 ≡ at +ℤ skew }
 {}
 
 /// Each task has one turn.
 pub fn each_task_has_a_turn()
     ensures { (members : ℕ) (situation : Situation) (tasks : List Task) (rows : List Row) → AreTurnsFor members situation tasks rows
         → length rows ≡ length tasks }
+{}
+
+/// What waits for a replica as a round begins is heard in the round, and no other letter; each replica that runs takes the
+/// answer that waits for it, and its clock ticks once, at its own reading; one that is stopped has no turn.
+pub fn a_round_hears_what_waited_at_its_start()
+    ensures waited { (members : ℕ) (window : Window) (at : ℤ) (situation : Situation) (who number : ℕ)
+        → Contains (round_tasks members window at situation) (Do who (Hear number)) → Contains (situation.mails who) number }
+    ensures heard { (members : ℕ) (window : Window) (at : ℤ) (situation : Situation) (who number : ℕ) → who < members
+        → situation.standing.runs who ≡ true → Contains (situation.mails who) number
+        → Contains (round_tasks members window at situation) (Do who (Hear number)) }
+    ensures ticks { (members : ℕ) (window : Window) (at : ℤ) (situation : Situation) (who : ℕ) → who < members
+        → situation.standing.runs who ≡ true
+        → Contains (round_tasks members window at situation) (Do who (Tick (clock_reading window at (situation.skews who)))) }
+    ensures reading { (members : ℕ) (window : Window) (at : ℤ) (situation : Situation) (who : ℕ) (now : Minute)
+        → Contains (round_tasks members window at situation) (Do who (Tick now)) → now ≡ clock_reading window at (situation.skews who) }
+    ensures answers { (members : ℕ) (window : Window) (at : ℤ) (situation : Situation) (who : ℕ) → who < members
+        → situation.standing.runs who ≡ true → IsSome (situation.standing.waits who)
+        → Contains (round_tasks members window at situation) (Do who Answer) }
+    ensures asked { (members : ℕ) (window : Window) (at : ℤ) (situation : Situation) (who : ℕ)
+        → Contains (round_tasks members window at situation) (Do who Answer) → IsSome (situation.standing.waits who) }
+    ensures stopped { (members : ℕ) (window : Window) (at : ℤ) (situation : Situation) (who : ℕ) (cause : Cause)
+        → Contains (round_tasks members window at situation) (Do who cause) → situation.standing.runs who ≡ true }
+{}
+
+/// A round goes from replica to replica by number: each takes its answer, then its mail in order, and then its clock ticks.
+pub fn a_round_goes_by_number()
+    ensures { (window : Window) (at : ℤ) (situation : Situation) (answer : SchedRow) (first second third : ℕ)
+        → situation.standing.runs 0 ≡ true → situation.standing.runs 1 ≡ true
+        → situation.standing.waits 0 ≡ None → situation.standing.waits 1 ≡ Some answer
+        → situation.mails 0 ≡ first ∷ second ∷ [] → situation.mails 1 ≡ third ∷ []
+        → round_tasks 2 window at situation
+        ≡ Do 0 (Hear first) ∷ Do 0 (Hear second) ∷ Do 0 (Tick (clock_reading window at (situation.skews 0)))
+        ∷ Do 1 Answer ∷ Do 1 (Hear third) ∷ Do 1 (Tick (clock_reading window at (situation.skews 1))) ∷ [] }
+{}
+
+/// A letter that is heard leaves the mail of the replica that hears it, as the first of it.
+pub fn a_letter_that_is_heard_leaves_its_mail()
+    ensures own { (members : ℕ) (situation : Situation) (row : Row) (who number : ℕ) (made : Option CallRow)
+        → row.turn ≡ Did who (Hear number) made → (after_turn members situation row).mails who ≡ drop 1 (situation.mails who) }
+    ensures others { (members : ℕ) (situation : Situation) (row : Row) (who number other : ℕ) (made : Option CallRow)
+        → row.turn ≡ Did who (Hear number) made → other ≢ who → (after_turn members situation row).mails other ≡ situation.mails other }
+{}
+
+/// A replica that stops loses its mail, and no other does.
+pub fn a_stop_loses_the_mail_of_its_replica_alone()
+    ensures own { (members : ℕ) (situation : Situation) (row : Row) (who : ℕ) (cause : Option Cause) (kept : Bool)
+        → row.turn ≡ Stopped who cause kept → (after_turn members situation row).mails who ≡ [] }
+    ensures others { (members : ℕ) (situation : Situation) (row : Row) (who other : ℕ) (cause : Option Cause) (kept : Bool)
+        → row.turn ≡ Stopped who cause kept → other ≢ who → (after_turn members situation row).mails other ≡ situation.mails other }
+{}
+
+/// A call has the fate that is set for its replica, and spends it; no other turn does, and no other replica's fate is spent.
+pub fn a_fate_is_spent_by_its_replicas_call()
+    ensures fate { (situation : Situation) (who : ℕ) (cause : Cause) (made : CallRow)
+        → IsTurnFor situation.fates (Do who cause) (Did who cause (Some made)) → made.fate ≡ situation.fates who }
+    ensures call { (members : ℕ) (situation : Situation) (row : Row) (who : ℕ) (cause : Cause) (made : CallRow)
+        → row.turn ≡ Did who cause (Some made) → (after_turn members situation row).fates who ≡ fate.Done }
+    ensures others { (members : ℕ) (situation : Situation) (row : Row) (other : ℕ) → other ≢ turn_of row.turn
+        → (after_turn members situation row).fates other ≡ situation.fates other }
+    ensures no_call { (members : ℕ) (situation : Situation) (row : Row)
+        → ((who : ℕ) (cause : Cause) (made : CallRow) → row.turn ≡ Did who cause (Some made) → ⊥)
+        → (after_turn members situation row).fates ≡ situation.fates }
+{}
+
+/// A cut loses the letters from the one replica to the other from now on, and no other letter; what waits already stays. Once
+/// it is healed, a letter to a replica that runs reaches it.
+pub fn a_cut_loses_letters_from_now_on()
+    ensures lost { (situation : Situation) (who : ℕ) (letter : PostedLetter)
+        → reaches (set_by (command.Cut letter.from letter.to) situation) who (Some letter) ≡ false }
+    ensures others { (situation : Situation) (from to who : ℕ) (letter : PostedLetter) → (letter.from ≡ from → letter.to ≡ to → ⊥)
+        → reaches (set_by (command.Cut from to) situation) who (Some letter) ≡ reaches situation who (Some letter) }
+    ensures waiting { (situation : Situation) (from to who : ℕ) → (set_by (command.Cut from to) situation).mails who ≡ situation.mails who }
+    ensures healed { (situation : Situation) (letter : PostedLetter) → situation.standing.runs letter.to ≡ true
+        → reaches (set_by command.Heal situation) letter.to (Some letter) ≡ true }
+{}
+
+/// The letters that are dropped leave one replica's mail, are all from one replica, and are all that are from it.
+pub fn dropped_letters_are_those_of_one_replica()
+    ensures dropped { (situation : Situation) (from to number : ℕ) (letter : PostedLetter)
+        → slice_get situation.standing.posted number ≡ Some letter → letter.from ≡ from
+        → Contains ((set_by (command.Drop from to) situation).mails to) number → ⊥ }
+    ensures stays { (situation : Situation) (from to number : ℕ) (letter : PostedLetter)
+        → slice_get situation.standing.posted number ≡ Some letter → letter.from ≢ from → Contains (situation.mails to) number
+        → Contains ((set_by (command.Drop from to) situation).mails to) number }
+    ensures no_more { (situation : Situation) (from to number : ℕ) → Contains ((set_by (command.Drop from to) situation).mails to) number
+        → Contains (situation.mails to) number }
+    ensures others { (situation : Situation) (from to other : ℕ) → other ≢ to
+        → (set_by (command.Drop from to) situation).mails other ≡ situation.mails other }
+{}
+
+/// A repeat adds to a mail, behind it, each letter of it that is from the one replica, once.
+pub fn repeated_letters_join_once_each()
+    ensures behind { (situation : Situation) (from to : ℕ) → (set_by (command.Repeat from to) situation).mails to
+        ≡ situation.mails to ++ each_once (from_one situation.standing.posted from (situation.mails to)) }
+    ensures from { (situation : Situation) (from to number : ℕ) (letter : PostedLetter)
+        → slice_get situation.standing.posted number ≡ Some letter → letter.from ≡ from → Contains (situation.mails to) number
+        → Contains (each_once (from_one situation.standing.posted from (situation.mails to))) number }
+    ensures no_more { (situation : Situation) (from to number : ℕ) (letter : PostedLetter)
+        → slice_get situation.standing.posted number ≡ Some letter
+        → Contains (each_once (from_one situation.standing.posted from (situation.mails to))) number
+        → (letter.from ≡ from) × Contains (situation.mails to) number }
+    ensures once { (numbers : List ℕ) → AllPairs (λ one other. one ≢ other) (each_once numbers) }
+    ensures others { (situation : Situation) (from to other : ℕ) → other ≢ to
+        → (set_by (command.Repeat from to) situation).mails other ≡ situation.mails other }
+{}
+
+/// A mail that is reversed has its last letter first, and is as it was once it is reversed again; no other mail changes.
+pub fn a_mail_reversed_twice_is_as_it_was()
+    ensures twice { (situation : Situation) (who : ℕ)
+        → (set_by (command.Reverse who) (set_by (command.Reverse who) situation)).mails who ≡ situation.mails who }
+    ensures place { (situation : Situation) (who place : ℕ) → place < length (situation.mails who)
+        → get_or ((set_by (command.Reverse who) situation).mails who) place 0
+        ≡ get_or (situation.mails who) (length (situation.mails who) - 1 - place) 0 }
+    ensures others { (situation : Situation) (who other : ℕ) → other ≢ who
+        → (set_by (command.Reverse who) situation).mails other ≡ situation.mails other }
+{}
+
+/// A call arrives where it is late and hasn't arrived, and otherwise nothing does.
+pub fn an_arrival_is_of_a_call_that_is_late()
+    ensures arrives { (late : ℕ) (situation : Situation) → IsLate situation.standing late → arrival_tasks late situation ≡ Arrive late ∷ [] }
+    ensures none { (late : ℕ) (situation : Situation) → (IsLate situation.standing late → ⊥) → arrival_tasks late situation ≡ [] }
+{}
+
+/// Commands that set something have no turn. No book obeys a script that has a disk stop within a call, or turns in no order.
+pub fn commands_without_a_turn_have_none()
+    ensures cut { (members : ℕ) (table : Table) (from to : ℕ) (situation after : Situation) (rows : List Row)
+        → IsPartOf members table (command.Cut from to) situation rows after → rows ≡ [] }
+    ensures heal { (members : ℕ) (table : Table) (situation after : Situation) (rows : List Row)
+        → IsPartOf members table command.Heal situation rows after → rows ≡ [] }
+    ensures drop { (members : ℕ) (table : Table) (from to : ℕ) (situation after : Situation) (rows : List Row)
+        → IsPartOf members table (command.Drop from to) situation rows after → rows ≡ [] }
+    ensures repeat { (members : ℕ) (table : Table) (from to : ℕ) (situation after : Situation) (rows : List Row)
+        → IsPartOf members table (command.Repeat from to) situation rows after → rows ≡ [] }
+    ensures reverse { (members : ℕ) (table : Table) (who : ℕ) (situation after : Situation) (rows : List Row)
+        → IsPartOf members table (command.Reverse who) situation rows after → rows ≡ [] }
+    ensures again { (members : ℕ) (table : Table) (number : ℕ) (situation after : Situation) (rows : List Row)
+        → IsPartOf members table (command.Again number) situation rows after → rows ≡ [] }
+    ensures skew { (members : ℕ) (table : Table) (who : ℕ) (minutes : ℤ) (situation after : Situation) (rows : List Row)
+        → IsPartOf members table (command.Skew who minutes) situation rows after → rows ≡ [] }
+    ensures fate { (members : ℕ) (table : Table) (who : ℕ) (word : FateWord) (situation after : Situation) (rows : List Row)
+        → IsPartOf members table (command.Fate who word) situation rows after → rows ≡ [] }
+    ensures broken { (members : ℕ) (table : Table) (who pass image : ℕ) (situation after : Situation) (rows : List Row)
+        → IsPartOf members table (command.Break who pass image) situation rows after → ⊥ }
+    ensures free { (members : ℕ) (table : Table) (at : Minute) (turns : ℕ) (situation after : Situation) (rows : List Row)
+        → IsPartOf members table (command.Free at turns) situation rows after → ⊥ }
 {}
 
 /// The coordinator is the replica of the greatest prefix, and of those the one with the lowest number.
@@ -27,4 +187,42 @@ pub fn the_coordinator_has_learned_the_most()
         → prefix_of (situation.standing.replicas other) ≤ prefix_of (situation.standing.replicas (coordinator members situation)) }
     ensures first { (members : ℕ) (situation : Situation) (other : ℕ) → 0 < members → other < coordinator members situation
         → prefix_of (situation.standing.replicas other) < prefix_of (situation.standing.replicas (coordinator members situation)) }
+{}
+
+/// As settling begins, all replicas that are stopped start again, with what they had.
+pub fn settling_starts_all_that_are_stopped()
+    ensures runs { (members : ℕ) (situation : Situation) (rows : List Row) (who : ℕ)
+        → AreTurnsFor members situation (restart_tasks members situation) rows → who < members
+        → (after_turns members situation rows).standing.runs who ≡ true }
+    ensures states { (members : ℕ) (situation : Situation) (rows : List Row)
+        → AreTurnsFor members situation (restart_tasks members situation) rows
+        → (after_turns members situation rows).standing.replicas ≡ situation.standing.replicas }
+{}
+
+/// Nothing more happens at an instant at which it is quiet.
+pub fn a_quiet_situation_has_no_round()
+    ensures { (members : ℕ) (table : Table) (who : ℕ) (at : ℤ) (situation after : Situation) (rows : List Row)
+        → IsQuiet members table who at situation → Drains members table who at situation rows after
+        → (rows ≡ []) × (after ≡ situation) }
+{}
+
+/// There is at most one minute at which a walk goes on.
+pub fn a_walk_skips_no_minute()
+    ensures { (table : Table) (state : State) (above to one other : ℤ) → IsNextMinute table state above to one
+        → IsNextMinute table state above to other → one ≡ other }
+{}
+
+/// After settling it is quiet. After a walk it is quiet, and nothing is left to do up to the walk's end.
+pub fn a_walk_leaves_nothing_to_do()
+    ensures settled { (members : ℕ) (table : Table) (at : ℤ) (situation after : Situation) (rows : List Row)
+        → Settles members table at situation rows after → (who : ℕ) × IsQuiet members table who at after }
+    ensures walked { (members : ℕ) (table : Table) (to : ℤ) (situation after : Situation) (rows : List Row)
+        → Walks members table to situation rows after
+        → (who : ℕ) × (minute : ℤ) × (minute ≤ℤ to) × IsQuiet members table who minute after
+        × AsksNothingUntil table minute to (after.standing.replicas who) }
+{}
+
+/// There are turns that obey a script and are a legal book: those of one replica without jobs, for a script without commands.
+pub fn some_turns_obey_a_script()
+    ensures { (rows : List Row) × (length rows ≡ 1) × IsLegal 1 no_jobs rows × Obeys 1 no_jobs [] rows }
 {}

@@ -1,4 +1,3 @@
-use Rattle.std.proofs.Common.{rules}
 use Rattle.script_law.proofs.TurnLemmas.{as_many}
 use Rattle.script_law.proofs.laws.each_task_has_a_turn.Goals as goal
 

@@ -1,7 +1,4 @@
-use Rattle.std.proofs.Common.{rules, ◌≡◌, ℕ, ◌<◌, ◌≤◌, ◌-◌, arith}
-use Rattle.step_law.specs.State.{prefix_of}
-use Rattle.script_law.specs.Settling.{coordinator}
-use Rattle.script_law.specs.Situation.{Situation}
+use Rattle.std.proofs.Common.{◌-◌, arith}
 use Rattle.script_law.proofs.CoordinatorLemmas.{furthest_within, furthest_most, furthest_first}
 use Rattle.script_law.proofs.laws.the_coordinator_has_learned_the_most.Goals as goal
 

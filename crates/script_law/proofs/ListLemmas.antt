@@ -1,0 +1,84 @@
+-- What lists that were mapped, filtered or joined contain.
+use Rattle.std.proofs.Common.{◌≡◌, ℕ, ◌<◌, Bool, true, false, cond, List, [], ◌∷◌, map, inl, inr, sym, ap, ◌∙◌, subst, arith}
+use Rattle.std.specs.Prelude.{Contains, flat_map, filter}
+use Rattle.std.specs.List.{range_with_len}
+use Rattle.std.proofs.lemmas.Bool.{cases_Bool}
+use Rattle.std.proofs.lemmas.List.FromFn.{length-range_with_len, get_or-range_with_len}
+use Rattle.std.proofs.lemmas.List.Elements.{All-contains, All-contains_itself, All-filter, Contains-append_left, Contains-append_right, Contains-append_cases}
+use Rattle.due_set.proofs.Rising.{Contains-head, Contains-tail, Contains-cases, Contains-none}
+
+pub in_range : (members who : ℕ) → who < members → Contains (range_with_len 0 members) who
+in_range members who member =
+    let long = length-range_with_len 0 members in
+    (who, omega arith, get_or-range_with_len 0 members who who member ∙ omega arith)
+
+-- a member, and the list of it that has an item
+pub record IsJoined {X A : Type 0} (f : X → List A) (xs : List X) (a : A) : Type 0 where
+  pub origin : X
+  pub among : Contains xs origin
+  pub has : Contains (f origin) a
+
+pub in_flat_map : {X A : Type 0} (f : X → List A) (xs : List X) (x : X) (a : A) → Contains xs x → Contains (f x) a → Contains (flat_map f xs) a
+in_flat_map f [] x a among has = absurd (Contains-none x among)
+in_flat_map f (first ∷ xs) x a among has = elim (Contains-cases first xs x among) [
+  | inl same ↦ Contains-append_left (f first) (flat_map f xs) a (subst (λ y. Contains (f y) a) (sym same) has)
+  | inr more ↦ Contains-append_right (f first) (flat_map f xs) a (in_flat_map f xs x a more has)
+]
+
+pub from_flat_map : {X A : Type 0} (f : X → List A) (xs : List X) (a : A) → Contains (flat_map f xs) a → IsJoined f xs a
+from_flat_map f [] a has = absurd (Contains-none a has)
+from_flat_map f (first ∷ xs) a has = elim (Contains-append_cases (f first) (flat_map f xs) a has) [
+  | inl here ↦ record { origin = first; among = Contains-head first xs; has = here }
+  | inr more ↦ (let rest = from_flat_map f xs a more in record { origin = rest.origin; among = Contains-tail first xs rest.origin rest.among; has = rest.has })
+]
+
+-- a member of a map, and a member that it is the image of
+pub record IsMapped {X Y : Type 0} (f : X → Y) (xs : List X) (y : Y) : Type 0 where
+  pub origin : X
+  pub among : Contains xs origin
+  pub is : f origin ≡ y
+
+pub in_map : {X Y : Type 0} (f : X → Y) (xs : List X) (x : X) → Contains xs x → Contains (map f xs) (f x)
+in_map f [] x has = absurd (Contains-none x has)
+in_map f (first ∷ xs) x has = elim (Contains-cases first xs x has) [
+  | inl same ↦ subst (λ y. Contains (f first ∷ map f xs) (f y)) same (Contains-head (f first) (map f xs))
+  | inr more ↦ Contains-tail (f first) (map f xs) (f x) (in_map f xs x more)
+]
+
+pub from_map : {X Y : Type 0} (f : X → Y) (xs : List X) (y : Y) → Contains (map f xs) y → IsMapped f xs y
+from_map f [] y has = absurd (Contains-none y has)
+from_map f (first ∷ xs) y has = elim (Contains-cases (f first) (map f xs) y has) [
+  | inl same ↦ record { origin = first; among = Contains-head first xs; is = same }
+  | inr more ↦ (let rest = from_map f xs y more in record { origin = rest.origin; among = Contains-tail first xs rest.origin rest.among; is = rest.is })
+]
+
+kept_first : {X : Type 0} (b : Bool) (x : X) (xs : List X) → b ≡ true → Contains (cond b (x ∷ xs) xs) x
+kept_first true x xs is = Contains-head x xs
+kept_first false x xs is = absurd cc
+
+kept_behind : {X : Type 0} (b : Bool) (first : X) (xs : List X) (x : X) → Contains xs x → Contains (cond b (first ∷ xs) xs) x
+kept_behind true first xs x has = Contains-tail first xs x has
+kept_behind false first xs x has = has
+
+-- what passes is kept
+pub in_filter : {X : Type 0} (p : X → Bool) (xs : List X) (x : X) → p x ≡ true → Contains xs x → Contains (filter p xs) x
+in_filter p [] x passes has = absurd (Contains-none x has)
+in_filter p (first ∷ xs) x passes has = elim (Contains-cases first xs x has) [
+  | inl same ↦ subst (λ y. Contains (filter p (first ∷ xs)) y) same (kept_first (p first) first (filter p xs) (ap p same ∙ passes))
+  | inr more ↦ kept_behind (p first) first (filter p xs) x (in_filter p xs x passes more)
+]
+
+-- what is kept was there
+pub from_filter : {X : Type 0} (p : X → Bool) (xs : List X) (x : X) → Contains (filter p xs) x → Contains xs x
+from_filter p xs x has = All-contains (Contains xs) (filter p xs) x (All-filter p (Contains xs) xs (All-contains_itself xs)) has
+
+-- what is kept passes
+pub passes_filter : {X : Type 0} (p : X → Bool) (xs : List X) (x : X) → Contains (filter p xs) x → p x ≡ true
+passes_filter p [] x has = absurd (Contains-none x has)
+passes_filter p (first ∷ xs) x has = elim (cases_Bool (p first)) [
+  | inl is ↦ elim (Contains-cases first (filter p xs) x (subst (λ b. Contains (cond b (first ∷ filter p xs) (filter p xs)) x) is has)) [
+    | inl same ↦ ap p (sym same) ∙ is
+    | inr more ↦ passes_filter p xs x more
+  ]
+  | inr is ↦ passes_filter p xs x (subst (λ b. Contains (cond b (first ∷ filter p xs) (filter p xs)) x) is has)
+]
