@@ -1,0 +1,13 @@
+pub mod Foreseen
+pub mod StepLemmas
+pub mod HearLemmas
+pub mod Calls
+pub mod Joined
+pub mod AfterTurn
+pub mod Worlds
+pub mod Chains
+pub mod StepsAt
+pub mod Delivery
+pub mod RoundLemmas
+pub mod RoundsOfAll
+pub mod Starting

@@ -1,0 +1,103 @@
+-- A node that takes a step beside a book.
+use Rattle.std.proofs.Common.{◌≡◌, ℕ, ◌+◌, ◌<◌, ◌≤◌, ◌^◌, List, [], ◌∷◌, ◌++◌, length, Option, None, refl, sym, ap, subst, arith}
+use Rattle.std.proofs.lemmas.List.{length-map}
+use Rattle.cluster_sched.specs.declared.row.SchedRow.{SchedRow}
+use Rattle.disk_model.specs.Images.{Image}
+use Rattle.due_set.specs.Table.{Table}
+use Rattle.step_law.specs.Step.{IsLaunchTable}
+use Rattle.book_law.specs.Book.{Row}
+use Rattle.book_law.specs.declared.turn.Cause.{Cause}
+use Rattle.bounds_law.proofs.Books.{replicas_small}
+use Rattle.bounds_law.specs.Numbers.{IsSmallReplica}
+use Rattle.replica_core.specs.Replica.{IsSmall, ReplicaState}
+use Rattle.replica_core.specs.Step.{Steps}
+use Rattle.replica_core.specs.declared.input.Input.{Input}
+use Rattle.replica_core.specs.declared.out.StepOut.{StepOut}
+use Rattle.replica_node.specs.Node.{IsNodeAtRest, disk_of, replica_of}
+use Rattle.replica_node.specs.declared.node.Node.{Node}
+use Rattle.world_law.specs.Book.{BookState, standing_behind}
+use Rattle.world_law.specs.declared.letter.LetterRow.{LetterRow}
+use Rattle.world_rounds.proofs.Foreseen.{Foreseen, foresee}
+use Rattle.world_rounds.specs.Steps.{IsBeside, TookStep, TookSteps, WasToldOf, waits_behind, waits_in}
+use Rattle.world_rounds.specs.declared.steps.Taken.{Taken}
+
+none_behind : (steps : List Taken) → waits_behind steps None ≡ None
+none_behind [] = refl
+none_behind (taken ∷ more) = refl
+
+-- one step more
+pub took_next : (table : Table) (letters : List LetterRow) (waits : Option SchedRow) (who : ℕ) (steps : List Taken) (taken : Taken) (old middle new : ReplicaState)
+    → TookSteps table letters waits who steps old middle → TookStep table letters (waits_behind steps waits) who taken middle new
+    → TookSteps table letters waits who (steps ++ taken ∷ []) old new
+took_next table letters waits who [] taken old middle new took step = (new, subst (λ r. TookStep table letters waits who taken r new) took step, refl)
+took_next table letters waits who (first ∷ more) taken old middle new took step =
+    (took.0, took.1, took_next table letters None who more taken took.0 middle new took.2 (subst (λ w. TookStep table letters w who taken middle new) (sym (none_behind more)) step))
+
+module _ {D : Type 0} (seen : D → Image) (may_leave : D → Image → Type 0) (honest : D → Type 0) where
+  -- a node ahead of a book is small
+  pub ahead_small : (table : Table) (rows : List Row) (book : BookState) (who : ℕ) (steps : List Taken) (node : Node D)
+      → IsBeside seen may_leave honest table rows book who steps node → length book.turns < 2 ^ 31 → length steps < 2 ^ 31
+      → IsSmall (replica_of node).state (replica_of node).machine.rows
+  ahead_small table rows book who steps node beside turns more =
+      record { tried = small.tried; seen = small.seen; prefix = small.prefix; counts = small.counts (replica_of node).machine.rows launches }
+    where
+      count : length rows < 2 ^ 31
+      count = omega (arith, ap length beside.behind.turns, length-map rows (λ (row : Row). row.turn))
+
+      now : Foreseen table book.members (length rows) book.letters (waits_in table rows book who) who beside.ahead.first
+      now = record {
+        rows = rows;
+        book = book;
+        behind = beside.behind;
+        rest = beside.rest;
+        members_are = refl;
+        stands = beside.ahead.stands;
+        me = beside.ahead.me;
+        count = refl;
+        has = λ number letter there. there;
+        waiting = λ row is. is;
+      }
+
+      seen_later : (late : Option SchedRow) × Foreseen table book.members (length rows + length steps) book.letters late who (replica_of node)
+      seen_later = foresee table book.members (length rows) book.letters (waits_in table rows book who) who steps beside.ahead.first (replica_of node) beside.few now beside.ahead.took
+
+      later : Foreseen table book.members (length rows + length steps) book.letters seen_later.0 who (replica_of node)
+      later = seen_later.1
+
+      few_later : later.book.members ≤ 7
+      few_later = rw later.members_are beside.few
+
+      turns_later : length later.rows < 2 ^ 59
+      turns_later =
+          let same : length later.rows ≡ length rows + length steps = later.count in
+          let most : length rows < 2 ^ 31 = count in omega arith
+
+      stood : IsSmallReplica table ((standing_behind table later.rows later.book).replicas (replica_of node).identity.me)
+      stood = replicas_small later.book.members table later.rows (replica_of node).identity.me few_later beside.sound later.behind.legal turns_later later.stands.member
+
+      small : IsSmallReplica table (replica_of node).state
+      small = subst (λ state. IsSmallReplica table state) (sym later.stands.state) stood
+
+      launches : IsLaunchTable table (replica_of node).state (replica_of node).machine.rows
+      launches = later.stands.of_table.rows
+
+  -- and is one step more ahead of it after the next
+  pub beside_next : (table : Table) (rows : List Row) (book : BookState) (who : ℕ) (steps : List Taken) (old new : Node D) (cause : Cause) (input : Input) (out : StepOut)
+      → WasToldOf seen may_leave honest table rows book who steps old cause input → IsNodeAtRest seen may_leave honest table new → honest (disk_of new)
+      → Steps table input (replica_of old) (replica_of new) out → IsBeside seen may_leave honest table rows book who (steps ++ record { cause = cause; out = out } ∷ []) new
+  beside_next table rows book who steps old new cause input out told rest trusted stepped = record {
+    sound = told.beside.sound;
+    behind = told.beside.behind;
+    rest = told.beside.rest;
+    few = told.beside.few;
+    ahead = record {
+      at_rest = rest;
+      trusted = trusted;
+      first = told.beside.ahead.first;
+      stands = told.beside.ahead.stands;
+      me = told.beside.ahead.me;
+      took =
+          took_next table book.letters (waits_in table rows book who) who steps (record { cause = cause; out = out }) told.beside.ahead.first (replica_of old) (replica_of new)
+          told.beside.ahead.took (record { input = input; is_told = told.is_told; inside = told.inside; steps = stepped });
+    };
+  }

@@ -1,0 +1,113 @@
+-- The steps that a replica has taken beside a book, which has no turns of them yet.
+use Rattle.std.specs.Prelude.{◌≡◌, ℕ, ◌≤◌, List, [], ◌∷◌, Option, None, Some, Contains, map, slice_get}
+use Rattle.cluster_sched.specs.declared.row.SchedRow.{SchedRow}
+use Rattle.disk_model.specs.Images.{Image}
+use Rattle.due_set.specs.Table.{IsSound, Table}
+use Rattle.book_law.specs.Book.{Row}
+use Rattle.book_law.specs.declared.turn.Cause.{Cause}
+use Rattle.book_law.specs.declared.turn.Cause.TheVariants.{Campaign, Tick, Hear, Answer}
+use Rattle.replica_core.specs.Replica.{ReplicaState}
+use Rattle.replica_core.specs.Step.{IsInputInside, Steps}
+use Rattle.replica_core.specs.declared.input.Input.{Input}
+use Rattle.replica_core.specs.declared.input.Input.TheVariants as told
+use Rattle.replica_node.specs.Node.{IsNodeAtRest, disk_of, replica_of}
+use Rattle.replica_node.specs.declared.node.Node.{Node}
+use Rattle.world_law.specs.Book.{BookState, StandsBehind, standing_behind}
+use Rattle.world_law.specs.Replicas.{IsLetterInput, StandsAt}
+use Rattle.world_law.specs.declared.letter.LetterRow.{LetterRow}
+use Rattle.world_rounds.specs.declared.steps.Taken.{Taken}
+
+-- the letter of that number goes to the replica
+pub record IsSentTo (letters : List LetterRow) (who number : ℕ) : Type 0 where
+  pub letter : LetterRow
+  pub there : slice_get letters number ≡ Some letter
+  pub to : letter.to ≡ who
+
+-- the input is a letter of that number, which goes to the replica
+pub record IsLetterOf (letters : List LetterRow) (who number : ℕ) (input : Input) : Type 0 where
+  pub sent : IsSentTo letters who number
+  pub is : IsLetterInput input sent.letter.bytes
+
+-- the input is the answer that waits
+pub record IsAnswerOf (waits : Option SchedRow) (input : Input) : Type 0 where
+  pub row : SchedRow
+  pub waiting : waits ≡ Some row
+  pub is : input ≡ told.Answer row.name.job row.name.at row.kind
+
+-- by which input a replica is told of a cause, of these letters and with this answer that waits for it
+abbrev pub IsToldOf : (letters : List LetterRow) → (waits : Option SchedRow) → (who : ℕ) → Cause → Input → Type 0
+IsToldOf letters waits who Campaign input = input ≡ told.Campaign
+IsToldOf letters waits who (Tick now) input = input ≡ told.Tick now
+IsToldOf letters waits who (Hear number) input = IsLetterOf letters who number input
+IsToldOf letters waits who Answer input = IsAnswerOf waits input
+
+-- a replica took the step
+pub record TookStep (table : Table) (letters : List LetterRow) (waits : Option SchedRow) (who : ℕ) (taken : Taken) (old new : ReplicaState) : Type 0 where
+  pub input : Input
+  pub is_told : IsToldOf letters waits who taken.cause input
+  pub inside : IsInputInside table input
+  pub steps : Steps table input old new taken.out
+
+-- a replica took the steps, one after another, of which the first alone may take the answer that waits
+abbrev pub TookSteps : Table → List LetterRow → Option SchedRow → ℕ → List Taken → ReplicaState → ReplicaState → Type 0
+TookSteps table letters waits who [] old new = new ≡ old
+TookSteps table letters waits who (taken ∷ more) old new =
+    (middle : ReplicaState) × TookStep table letters waits who taken old middle × TookSteps table letters None who more middle new
+
+-- the answer that waits after some steps, before they are turns
+abbrev pub waits_behind : List Taken → Option SchedRow → Option SchedRow
+waits_behind [] waits = waits
+waits_behind (taken ∷ more) waits = None
+
+-- the answer that waits for a replica, by some rows
+abbrev pub waits_in : Table → List Row → BookState → ℕ → Option SchedRow
+waits_in table rows book who = (standing_behind table rows book).waits who
+
+-- A node that runs, and is as many steps ahead of the book behind which these rows stand: its replica stood where the book has it, and
+-- has taken the steps since.
+pub record IsNodeAhead {D : Type 0} (seen : D → Image) (may_leave : D → Image → Type 0) (honest : D → Type 0) (table : Table) (rows : List Row) (book : BookState) (who : ℕ) (steps : List Taken) (node : Node D) : Type 0 where
+  pub at_rest : IsNodeAtRest seen may_leave honest table node
+  pub trusted : honest (disk_of node)
+  pub first : ReplicaState
+  pub stands : StandsAt table rows book first
+  pub me : first.identity.me ≡ who
+  pub took : TookSteps table book.letters (waits_in table rows book who) who steps first (replica_of node)
+
+-- the node is so many steps ahead of a book at rest, behind which these rows stand
+pub record IsBeside {D : Type 0} (seen : D → Image) (may_leave : D → Image → Type 0) (honest : D → Type 0) (table : Table) (rows : List Row) (book : BookState) (who : ℕ) (steps : List Taken) (node : Node D) : Type 0 where
+  pub sound : IsSound table
+  pub behind : StandsBehind table rows book
+  pub rest : book.pending ≡ None
+  pub few : book.members ≤ 7
+  pub ahead : IsNodeAhead seen may_leave honest table rows book who steps node
+
+-- and is told of a cause
+pub record WasToldOf {D : Type 0} (seen : D → Image) (may_leave : D → Image → Type 0) (honest : D → Type 0) (table : Table) (rows : List Row) (book : BookState) (who : ℕ) (steps : List Taken) (node : Node D) (cause : Cause) (input : Input) : Type 0 where
+  pub beside : IsBeside seen may_leave honest table rows book who steps node
+  pub is_told : IsToldOf book.letters (waits_behind steps (waits_in table rows book who)) who cause input
+  pub inside : IsInputInside table input
+
+-- it takes the answer that waits for it, where one does
+pub record MayTakeAnswer {D : Type 0} (seen : D → Image) (may_leave : D → Image → Type 0) (honest : D → Type 0) (table : Table) (rows : List Row) (book : BookState) (who : ℕ) (waits : Option SchedRow) (node : Node D) : Type 0 where
+  pub beside : IsBeside seen may_leave honest table rows book who [] node
+  pub waiting : waits ≡ waits_in table rows book who
+
+-- it hears letters that go to it
+pub record MayHear {D : Type 0} (seen : D → Image) (may_leave : D → Image → Type 0) (honest : D → Type 0) (table : Table) (rows : List Row) (book : BookState) (who : ℕ) (steps : List Taken) (node : Node D) (letters : List ℕ) : Type 0 where
+  pub beside : IsBeside seen may_leave honest table rows book who steps node
+  pub sent : (number : ℕ) → Contains letters number → IsSentTo book.letters who number
+
+-- ---- what steps were taken for
+
+-- the causes of some steps
+abbrev pub causes_of : List Taken → List Cause
+causes_of steps = map (λ taken. taken.cause) steps
+
+-- an answer that waits is taken
+abbrev pub answer_causes : Option SchedRow → List Cause
+answer_causes None = []
+answer_causes (Some row) = Answer ∷ []
+
+-- the letters of these numbers are heard
+abbrev pub hear_causes : List ℕ → List Cause
+hear_causes letters = map Hear letters

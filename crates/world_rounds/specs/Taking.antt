@@ -1,0 +1,76 @@
+-- How a world goes on by turns, one after another.
+use Rattle.std.specs.Prelude.{◌≡◌, ◌≢◌, ℕ, ◌<◌, List, [], ◌++◌, length, map, Option, None, Some, slice_get}
+use Rattle.disk_model.specs.Images.{Image}
+use Rattle.due_set.specs.Table.{Table}
+use Rattle.book_law.specs.Book.{Row, with_fact}
+use Rattle.book_law.specs.declared.turn.Cause.{Cause}
+use Rattle.script_law.specs.Situation.{AreTurnsFor, Do, Situation, Task, after_turns}
+use Rattle.world_rounds.specs.Steps.{causes_of}
+use Rattle.world_rounds.specs.World.{IsWorldAhead, book_of}
+use Rattle.world_rounds.specs.declared.member.Member.{Member}
+use Rattle.world_rounds.specs.declared.steps.Taken.{Taken}
+use Rattle.world_rounds.specs.declared.world.World.{World}
+
+-- what a replica is to do for some causes
+abbrev pub tasks_by : ℕ → List Cause → List Task
+tasks_by who causes = map (Do who) causes
+
+-- the turns of these tasks have been taken, and these steps are left
+pub record HasTaken {D : Type 0} (seen : D → Image) (may_leave : D → Image → Type 0) (honest : D → Type 0) (table : Table) (members : ℕ) (rows : List Row) (situation : Situation) (tasks : List Task) (left : ℕ → List Taken) (world : World D) : Type 0 where
+  pub members_are : (book_of world).members ≡ members
+  pub more : List Row
+  pub turns : AreTurnsFor members situation tasks more
+  pub ahead : IsWorldAhead seen may_leave honest table (rows ++ more) world (after_turns members situation more) left
+
+-- a replica of the world is a step ahead, and then some
+pub record MayCommit {D : Type 0} (seen : D → Image) (may_leave : D → Image → Type 0) (honest : D → Type 0) (table : Table) (world : World D) (who : ℕ) (steps : List Taken) : Type 0 where
+  pub rows : List Row
+  pub situation : Situation
+  pub ahead_by : ℕ → List Taken
+  pub ahead : IsWorldAhead seen may_leave honest table rows world situation ahead_by
+  pub mine : ahead_by who ≡ steps
+  pub member : who < length world.members.items
+
+-- **The world has taken some turns of a replica**: whatever it was, the first steps of the replica are turns, and the others are left.
+abbrev pub Commits : {D : Type 0} → (seen : D → Image) → (may_leave : D → Image → Type 0) → (honest : D → Type 0) → Table → (who : ℕ) → (steps more : List Taken) → (old new : World D) → Type 0
+Commits seen may_leave honest table who steps more old new =
+    (rows : List Row) (situation : Situation) (ahead_by : ℕ → List Taken) → IsWorldAhead seen may_leave honest table rows old situation ahead_by
+    → ahead_by who ≡ steps ++ more
+    → HasTaken seen may_leave honest table (book_of old).members rows situation (tasks_by who (causes_of steps)) (with_fact who more ahead_by) new
+
+-- ---- by the steps that the replicas of a world have at hand
+
+-- the steps of a replica that aren't turns yet
+abbrev pub steps_of : {D : Type 0} → Option (Member D) → List Taken
+steps_of None = []
+steps_of (Some member) = member.steps.items
+
+abbrev pub steps_at : {D : Type 0} → World D → ℕ → List Taken
+steps_at world who = steps_of (slice_get world.members.items who)
+
+-- each replica of the world is ahead of the book by just those
+abbrev pub IsAhead : {D : Type 0} → (seen : D → Image) → (may_leave : D → Image → Type 0) → (honest : D → Type 0) → Table → List Row → World D → Situation → Type 0
+IsAhead seen may_leave honest table rows world situation = IsWorldAhead seen may_leave honest table rows world situation (steps_at world)
+
+-- so they are, for some rows and in some situation
+pub record MayCommitOwn {D : Type 0} (seen : D → Image) (may_leave : D → Image → Type 0) (honest : D → Type 0) (table : Table) (world : World D) : Type 0 where
+  pub rows : List Row
+  pub situation : Situation
+  pub ahead : IsAhead seen may_leave honest table rows world situation
+
+-- **The world has taken the turns of a replica's steps**, and those of others are left.
+abbrev pub CommitsOwn : {D : Type 0} → (seen : D → Image) → (may_leave : D → Image → Type 0) → (honest : D → Type 0) → Table → (who : ℕ) → (old new : World D) → Type 0
+CommitsOwn seen may_leave honest table who old new =
+    (rows : List Row) (situation : Situation) → IsAhead seen may_leave honest table rows old situation
+    → HasTaken seen may_leave honest table (book_of old).members rows situation (tasks_by who (causes_of (steps_at old who))) (steps_at new) new
+
+-- each replica has the steps at hand that it had
+pub record KeepsSteps {D : Type 0} (old new : World D) : Type 0 where
+  pub each : (who : ℕ) → steps_at new who ≡ steps_at old who
+  pub count : length new.members.items ≡ length old.members.items
+
+-- one replica has put down its steps, and the others have those that they had
+pub record PutsDown {D : Type 0} (who : ℕ) (old new : World D) : Type 0 where
+  pub mine : steps_at new who ≡ []
+  pub others : (other : ℕ) → other ≢ who → steps_at new other ≡ steps_at old other
+  pub count : length new.members.items ≡ length old.members.items

@@ -1,0 +1,49 @@
+-- A step that becomes a turn of a book.
+use Rattle.std.specs.Prelude.{◌≡◌, ℕ, ◌≤◌, List, [], ◌∷◌, ◌++◌, Option, None, Some, IfSome, slice_get}
+use Rattle.cluster_sched.specs.declared.fate.Fate.{Fate}
+use Rattle.due_set.specs.Table.{Table}
+use Rattle.book_law.specs.Book.{Row}
+use Rattle.book_law.specs.declared.turn.CallRow.{CallRow}
+use Rattle.book_law.specs.declared.turn.Turn.TheVariants.{Did}
+use Rattle.replica_core.specs.Replica.{ReplicaState}
+use Rattle.world_law.specs.Book.{BookState, StandsBehind}
+use Rattle.world_law.specs.Replicas.{StandsAt}
+use Rattle.world_law.specs.declared.letter.LetterRow.{LetterRow}
+use Rattle.world_rounds.specs.Steps.{TookStep, waits_in}
+use Rattle.world_rounds.specs.declared.steps.Taken.{Taken}
+
+-- a book has these letters, each at its number
+abbrev pub HasLetters : List LetterRow → BookState → Type 0
+HasLetters letters book = (number : ℕ) (letter : LetterRow) → slice_get letters number ≡ Some letter → slice_get book.letters number ≡ Some letter
+
+-- A replica that stands where these rows of a book leave it has taken a step beside the book.
+pub record IsNextStep (table : Table) (rows : List Row) (book : BookState) (who : ℕ) (taken : Taken) (old new : ReplicaState) : Type 0 where
+  pub behind : StandsBehind table rows book
+  pub rest : book.pending ≡ None
+  pub few : book.members ≤ 7
+  pub stands : StandsAt table rows book old
+  pub me : old.identity.me ≡ who
+  pub step : TookStep table book.letters (waits_in table rows book who) who taken old new
+
+-- so it has, by some rows
+pub record MayJoin (table : Table) (book : BookState) (who : ℕ) (taken : Taken) : Type 0 where
+  pub rows : List Row
+  pub old : ReplicaState
+  pub new : ReplicaState
+  pub next : IsNextStep table rows book who taken old new
+
+-- The step's turn has joined the book, with the call that was made for it, of which this was to become.
+pub record HasJoined (table : Table) (rows : List Row) (old new : BookState) (who : ℕ) (taken : Taken) (fate : Fate) (made : Option CallRow) (row : Row) : Type 0 where
+  pub turn : row.turn ≡ Did who taken.cause made
+  pub letters : row.letters ≡ taken.out.letters
+  pub fated : IfSome made (λ call. call.fate ≡ fate)
+  pub behind : StandsBehind table (rows ++ row ∷ []) new
+  pub rest : new.pending ≡ None
+  pub members : new.members ≡ old.members
+  pub has : HasLetters old.letters new
+
+-- and the replica stands where that leaves it
+pub record HasJoinedAt (table : Table) (rows : List Row) (old new : BookState) (who : ℕ) (taken : Taken) (fate : Fate) (made : Option CallRow) (replica : ReplicaState) : Type 0 where
+  pub row : Row
+  pub joined : HasJoined table rows old new who taken fate made row
+  pub stands : StandsAt table (rows ++ row ∷ []) new replica

@@ -1,0 +1,113 @@
+-- A world of replicas, by the situation in which they are.
+use Rattle.std.specs.Prelude.{◌≡◌, ℕ, ◌≤◌, true, false, List, [], ◌∷◌, ◌++◌, length, Option, None, Some, Contains, slice_get, ℤ, pos, negsuc, ◌≤ℤ◌}
+use Rattle.std.specs.List.{flat_map}
+use Rattle.cluster_sched.specs.declared.fate.Fate.{Fate}
+use Rattle.cluster_sched.specs.declared.fate.Fate.TheVariants as becomes
+use Rattle.disk_model.specs.Images.{Image}
+use Rattle.due_set.specs.Table.{IsSound, Table}
+use Rattle.step_law.specs.State.{started}
+use Rattle.agree_law.specs.Transition.{identity_of}
+use Rattle.book_law.specs.Book.{Row, Standing, answer_to}
+use Rattle.book_law.specs.declared.turn.CallRow.{CallRow}
+use Rattle.book_law.specs.declared.turn.Cause.{Cause}
+use Rattle.book_law.specs.declared.turn.Cause.TheVariants.{Hear}
+use Rattle.replica_node.specs.Node.{IsNodeAtRest, disk_of, replica_of}
+use Rattle.replica_node.specs.declared.node.Node.{Node}
+use Rattle.script_law.specs.Situation.{Situation, is_cut}
+use Rattle.world_law.specs.Book.{BookState, StandsBehind, standing_behind}
+use Rattle.world_law.specs.declared.letter.LetterRow.{LetterRow}
+use Rattle.world_rounds.specs.Steps.{IsNodeAhead, IsSentTo, causes_of}
+use Rattle.world_rounds.specs.declared.member.Mail.{Mail}
+use Rattle.world_rounds.specs.declared.member.Member.{Member}
+use Rattle.world_rounds.specs.declared.steps.Taken.{Taken}
+use Rattle.world_rounds.specs.declared.world.World.{World}
+
+-- the letter that is heard for a cause
+abbrev pub heard_for : Cause → List ℕ
+heard_for (Hear number) = number ∷ []
+heard_for cause = []
+
+-- the letters that are heard for some causes
+abbrev pub heard_in : List Cause → List ℕ
+heard_in causes = flat_map heard_for causes
+
+-- The rows stand behind a book at rest, of a table of jobs and at most seven replicas, and this is the situation after them.
+pub record IsBookAt (table : Table) (rows : List Row) (book : BookState) (situation : Situation) : Type 0 where
+  pub sound : IsSound table
+  pub behind : StandsBehind table rows book
+  pub rest : book.pending ≡ None
+  pub few : book.members ≤ 7
+  pub standing : situation.standing ≡ standing_behind table rows book
+
+-- a clock is at most 10,000 minutes ahead or behind
+pub record IsSkew (minutes : ℤ) : Type 0 where
+  pub least : negsuc 9_999 ≤ℤ minutes
+  pub most : minutes ≤ℤ pos 10_000
+
+-- What a world has of a replica is what the situation has, but for the letters that were heard in steps that aren't turns yet; and the
+-- letters of its mail go to it.
+pub record IsMailOf (letters : List LetterRow) (situation : Situation) (who : ℕ) (steps : List Taken) (mail : Mail) : Type 0 where
+  pub runs : mail.runs ≡ situation.standing.runs who
+  pub letters_are : situation.mails who ≡ heard_in (causes_of steps) ++ mail.letters.items
+  pub skew : mail.skew ≡ situation.skews who
+  pub small : IsSkew mail.skew
+  pub fate : mail.fate ≡ situation.fates who
+  pub waits : mail.waits ≡ situation.standing.waits who
+  pub sent : (number : ℕ) → Contains mail.letters.items number → IsSentTo letters who number
+
+-- the node of a replica that is stopped: it keeps what the replica does, and has taken no step
+pub record IsNodeStopped {D : Type 0} (seen : D → Image) (may_leave : D → Image → Type 0) (honest : D → Type 0) (table : Table) (members : ℕ) (standing : Standing) (who : ℕ) (steps : List Taken) (node : Node D) : Type 0 where
+  pub at_rest : IsNodeAtRest seen may_leave honest table node
+  pub trusted : honest (disk_of node)
+  pub identity : (replica_of node).identity ≡ identity_of members who
+  pub none : steps ≡ []
+  pub kept : standing.replicas who ≡ started who (replica_of node).state.kept
+
+-- a replica of the world, which may be some steps ahead of the book
+pub record IsMemberAhead {D : Type 0} (seen : D → Image) (may_leave : D → Image → Type 0) (honest : D → Type 0) (table : Table) (rows : List Row) (book : BookState) (situation : Situation) (who : ℕ) (steps : List Taken) (member : Member D) : Type 0 where
+  pub mail : IsMailOf book.letters situation who steps member.mail
+  pub running : (standing_behind table rows book).runs who ≡ true → IsNodeAhead seen may_leave honest table rows book who steps member.node
+  pub stopped : (standing_behind table rows book).runs who ≡ false → IsNodeStopped seen may_leave honest table book.members (standing_behind table rows book) who steps member.node
+
+-- The world is in this situation, and behind its book stand these rows; of each replica there may be steps that aren't turns yet.
+pub record IsWorldAhead {D : Type 0} (seen : D → Image) (may_leave : D → Image → Type 0) (honest : D → Type 0) (table : Table) (rows : List Row) (world : World D) (situation : Situation) (steps : ℕ → List Taken) : Type 0 where
+  pub at : IsBookAt table rows world.book situation
+  pub count : length world.members.items ≡ world.book.members
+  pub each : (who : ℕ) (member : Member D) → slice_get world.members.items who ≡ Some member
+      → IsMemberAhead seen may_leave honest table rows world.book situation who (steps who) member
+  pub cuts : (from to : ℕ) → is_cut from to world.cuts.items ≡ is_cut from to situation.cuts
+  pub latest : world.latest.0 ≡ situation.latest
+
+-- the fate of the next call behind a step, which may have made one
+abbrev pub fate_then : Option CallRow → Fate → Fate
+fate_then None set = set
+fate_then (Some made) set = becomes.Done
+
+-- what is set for a replica behind its step: an answer of the call that the step has made waits for it
+abbrev pub noted : Option CallRow → Mail → Mail
+noted made mail = record mail { waits = answer_to made; fate = fate_then made mail.fate }
+
+-- the book of a world
+abbrev pub book_of : {D : Type 0} → World D → BookState
+book_of world = world.book
+
+-- no step has been taken that isn't a turn
+abbrev pub none_taken : ℕ → List Taken
+none_taken who = []
+
+-- **The world is in this situation**, and behind its book stand these rows.
+pub record IsWorldAt {D : Type 0} (seen : D → Image) (may_leave : D → Image → Type 0) (honest : D → Type 0) (table : Table) (rows : List Row) (world : World D) (situation : Situation) : Type 0 where
+  pub ahead : IsWorldAhead seen may_leave honest table rows world situation none_taken
+  pub idle : (who : ℕ) (member : Member D) → slice_get world.members.items who ≡ Some member → member.steps.items ≡ []
+
+-- so it is, for some rows and in some situation
+pub record IsWorld {D : Type 0} (seen : D → Image) (may_leave : D → Image → Type 0) (honest : D → Type 0) (table : Table) (world : World D) : Type 0 where
+  pub rows : List Row
+  pub situation : Situation
+  pub is : IsWorldAt seen may_leave honest table rows world situation
+
+-- **The world goes on by a part**: from whichever situation it was in, some turns are added that are such a part.
+abbrev pub GoesOnBy : {D : Type 0} → (seen : D → Image) → (may_leave : D → Image → Type 0) → (honest : D → Type 0) → Table → (part : Situation → List Row → Situation → Type 0) → (old new : World D) → Type 0
+GoesOnBy seen may_leave honest table part old new =
+    (rows : List Row) (situation : Situation) → IsWorldAt seen may_leave honest table rows old situation
+    → (more : List Row) × (after : Situation) × part situation more after × IsWorldAt seen may_leave honest table (rows ++ more) new after

@@ -1,0 +1,15 @@
+//! Replicas in rounds, each a node on a disk of its own, and the book of their turns.
+#![tactic(auto)]
+
+mod fault;
+mod mails;
+mod member;
+mod rounds;
+mod start;
+mod steps;
+mod turns;
+mod world;
+
+pub use fault::WorldFault;
+pub use steps::Taken;
+pub use world::World;

@@ -1,0 +1,94 @@
+//! A replica of a world.
+ghost use Rattle.std.specs.Prelude.{◌≡◌, OnOk};
+ghost use Rattle.script_law.specs.Round.{clock_reading};
+ghost use Rattle.zone_minutes.specs.Window.{IsInWindow, IsWithinLimits};
+ghost use Rattle.world_rounds.specs.Rounds.{MayTakeRound, TakesRound};
+ghost use Rattle.world_rounds.specs.World.{IsSkew};
+
+use crate::fault::WorldFault;
+use crate::steps::{Taken, hear_letters, take_answer, take_step};
+use book_law::Cause;
+use cluster_sched::{Fate, SchedRow};
+use disk_model::Disk;
+use due_set::JobTable;
+use replica_core::Input;
+use replica_node::Node;
+use world_law::Book;
+use zone_minutes::{Minute, Window};
+
+/// What is on its way to a replica, and what is set for it.
+#[derive(Debug, Drop)]
+pub(crate) struct Mail {
+    // Whether it runs.
+    pub(crate) runs: bool,
+    // The numbers of the letters that wait for it.
+    pub(crate) letters: Vec<u64>,
+    // How many minutes its clock is ahead.
+    pub(crate) skew: i64,
+    // What becomes of its next call.
+    pub(crate) fate: Fate,
+    // The answer that waits for it.
+    pub(crate) waits: Option<SchedRow>,
+}
+
+/// A replica: its node, also while it is stopped, its mail, and the steps that it has taken since its last turn.
+#[derive(Debug, Drop)]
+pub(crate) struct Member<D> {
+    pub(crate) node: Node<D>,
+    pub(crate) mail: Mail,
+    pub(crate) steps: Vec<Taken>,
+}
+
+// What a replica's clock reads at an instant, held within the window.
+fn reading_of(mail: &Mail, window: Window, at: Minute) -> Minute
+    requires limits { IsWithinLimits window }
+    requires inside { IsInWindow window at.0 }
+    requires small { IsSkew mail.now.skew }
+    ensures { result ≡ clock_reading window at.0 mail.now.skew }
+{
+    let last = window.until.0 - 1;
+    Minute((at.0 + mail.skew).min(last).max(window.from.0))
+}
+
+impl<D: Disk> Member<D> {
+    // Where it runs, takes its steps of a round: it takes the answer that waits for it, hears its mail, and its clock ticks.
+    pub(crate) fn take_round(
+        &mut self,
+        table: &JobTable,
+        book: &Book,
+        at: Minute,
+    ) -> Result<(), WorldFault>
+        requires inside { IsInWindow table.now.window at.0 }
+        requires may { MayTakeRound D.seen D.may_leave D.honest table.now book.now self.old }
+        ensures takes { OnOk result (TakesRound D.seen D.may_leave D.honest table.now book.now at.0 self.old self.new) }
+    {
+        if !self.mail.runs {
+            return Ok(());
+        }
+        take_answer(
+            &mut self.node,
+            &mut self.steps,
+            table,
+            book,
+            self.mail.waits,
+        )?;
+        hear_letters(
+            &mut self.node,
+            &mut self.steps,
+            table,
+            book,
+            &self.mail.letters,
+        )?;
+        self.mail.letters.clear();
+        let now = reading_of(&self.mail, table.window(), at);
+        take_step(
+            &mut self.node,
+            &mut self.steps,
+            table,
+            book,
+            Cause::Tick { now },
+            Input::Tick { now },
+        )?;
+        Ok(())
+    }
+}

@@ -1,0 +1,77 @@
+//! Rounds: each replica takes its steps on its own, and then their turns join the book in the order of the replicas' numbers.
+ghost use Rattle.std.specs.Prelude.{◌≡◌, ℕ, Some, OnOk, OnErr, slice_get};
+ghost use Rattle.zone_minutes.specs.Window.{IsInWindow};
+ghost use Rattle.script_law.specs.Round.{AreRounds, IsRound};
+ghost use Rattle.world_law.specs.Book.{IsLegalBook};
+ghost use Rattle.world_rounds.specs.Rounds.{AllTakeRounds, CommitsAll, MayTakeRound};
+ghost use Rattle.world_rounds.specs.Taking.{MayCommitOwn};
+ghost use Rattle.world_rounds.specs.World.{GoesOnBy, IsWorld, book_of};
+ghost use Rattle.world_rounds.specs.declared.member.Member.{Member as Seat};
+
+use crate::fault::WorldFault;
+use crate::member::Member;
+use crate::world::World;
+use disk_model::Disk;
+use due_set::JobTable;
+use world_law::Book;
+use zone_minutes::Minute;
+
+// Each replica takes its steps of a round.
+fn take_rounds<D: Disk>(
+    members: &mut [Member<D>],
+    table: &JobTable,
+    book: &Book,
+    at: Minute,
+) -> Result<(), WorldFault>
+    requires inside { IsInWindow table.now.window at.0 }
+    requires may { (who : ℕ) (member : Seat D) → slice_get members.old who ≡ Some member → MayTakeRound D.seen D.may_leave D.honest table.now book.now member }
+    ensures takes { OnOk result (AllTakeRounds D.seen D.may_leave D.honest table.now book.now at.0 members.old members.new) }
+{
+    'members: for member in members {
+        member.take_round(table, book, at)?;
+    }
+    Ok(())
+}
+
+impl<D: Disk> World<D> {
+    // The turns of the steps that the replicas have taken join the book, in the order of their numbers.
+    fn commit_all(&mut self, table: &JobTable) -> Result<(), WorldFault>
+        requires may { MayCommitOwn D.seen D.may_leave D.honest table.now self.old }
+        ensures commits { OnOk result (CommitsAll D.seen D.may_leave D.honest table.now self.old self.new) }
+        ensures legal { OnErr result (IsLegalBook table.now (book_of self.new)) }
+    {
+        let members = self.members.len() as u8;
+        'whos: for who in 0..members {
+            self.commit_steps(table, who)?;
+        }
+        Ok(())
+    }
+
+    // A round at an instant.
+    pub(crate) fn round_once(&mut self, table: &JobTable, at: Minute) -> Result<(), WorldFault>
+        requires world { IsWorld D.seen D.may_leave D.honest table.now self.old }
+        requires inside { IsInWindow table.now.window at.0 }
+        ensures goes { OnOk result (GoesOnBy D.seen D.may_leave D.honest table.now (IsRound (book_of self.old).members table.now.window at.0) self.old self.new) }
+        ensures members { OnOk result ((book_of self.new).members ≡ (book_of self.old).members) }
+        ensures legal { OnErr result (IsLegalBook table.now (book_of self.new)) }
+    {
+        let first = self.book.letters().len() as u64;
+        take_rounds(&mut self.members, table, &self.book, at)?;
+        self.commit_all(table)?;
+        self.deliver(first)?;
+        Ok(())
+    }
+
+    /// So many rounds at an instant.
+    pub fn round(&mut self, table: &JobTable, at: Minute, rounds: u32) -> Result<(), WorldFault>
+        requires world { IsWorld D.seen D.may_leave D.honest table.now self.old }
+        requires inside { IsInWindow table.now.window at.0 }
+        ensures goes { OnOk result (GoesOnBy D.seen D.may_leave D.honest table.now (AreRounds (book_of self.old).members table.now.window at.0 rounds) self.old self.new) }
+        ensures legal { OnErr result (IsLegalBook table.now (book_of self.new)) }
+    {
+        'rounds: for _round in 0..rounds {
+            self.round_once(table, at)?;
+        }
+        Ok(())
+    }
+}
