@@ -1,4 +1,5 @@
 pub mod CoordinatorLemmas
+pub mod LetterLemmas
 pub mod ListLemmas
 pub mod MailLemmas
 pub mod RoundLemmas
