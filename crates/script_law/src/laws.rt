@@ -129,7 +129,7 @@ pub fn a_command_has_its_turn_where_it_may_come()
         → tasks_for (command.Restart who) situation ≡ [] }
 {}
 
-/// A skew or a fate is set for its replica alone; a letter that is sent again joins its addressee's mail, if that runs.
+/// A skew or a fate is set for its replica alone; a letter that comes again joins its addressee's mail, if that runs.
 pub fn a_setting_is_of_its_replica_alone()
     ensures skew { (situation : Situation) (who : ℕ) (minutes : ℤ) → (set_by (command.Skew who minutes) situation).skews who ≡ minutes }
     ensures other_skews { (situation : Situation) (who other : ℕ) (minutes : ℤ) → other ≢ who
@@ -257,6 +257,12 @@ pub fn settling_starts_all_that_are_stopped()
         → (after_turns members situation rows).standing.replicas ≡ situation.standing.replicas }
     ensures faults { (situation : Situation) (who : ℕ) → ((calmed situation).mails who ≡ []) × ((calmed situation).cuts ≡ [])
         × ((calmed situation).skews who ≡ pos 0) × ((calmed situation).fates who ≡ fate.Done) }
+{}
+
+/// After settling each replica runs.
+pub fn all_run_after_settling()
+    ensures { (members : ℕ) (table : Table) (at : ℤ) (situation after : Situation) (rows : List Row) (who : ℕ)
+        → Settles members table at situation rows after → who < members → after.standing.runs who ≡ true }
 {}
 
 /// Nothing more happens at an instant at which it is quiet.
