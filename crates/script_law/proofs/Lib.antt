@@ -1,7 +1,9 @@
 pub mod CoordinatorLemmas
+pub mod LetterLemmas
 pub mod ListLemmas
 pub mod MailLemmas
 pub mod RoundLemmas
+pub mod RunningLemmas
 pub mod SomeScript
 pub mod StartLemmas
 pub mod TurnLemmas

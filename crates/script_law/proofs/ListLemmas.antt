@@ -1,5 +1,5 @@
 -- What lists that were mapped, filtered or joined contain.
-use Rattle.std.proofs.Common.{◌≡◌, ℕ, ◌<◌, Bool, true, false, cond, List, [], ◌∷◌, map, inl, inr, sym, ap, ◌∙◌, subst, arith}
+use Rattle.std.proofs.Common.{◌≡◌, ℕ, ◌+◌, ◌-◌, ◌<◌, ◌≤◌, Bool, true, false, cond, List, [], ◌∷◌, map, inl, inr, sym, ap, ◌∙◌, subst, arith}
 use Rattle.std.specs.Prelude.{Contains, flat_map, filter}
 use Rattle.std.specs.List.{range_with_len}
 use Rattle.std.proofs.lemmas.Bool.{cases_Bool}
@@ -11,6 +11,17 @@ pub in_range : (members who : ℕ) → who < members → Contains (range_with_le
 in_range members who member =
     let long = length-range_with_len 0 members in
     (who, omega arith, get_or-range_with_len 0 members who who member ∙ omega arith)
+
+pub in_range_from : (first count number : ℕ) → first ≤ number → number < first + count → Contains (range_with_len first count) number
+in_range_from first count number from below =
+    let long = length-range_with_len first count in
+    (number - first, omega arith, get_or-range_with_len first count (number - first) number (omega arith) ∙ omega arith)
+
+pub from_range : (first count number : ℕ) → Contains (range_with_len first count) number → (first ≤ number) × (number < first + count)
+from_range first count number (k, within, at) =
+    let long = length-range_with_len first count in
+    let is = get_or-range_with_len first count k number (omega arith) in
+    (omega arith, omega arith)
 
 -- a member, and the list of it that has an item
 pub record IsJoined {X A : Type 0} (f : X → List A) (xs : List X) (a : A) : Type 0 where

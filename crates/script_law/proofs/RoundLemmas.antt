@@ -175,3 +175,16 @@ answers members window at situation who member runs waits =
     in_round members window at situation who (Do who Answer) member runs
     (Contains-append_left (answer_tasks who (situation.standing.waits who)) (hear_tasks who (situation.mails who) ++ tick ∷ []) (Do who Answer)
     (takes_it who (situation.standing.waits who) waits))
+
+-- each task of a round is a step of some replica
+pub is_step : (members : ℕ) (window : Window) (at : ℤ) (situation : Situation) (task : Task) → Contains (round_tasks members window at situation) task
+    → (who : ℕ) × (cause : Cause) × (task ≡ Do who cause)
+is_step members window at situation task has =
+    let one = of_round members window at situation task has in
+    elim one.task_of.why [
+      | inl takes ↦ (one.by, Answer, takes.is)
+      | inr others ↦ elim others [
+        | inl hears ↦ (one.by, Hear hears.number, hears.is)
+        | inr is ↦ (one.by, Tick (clock_reading window at (situation.skews one.by)), is)
+      ]
+    ]

@@ -1,5 +1,5 @@
 //! Laws of scripts. Each is the contract of a function that does nothing.
-ghost use Rattle.std.specs.Prelude.{◌≡◌, ◌≢◌, ℕ, ◌-◌, ◌<◌, ◌≤◌, ◌<ℤ◌, ◌≤ℤ◌, ℤ, ◌+ℤ◌, Bool, true, false, List, [], ◌∷◌, ◌++◌, drop, length, Option, None, Some, IsSome, AllPairs, Contains, get_or, slice_get};
+ghost use Rattle.std.specs.Prelude.{◌≡◌, ◌≢◌, ℕ, ◌-◌, ◌<◌, ◌≤◌, ◌<ℤ◌, ◌≤ℤ◌, ℤ, pos, ◌+ℤ◌, Bool, true, false, List, [], ◌∷◌, ◌++◌, drop, length, Option, None, Some, IsSome, AllPairs, Contains, get_or, slice_get};
 ghost use Rattle.zone_minutes.specs.Window.{IsInWindow};
 ghost use Rattle.zone_minutes.specs.declared.minute.Minute.{Minute};
 ghost use Rattle.zone_minutes.specs.declared.minute.Window.{Window};
@@ -9,18 +9,19 @@ ghost use Rattle.due_set.specs.Table.{Table};
 ghost use Rattle.step_law.specs.State.{State, prefix_of};
 ghost use Rattle.script_text.specs.declared.command.Command.TheVariants as command;
 ghost use Rattle.script_text.specs.declared.command.FateWord.{FateWord};
+ghost use Rattle.script_text.specs.declared.command.FateWord.TheVariants as word;
 ghost use Rattle.book_law.specs.Book.{PostedLetter, Row, turn_of};
 ghost use Rattle.book_law.specs.Legal.{IsLate, IsLegal};
 ghost use Rattle.book_law.specs.Some.{no_jobs};
 ghost use Rattle.book_law.specs.declared.turn.CallRow.{CallRow};
 ghost use Rattle.book_law.specs.declared.turn.Cause.{Cause};
-ghost use Rattle.book_law.specs.declared.turn.Cause.TheVariants.{Tick, Hear, Answer};
+ghost use Rattle.book_law.specs.declared.turn.Cause.TheVariants.{Campaign, Tick, Hear, Answer};
 ghost use Rattle.book_law.specs.declared.turn.Turn.TheVariants.{Did, Stopped};
-ghost use Rattle.script_law.specs.Commands.{arrival_tasks, each_once, from_one, set_by};
+ghost use Rattle.script_law.specs.Commands.{arrival_tasks, each_once, from_one, set_by, tasks_for};
 ghost use Rattle.script_law.specs.Round.{clock_reading, round_tasks};
 ghost use Rattle.script_law.specs.Script.{IsPartOf, Obeys};
-ghost use Rattle.script_law.specs.Settling.{AsksNothingUntil, Drains, IsNextMinute, IsQuiet, Settles, Walks, coordinator, restart_tasks};
-ghost use Rattle.script_law.specs.Situation.{AreTurnsFor, IsTurnFor, Situation, Task, Arrive, Do, after_turn, after_turns, reaches};
+ghost use Rattle.script_law.specs.Settling.{AsksNothingUntil, Drains, IsNextMinute, IsQuiet, Settles, Walks, calmed, coordinator, restart_tasks};
+ghost use Rattle.script_law.specs.Situation.{AreTurnsFor, IsTurnFor, Performs, Situation, Task, Arrive, Do, Restart, Stop, after_turn, after_turns, letters_for, reaches};
 
 /// A clock reads a minute of the window, however far it is ahead or behind; and where it is right within the window, it reads
 /// the instant.
@@ -36,7 +37,7 @@ pub fn each_task_has_a_turn()
 {}
 
 /// What waits for a replica as a round begins is heard in the round, and no other letter; each replica that runs takes the
-/// answer that waits for it, and its clock ticks once, at its own reading; one that is stopped has no turn.
+/// answer that waits for it, and its clock ticks, at its own reading alone; one that is stopped has no turn.
 pub fn a_round_hears_what_waited_at_its_start()
     ensures waited { (members : ℕ) (window : Window) (at : ℤ) (situation : Situation) (who number : ℕ)
         → Contains (round_tasks members window at situation) (Do who (Hear number)) → Contains (situation.mails who) number }
@@ -95,6 +96,62 @@ pub fn a_fate_is_spent_by_its_replicas_call()
     ensures no_call { (members : ℕ) (situation : Situation) (row : Row)
         → ((who : ℕ) (cause : Cause) (made : CallRow) → row.turn ≡ Did who cause (Some made) → ⊥)
         → (after_turn members situation row).fates ≡ situation.fates }
+{}
+
+/// The letters that turns sent join the mails behind what waits there, each its addressee's: no letter that was sent before them,
+/// none to a replica that doesn't run, and each that reaches the replica.
+pub fn letters_join_the_mail_of_their_addressee()
+    ensures behind { (members : ℕ) (tasks : List Task) (situation after : Situation) (rows : List Row) (who : ℕ)
+        → Performs members tasks situation rows after
+        → after.mails who ≡ (after_turns members situation rows).mails who
+        ++ letters_for (after_turns members situation rows) (length situation.standing.posted) who }
+    ensures sent { (situation : Situation) (first who number : ℕ) → Contains (letters_for situation first who) number
+        → (first ≤ number) × (number < length situation.standing.posted) }
+    ensures addressee { (situation : Situation) (first who number : ℕ) (letter : PostedLetter)
+        → slice_get situation.standing.posted number ≡ Some letter → Contains (letters_for situation first who) number
+        → (letter.to ≡ who) × (situation.standing.runs who ≡ true) }
+    ensures all { (situation : Situation) (first who number : ℕ) (letter : PostedLetter)
+        → slice_get situation.standing.posted number ≡ Some letter → first ≤ number → reaches situation who (Some letter) ≡ true
+        → Contains (letters_for situation first who) number }
+{}
+
+/// A replica that runs stands for leader or stops when it is told to, and one that is stopped starts; else it has no turn.
+pub fn a_command_has_its_turn_where_it_may_come()
+    ensures campaign { (situation : Situation) (who : ℕ) → situation.standing.runs who ≡ true
+        → tasks_for (command.Campaign who) situation ≡ Do who Campaign ∷ [] }
+    ensures stop { (situation : Situation) (who : ℕ) → situation.standing.runs who ≡ true
+        → tasks_for (command.Stop who) situation ≡ Stop who ∷ [] }
+    ensures restart { (situation : Situation) (who : ℕ) → situation.standing.runs who ≡ false
+        → tasks_for (command.Restart who) situation ≡ Restart who ∷ [] }
+    ensures stopped { (situation : Situation) (who : ℕ) → situation.standing.runs who ≡ false
+        → (tasks_for (command.Campaign who) situation ≡ []) × (tasks_for (command.Stop who) situation ≡ []) }
+    ensures running { (situation : Situation) (who : ℕ) → situation.standing.runs who ≡ true
+        → tasks_for (command.Restart who) situation ≡ [] }
+{}
+
+/// A skew or a fate is set for its replica alone; a letter that comes again joins its addressee's mail, if that runs.
+pub fn a_setting_is_of_its_replica_alone()
+    ensures skew { (situation : Situation) (who : ℕ) (minutes : ℤ) → (set_by (command.Skew who minutes) situation).skews who ≡ minutes }
+    ensures other_skews { (situation : Situation) (who other : ℕ) (minutes : ℤ) → other ≢ who
+        → (set_by (command.Skew who minutes) situation).skews other ≡ situation.skews other }
+    ensures fate { (situation : Situation) (who : ℕ) → (set_by (command.Fate who word.LostBefore) situation).fates who ≡ fate.LostBefore }
+    ensures other_fates { (situation : Situation) (who other : ℕ) (word : FateWord) → other ≢ who
+        → (set_by (command.Fate who word) situation).fates other ≡ situation.fates other }
+    ensures again { (situation : Situation) (number : ℕ) (letter : PostedLetter)
+        → slice_get situation.standing.posted number ≡ Some letter → situation.standing.runs letter.to ≡ true
+        → (set_by (command.Again number) situation).mails letter.to ≡ situation.mails letter.to ++ number ∷ [] }
+    ensures stopped { (situation : Situation) (number : ℕ) (letter : PostedLetter)
+        → slice_get situation.standing.posted number ≡ Some letter → situation.standing.runs letter.to ≡ false
+        → set_by (command.Again number) situation ≡ situation }
+{}
+
+/// The latest reading is at least that of each tick, also of one within which a replica stopped, and never falls.
+pub fn the_latest_reading_never_falls()
+    ensures tick { (members : ℕ) (situation : Situation) (row : Row) (who : ℕ) (now : Minute) (made : Option CallRow)
+        → row.turn ≡ Did who (Tick now) made → now.0 ≤ℤ (after_turn members situation row).latest }
+    ensures within { (members : ℕ) (situation : Situation) (row : Row) (who : ℕ) (now : Minute) (kept : Bool)
+        → row.turn ≡ Stopped who (Some (Tick now)) kept → now.0 ≤ℤ (after_turn members situation row).latest }
+    ensures rises { (members : ℕ) (situation : Situation) (row : Row) → situation.latest ≤ℤ (after_turn members situation row).latest }
 {}
 
 /// A cut loses the letters from the one replica to the other from now on, and no other letter; what waits already stays. Once
@@ -189,7 +246,8 @@ pub fn the_coordinator_has_learned_the_most()
         → prefix_of (situation.standing.replicas other) < prefix_of (situation.standing.replicas (coordinator members situation)) }
 {}
 
-/// As settling begins, all replicas that are stopped start again, with what they had.
+/// As settling begins, all replicas that are stopped start again, with what they had; then no letter waits or is lost, each clock
+/// is right, and each call is answered.
 pub fn settling_starts_all_that_are_stopped()
     ensures runs { (members : ℕ) (situation : Situation) (rows : List Row) (who : ℕ)
         → AreTurnsFor members situation (restart_tasks members situation) rows → who < members
@@ -197,6 +255,14 @@ pub fn settling_starts_all_that_are_stopped()
     ensures states { (members : ℕ) (situation : Situation) (rows : List Row)
         → AreTurnsFor members situation (restart_tasks members situation) rows
         → (after_turns members situation rows).standing.replicas ≡ situation.standing.replicas }
+    ensures faults { (situation : Situation) (who : ℕ) → ((calmed situation).mails who ≡ []) × ((calmed situation).cuts ≡ [])
+        × ((calmed situation).skews who ≡ pos 0) × ((calmed situation).fates who ≡ fate.Done) }
+{}
+
+/// After settling each replica runs.
+pub fn all_run_after_settling()
+    ensures { (members : ℕ) (table : Table) (at : ℤ) (situation after : Situation) (rows : List Row) (who : ℕ)
+        → Settles members table at situation rows after → who < members → after.standing.runs who ≡ true }
 {}
 
 /// Nothing more happens at an instant at which it is quiet.
