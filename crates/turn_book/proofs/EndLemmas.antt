@@ -1,5 +1,5 @@
 -- How a book takes its seats back, and how it ends.
-use Rattle.std.proofs.Common.{◌≡◌, ◌≢◌, ◌⊎◌, ℕ, zero, suc, ◌<◌, ◌≤◌, Bool, true, false, List, [], ◌∷◌, ◌++◌, length, set, refl, sym, ap, ◌∙◌, subst, ⊎_elim, arith}
+use Rattle.std.proofs.Common.{◌≡◌, ◌≢◌, ◌⊎◌, ℕ, zero, suc, ◌<◌, ◌≤◌, Bool, true, false, List, [], ◌∷◌, ◌++◌, length, set, refl, sym, ap, ◌∙◌, subst, inl, inr, ⊎_elim, arith}
 use Rattle.std.proofs.lemmas.Bool.{false≢true, true≢false}
 use Rattle.std.proofs.lemmas.List.{length-set}
 use Rattle.std.proofs.lemmas.Option.{none-some}
@@ -10,14 +10,14 @@ use mathlib.Core.Logic.{dite}
 use native.Mathlib.Decide.{ℕ_discrete}
 use lib.ListN.{get_elem?}
 use Rattle.atomic_table.specs.Table.{Me, State, Final, Joins, Seen}
-use Rattle.atomic_table.proofs.Lists.{at_set}
+use Rattle.atomic_table.proofs.Lists.{at_set, set_else, set_here}
 use Rattle.turn_book.specs.declared.law.Law.{Ghosts}
 use Rattle.turn_book.specs.declared.view.Opening.{Opening}
 use Rattle.turn_book.specs.declared.view.Past.{Past}
 use Rattle.turn_book.specs.declared.view.View.{View}
 use Rattle.turn_book.specs.Rested.{Rests}
 use Rattle.turn_book.specs.Rows.{IsLawful, rows_of}
-use Rattle.turn_book.specs.Rule.{Fair, Fits, IsAtRest, IsGone, IsPast, NamesBelow, follows_in, one_if}
+use Rattle.turn_book.specs.Rule.{Fair, Fits, IsAtRest, IsGone, IsKept, IsPast, NamesBelow, follows_in, one_if}
 use Rattle.turn_book.specs.Views.{past_of, spent_view, with_past, with_pasts}
 use Rattle.turn_book.proofs.KeptLemmas.{counts_set, gone_set}
 use Rattle.turn_book.proofs.LineLemmas.{free_before}
@@ -116,8 +116,36 @@ module _ {L K R M : Type 0} (law : Ghosts L K R M) (opening : Opening L K) where
       first_or zero is = subst (λ (x : Past R). IsGone (set (set views id (with_past v w)) other spent_view) x) (some-injective (past_of w) past is) (gone_now (set views id (with_past v w)) other w there number)
       first_or (suc i) is = later (gone id v at i past is)
 
-  pub joins : (id : ℕ) (v : View L K R) (other : ℕ) (w : View L K R) → Rests v → Rests w → Joins (Fair law opening) id v other w (with_past v w) spent_view
-  joins id v other w rests leaves s fair at apart there =
+  -- each number is kept when a seat is taken in by the first
+  kept_joined : (views : List (View L K R)) (id other : ℕ) (v w : View L K R) → get_elem? views id ≡ some v → get_elem? (set views id (with_past v w)) other ≡ some w → id ≡ 0 → other ≢ 0
+      → w.number ≡ other → v.spent ≡ false → (number : ℕ) → IsKept views number → IsKept (set (set views id (with_past v w)) other spent_view) number
+  kept_joined views id other v w at there zeroth away is lives number kept =
+      ⊎_elim
+      (λ (t : (u : View L K R) × (get_elem? views number ≡ some u) × (u.spent ≡ false)).
+      dite (ℕ_discrete number other)
+      (λ (e : number ≡ other). inr (both, 0, past_of w, first, lives, refl, is ∙ sym e))
+      (λ (e : number ≢ other). dite (ℕ_discrete number id)
+      (λ (z : number ≡ id). inl (both, subst (λ (n : ℕ). get_elem? new n ≡ some both) (sym (z ∙ zeroth)) first, lives))
+      (λ (z : number ≢ id). inl (t.0, set_else mid other number spent_view e ∙ set_else views id number both z ∙ t.1, t.2))))
+      (λ (t : (u : View L K R) × (k : ℕ) × (past : Past R) × (get_elem? views 0 ≡ some u) × (u.spent ≡ false) × (get_elem? u.joined k ≡ some past) × (past.number ≡ number)).
+      let same : t.0 ≡ v = some-injective t.0 v (sym t.3 ∙ subst (λ (n : ℕ). get_elem? views n ≡ some v) zeroth at) in
+      inr (both, suc t.1, t.2, first, lives, subst (λ (x : View L K R). get_elem? x.joined t.1 ≡ some t.2) same t.5, t.6))
+      kept
+    where
+      both : View L K R
+      both = with_past v w
+
+      mid : List (View L K R)
+      mid = set views id both
+
+      new : List (View L K R)
+      new = set mid other spent_view
+
+      first : get_elem? new 0 ≡ some both
+      first = set_else mid other 0 spent_view (λ e. away (sym e)) ∙ subst (λ (n : ℕ). get_elem? mid n ≡ some both) zeroth (set_here views id both (at_within views id v at))
+
+  pub joins : (id : ℕ) (v : View L K R) (other : ℕ) (w : View L K R) → Rests v → v.number ≡ 0 → Rests w → Joins (Fair law opening) id v other w (with_past v w) spent_view
+  joins id v other w rests numbered leaves s fair at apart there =
       let both : View L K R = with_past v w in
       let mid : List (View L K R) = set s.views id both in
       let first = fair.first in
@@ -125,6 +153,7 @@ module _ {L K R M : Type 0} (law : Ghosts L K R M) (opening : Opening L K) where
       let in_place : get_elem? s.views other ≡ some w =
       ⊎_elim (λ (t : (other ≡ id) × (both ≡ w)). absurd (apart t.0)) (λ (t : (other ≢ id) × (get_elem? s.views other ≡ some w)). t.1) (at_set s.views id other both w there) in
       let theirs = fair.each other w in_place in
+      let zeroth : id ≡ 0 = sym ((fair.each id v at).numbered rests.lives) ∙ numbered in
       let was = is_past first after fair.next fair.serving other w leaves theirs in
       let same : length mid ≡ length s.views = length-set s.views id both in
       let long : length (set mid other (spent_view {L = L} {K = K} {R = R})) ≡ length s.views = length-set mid other spent_view ∙ same in
@@ -164,6 +193,17 @@ module _ {L K R M : Type 0} (law : Ghosts L K R M) (opening : Opening L K) where
             (λ (t : (place ≢ other) × (get_elem? mid place ≡ some u)).
             gone_joined s.views id other v w at there (theirs.numbered leaves.lives) fair.gone place u (at_set s.views id place both u t.1) k past joined)
             (at_set mid other place spent_view u is);
+        lone = λ place u is away.
+            ⊎_elim
+            (λ (t : (place ≡ other) × (spent_view ≡ u)). sym (ap (λ (x : View L K R). x.joined) t.1))
+            (λ (t : (place ≢ other) × (get_elem? mid place ≡ some u)).
+            ⊎_elim
+            (λ (a : (place ≡ id) × (both ≡ u)). absurd (away (a.0 ∙ zeroth)))
+            (λ (a : (place ≢ id) × (get_elem? s.views place ≡ some u)). fair.lone place u a.1 away)
+            (at_set s.views id place both u t.1))
+            (at_set mid other place spent_view u is);
+        kept = λ number below.
+            kept_joined s.views id other v w at there zeroth (λ same. apart (same ∙ sym zeroth)) (theirs.numbered leaves.lives) rests.lives number (fair.kept number (subst (λ (n : ℕ). number < n) long below));
       }
 
   -- what stands at the end
@@ -224,9 +264,10 @@ module _ {L K R M : Type 0} (law : Ghosts L K R M) (opening : Opening L K) where
       }
 
   -- a seat that is taken in by the first
-  pub takes_in : (id : ℕ) (me old : Me (Option L) (View L K R)) (pasts : List (Past R)) (other : ℕ) (seat w : View L K R) → me ≡ (with_pasts pasts old.0, old.1) → Rests old.0 → seat ≡ w → Rests seat
+  pub takes_in : (id : ℕ) (me old : Me (Option L) (View L K R)) (pasts : List (Past R)) (other : ℕ) (seat w : View L K R) → me ≡ (with_pasts pasts old.0, old.1) → Rests old.0 → old.0.number ≡ 0 → seat ≡ w → Rests seat
       → Joins (Fair law opening) id me.0 other w (with_past me.0 w) spent_view
-  takes_in id me old pasts other seat w is asked same leaves =
+  takes_in id me old pasts other seat w is asked numbered same leaves =
       joins id me.0 other w
       (subst (λ (m : Me (Option L) (View L K R)). Rests m.0) (sym is) (record { lives = asked.lives; waits = asked.waits; turn = asked.turn }))
+      (ap (λ (m : Me (Option L) (View L K R)). m.0.number) is ∙ numbered)
       (subst (λ (v : View L K R). Rests v) same leaves)

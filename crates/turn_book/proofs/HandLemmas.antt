@@ -17,7 +17,7 @@ use Rattle.turn_book.specs.Rows.{BeginsWith, IsLawful}
 use Rattle.turn_book.specs.Rule.{Fair, Fits, IsAtRest, IsPast, NamesBelow, follows_in, one_if, words_of}
 use Rattle.turn_book.specs.Steps.{committed, handed_on}
 use Rattle.turn_book.specs.Views.{out_of_line, with_rows}
-use Rattle.turn_book.proofs.KeptLemmas.{all_gone_set, counted_words, counts_set, served_words}
+use Rattle.turn_book.proofs.KeptLemmas.{all_gone_set, all_kept_set, counted_words, counts_set, lone_set, served_words}
 use Rattle.turn_book.proofs.RowLemmas.{begins_itself, begins_more, is_own, lawful_snoc, not_own, row_of_snoc}
 use Rattle.turn_book.proofs.ViewLemmas.{apart_set, at_within, each_set, waiting_set}
 
@@ -129,6 +129,8 @@ module _ {L K R M : Type 0} (law : Ghosts L K R M) (opening : Opening L K) where
               subst (λ (n : ℕ). (place : ℕ) (r : R) → slice_get (fair.after ++ row ∷ []) place ≡ Some r → NamesBelow law n r) (sym (length-set s.views id w))
               (named_more id row (length s.views) fair.after (at_within s.views id v at) names fair.named);
           gone = all_gone_set s.views id v w at refl refl fair.gone;
+          lone = lone_set s.views id v w at refl fair.lone;
+          kept = all_kept_set s.views id v w at refl refl fair.kept;
         },
         refl,
       )
@@ -212,6 +214,8 @@ module _ {L K R M : Type 0} (law : Ghosts L K R M) (opening : Opening L K) where
           counts = counts_set s.views id v w at refl refl fair.counts;
           named = subst (λ (n : ℕ). (place : ℕ) (row : R) → slice_get fair.after place ≡ Some row → NamesBelow law n row) (sym (length-set s.views id w)) fair.named;
           gone = all_gone_set s.views id v w at refl refl fair.gone;
+          lone = lone_set s.views id v w at refl fair.lone;
+          kept = all_kept_set s.views id v w at refl refl fair.kept;
         },
         refl,
       )

@@ -17,7 +17,7 @@ use Rattle.turn_book.specs.Rested.{IsInLine, Rests}
 use Rattle.turn_book.specs.Rule.{Fair, Fits, IsFree, NamesBelow, one_if}
 use Rattle.turn_book.specs.Steps.{drew, looked}
 use Rattle.turn_book.specs.Views.{in_line, with_turn}
-use Rattle.turn_book.proofs.KeptLemmas.{all_gone_set, counts_set, drawn_words, seen_words}
+use Rattle.turn_book.proofs.KeptLemmas.{all_gone_set, all_kept_set, counts_set, drawn_words, lone_set, seen_words}
 use Rattle.turn_book.proofs.RowLemmas.{begins_itself, names_more}
 use Rattle.turn_book.specs.Rows.{rows_of}
 use Rattle.turn_book.proofs.ViewLemmas.{apart_set, at_within, each_set, waiting_few, waiting_set}
@@ -101,6 +101,8 @@ module _ {L K R M : Type 0} (law : Ghosts L K R M) (opening : Opening L K) where
           counts = counts_set s.views id v (in_line fair.next v) at refl refl fair.counts;
           named = subst (λ (n : ℕ). (place : ℕ) (row : R) → slice_get fair.after place ≡ Some row → NamesBelow law n row) (sym (length-set s.views id (in_line fair.next v))) fair.named;
           gone = all_gone_set s.views id v (in_line fair.next v) at refl refl fair.gone;
+          lone = lone_set s.views id v (in_line fair.next v) at refl fair.lone;
+          kept = all_kept_set s.views id v (in_line fair.next v) at refl refl fair.kept;
         },
         (fair.next, ap (λ (l : List ℕ). slice_index l 0) fair.words, refl),
       )
@@ -170,6 +172,8 @@ module _ {L K R M : Type 0} (law : Ghosts L K R M) (opening : Opening L K) where
         counts = counts_set s.views id v w at refl refl fair.counts;
         named = subst (λ (n : ℕ). (place : ℕ) (row : R) → slice_get fair.after place ≡ Some row → NamesBelow law n row) (sym (length-set s.views id w)) fair.named;
         gone = all_gone_set s.views id v w at refl refl fair.gone;
+        lone = lone_set s.views id v w at refl fair.lone;
+        kept = all_kept_set s.views id v w at refl refl fair.kept;
       }
 
   -- the seat is served

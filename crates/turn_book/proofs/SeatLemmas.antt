@@ -1,22 +1,24 @@
 -- The seats of a book: how it begins, how it makes seats and takes them back, and how it ends.
-use Rattle.std.proofs.Common.{◌≡◌, ◌≢◌, ℕ, zero, suc, ◌+◌, ◌<◌, ◌≤◌, false, List, [], ◌∷◌, ◌++◌, length, set, refl, sym, ap, ◌∙◌, subst, ⊎_elim, arith}
+use Rattle.std.proofs.Common.{◌≡◌, ◌≢◌, ℕ, zero, suc, ◌+◌, ◌<◌, ◌≤◌, false, List, [], ◌∷◌, ◌++◌, length, set, refl, sym, ap, ◌∙◌, subst, inl, inr, ⊎_elim, arith}
 use Rattle.std.proofs.lemmas.Bool.{false≢true}
 use Rattle.std.proofs.lemmas.List.{append-nil, length-set, length_push}
 use Rattle.std.proofs.lemmas.Option.{none-some}
 use Rattle.std.specs.Prelude.{slice_get, Some}
 use mathlib.Core.Option.{some, some-injective, some-ne-none}
+use mathlib.Core.Logic.{dite}
+use native.Mathlib.Decide.{ℕ_discrete}
 use lib.ListN.{get_elem?}
 use Rattle.atomic_table.specs.Table.{Splits, opening}
-use Rattle.atomic_table.proofs.Lists.{at_set, at_longer}
+use Rattle.atomic_table.proofs.Lists.{at_last, at_longer, at_set}
 use Rattle.turn_book.specs.declared.law.Law.{Ghosts}
 use Rattle.turn_book.specs.declared.view.Opening.{Opening}
 use Rattle.turn_book.specs.declared.view.Past.{Past}
 use Rattle.turn_book.specs.declared.view.View.{View}
 use Rattle.turn_book.specs.Rested.{Rests}
 use Rattle.turn_book.specs.Rows.{IsLawful}
-use Rattle.turn_book.specs.Rule.{Fair, Fits, IsAtRest, IsGone, NamesBelow, follows_in}
+use Rattle.turn_book.specs.Rule.{Fair, Fits, IsAtRest, IsGone, IsKept, NamesBelow, follows_in}
 use Rattle.turn_book.specs.Views.{first_view, newcomer, with_seat}
-use Rattle.turn_book.proofs.KeptLemmas.{all_gone_set}
+use Rattle.turn_book.proofs.KeptLemmas.{all_gone_set, all_kept_set, lone_set}
 use Rattle.turn_book.proofs.LineLemmas.{free_before}
 use Rattle.turn_book.proofs.RowLemmas.{names_more, none_own}
 use Rattle.turn_book.proofs.ViewLemmas.{AreApart, apart_set, at_end, at_within, each_set, waiting_end, waiting_set}
@@ -69,6 +71,9 @@ module _ {L K R M : Type 0} (law : Ghosts L K R M) (opening' : Opening L K) wher
         counts = λ u is _. sym (ap (λ (x : View L K R). x.made) (some-injective v u is));
         named = λ place row is. absurd (none-some row is);
         gone = λ place u is k past joined. absurd (some-ne-none past (sym (subst (λ (x : View L K R). get_elem? x.joined k ≡ some past) (sym (first_fits first place u is).1) joined)));
+        lone = λ place u is other. absurd (other (first_fits first place u is).0);
+        kept = λ number below.
+            (let only : 0 ≡ number = omega arith in inl (v, subst (λ (n : ℕ). get_elem? (v ∷ []) n ≡ some v) only refl, refl));
       }
 
   -- a seat that was made last fits with the others
@@ -107,6 +112,14 @@ module _ {L K R M : Type 0} (law : Ghosts L K R M) (opening' : Opening L K) wher
         (λ (t : (past.number ≡ length views) × (w ≡ u)). let below = gone.0 in let same = t.0 in absurd (omega arith))
         (at_end views w past.number u there)),
   )
+
+  kept_end : (views : List (View L K R)) (w : View L K R) (number : ℕ) → IsKept views number → IsKept (views ++ w ∷ []) number
+  kept_end views w number kept =
+      ⊎_elim
+      (λ (t : (u : View L K R) × (get_elem? views number ≡ some u) × (u.spent ≡ false)). inl (t.0, at_longer views (w ∷ []) number t.0 t.1, t.2))
+      (λ (t : (u : View L K R) × (k : ℕ) × (past : Past R) × (get_elem? views 0 ≡ some u) × (u.spent ≡ false) × (get_elem? u.joined k ≡ some past) × (past.number ≡ number)).
+      inr (t.0, t.1, t.2, at_longer views (w ∷ []) 0 t.0 t.3, t.4, t.5, t.6))
+      kept
 
   counts_end : (views : List (View L K R)) (id : ℕ) (v : View L K R) → get_elem? views id ≡ some v → id ≡ 0 → v.made ≡ length views
       → (u : View L K R) → get_elem? (set views id (with_seat v) ++ newcomer v ∷ []) 0 ≡ some u → u.made ≡ length (set views id (with_seat v) ++ newcomer v ∷ [])
@@ -178,4 +191,14 @@ module _ {L K R M : Type 0} (law : Ghosts L K R M) (opening' : Opening L K) wher
             (λ (t : get_elem? (set s.views id left) place ≡ some u). gone_end (set s.views id left) new past (all_gone_set s.views id v left at refl refl fair.gone place u t k past joined))
             (λ (t : (place ≡ length (set s.views id left)) × (new ≡ u)). absurd (some-ne-none past (sym (subst (λ (x : View L K R). get_elem? x.joined k ≡ some past) (sym t.1) joined))))
             (at_end (set s.views id left) new place u there);
+        lone = λ place u there other.
+            ⊎_elim
+            (λ (t : get_elem? (set s.views id left) place ≡ some u). lone_set s.views id v left at refl fair.lone place u t other)
+            (λ (t : (place ≡ length (set s.views id left)) × (new ≡ u)). sym (ap (λ (x : View L K R). x.joined) t.1))
+            (at_end (set s.views id left) new place u there);
+        kept = λ number below.
+            dite (ℕ_discrete number (length (set s.views id left)))
+            (λ (e : number ≡ length (set s.views id left)). inl (new, at_last (set s.views id left) new number (sym e), refl))
+            (λ (e : number ≢ length (set s.views id left)).
+            kept_end (set s.views id left) new number (all_kept_set s.views id v left at refl refl fair.kept number (omega arith)));
       }

@@ -1,6 +1,6 @@
 -- The rule of a book of turns: what holds of its words, of its slot and of the views of its seats between any two steps.
 -- Word 0 is the next ticket, word 1 the ticket that is served, and word 2 counts the rows that were committed, each modulo 2^64. The slot has the state.
-use Rattle.std.specs.Prelude.{◌≡◌, ℕ, ◌+◌, ◌%◌, ◌<◌, ◌≤◌, Bool, true, false, List, [], ◌∷◌, ◌++◌, length, Option, Some, slice_get}
+use Rattle.std.specs.Prelude.{◌≡◌, ◌≢◌, ◌⊎◌, ℕ, ◌+◌, ◌%◌, ◌<◌, ◌≤◌, Bool, true, false, List, [], ◌∷◌, ◌++◌, length, Option, Some, slice_get}
 use mathlib.Core.Option.{some}
 use mathlib.Core.Option as maybe
 use lib.ListN.{get_elem?}
@@ -33,6 +33,12 @@ module _ {L K R : Type 0} where
   -- the seat that was joined to another is spent
   abbrev pub IsGone : List (View L K R) → Past R → Type 0
   IsGone views past = (past.number < length views) × ((w : View L K R) → get_elem? views past.number ≡ some w → w.spent ≡ true)
+
+  -- the number is that of a seat that isn't spent, or of one that was joined to the first, which isn't
+  abbrev pub IsKept : List (View L K R) → ℕ → Type 0
+  IsKept views number =
+      ((v : View L K R) × (get_elem? views number ≡ some v) × (v.spent ≡ false))
+      ⊎ ((v : View L K R) × (at : ℕ) × (past : Past R) × (get_elem? views 0 ≡ some v) × (v.spent ≡ false) × (get_elem? v.joined at ≡ some past) × (past.number ≡ number))
 
 module _ {L K R M : Type 0} (law : Ghosts L K R M) where
   -- what a row may follow, by what the book began with
@@ -78,7 +84,8 @@ module _ {L K R M : Type 0} (law : Ghosts L K R M) where
   -- The history is the first rows, which are those of the opening state, and the rows after them. On the turn: the tickets in the line are
   -- those from the one that is served on, one a seat, and who has the turn has that one; the slot is at home unless somebody has the turn.
   -- On the history: it is lawful, each seat has seen a front of it, and has as its own the rows after the first that name its number.
-  -- On the numbers: a seat's is its place, the first seat counts those that were made, and a row after the first names one of these.
+  -- On the numbers: a seat's is its place, the first seat counts those that were made, and a row after the first names one of these. Each
+  -- is kept, and what was joined to another seat, which only the first has, is spent.
   pub record Fair (opening : Opening L K) (s : State (Option L) (View L K R)) : Type 0 where
     pub first : List R
     pub after : List R
@@ -96,3 +103,5 @@ module _ {L K R M : Type 0} (law : Ghosts L K R M) where
     pub counts : (v : View L K R) → get_elem? s.views 0 ≡ some v → v.spent ≡ false → v.made ≡ length s.views
     pub named : (place : ℕ) (row : R) → slice_get after place ≡ Some row → NamesBelow (length s.views) row
     pub gone : (place : ℕ) (v : View L K R) → get_elem? s.views place ≡ some v → (at : ℕ) (past : Past R) → get_elem? v.joined at ≡ some past → IsGone s.views past
+    pub lone : (place : ℕ) (v : View L K R) → get_elem? s.views place ≡ some v → place ≢ 0 → v.joined ≡ []
+    pub kept : (number : ℕ) → number < length s.views → IsKept s.views number

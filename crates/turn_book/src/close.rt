@@ -22,6 +22,7 @@ impl<L: Law> TurnBook<L> {
     fn take_back(&self, first: &mut Place<L>, mut others: Vec<TurnSeat<L>>)
         requires own { first.old.table_id ≡ self.now.table.shared.table_id }
         requires rests { Rests first.old.me.0 }
+        requires first { first.old.me.0.number ≡ 0 }
         requires others { AreSeatsOf self.now others.items }
         ensures table { first.new.table_id ≡ first.old.table_id }
         ensures id { first.new.id ≡ first.old.id }

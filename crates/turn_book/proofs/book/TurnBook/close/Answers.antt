@@ -33,6 +33,11 @@ take_back-requires-clause-rests g c =
     subst (λ (v : View g.row.L.Denot g.row.L-Key.Denot g.row.L-Row.Denot). Rests v) (ap first_or_spent c.into_seat-first.ensures.2)
     (is_first c.args.self c.take_first-badge.result c.take_first-badge.new.seats.items c.args.seats.items c.take_first-badge.ensures c.requires).rests
 
+pub take_back-requires-clause-first : goal.take_back-requires-clause-first
+take_back-requires-clause-first g c =
+    ap (λ (v : View g.row.L.Denot g.row.L-Key.Denot g.row.L-Row.Denot). v.number) (sym (ap first_or_spent c.into_seat-first.ensures.2))
+    ∙ (all_of c.args.self c.take_first-badge.result c.take_first-badge.new.seats.items c.args.seats.items c.take_first-badge.ensures c.requires).number 0 c.take_first-badge.result refl
+
 pub take_back-requires-clause-others : goal.take_back-requires-clause-others
 take_back-requires-clause-others g c place seat is =
     (all_of c.args.self c.take_first-badge.result c.take_first-badge.new.seats.items c.args.seats.items c.take_first-badge.ensures c.requires).each (suc place) seat is

@@ -22,5 +22,5 @@ join_seat-requires g c =
       c.into_seat.ensures.0 ∙ is.table,
       c.into_seat.ensures.3,
       search rules,
-      takes_in g.L.Law book.table.shared.key first.id first.me c.args.first.now.me (map past_by kept.0) other.id (view_of seat) other.me.0 kept.4 c.requires.rests (ap first_or_spent c.into_seat.ensures.2) is.rests,
+      takes_in g.L.Law book.table.shared.key first.id first.me c.args.first.now.me (map past_by kept.0) other.id (view_of seat) other.me.0 kept.4 c.requires.rests c.requires.first (ap first_or_spent c.into_seat.ensures.2) is.rests,
     )
