@@ -11,3 +11,5 @@ pub mod Delivery
 pub mod RoundLemmas
 pub mod RoundsOfAll
 pub mod Starting
+pub mod Setting
+pub mod Campaigns

@@ -1,5 +1,5 @@
 -- Rounds of a world.
-use Rattle.std.proofs.Common.{◌≡◌, ◌≢◌, ℕ, zero, suc, ◌+◌, ◌<◌, ◌≤◌, List, [], ◌∷◌, ◌++◌, length, take, drop, ℤ, Result, Ok, Err, OnErr, Option, Some, refl, sym, ap, ◌∙◌, subst, inl, inr, arith, append_assoc, add-one}
+use Rattle.std.proofs.Common.{◌≡◌, ◌≢◌, ℕ, zero, suc, ◌+◌, ◌<◌, ◌≤◌, List, [], ◌∷◌, ◌++◌, length, take, drop, ℤ, Result, Ok, Err, OnErr, OnOk, Option, Some, refl, sym, ap, ◌∙◌, subst, inl, inr, arith, append_assoc, add-one}
 use Rattle.std.proofs.Common.{append-nil as append_nil}
 use Rattle.std.specs.List.{flat_map, range_with_len, slice_get}
 use Rattle.std.specs.Vec.{with_items}
@@ -37,6 +37,10 @@ take_front zero [] (y ∷ ys) is = refl
 take_front (suc n) [] ys is = absurd (omega arith)
 take_front zero (x ∷ xs) ys is = absurd (omega arith)
 take_front (suc n) (x ∷ xs) ys is = ap (λ xs. x ∷ xs) (take_front n xs ys (omega arith))
+
+pub on_ok : {X E : Type 0} (result : Result X E) (P Q : Type 0) → (P → Q) → OnOk result P → OnOk result Q
+on_ok (Ok answer) P Q so holds = so holds
+on_ok (Err fault) P Q so holds = tt
 
 pub on_err : {X E : Type 0} (result : Result X E) (P : Type 0) → P → OnErr result P
 on_err (Ok answer) P holds = tt

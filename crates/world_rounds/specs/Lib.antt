@@ -1,3 +1,5 @@
+pub mod Campaigns
+pub mod Commands
 pub mod Faults
 pub mod Mails
 pub mod Start

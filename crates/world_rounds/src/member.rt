@@ -1,7 +1,8 @@
 //! A replica of a world.
-ghost use Rattle.std.specs.Prelude.{◌≡◌, OnOk};
+ghost use Rattle.std.specs.Prelude.{◌≡◌, true, OnOk};
 ghost use Rattle.script_law.specs.Round.{clock_reading};
 ghost use Rattle.zone_minutes.specs.Window.{IsInWindow, IsWithinLimits};
+ghost use Rattle.world_rounds.specs.Campaigns.{TakesCampaign};
 ghost use Rattle.world_rounds.specs.Rounds.{MayTakeRound, TakesRound};
 ghost use Rattle.world_rounds.specs.World.{IsSkew};
 
@@ -51,6 +52,23 @@ fn reading_of(mail: &Mail, window: Window, at: Minute) -> Minute
 }
 
 impl<D: Disk> Member<D> {
+    // It stands for leader.
+    pub(crate) fn take_campaign(&mut self, table: &JobTable, book: &Book) -> Result<(), WorldFault>
+        requires runs { self.old.mail.runs ≡ true }
+        requires may { MayTakeRound D.seen D.may_leave D.honest table.now book.now self.old }
+        ensures takes { OnOk result (TakesCampaign D.seen D.may_leave D.honest table.now book.now self.old self.new) }
+    {
+        take_step(
+            &mut self.node,
+            &mut self.steps,
+            table,
+            book,
+            Cause::Campaign,
+            Input::Campaign,
+        )?;
+        Ok(())
+    }
+
     // Where it runs, takes its steps of a round: it takes the answer that waits for it, hears its mail, and its clock ticks.
     pub(crate) fn take_round(
         &mut self,

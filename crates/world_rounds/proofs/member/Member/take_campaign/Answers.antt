@@ -1,0 +1,23 @@
+use Rattle.std.proofs.Common.{refl}
+use Rattle.world_rounds.proofs.Campaigns.{campaign_taken, told_campaign}
+use Rattle.world_rounds.proofs.member.Member.take_campaign.Goals as goal
+
+pub take_step-requires : goal.take_step-requires
+take_step-requires g c =
+    let may = c.requires.may in
+    record {
+      told = (
+        may.rows,
+        may.who,
+        told_campaign g.D.Disk.seen g.D.Disk.may_leave g.D.Disk.honest c.args.table.now may.rows c.args.book.now may.situation may.who c.args.self.now may.idle c.requires.runs,
+      );
+    }
+
+pub returns : goal.returns
+returns g c = record {
+  takes = λ rows situation who idle.
+      campaign_taken g.D.Disk.seen g.D.Disk.may_leave g.D.Disk.honest c.args.table.now rows c.args.book.now situation who c.args.self.now _ idle c.requires.runs
+      (c.in_ok-take_step.ensures.beside rows who
+      (told_campaign g.D.Disk.seen g.D.Disk.may_leave g.D.Disk.honest c.args.table.now rows c.args.book.now situation who c.args.self.now idle c.requires.runs))
+      refl c.in_ok-take_step.ensures.causes;
+}

@@ -1,0 +1,46 @@
+use Rattle.std.proofs.Common.{◌≡◌, OnOk, arith, of_z, refl, subst, sym, to_z}
+use Rattle.std.specs.Int.{w64}
+use Rattle.std.specs.Prelude.{FitsSigned}
+use Rattle.std.proofs.lemmas.Int.{ints, to_z-of_z}
+use Rattle.script_law.specs.Commands.{set_by, tasks_for}
+use Rattle.script_law.specs.Script.{IsPartOf}
+use Rattle.script_text.specs.declared.command.Command.TheVariants as command
+use Rattle.world_rounds.specs.Commands.{IsTaken}
+use Rattle.world_rounds.specs.Mails.{Changes}
+use Rattle.world_rounds.specs.World.{GoesOnBy}
+use Rattle.world_rounds.proofs.RoundsOfAll.{on_ok}
+use Rattle.world_rounds.proofs.Setting.{sets_go}
+use Rattle.world_rounds.proofs.world.World.command.Goals as goal
+
+pub returns-in-Round-clause-goes : goal.returns-in-Round-clause-goes
+returns-in-Round-clause-goes g c =
+    subst (λ command. OnOk c.round.result (GoesOnBy g.D.Disk.seen g.D.Disk.may_leave g.D.Disk.honest c.args.table.now (IsPartOf c.args.self.now.book.members c.args.table.now command) c.args.self.now c.round.new.self))
+    (sym c.in-Round.is) c.round.ensures.goes
+
+pub returns-in-Campaign-clause-goes : goal.returns-in-Campaign-clause-goes
+returns-in-Campaign-clause-goes g c =
+    subst (λ command. OnOk c.campaign.result (GoesOnBy g.D.Disk.seen g.D.Disk.may_leave g.D.Disk.honest c.args.table.now (IsPartOf c.args.self.now.book.members c.args.table.now command) c.args.self.now c.campaign.new.self))
+    (sym c.in-Campaign.is) c.campaign.ensures.goes
+
+pub returns-in-Cut-clause-goes : goal.returns-in-Cut-clause-goes
+returns-in-Cut-clause-goes g c =
+    subst (λ command. OnOk c.cut.result (GoesOnBy g.D.Disk.seen g.D.Disk.may_leave g.D.Disk.honest c.args.table.now (IsPartOf c.args.self.now.book.members c.args.table.now command) c.args.self.now c.cut.new.self))
+    (sym c.in-Cut.is) (on_ok c.cut.result _ _ (sets_go g.D.Disk.seen g.D.Disk.may_leave g.D.Disk.honest c.args.table.now c.args.self.now.book.members c.args.self.now c.cut.new.self (tasks_for (command.Cut c.in-Cut.from c.in-Cut.to)) (set_by (command.Cut c.in-Cut.from c.in-Cut.to)) (λ rows situation is. refl)) c.cut.ensures.sets)
+
+pub returns-in-Heal-clause-goes : goal.returns-in-Heal-clause-goes
+returns-in-Heal-clause-goes g c =
+    subst (λ command. GoesOnBy g.D.Disk.seen g.D.Disk.may_leave g.D.Disk.honest c.args.table.now (IsPartOf c.args.self.now.book.members c.args.table.now command) c.args.self.now c.heal.new.self)
+    (sym c.in-Heal.is) (sets_go g.D.Disk.seen g.D.Disk.may_leave g.D.Disk.honest c.args.table.now c.args.self.now.book.members c.args.self.now c.heal.new.self (tasks_for (command.Heal)) (set_by (command.Heal)) (λ rows situation is. refl) c.heal.ensures.sets)
+
+pub returns-in-Skew-clause-goes : goal.returns-in-Skew-clause-goes
+returns-in-Skew-clause-goes g c =
+    let taken = subst (λ command. IsTaken c.args.table.now.window c.args.self.now.book.members command) c.in-Skew.is c.requires.taken in
+    let fits : FitsSigned w64 c.in-Skew.minutes = omega (arith, ints, taken.1.least, taken.1.most) in
+    let same : to_z w64 (of_z w64 c.in-Skew.minutes) ≡ c.in-Skew.minutes = to_z-of_z w64 c.in-Skew.minutes fits in
+    subst (λ command. GoesOnBy g.D.Disk.seen g.D.Disk.may_leave g.D.Disk.honest c.args.table.now (IsPartOf c.args.self.now.book.members c.args.table.now command) c.args.self.now c.skew.new.self)
+    (sym c.in-Skew.is) (sets_go g.D.Disk.seen g.D.Disk.may_leave g.D.Disk.honest c.args.table.now c.args.self.now.book.members c.args.self.now c.skew.new.self (tasks_for (command.Skew c.in-Skew.member c.in-Skew.minutes)) (set_by (command.Skew c.in-Skew.member c.in-Skew.minutes)) (λ rows situation is. refl) (subst (λ minutes. Changes g.D.Disk.seen g.D.Disk.may_leave g.D.Disk.honest (set_by (command.Skew c.in-Skew.member minutes)) c.args.self.now c.skew.new.self) same c.skew.ensures.sets))
+
+pub returns-in-Fate-clause-goes : goal.returns-in-Fate-clause-goes
+returns-in-Fate-clause-goes g c =
+    subst (λ command. GoesOnBy g.D.Disk.seen g.D.Disk.may_leave g.D.Disk.honest c.args.table.now (IsPartOf c.args.self.now.book.members c.args.table.now command) c.args.self.now c.set_fate.new.self)
+    (sym c.in-Fate.is) (sets_go g.D.Disk.seen g.D.Disk.may_leave g.D.Disk.honest c.args.table.now c.args.self.now.book.members c.args.self.now c.set_fate.new.self (tasks_for (command.Fate c.in-Fate.member c.in-Fate.fate)) (set_by (command.Fate c.in-Fate.member c.in-Fate.fate)) (λ rows situation is. refl) c.set_fate.ensures.sets)

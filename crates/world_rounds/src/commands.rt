@@ -1,0 +1,112 @@
+//! The commands of a script.
+ghost use Rattle.std.specs.Prelude.{◌≡◌, ◌<◌, OnOk, OnErr, length};
+ghost use Rattle.cluster_sched.specs.declared.fate.Fate.{Fate as Becomes};
+ghost use Rattle.script_law.specs.Commands.{fate_of, set_by};
+ghost use Rattle.script_law.specs.Script.{IsPartOf};
+ghost use Rattle.script_text.specs.declared.command.Command.TheVariants as command;
+ghost use Rattle.world_law.specs.Book.{IsLegalBook};
+ghost use Rattle.world_rounds.specs.Commands.{IsTaken};
+ghost use Rattle.world_rounds.specs.Mails.{Changes};
+ghost use Rattle.world_rounds.specs.World.{GoesOnBy, IsSkew, IsWorld, book_of};
+
+use crate::fault::WorldFault;
+use crate::world::World;
+use cluster_sched::Fate;
+use disk_model::Disk;
+use due_set::JobTable;
+use script_text::{Command, FateWord};
+
+// The fate that a word stands for.
+fn fate_of(word: FateWord) -> Fate
+    ensures { result ≡ fate_of word }
+{
+    match word {
+        FateWord::Done => Fate::Done,
+        FateWord::LostBefore => Fate::LostBefore,
+        FateWord::LostAfter => Fate::LostAfter,
+        FateWord::Late => Fate::Late,
+    }
+}
+
+impl<D: Disk> World<D> {
+    // Letters from the one replica to the other are lost from now on.
+    fn cut(&mut self, from: u8, to: u8) -> Result<(), WorldFault>
+        ensures sets { OnOk result (Changes D.seen D.may_leave D.honest (set_by (command.Cut from to)) self.old self.new) }
+        ensures book { book_of self.new ≡ book_of self.old }
+    {
+        self.cuts.push((from, to))?;
+        Ok(())
+    }
+
+    // No letter is lost from now on.
+    fn heal(&mut self)
+        ensures sets { Changes D.seen D.may_leave D.honest (set_by command.Heal) self.old self.new }
+    {
+        self.cuts.clear();
+    }
+
+    // A replica's clock is so many minutes ahead.
+    fn skew(&mut self, who: u8, minutes: i64)
+        requires member { who < length self.old.members.items }
+        requires small { IsSkew minutes }
+        ensures sets { Changes D.seen D.may_leave D.honest (set_by (command.Skew who minutes)) self.old self.new }
+    {
+        self.members[who as usize].mail.skew = minutes;
+    }
+
+    // What becomes of a replica's next call.
+    fn set_fate(&mut self, who: u8, word: FateWord)
+        requires member { who < length self.old.members.items }
+        ensures sets { Changes D.seen D.may_leave D.honest (set_by (command.Fate who word)) self.old self.new }
+    {
+        self.members[who as usize].mail.fate = fate_of(word);
+    }
+
+    // A replica stands for leader, if it runs.
+    fn campaign(&mut self, table: &JobTable, who: u8) -> Result<(), WorldFault>
+        requires world { IsWorld D.seen D.may_leave D.honest table.now self.old }
+        requires member { who < length self.old.members.items }
+        ensures goes { OnOk result (GoesOnBy D.seen D.may_leave D.honest table.now (IsPartOf (book_of self.old).members table.now (command.Campaign who)) self.old self.new) }
+        ensures legal { OnErr result (IsLegalBook table.now (book_of self.new)) }
+    {
+        if !self.members[who as usize].mail.runs {
+            return Ok(());
+        }
+        let first = self.book.letters().len() as u64;
+        self.members[who as usize].take_campaign(table, &self.book)?;
+        self.commit_steps(table, who)?;
+        self.deliver(first)?;
+        Ok(())
+    }
+
+    /// Does what a command says: the turns that it adds are those of its part.
+    ///
+    /// # Errors
+    ///
+    /// A fault of a disk, and want of memory. The world takes no more calls then, and its book is legal.
+    pub fn command(&mut self, table: &JobTable, command: &Command) -> Result<(), WorldFault>
+        requires world { IsWorld D.seen D.may_leave D.honest table.now self.old }
+        requires taken { IsTaken table.now.window (book_of self.old).members command.now }
+        ensures goes { OnOk result (GoesOnBy D.seen D.may_leave D.honest table.now (IsPartOf (book_of self.old).members table.now command.now) self.old self.new) }
+        ensures legal { OnErr result (IsLegalBook table.now (book_of self.new)) }
+    {
+        match *command {
+            Command::Round { at, rounds } => self.round(table, at, rounds),
+            Command::Campaign { member } => self.campaign(table, member),
+            Command::Cut { from, to } => self.cut(from, to),
+            Command::Heal => {
+                self.heal();
+                Ok(())
+            }
+            Command::Skew { member, minutes } => {
+                self.skew(member, minutes);
+                Ok(())
+            }
+            Command::Fate { member, fate } => {
+                self.set_fate(member, fate);
+                Ok(())
+            }
+            _ => unreachable!(),
+        }
+    }
+}
