@@ -110,6 +110,10 @@ module _ {D : Type 0} (seen : D → Image) (may_leave : D → Image → Type 0) 
   may_commit_campaign world middle who member next is there below members takes book cuts latest =
       record { rows = is.rows; situation = is.situation; ahead = campaign_ahead is.rows world middle is.situation who member next is.is there below members takes book cuts latest }
 
+  pub committed_members : (middle now : World D) (who : ℕ) → CommitsOwn seen may_leave honest table who middle now → MayCommitOwn seen may_leave honest table middle
+      → now.book.members ≡ middle.book.members
+  committed_members middle now who commits may = (commits may.rows may.situation may.ahead).members_are
+
   -- what the campaign comes to, before its letters join the mails
   campaign_taken_on : (rows : List Row) (world middle now : World D) (situation : Situation) (who : ℕ) (member next : Member D) → IsWorldAt seen may_leave honest table rows world situation
       → slice_get world.members.items who ≡ Some member → who < length world.members.items → middle.members.items ≡ set world.members.items who next

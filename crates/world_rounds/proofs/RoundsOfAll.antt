@@ -42,6 +42,10 @@ pub on_ok : {X E : Type 0} (result : Result X E) (P Q : Type 0) → (P → Q) �
 on_ok (Ok answer) P Q so holds = so holds
 on_ok (Err fault) P Q so holds = tt
 
+pub on_any : {X E : Type 0} (result : Result X E) (P : Type 0) → P → OnOk result P
+on_any (Ok answer) P holds = holds
+on_any (Err fault) P holds = tt
+
 pub on_err : {X E : Type 0} (result : Result X E) (P : Type 0) → P → OnErr result P
 on_err (Ok answer) P holds = tt
 on_err (Err fault) P holds = holds

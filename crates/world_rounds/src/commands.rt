@@ -41,6 +41,7 @@ impl<D: Disk> World<D> {
     // No letter is lost from now on.
     fn heal(&mut self)
         ensures sets { Changes D.seen D.may_leave D.honest (set_by command.Heal) self.old self.new }
+        ensures book { book_of self.new ≡ book_of self.old }
     {
         self.cuts.clear();
     }
@@ -50,6 +51,7 @@ impl<D: Disk> World<D> {
         requires member { who < length self.old.members.items }
         requires small { IsSkew minutes }
         ensures sets { Changes D.seen D.may_leave D.honest (set_by (command.Skew who minutes)) self.old self.new }
+        ensures book { book_of self.new ≡ book_of self.old }
     {
         self.members[who as usize].mail.skew = minutes;
     }
@@ -58,6 +60,7 @@ impl<D: Disk> World<D> {
     fn set_fate(&mut self, who: u8, word: FateWord)
         requires member { who < length self.old.members.items }
         ensures sets { Changes D.seen D.may_leave D.honest (set_by (command.Fate who word)) self.old self.new }
+        ensures book { book_of self.new ≡ book_of self.old }
     {
         self.members[who as usize].mail.fate = fate_of(word);
     }
@@ -67,6 +70,7 @@ impl<D: Disk> World<D> {
         requires world { IsWorld D.seen D.may_leave D.honest table.now self.old }
         requires member { who < length self.old.members.items }
         ensures goes { OnOk result (GoesOnBy D.seen D.may_leave D.honest table.now (IsPartOf (book_of self.old).members table.now (command.Campaign who)) self.old self.new) }
+        ensures members { OnOk result ((book_of self.new).members ≡ (book_of self.old).members) }
         ensures legal { OnErr result (IsLegalBook table.now (book_of self.new)) }
     {
         if !self.members[who as usize].mail.runs {
@@ -88,6 +92,7 @@ impl<D: Disk> World<D> {
         requires world { IsWorld D.seen D.may_leave D.honest table.now self.old }
         requires taken { IsTaken table.now.window (book_of self.old).members command.now }
         ensures goes { OnOk result (GoesOnBy D.seen D.may_leave D.honest table.now (IsPartOf (book_of self.old).members table.now command.now) self.old self.new) }
+        ensures members { OnOk result ((book_of self.new).members ≡ (book_of self.old).members) }
         ensures legal { OnErr result (IsLegalBook table.now (book_of self.new)) }
     {
         match *command {

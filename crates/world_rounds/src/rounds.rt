@@ -67,6 +67,7 @@ impl<D: Disk> World<D> {
         requires world { IsWorld D.seen D.may_leave D.honest table.now self.old }
         requires inside { IsInWindow table.now.window at.0 }
         ensures goes { OnOk result (GoesOnBy D.seen D.may_leave D.honest table.now (AreRounds (book_of self.old).members table.now.window at.0 rounds) self.old self.new) }
+        ensures members { OnOk result ((book_of self.new).members ≡ (book_of self.old).members) }
         ensures legal { OnErr result (IsLegalBook table.now (book_of self.new)) }
     {
         'rounds: for _round in 0..rounds {

@@ -60,7 +60,8 @@ impl<D: Disk> World<D> {
         requires few { members ≤ 7 }
         requires count { length disks.items ≡ members }
         requires fresh { (disk : D) → Contains disks.items disk → IsFreshDisk D.may_leave D.honest disk }
-        ensures { IfOk result (λ world. IsWorldAt D.seen D.may_leave D.honest table.now [] world (first_situation members table.now)) }
+        ensures starts { IfOk result (λ world. IsWorldAt D.seen D.may_leave D.honest table.now [] world (first_situation members table.now)) }
+        ensures members { IfOk result (λ world. (book_of world).members ≡ members) }
     {
         let mut started: Vec<Member<D>> = Vec::new(alloc);
         'disks: for disk in disks {

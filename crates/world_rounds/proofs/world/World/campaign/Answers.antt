@@ -4,9 +4,9 @@ use Rattle.std.proofs.lemmas.Option.{slice_get_read}
 use Rattle.script_law.specs.Commands.{set_by, tasks_for}
 use Rattle.script_law.specs.Situation.{delivered}
 use Rattle.script_text.specs.declared.command.Command.TheVariants as command
-use Rattle.world_law.specs.Book.{IsLegalBook}
+use Rattle.world_law.specs.Book.{BookState, IsLegalBook}
 use Rattle.world_rounds.specs.Mails.{Changes}
-use Rattle.world_rounds.proofs.Campaigns.{campaign_goes, may_commit_campaign, world_stood}
+use Rattle.world_rounds.proofs.Campaigns.{campaign_goes, committed_members, may_commit_campaign, world_stood}
 use Rattle.world_rounds.proofs.RoundsOfAll.{legal_world, may_take_round, on_err}
 use Rattle.world_rounds.proofs.Setting.{sets_go}
 use Rattle.world_rounds.proofs.Worlds.{some_same}
@@ -67,3 +67,12 @@ returns-clause-goes g c =
     c.in_ok-take_campaign.ensures.takes (ap (λ member. member.mail.runs) (sym same) ∙ c.if-not-index.false) refl refl refl c.in_ok-commit_steps.ensures.did
     c.in_ok-commit_steps.ensures.puts
     (subst (λ n. Changes g.D.Disk.seen g.D.Disk.may_leave g.D.Disk.honest (delivered n) c.commit_steps.new.self c.deliver.new.self) (ap length c.letters.ensures) c.in_ok-deliver.ensures.delivers)
+
+pub returns-clause-members : goal.returns-clause-members
+returns-clause-members g c =
+    let there : slice_get c.args.self.now.members.items c.args.who ≡ Some c.index_mut.result.now =
+    slice_get_read c.args.self.now.members.items (length c.args.self.now.members.items) c.args.who c.index_mut.result.now refl c.requires.member c.index_mut.ensures.value in
+    ap (λ (book : BookState). book.members) c.deliver.ensures.book
+    ∙ committed_members g.D.Disk.seen g.D.Disk.may_leave g.D.Disk.honest c.args.table.now _ c.commit_steps.new.self c.args.who c.in_ok-commit_steps.ensures.did
+    (may_commit_campaign g.D.Disk.seen g.D.Disk.may_leave g.D.Disk.honest c.args.table.now c.args.self.now _ c.args.who c.index_mut.result.now c.take_campaign.new.self c.requires.world there c.requires.member refl
+    c.in_ok-take_campaign.ensures.takes refl refl refl)

@@ -1,14 +1,15 @@
-use Rattle.std.proofs.Common.{◌≡◌, OnOk, arith, of_z, refl, subst, sym, to_z}
+use Rattle.std.proofs.Common.{OnOk, ap, arith, of_z, refl, subst, sym, to_z, ◌≡◌}
 use Rattle.std.specs.Int.{w64}
 use Rattle.std.specs.Prelude.{FitsSigned}
 use Rattle.std.proofs.lemmas.Int.{ints, to_z-of_z}
 use Rattle.script_law.specs.Commands.{set_by, tasks_for}
 use Rattle.script_law.specs.Script.{IsPartOf}
 use Rattle.script_text.specs.declared.command.Command.TheVariants as command
+use Rattle.world_law.specs.Book.{BookState}
 use Rattle.world_rounds.specs.Commands.{IsTaken}
 use Rattle.world_rounds.specs.Mails.{Changes}
 use Rattle.world_rounds.specs.World.{GoesOnBy}
-use Rattle.world_rounds.proofs.RoundsOfAll.{on_ok}
+use Rattle.world_rounds.proofs.RoundsOfAll.{on_any, on_ok}
 use Rattle.world_rounds.proofs.Setting.{sets_go}
 use Rattle.world_rounds.proofs.world.World.command.Goals as goal
 
@@ -44,3 +45,15 @@ pub returns-in-Fate-clause-goes : goal.returns-in-Fate-clause-goes
 returns-in-Fate-clause-goes g c =
     subst (λ command. GoesOnBy g.D.Disk.seen g.D.Disk.may_leave g.D.Disk.honest c.args.table.now (IsPartOf c.args.self.now.book.members c.args.table.now command) c.args.self.now c.set_fate.new.self)
     (sym c.in-Fate.is) (sets_go g.D.Disk.seen g.D.Disk.may_leave g.D.Disk.honest c.args.table.now c.args.self.now.book.members c.args.self.now c.set_fate.new.self (tasks_for (command.Fate c.in-Fate.member c.in-Fate.fate)) (set_by (command.Fate c.in-Fate.member c.in-Fate.fate)) (λ rows situation is. refl) c.set_fate.ensures.sets)
+
+pub returns-in-Cut-clause-members : goal.returns-in-Cut-clause-members
+returns-in-Cut-clause-members g c = on_any c.cut.result _ (ap (λ (book : BookState). book.members) c.cut.ensures.book)
+
+pub returns-in-Heal-clause-members : goal.returns-in-Heal-clause-members
+returns-in-Heal-clause-members g c = ap (λ (book : BookState). book.members) c.heal.ensures.book
+
+pub returns-in-Skew-clause-members : goal.returns-in-Skew-clause-members
+returns-in-Skew-clause-members g c = ap (λ (book : BookState). book.members) c.skew.ensures.book
+
+pub returns-in-Fate-clause-members : goal.returns-in-Fate-clause-members
+returns-in-Fate-clause-members g c = ap (λ (book : BookState). book.members) c.set_fate.ensures.book

@@ -3,7 +3,5 @@ use Rattle.script_law.specs.Situation.{is_cut}
 use Rattle.world_rounds.proofs.Setting.{cuts_set}
 use Rattle.world_rounds.proofs.world.World.heal.Goals as goal
 
-pub returns : goal.returns
-returns g c = record {
-  sets = cuts_set g.D.Disk.seen g.D.Disk.may_leave g.D.Disk.honest c.args.self.now _ (λ pairs. []) refl refl refl (λ pairs same from to. ap (is_cut from to) c.clear.ensures.items);
-}
+pub returns-clause-sets : goal.returns-clause-sets
+returns-clause-sets g c = cuts_set g.D.Disk.seen g.D.Disk.may_leave g.D.Disk.honest c.args.self.now _ (λ pairs. []) refl refl refl (λ pairs same from to. ap (is_cut from to) c.clear.ensures.items)

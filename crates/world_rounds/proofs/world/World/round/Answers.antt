@@ -20,3 +20,6 @@ returns-clause-goes g c =
     let whole : c.rounds._round ≡ c.args.rounds = omega (arith, c.rounds-test.false, c.rounds.auto._round-end) in
     subst (λ n. GoesOnBy g.D.Disk.seen g.D.Disk.may_leave g.D.Disk.honest c.args.table.now (AreRounds c.args.self.now.book.members c.args.table.now.window c.args.at.0 n) c.args.self.now c.rounds.self)
     whole c.rounds.invariant.goes
+
+pub returns-clause-members : goal.returns-clause-members
+returns-clause-members g c = c.rounds.invariant.members

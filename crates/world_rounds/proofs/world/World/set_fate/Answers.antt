@@ -5,11 +5,9 @@ use Rattle.script_law.specs.Commands.{fate_of}
 use Rattle.world_rounds.proofs.Setting.{fate_set}
 use Rattle.world_rounds.proofs.world.World.set_fate.Goals as goal
 
-pub returns : goal.returns
-returns g c =
+pub returns-clause-sets : goal.returns-clause-sets
+returns-clause-sets g c =
     let there : slice_get c.args.self.now.members.items c.args.who ≡ Some c.index_mut.result.now =
     slice_get_read c.args.self.now.members.items (length c.args.self.now.members.items) c.args.who c.index_mut.result.now refl c.requires.member c.index_mut.ensures.value in
-    record {
-      sets = fate_set g.D.Disk.seen g.D.Disk.may_leave g.D.Disk.honest c.args.self.now _ c.args.who (fate_of c.args.word) c.index_mut.result.now _ refl refl refl there refl refl refl
-          (ap (λ becomes. record c.index_mut.result.now.mail { fate = becomes }) c.fate_of.ensures);
-    }
+    fate_set g.D.Disk.seen g.D.Disk.may_leave g.D.Disk.honest c.args.self.now _ c.args.who (fate_of c.args.word) c.index_mut.result.now _ refl refl refl there refl refl refl
+    (ap (λ becomes. record c.index_mut.result.now.mail { fate = becomes }) c.fate_of.ensures)

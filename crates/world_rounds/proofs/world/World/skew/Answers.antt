@@ -6,11 +6,9 @@ use Rattle.std.proofs.lemmas.Option.{slice_get_read}
 use Rattle.world_rounds.proofs.Setting.{skew_set}
 use Rattle.world_rounds.proofs.world.World.skew.Goals as goal
 
-pub returns : goal.returns
-returns g c =
+pub returns-clause-sets : goal.returns-clause-sets
+returns-clause-sets g c =
     let there : slice_get c.args.self.now.members.items c.args.who ≡ Some c.index_mut.result.now =
     slice_get_read c.args.self.now.members.items (length c.args.self.now.members.items) c.args.who c.index_mut.result.now refl c.requires.member c.index_mut.ensures.value in
-    record {
-      sets = skew_set g.D.Disk.seen g.D.Disk.may_leave g.D.Disk.honest c.args.self.now _ c.args.who c.args.minutes c.index_mut.result.now _ refl refl refl there refl refl refl
-          (ap (λ minutes. record c.index_mut.result.now.mail { skew = minutes }) (to_z-of_z w64 c.args.minutes c.ranges.minutes)) c.requires.small;
-    }
+    skew_set g.D.Disk.seen g.D.Disk.may_leave g.D.Disk.honest c.args.self.now _ c.args.who c.args.minutes c.index_mut.result.now _ refl refl refl there refl refl refl
+    (ap (λ minutes. record c.index_mut.result.now.mail { skew = minutes }) (to_z-of_z w64 c.args.minutes c.ranges.minutes)) c.requires.small
