@@ -204,7 +204,7 @@ enough_below members some few =
     (leb-true (majority_of (members - 1 + 1)) (count_by (λ m. ltb m (members - 1 + 1)) all_members)
     (agree_below_at at_least (λ _. true) 7 (members - 1) all_at_least (omega (arith, few, some))))
 
-all_are_enough : (members set : ℕ) → 1 ≤ members → members ≤ 7 → ((q : ℕ) → q < members → HasMember set q) → has_majority members set ≡ true
+pub all_are_enough : (members set : ℕ) → 1 ≤ members → members ≤ 7 → ((q : ℕ) → q < members → HasMember set q) → has_majority members set ≡ true
 all_are_enough members set some few all =
     let more : count_by (λ m. ltb m members) all_members ≤ member_count set = sum_by-le-sum_by _ _ all_members pointwise in
     let least = enough_below members some few in

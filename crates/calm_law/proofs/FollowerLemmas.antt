@@ -137,7 +137,7 @@ unfolding after_act
 behind_observed b p ballot state behind =
     record { promised = behind.promised; follows = follows_on ballot state.term behind.follows; short = behind.short }
 
-behind_hear : (self : Identity) (b p from : ℕ) (message : Message) (once : Once) (state : State) → StaysWithin b p message → IsBehind b p state → IsBehind b p (after_acts (hear self from message once state) state)
+pub behind_hear : (self : Identity) (b p from : ℕ) (message : Message) (once : Once) (state : State) → StaysWithin b p message → IsBehind b p state → IsBehind b p (after_acts (hear self from message once state) state)
 unfolding hear
 behind_hear self b p from message once state within behind =
     behind_line self b p from message once (observed (ballot_in message) state) within (behind_observed b p (ballot_in message) state behind)
@@ -154,7 +154,7 @@ behind_all self b p from (message ∷ messages) once state within behind =
 
 -- ---- its part of a round
 
-behind_tick : (self : Identity) (b p : ℕ) (now : ℤ) (plan : Plan) (state : State) → IsBehind b p state → IsBehind b p (after_acts (step self (Tick now plan) state) state)
+pub behind_tick : (self : Identity) (b p : ℕ) (now : ℤ) (plan : Plan) (state : State) → IsBehind b p state → IsBehind b p (after_acts (step self (Tick now plan) state) state)
 unfolding step tick after_act after_delta
 behind_tick self b p now plan state behind =
     elim (cases_Bool (is_long state)) [

@@ -91,7 +91,7 @@ unfolding on_promise
 leader_hears_no_promise members from ballot slot own votes best flight = refl
 
 -- no message changes what it is told of here, but promises and acceptances, which come to nothing in this term
-hold_line : (self : Identity) (held : Term) (at : Progress) (p from : ℕ) (message : Message) (once : Once) (state : State) → p ≤ at.prefix → StaysWithin at.ballot p message → ((ballot slot : ℕ) (votes : List Vote) → message ≡ Promise ballot slot votes → on_promise self.members from ballot slot votes held ≡ []) → ((ballot slot : ℕ) → message ≡ Accepted ballot slot → on_accepted self.members from ballot slot held ≡ []) → IsHolding held at state → IsHolding held at (after_acts (line self from message once state) state)
+pub hold_line : (self : Identity) (held : Term) (at : Progress) (p from : ℕ) (message : Message) (once : Once) (state : State) → p ≤ at.prefix → StaysWithin at.ballot p message → ((ballot slot : ℕ) (votes : List Vote) → message ≡ Promise ballot slot votes → on_promise self.members from ballot slot votes held ≡ []) → ((ballot slot : ℕ) → message ≡ Accepted ballot slot → on_accepted self.members from ballot slot held ≡ []) → IsHolding held at state → IsHolding held at (after_acts (line self from message once state) state)
 unfolding line on_lead
 hold_line self held at p from (Prepare ballot slot) once state up within promise other holding = hold_prepare held at from ballot slot once.copied state within.low holding
 hold_line self held at p from (Promise ballot slot votes) once state up within promise other holding =

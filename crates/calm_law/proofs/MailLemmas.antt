@@ -41,7 +41,7 @@ occurs_letter me message (first ∷ messages) itself has = record {
 
 -- ---- letters of events, one part after another
 
-letters_append : (self : Identity) (q : ℕ) (xs ys : List Event) (state : State) → letters_to self q (xs ++ ys) state ≡ letters_to self q xs state ++ letters_to self q ys (after_events self xs state)
+pub letters_append : (self : Identity) (q : ℕ) (xs ys : List Event) (state : State) → letters_to self q (xs ++ ys) state ≡ letters_to self q xs state ++ letters_to self q ys (after_events self xs state)
 letters_append self q [] ys state = refl
 letters_append self q (x ∷ xs) ys state =
     ap (λ rest. letter_from self.me (sent_to self.me q (step self x state)) ++ rest) (letters_append self q xs ys (after_acts (step self x state) state))

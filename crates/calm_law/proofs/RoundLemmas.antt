@@ -12,7 +12,7 @@ use Rattle.calm_law.proofs.Lists.{events_append, planned_behind}
 use Rattle.calm_law.proofs.MailLemmas.{occurs_after, occurs_left, occurs_next}
 
 -- the tick comes behind an answer and the mail
-ticked : (members : ℕ) (advice : ℕ → Advice) (calm : Calm) (who : ℕ) → before_tick members advice calm who ≡ after_events (identity_of members who) (hear_events (calm.mails who)) (after_events (identity_of members who) (answer_events (calm.waits who) (advice who).rows) (calm.replicas who))
+pub ticked : (members : ℕ) (advice : ℕ → Advice) (calm : Calm) (who : ℕ) → before_tick members advice calm who ≡ after_events (identity_of members who) (hear_events (calm.mails who)) (after_events (identity_of members who) (answer_events (calm.waits who) (advice who).rows) (calm.replicas who))
 ticked members advice calm who = events_append (identity_of members who) (answer_events (calm.waits who) (advice who).rows) (hear_events (calm.mails who)) (calm.replicas who)
 
 pub round_after : (members : ℕ) (now : ℤ) (advice : ℕ → Advice) (answers : ℕ → Option SchedRow) (calm : Calm) (who : ℕ) → (calm_round members now advice answers calm).replicas who ≡ after_acts (step (identity_of members who) (Tick now (advice who).plan) (before_tick members advice calm who)) (before_tick members advice calm who)

@@ -14,11 +14,11 @@ use Rattle.calm_law.proofs.Lists.{all_flat, range_below}
 use Rattle.calm_law.proofs.SendLemmas.{IsPlain, letters_from, letters_within}
 
 -- no event of a round is a campaign
-plain_mail : (now : ℤ) (plan : Plan) (mail : List HeardLetter) → AllByRecursion IsPlain (hear_events mail ++ Tick now plan ∷ [])
+pub plain_mail : (now : ℤ) (plan : Plan) (mail : List HeardLetter) → AllByRecursion IsPlain (hear_events mail ++ Tick now plan ∷ [])
 plain_mail now plan [] = (tt, tt)
 plain_mail now plan (letter ∷ mail) = (tt, plain_mail now plan mail)
 
-plain_round : (now : ℤ) (advice : Advice) (waits : Option SchedRow) (mail : List HeardLetter) → AllByRecursion IsPlain (events_of now advice waits mail)
+pub plain_round : (now : ℤ) (advice : Advice) (waits : Option SchedRow) (mail : List HeardLetter) → AllByRecursion IsPlain (events_of now advice waits mail)
 plain_round now advice None mail = plain_mail now advice.plan mail
 plain_round now advice (Some row) mail = (tt, plain_mail now advice.plan mail)
 
@@ -31,7 +31,7 @@ behind_more : (b p q : ℕ) (state : State) → p ≤ q → IsBehind b p state �
 behind_more b p q state more behind = record { promised = behind.promised; follows = behind.follows; short = omega (arith, behind.short, more) }
 
 -- one leads alone where the others follow, and it has promised and learned no more than this
-ruled_by : (members c b q : ℕ) (table : Table) (now : ℤ) (advice : ℕ → Advice) (answers : ℕ → Option SchedRow) (calm : Calm) → c < members → members ≤ 7 → 2 ≤ members → IsAdvised members table now advice calm → ((who : ℕ) → who < members → (who ≡ c → ⊥) → IsBehind b q ((calm_round members now advice answers calm).replicas who)) → promised_in ((calm_round members now advice answers calm).replicas c).kept ≤ b → prefix_of ((calm_round members now advice answers calm).replicas c) ≤ q → IsRuled members c b q (calm_round members now advice answers calm)
+pub ruled_by : (members c b q : ℕ) (table : Table) (now : ℤ) (advice : ℕ → Advice) (answers : ℕ → Option SchedRow) (calm : Calm) → c < members → members ≤ 7 → 2 ≤ members → IsAdvised members table now advice calm → ((who : ℕ) → who < members → (who ≡ c → ⊥) → IsBehind b q ((calm_round members now advice answers calm).replicas who)) → promised_in ((calm_round members now advice answers calm).replicas c).kept ≤ b → prefix_of ((calm_round members now advice answers calm).replicas c) ≤ q → IsRuled members c b q (calm_round members now advice answers calm)
 ruled_by members c b q table now advice answers calm member few more advised behind low short = record {
   member = member;
   few = few;

@@ -47,7 +47,7 @@ mentions_within : (b p ballot n : ℕ) → ballot ≤ b → AllByRecursion (Stay
 mentions_within b p ballot zero low = tt
 mentions_within b p ballot (suc n) low = (record { low = low; below = tt }, mentions_within b p ballot n low)
 
-may_within : (self : Identity) (state : State) (message : Message) → IsCoherent self state → MaySend state message → IsHeardWithin (promised_in state.kept) (prefix_of state) message
+pub may_within : (self : Identity) (state : State) (message : Message) → IsCoherent self state → MaySend state message → IsHeardWithin (promised_in state.kept) (prefix_of state) message
 may_within self state (Prepare ballot slot) sound may = (record { low = omega (arith, may.0); below = tt }, tt)
 may_within self state (Promise ballot slot votes) sound may =
     (record { low = omega (arith, may.promised); below = tt }, mentions_within (promised_in state.kept) (prefix_of state) ballot (length votes) (omega (arith, may.promised)))
@@ -62,12 +62,12 @@ may_within self state (Lead ballot slot) sound may =
     (record { low = omega (arith, own.promised); below = tt }, tt)
 may_within self state (Mention ballot) sound may = tt
 
-tells_more : (low high : ℕ) (message : Message) → low ≤ high → TellsBelow low message → TellsBelow high message
+pub tells_more : (low high : ℕ) (message : Message) → low ≤ high → TellsBelow low message → TellsBelow high message
 tells_more low high (Known slot entry) more below = omega (arith, more, below)
 tells_more low high (Snap slot rows) more below = omega (arith, more, below)
 tells_more low high message more below = tt
 
-within_more : (b c p q : ℕ) (messages : List Message) → b ≤ c → p ≤ q → AllByRecursion (StaysWithin b p) messages → AllByRecursion (StaysWithin c q) messages
+pub within_more : (b c p q : ℕ) (messages : List Message) → b ≤ c → p ≤ q → AllByRecursion (StaysWithin b p) messages → AllByRecursion (StaysWithin c q) messages
 within_more b c p q [] more later within = tt
 within_more b c p q (message ∷ messages) more later within =
     (record { low = omega (arith, within.0.low, more); below = tells_more p q message later within.0.below }, within_more b c p q messages more later within.1)
@@ -82,7 +82,7 @@ pub record Rises (old new : State) : Type 0 where
 rises_on : (one two three : State) → Rises one two → Rises two three → Rises one three
 rises_on one two three a b = record { promised = omega (arith, a.promised, b.promised); prefix = omega (arith, a.prefix, b.prefix) }
 
-no_campaign : (setting : Setting) (event : Event) (state : State) (me ballot : ℕ) → setting.event ≡ Some event → IsPlain event → MayStand setting state me ballot → ⊥
+pub no_campaign : (setting : Setting) (event : Event) (state : State) (me ballot : ℕ) → setting.event ≡ Some event → IsPlain event → MayStand setting state me ballot → ⊥
 no_campaign setting event state me ballot told plain may =
     let same : event ≡ Campaign = some (sym told ∙ may.told) in
     subst IsPlain same plain
@@ -90,7 +90,7 @@ no_campaign setting event state me ballot told plain may =
     some : Some event ≡ Some Campaign → event ≡ Campaign
     some is = cc
 
-act_rises : (setting : Setting) (event : Event) (state : State) (act : Act) → setting.event ≡ Some event → IsPlain event → IsCoherent setting.self state → May setting state act → Rises state (after_act act state)
+pub act_rises : (setting : Setting) (event : Event) (state : State) (act : Act) → setting.event ≡ Some event → IsPlain event → IsCoherent setting.self state → May setting state act → Rises state (after_act act state)
 unfolding after_act after_delta May
 act_rises setting event state (Observe ballot) told plain sound may = record { promised = omega arith; prefix = omega arith }
 act_rises setting event state (Stand me ballot) told plain sound may = absurd (no_campaign setting event state me ballot told plain may)

@@ -58,7 +58,7 @@ flight_stays ballot best prefix flight at = rw (le-ltb flight.slot prefix (omega
 
 -- ---- a flight
 
-silent_wait : (ballot : ℕ) (flight : Flight) (state : State) → after_acts (wait ballot flight) state ≡ after_act Wait state
+pub silent_wait : (ballot : ℕ) (flight : Flight) (state : State) → after_acts (wait ballot flight) state ≡ after_act Wait state
 unfolding after_act
 silent_wait ballot flight state = elim (cases_Bool (is_fourth flight)) [ inl again ↦ rw again refl | inr not_yet ↦ rw not_yet refl ]
 

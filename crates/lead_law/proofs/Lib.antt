@@ -1,0 +1,10 @@
+pub mod AnswerLemmas
+pub mod CandidateLemmas
+pub mod DecidedLemmas
+pub mod EarlyLemmas
+pub mod NextEntryLemmas
+pub mod PromiseLemmas
+pub mod ReplyLemmas
+pub mod SomeCampaign
+pub mod TermLemmas
+pub mod WinLemmas

@@ -1,0 +1,8 @@
+use Rattle.lead_law.proofs.SomeCampaign.{some_campaign, some_second}
+use Rattle.lead_law.proofs.laws.a_campaign_may_be_made.Goals as goal
+
+pub returns-clause-first : goal.returns-clause-first
+returns-clause-first c = some_campaign
+
+pub returns-clause-again : goal.returns-clause-again
+returns-clause-again c = some_second

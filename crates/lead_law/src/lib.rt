@@ -1,0 +1,6 @@
+//! Who comes to lead in rounds in which all replicas run and no letter is lost.
+#![tactic(auto)]
+
+mod laws;
+
+pub use laws::{a_campaign_is_answered, a_campaign_may_be_made, a_second_campaign_wins};
