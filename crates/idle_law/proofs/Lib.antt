@@ -1,0 +1,6 @@
+pub mod AskLemmas
+pub mod IdleLemmas
+pub mod KeepLemmas
+pub mod LearnLemmas
+pub mod QuietLemmas
+pub mod TellLemmas

@@ -1,0 +1,8 @@
+use Rattle.idle_law.proofs.IdleLemmas.{idle_round, idle_says}
+use Rattle.idle_law.proofs.laws.an_idle_leader_stays_idle.Goals as goal
+
+pub returns-clause-idle : goal.returns-clause-idle
+returns-clause-idle c = idle_round
+
+pub returns-clause-says : goal.returns-clause-says
+returns-clause-says c = idle_says
