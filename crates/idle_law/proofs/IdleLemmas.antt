@@ -21,7 +21,7 @@ use Rattle.agree_law.specs.Transition.{identity_of}
 use Rattle.calm_law.specs.Begins.{Begins, calls, proposes, rebases, rests, HasRebased, HasRested}
 use Rattle.calm_law.specs.Calm.{Advice, Calm, IsAdvised, after_events, answer_events, before_tick, calls_at, calm_round, hear_events}
 use Rattle.calm_law.specs.Flights.{with_base}
-use Rattle.calm_law.specs.Rounds.{IsAnswerTo}
+use Rattle.calm_law.specs.Rounds.{IsAnswerTo, StaysFree}
 use Rattle.calm_law.specs.Ruled.{IsLeading, Progress}
 use Rattle.calm_law.proofs.FreeLemmas.{free_next}
 use Rattle.calm_law.proofs.LeaderLemmas.{free_mail}
@@ -29,7 +29,7 @@ use Rattle.calm_law.proofs.OutcomeLemmas.{long_tick, saying_stays, short_tick}
 use Rattle.calm_law.proofs.RoundLemmas.{round_after, round_planned}
 use Rattle.calm_law.proofs.StageLemmas.{ruled_then}
 use Rattle.calm_law.proofs.TickLemmas.{holds_rebased}
-use Rattle.idle_law.specs.CatchUp.{AreLevel, AreTold, HasSaid, HaveAsked, IsIdle, IsRoundAt}
+use Rattle.idle_law.specs.CatchUp.{AreFiveRounds, AreLevel, AreTold, HasSaid, HaveAsked, IsIdle, IsRoundAt}
 use Rattle.idle_law.proofs.AskLemmas.{asked_next}
 use Rattle.idle_law.proofs.LearnLemmas.{learned_next, level_still}
 use Rattle.idle_law.proofs.TellLemmas.{told_next}
@@ -125,6 +125,11 @@ pub idle_says : (members leader : ℕ) (best : List Vote) (at : Progress) (now :
 idle_says members leader best at now advice answers calm idle advised =
     elim (idle_begins members leader best at now advice answers calm idle advised) [ inl rested ↦ inl rested.told | inr rebased ↦ inr rebased ]
 
+-- one that has rested in a round
+pub rested_idle : (members leader : ℕ) (best : List Vote) (at : Progress) (now : ℤ) (advice : ℕ → Advice) (calm next : Calm) → StaysFree members leader best at now advice calm next → IsIdle members leader best at now next × HasSaid members leader at.ballot at.prefix next
+rested_idle members leader best at now advice calm next stays =
+    (record { free = stays.free; unbound = stays.rested.free; rests = stays.rested.rests }, stays.rested.told)
+
 -- ---- all
 
 -- what holds of the others, but the leader
@@ -142,42 +147,50 @@ said_level members leader best at now one two three four idle said first second 
     (λ who below apart. learned_next members leader at.ballot at.prefix now third.advice third.answers three who idle_three.1.free.free.ruled told below apart)
 
 -- five rounds of a leader that rests
-pub all_level : (members leader : ℕ) (best : List Vote) (at : Progress) (now : ℤ) (calm one two three four five : Calm) → IsIdle members leader best at now calm → IsRoundAt members leader at.table now calm one → IsRoundAt members leader at.table now one two → IsRoundAt members leader at.table now two three → IsRoundAt members leader at.table now three four → IsRoundAt members leader at.table now four five → AreLevel members at.prefix five
-all_level members leader best at now calm one two three four five idle r1 r2 r3 r4 r5 = level
+four_idle : (members leader : ℕ) (best : List Vote) (at : Progress) (now : ℤ) (calm five : Calm) → IsIdle members leader best at now calm → (rounds : AreFiveRounds members leader at.table now calm five) → (base : ℕ) × IsIdle members leader best (with_base base at) now rounds.four
+four_idle members leader best at now calm five idle rounds =
+    let a = idle_round members leader best at now calm rounds.one idle rounds.first in
+    let b = idle_round members leader best (with_base a.0 at) now rounds.one rounds.two a.1 rounds.second in
+    let c = idle_round members leader best (with_base b.0 at) now rounds.two rounds.three b.1 rounds.third in
+    idle_round members leader best (with_base c.0 at) now rounds.three rounds.four c.1 rounds.fourth
+
+pub five_idle : (members leader : ℕ) (best : List Vote) (at : Progress) (now : ℤ) (calm five : Calm) → IsIdle members leader best at now calm → AreFiveRounds members leader at.table now calm five → (base : ℕ) × IsIdle members leader best (with_base base at) now five
+five_idle members leader best at now calm five idle rounds =
+    let before = four_idle members leader best at now calm five idle rounds in
+    idle_round members leader best (with_base before.0 at) now rounds.four five before.1 rounds.fifth
+
+pub all_level : (members leader : ℕ) (best : List Vote) (at : Progress) (now : ℤ) (calm five : Calm) → IsIdle members leader best at now calm → AreFiveRounds members leader at.table now calm five → AreLevel members at.prefix five
+all_level members leader best at now calm five idle rounds = level
   where
-    idle_four : (base : ℕ) × IsIdle members leader best (with_base base at) now four
-    idle_four =
-        let a = idle_round members leader best at now calm one idle r1 in
-        let b = idle_round members leader best (with_base a.0 at) now one two a.1 r2 in
-        let c = idle_round members leader best (with_base b.0 at) now two three b.1 r3 in
-        idle_round members leader best (with_base c.0 at) now three four c.1 r4
+    idle_four : (base : ℕ) × IsIdle members leader best (with_base base at) now rounds.four
+    idle_four = four_idle members leader best at now calm five idle rounds
 
     idle_five : (base : ℕ) × IsIdle members leader best (with_base base at) now five
-    idle_five = idle_round members leader best (with_base idle_four.0 at) now four five idle_four.1 r5
+    idle_five = five_idle members leader best at now calm five idle rounds
 
     -- it says so in the first round
-    at_once : HasSaid members leader at.ballot at.prefix one → OthersLevel members leader at.prefix five
+    at_once : HasSaid members leader at.ballot at.prefix rounds.one → OthersLevel members leader at.prefix five
     at_once said =
-        let idle_one = idle_round members leader best at now calm one idle r1 in
-        let level = said_level members leader best (with_base idle_one.0 at) now one two three four idle_one.1 said r2 r3 r4 in
-        subst (λ after. OthersLevel members leader at.prefix after) (sym r5.is)
-        (λ who below apart. level_still members leader at.ballot at.prefix now r5.advice r5.answers four who idle_four.1.free.free.ruled below apart (level who below apart))
+        let idle_one = idle_round members leader best at now calm rounds.one idle rounds.first in
+        let level = said_level members leader best (with_base idle_one.0 at) now rounds.one rounds.two rounds.three rounds.four idle_one.1 said rounds.second rounds.third rounds.fourth in
+        subst (λ after. OthersLevel members leader at.prefix after) (sym rounds.fifth.is)
+        (λ who below apart. level_still members leader at.ballot at.prefix now rounds.fifth.advice rounds.fifth.answers rounds.four who idle_four.1.free.free.ruled below apart (level who below apart))
 
     -- its base rises in the first round, and it says so in the second
-    rebased_first : IsIdle members leader best (with_base at.prefix at) now one → OthersLevel members leader at.prefix five
+    rebased_first : IsIdle members leader best (with_base at.prefix at) now rounds.one → OthersLevel members leader at.prefix five
     rebased_first idle_one =
-        let idle_two = idle_round members leader best (with_base at.prefix at) now one two idle_one r2 in
-        let said : HasSaid members leader at.ballot at.prefix (calm_round members now r2.advice r2.answers one) = elim (idle_says members leader best (with_base at.prefix at) now r2.advice r2.answers one idle_one r2.advised) [
+        let idle_two = idle_round members leader best (with_base at.prefix at) now rounds.one rounds.two idle_one rounds.second in
+        let said : HasSaid members leader at.ballot at.prefix (calm_round members now rounds.second.advice rounds.second.answers rounds.one) = elim (idle_says members leader best (with_base at.prefix at) now rounds.second.advice rounds.second.answers rounds.one idle_one rounds.second.advised) [
           | inl said ↦ said
           | inr again ↦ absurd (omega (arith, again.due))
         ] in
-        said_level members leader best (with_base idle_two.0 at) now two three four five idle_two.1 (subst (λ after. HasSaid members leader at.ballot at.prefix after) (sym r2.is) said) r3 r4 r5
+        said_level members leader best (with_base idle_two.0 at) now rounds.two rounds.three rounds.four five idle_two.1 (subst (λ after. HasSaid members leader at.ballot at.prefix after) (sym rounds.second.is) said) rounds.third rounds.fourth rounds.fifth
 
     others : OthersLevel members leader at.prefix five
-    others = elim (idle_begins members leader best at now r1.advice r1.answers calm idle r1.advised) [
-      | inl rested ↦ at_once (subst (λ after. HasSaid members leader at.ballot at.prefix after) (sym r1.is) rested.told)
-      | inr rebased ↦ rebased_first (subst (λ after. IsIdle members leader best (with_base at.prefix at) now after) (sym r1.is)
-          (idle_still members leader best at at.prefix now r1.advice r1.answers calm idle r1.advised r1.answered rebased.uncalled rebased.leading))
+    others = elim (idle_begins members leader best at now rounds.first.advice rounds.first.answers calm idle rounds.first.advised) [
+      | inl rested ↦ at_once (subst (λ after. HasSaid members leader at.ballot at.prefix after) (sym rounds.first.is) rested.told)
+      | inr rebased ↦ rebased_first (subst (λ after. IsIdle members leader best (with_base at.prefix at) now after) (sym rounds.first.is)
+          (idle_still members leader best at at.prefix now rounds.first.advice rounds.first.answers calm idle rounds.first.advised rounds.first.answered rebased.uncalled rebased.leading))
     ]
 
     level : AreLevel members at.prefix five

@@ -3,4 +3,6 @@ pub mod IdleLemmas
 pub mod KeepLemmas
 pub mod LearnLemmas
 pub mod QuietLemmas
+pub mod SomeIdle
+pub mod SomeQuiet
 pub mod TellLemmas

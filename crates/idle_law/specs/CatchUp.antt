@@ -31,6 +31,18 @@ pub record IsRoundAt (members leader : ℕ) (table : Table) (now : ℤ) (calm ne
   pub answered : IsAnswerTo (calls_at members now advice calm leader) (answers leader)
   pub is : next ≡ calm_round members now advice answers calm
 
+-- five of them, one after another
+pub record AreFiveRounds (members leader : ℕ) (table : Table) (now : ℤ) (calm five : Calm) : Type 0 where
+  pub one : Calm
+  pub two : Calm
+  pub three : Calm
+  pub four : Calm
+  pub first : IsRoundAt members leader table now calm one
+  pub second : IsRoundAt members leader table now one two
+  pub third : IsRoundAt members leader table now two three
+  pub fourth : IsRoundAt members leader table now three four
+  pub fifth : IsRoundAt members leader table now four five
+
 -- ---- the others
 
 -- it has said to all others that it leads, and how far it has learned

@@ -1,5 +1,5 @@
 //! Laws of a leader that rests. Each is the contract of a function that does nothing.
-ghost use Rattle.std.specs.Prelude.{◌≡◌, ◌⊎◌, ℕ, ◌<◌, ℤ, List, length, Option};
+ghost use Rattle.std.specs.Prelude.{◌≡◌, ◌⊎◌, ℕ, ◌<◌, ◌≤◌, ℤ, List, length, Option};
 ghost use Rattle.paxos_base.specs.declared.entry.Entry.{Entry};
 ghost use Rattle.paxos_base.specs.declared.entry.Vote.{Vote};
 ghost use Rattle.paxos_base.specs.declared.rows.JobRow.{JobRow};
@@ -10,17 +10,17 @@ ghost use Rattle.launch_machine.specs.Intent.{NoCall, NoStart};
 ghost use Rattle.step_law.specs.State.{prefix_of};
 ghost use Rattle.book_law.specs.Book.{Row};
 ghost use Rattle.calm_law.specs.Begins.{HasRebased};
-ghost use Rattle.calm_law.specs.Calm.{Advice, Calm, IsAdvised, calls_at, calm_round};
+ghost use Rattle.calm_law.specs.Calm.{Advice, Calm, IsAdvised, calm_round};
 ghost use Rattle.calm_law.specs.Flights.{with_base};
-ghost use Rattle.calm_law.specs.Rounds.{IsAnswerTo, IsFreeNow};
+ghost use Rattle.calm_law.specs.Rounds.{IsFreeNow, StaysFree};
 ghost use Rattle.calm_law.specs.Ruled.{IsRuled, Progress};
 ghost use Rattle.script_law.specs.Settling.{IsQuiet};
 ghost use Rattle.script_law.specs.Situation.{Situation};
-ghost use Rattle.idle_law.specs.CatchUp.{AreLevel, AreTold, HasSaid, HaveAsked, IsIdle, IsRoundAt};
+ghost use Rattle.idle_law.specs.CatchUp.{AreFiveRounds, AreLevel, AreTold, HasSaid, HaveAsked, IsIdle, IsRoundAt};
 ghost use Rattle.idle_law.specs.Quiet.{EndsQuietly, HasPromisedMost, IsSituationOf};
 
 /// One that leads alone and rests does so after each round at that instant, over the same entries and rows: it says to all others
-/// how far it has learned, or its base rises.
+/// how far it has learned, or its base rises. One that has rested in a round does so after it, and has said so.
 pub fn an_idle_leader_stays_idle()
     ensures idle { (members leader : ℕ) (best : List Vote) (at : Progress) (now : ℤ) (calm next : Calm)
         → IsIdle members leader best at now calm → IsRoundAt members leader at.table now calm next
@@ -29,10 +29,14 @@ pub fn an_idle_leader_stays_idle()
         → IsIdle members leader best at now calm → IsAdvised members at.table now advice calm
         → HasSaid members leader at.ballot at.prefix (calm_round members now advice answers calm)
         ⊎ HasRebased members leader best at now advice calm (calm_round members now advice answers calm) }
+    ensures rested { (members leader : ℕ) (best : List Vote) (at : Progress) (now : ℤ) (advice : ℕ → Advice) (calm next : Calm)
+        → StaysFree members leader best at now advice calm next
+        → IsIdle members leader best at now next × HasSaid members leader at.ballot at.prefix next }
 {}
 
-/// Once a leader that leads alone has said how far it has learned, the others ask for what they lack; then it tells them, unless it
-/// begins something by an answer; then they have learned it: a round each.
+/// Once one that leads alone has said how far it has learned, the others ask for what they lack; it tells them, where it has no flight
+/// and no answer waits for it; and they have learned it: a round each. So all have learned as much after five rounds of one that rests,
+/// and it rests still.
 pub fn the_others_catch_up()
     ensures asked { (members leader ballot prefix : ℕ) (now : ℤ) (advice : ℕ → Advice) (answers : ℕ → Option SchedRow) (calm : Calm)
         → IsRuled members leader ballot prefix calm → HasSaid members leader ballot prefix calm
@@ -43,11 +47,12 @@ pub fn the_others_catch_up()
     ensures learned { (members leader ballot prefix : ℕ) (now : ℤ) (advice : ℕ → Advice) (answers : ℕ → Option SchedRow) (calm : Calm) (who : ℕ)
         → IsRuled members leader ballot prefix calm → AreTold members leader prefix calm → who < members → (who ≡ leader → ⊥)
         → prefix_of ((calm_round members now advice answers calm).replicas who) ≡ prefix }
-    ensures level { (members leader : ℕ) (best : List Vote) (at : Progress) (now : ℤ) (calm one two three four five : Calm)
-        → IsIdle members leader best at now calm → IsRoundAt members leader at.table now calm one
-        → IsRoundAt members leader at.table now one two → IsRoundAt members leader at.table now two three
-        → IsRoundAt members leader at.table now three four → IsRoundAt members leader at.table now four five
+    ensures level { (members leader : ℕ) (best : List Vote) (at : Progress) (now : ℤ) (calm five : Calm)
+        → IsIdle members leader best at now calm → AreFiveRounds members leader at.table now calm five
         → AreLevel members at.prefix five }
+    ensures idle { (members leader : ℕ) (best : List Vote) (at : Progress) (now : ℤ) (calm five : Calm)
+        → IsIdle members leader best at now calm → AreFiveRounds members leader at.table now calm five
+        → (base : ℕ) × IsIdle members leader best (with_base base at) now five }
 {}
 
 /// A leader that rests, where all have learned as much, leads in a quiet situation, and nobody has promised a higher ballot.
@@ -69,4 +74,21 @@ pub fn quiet_says_it_of_the_whole_log()
         → EndsQuietly members table book who now situation log → IsClerkOf table log rows → NoCall table rows now }
     ensures starts { (members : ℕ) (table : Table) (book : List Row) (who : ℕ) (now : ℤ) (situation : Situation) (log : List Entry) (rows : List JobRow)
         → EndsQuietly members table book who now situation log → IsClerkOf table log rows → NoStart table rows now }
+{}
+
+/// There are two replicas of which one leads alone and rests, and the other lacks an entry that the first has learned above its
+/// base, or one that its launch table stands for; and five rounds come after it.
+pub fn an_idle_leader_may_be_ahead()
+    ensures entries { (members : ℕ) × (leader : ℕ) × (best : List Vote) × (at : Progress) × (now : ℤ) × (calm : Calm) × (five : Calm) × (who : ℕ)
+        × IsIdle members leader best at now calm × AreFiveRounds members leader at.table now calm five × (who < members)
+        × (prefix_of (calm.replicas who) < at.prefix) × (at.base ≤ prefix_of (calm.replicas who)) }
+    ensures table { (members : ℕ) × (leader : ℕ) × (best : List Vote) × (at : Progress) × (now : ℤ) × (calm : Calm) × (five : Calm) × (who : ℕ)
+        × IsIdle members leader best at now calm × AreFiveRounds members leader at.table now calm five × (who < members)
+        × (prefix_of (calm.replicas who) < at.base) }
+{}
+
+/// There is a legal book that comes to a quiet situation in which nobody has promised a higher ballot than its leader.
+pub fn a_book_may_end_quietly()
+    ensures { (members : ℕ) × (table : Table) × (book : List Row) × (who : ℕ) × (now : ℤ) × (situation : Situation) × (log : List Entry)
+        × EndsQuietly members table book who now situation log }
 {}

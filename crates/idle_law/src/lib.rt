@@ -4,6 +4,6 @@
 mod laws;
 
 pub use laws::{
-    an_idle_leader_stays_idle, level_and_idle_is_quiet, quiet_says_it_of_the_whole_log,
-    the_others_catch_up,
+    a_book_may_end_quietly, an_idle_leader_may_be_ahead, an_idle_leader_stays_idle,
+    level_and_idle_is_quiet, quiet_says_it_of_the_whole_log, the_others_catch_up,
 };

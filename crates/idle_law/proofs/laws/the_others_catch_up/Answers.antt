@@ -1,5 +1,5 @@
 use Rattle.idle_law.proofs.AskLemmas.{asked_next}
-use Rattle.idle_law.proofs.IdleLemmas.{all_level}
+use Rattle.idle_law.proofs.IdleLemmas.{all_level, five_idle}
 use Rattle.idle_law.proofs.LearnLemmas.{learned_next}
 use Rattle.idle_law.proofs.TellLemmas.{told_next}
 use Rattle.idle_law.proofs.laws.the_others_catch_up.Goals as goal
@@ -15,3 +15,6 @@ returns-clause-learned c = learned_next
 
 pub returns-clause-level : goal.returns-clause-level
 returns-clause-level c = all_level
+
+pub returns-clause-idle : goal.returns-clause-idle
+returns-clause-idle c = five_idle
