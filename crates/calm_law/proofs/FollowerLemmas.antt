@@ -29,24 +29,24 @@ use Rattle.calm_law.proofs.Lists.{acts_append}
 
 -- ---- what a follower doesn't do
 
-no_promise : (members from ballot slot : ℕ) (votes : List Vote) (term : Term) → IsFollower term → on_promise members from ballot slot votes term ≡ []
+pub no_promise : (members from ballot slot : ℕ) (votes : List Vote) (term : Term) → IsFollower term → on_promise members from ballot slot votes term ≡ []
 unfolding on_promise
 no_promise members from ballot slot votes (Follower ended) follows = refl
 no_promise members from ballot slot votes (Candidate own first heard best) follows = absurd follows
 no_promise members from ballot slot votes (Leader own best flight) follows = absurd follows
 
-no_accepted : (members from ballot slot : ℕ) (term : Term) → IsFollower term → on_accepted members from ballot slot term ≡ []
+pub no_accepted : (members from ballot slot : ℕ) (term : Term) → IsFollower term → on_accepted members from ballot slot term ≡ []
 unfolding on_accepted
 no_accepted members from ballot slot (Follower ended) follows = refl
 no_accepted members from ballot slot (Candidate own first heard best) follows = absurd follows
 no_accepted members from ballot slot (Leader own best flight) follows = absurd follows
 
-no_tick : (self : Identity) (now : ℤ) (intent : Intent) (state : State) (term : Term) → IsFollower term → tick_of self now intent state term ≡ []
+pub no_tick : (self : Identity) (now : ℤ) (intent : Intent) (state : State) (term : Term) → IsFollower term → tick_of self now intent state term ≡ []
 no_tick self now intent state (Follower ended) follows = refl
 no_tick self now intent state (Candidate own first heard best) follows = absurd follows
 no_tick self now intent state (Leader own best flight) follows = absurd follows
 
-no_answer : (self : Identity) (state : State) (entry : Entry) (open_now : Bool) (term : Term) → IsFollower term → answer_of self state entry open_now term ≡ []
+pub no_answer : (self : Identity) (state : State) (entry : Entry) (open_now : Bool) (term : Term) → IsFollower term → answer_of self state entry open_now term ≡ []
 no_answer self state entry open_now (Follower ended) follows = refl
 no_answer self state entry open_now (Candidate own first heard best) follows = absurd follows
 no_answer self state entry open_now (Leader own best flight) follows = absurd follows
@@ -132,7 +132,7 @@ behind_line self b p from (Snap slot rows) once state within behind = behind_sna
 behind_line self b p from (Lead ballot slot) once state within behind = rw (silent_ask from slot state state) behind
 behind_line self b p from (Mention ballot) once state within behind = behind
 
-behind_observed : (b p ballot : ℕ) (state : State) → IsBehind b p state → IsBehind b p (observed ballot state)
+pub behind_observed : (b p ballot : ℕ) (state : State) → IsBehind b p state → IsBehind b p (observed ballot state)
 unfolding after_act
 behind_observed b p ballot state behind =
     record { promised = behind.promised; follows = follows_on ballot state.term behind.follows; short = behind.short }
@@ -172,7 +172,7 @@ pub behind_answer : (self : Identity) (b p job : ℕ) (at : ℤ) (row : SchedRow
 unfolding step answer
 behind_answer self b p job at row rows state behind = rw (no_answer self state (End job at row.kind) (is_open job at rows) state.term behind.follows) behind
 
-behind_mail : (self : Identity) (b p : ℕ) (now : ℤ) (plan : Plan) (mail : List HeardLetter) (state : State) → AreWithin b p mail → IsBehind b p state → IsBehind b p (after_events self (hear_events mail ++ Tick now plan ∷ []) state)
+pub behind_mail : (self : Identity) (b p : ℕ) (now : ℤ) (plan : Plan) (mail : List HeardLetter) (state : State) → AreWithin b p mail → IsBehind b p state → IsBehind b p (after_events self (hear_events mail ++ Tick now plan ∷ []) state)
 unfolding step
 behind_mail self b p now plan [] state within behind = behind_tick self b p now plan state behind
 behind_mail self b p now plan (letter ∷ mail) state within behind =

@@ -139,7 +139,7 @@ free_hear self best at p from message once state up within leading =
     (λ ballot slot same. no_flight self.members from ballot slot at.ballot best)
     (leading_observed best None at (ballot_in message) state within.low leading)
 
-free_all : (self : Identity) (best : List Vote) (at : Progress) (p from : ℕ) (messages : List Message) (once : Once) (state : State) → p ≤ at.prefix → AllByRecursion (StaysWithin at.ballot p) messages → IsLeading best None at state → IsLeading best None at (after_acts (hear_all self from messages once state) state)
+pub free_all : (self : Identity) (best : List Vote) (at : Progress) (p from : ℕ) (messages : List Message) (once : Once) (state : State) → p ≤ at.prefix → AllByRecursion (StaysWithin at.ballot p) messages → IsLeading best None at state → IsLeading best None at (after_acts (hear_all self from messages once state) state)
 unfolding hear_all
 free_all self best at p from [] once state up within leading = leading
 free_all self best at p from (message ∷ messages) once state up within leading =

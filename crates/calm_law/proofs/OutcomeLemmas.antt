@@ -69,7 +69,7 @@ no_call_saying : (message : Message) → calls_of (Send Others message ∷ []) �
 unfolding calls_by
 no_call_saying message = refl
 
-saying_stays : (message : Message) (state : State) → after_acts (Send Others message ∷ []) state ≡ state
+pub saying_stays : (message : Message) (state : State) → after_acts (Send Others message ∷ []) state ≡ state
 unfolding after_act
 saying_stays message state = refl
 

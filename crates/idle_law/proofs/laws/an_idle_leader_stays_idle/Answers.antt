@@ -1,0 +1,11 @@
+use Rattle.idle_law.proofs.IdleLemmas.{idle_round, idle_says, rested_idle}
+use Rattle.idle_law.proofs.laws.an_idle_leader_stays_idle.Goals as goal
+
+pub returns-clause-idle : goal.returns-clause-idle
+returns-clause-idle c = idle_round
+
+pub returns-clause-says : goal.returns-clause-says
+returns-clause-says c = idle_says
+
+pub returns-clause-rested : goal.returns-clause-rested
+returns-clause-rested c = rested_idle

@@ -1,0 +1,8 @@
+use Rattle.idle_law.proofs.QuietLemmas.{idle_quiet, leads_highest}
+use Rattle.idle_law.proofs.laws.level_and_idle_is_quiet.Goals as goal
+
+pub returns-clause-quiet : goal.returns-clause-quiet
+returns-clause-quiet c = idle_quiet
+
+pub returns-clause-highest : goal.returns-clause-highest
+returns-clause-highest c = leads_highest

@@ -1,0 +1,11 @@
+use Rattle.idle_law.proofs.QuietLemmas.{quiet_calls, quiet_learned, quiet_starts}
+use Rattle.idle_law.proofs.laws.quiet_says_it_of_the_whole_log.Goals as goal
+
+pub returns-clause-learned : goal.returns-clause-learned
+returns-clause-learned c = quiet_learned
+
+pub returns-clause-calls : goal.returns-clause-calls
+returns-clause-calls c = quiet_calls
+
+pub returns-clause-starts : goal.returns-clause-starts
+returns-clause-starts c = quiet_starts

@@ -1,0 +1,2 @@
+pub mod CatchUp
+pub mod Quiet
