@@ -31,6 +31,7 @@ use Rattle.agree_law.proofs.Told.{HasHeard, IsLed}
 use Rattle.agree_law.proofs.Transitions.{IsFollowed, first_followed, transitions_followed}
 use Rattle.agree_law.proofs.Whole.{IsWhole}
 use Rattle.book_law.specs.Book.{Row, learned_in, standing_after, votes_in}
+use Rattle.book_law.specs.Legal.{IsLegal}
 use Rattle.book_law.proofs.Reached.{Matches, reaches}
 use Rattle.calm_law.specs.Calm.{Calm}
 use Rattle.calm_law.specs.Ruled.{IsLeading, Progress}
@@ -198,3 +199,14 @@ leads_highest members leader best at now calm situation idle is other below =
       | inl same ↦ subst (λ q. promised_in (calm.replicas q).kept ≤ promised_in (calm.replicas leader).kept) (sym same) (omega arith)
       | inr apart ↦ omega (arith, (idle.free.free.ruled.behind other below apart).promised, idle.free.free.leading.promised)
     ]))
+
+pub idle_ends : (members leader : ℕ) (best : List Vote) (at : Progress) (now : ℤ) (calm : Calm) (situation : Situation) (book : List Row) (log : List Entry) → IsIdle members leader best at now calm → AreLevel members at.prefix calm → IsSituationOf calm situation → IsLegal members at.table book → situation.standing ≡ standing_after members (first_rows at.table) book → IsLog members (votes_in book) log → EndsQuietly members at.table book leader now situation log
+idle_ends members leader best at now calm situation book log idle level is legal standing is_log = record {
+  few = idle.free.free.ruled.few;
+  legal = legal;
+  standing = standing;
+  member = idle.free.free.ruled.member;
+  quiet = idle_quiet members leader best at now calm situation idle level is;
+  most = leads_highest members leader best at now calm situation idle is;
+  is_log = is_log;
+}

@@ -5,10 +5,12 @@ ghost use Rattle.paxos_base.specs.declared.entry.Vote.{Vote};
 ghost use Rattle.paxos_base.specs.declared.rows.JobRow.{JobRow};
 ghost use Rattle.cluster_sched.specs.declared.row.SchedRow.{SchedRow};
 ghost use Rattle.due_set.specs.Table.{Table};
-ghost use Rattle.launch_machine.specs.Clerk.{IsClerkOf};
+ghost use Rattle.launch_machine.specs.Clerk.{IsClerkOf, first_rows};
 ghost use Rattle.launch_machine.specs.Intent.{NoCall, NoStart};
 ghost use Rattle.step_law.specs.State.{prefix_of};
-ghost use Rattle.book_law.specs.Book.{Row};
+ghost use Rattle.agree_law.specs.Log.{IsLog};
+ghost use Rattle.book_law.specs.Book.{Row, standing_after, votes_in};
+ghost use Rattle.book_law.specs.Legal.{IsLegal};
 ghost use Rattle.calm_law.specs.Begins.{HasRebased};
 ghost use Rattle.calm_law.specs.Calm.{Advice, Calm, IsAdvised, calm_round};
 ghost use Rattle.calm_law.specs.Flights.{with_base};
@@ -56,12 +58,17 @@ pub fn the_others_catch_up()
 {}
 
 /// A leader that rests, where all have learned as much, leads in a quiet situation, and nobody has promised a higher ballot.
+/// A legal book that comes to it ends quietly.
 pub fn level_and_idle_is_quiet()
     ensures quiet { (members leader : ℕ) (best : List Vote) (at : Progress) (now : ℤ) (calm : Calm) (situation : Situation)
         → IsIdle members leader best at now calm → AreLevel members at.prefix calm → IsSituationOf calm situation
         → IsQuiet members at.table leader now situation }
     ensures highest { (members leader : ℕ) (best : List Vote) (at : Progress) (now : ℤ) (calm : Calm) (situation : Situation)
         → IsIdle members leader best at now calm → IsSituationOf calm situation → HasPromisedMost members leader situation }
+    ensures ends { (members leader : ℕ) (best : List Vote) (at : Progress) (now : ℤ) (calm : Calm) (situation : Situation) (book : List Row) (log : List Entry)
+        → IsIdle members leader best at now calm → AreLevel members at.prefix calm → IsSituationOf calm situation
+        → IsLegal members at.table book → situation.standing ≡ standing_after members (first_rows at.table) book → IsLog members (votes_in book) log
+        → EndsQuietly members at.table book leader now situation log }
 {}
 
 /// Where a legal book comes to a quiet situation in which nobody has promised a higher ballot than its leader, each replica has

@@ -1,4 +1,4 @@
-use Rattle.idle_law.proofs.QuietLemmas.{idle_quiet, leads_highest}
+use Rattle.idle_law.proofs.QuietLemmas.{idle_ends, idle_quiet, leads_highest}
 use Rattle.idle_law.proofs.laws.level_and_idle_is_quiet.Goals as goal
 
 pub returns-clause-quiet : goal.returns-clause-quiet
@@ -6,3 +6,6 @@ returns-clause-quiet c = idle_quiet
 
 pub returns-clause-highest : goal.returns-clause-highest
 returns-clause-highest c = leads_highest
+
+pub returns-clause-ends : goal.returns-clause-ends
+returns-clause-ends c = idle_ends
