@@ -32,39 +32,39 @@ use Rattle.lead_law.proofs.TermLemmas.{sound_events}
 -- ---- the replicas
 
 -- a launch is open, and its start lies below the base
-abbrev open_rows : List JobRow
+abbrev pub open_rows : List JobRow
 open_rows = opened 0 ∷ []
 
-abbrev far : Progress
+abbrev pub far : Progress
 far = record { ballot = 16; table = busy; rows = open_rows; prefix = 1; base = 1 }
 
-abbrev kept_with : (tried promised : ℕ) → Durable
+abbrev pub kept_with : (tried promised : ℕ) → Durable
 kept_with tried promised = record { tried = tried; promised = Some promised; votes = []; base = 1; rows = open_rows }
 
-abbrev candidate_now : State
+abbrev pub candidate_now : State
 candidate_now = record { kept = kept_with 2 16; learned = []; term = Candidate 16 1 (only_member 0) []; seen = 16 }
 
 abbrev other_now : State
 other_now = record { kept = kept_with 0 9; learned = []; term = Follower None; seen = 9 }
 
 -- the first of two, and the other
-abbrev two : {A : Type 0} → A → A → ℕ → A
+abbrev pub two : {A : Type 0} → A → A → ℕ → A
 two first second zero = first
 two first second (suc more) = second
 
-abbrev plan_now : Plan
+abbrev pub plan_now : Plan
 plan_now = record { rows = open_rows; intent = Call 0 (minute 0) Launch }
 
-abbrev advice_now : ℕ → Advice
+abbrev pub advice_now : ℕ → Advice
 advice_now who = record { rows = open_rows; plan = plan_now }
 
-abbrev none_waits : ℕ → Option SchedRow
+abbrev pub none_waits : ℕ → Option SchedRow
 none_waits who = None
 
-planned_tick : (open_rows ≡ open_rows) × IsIntent busy open_rows (minute 0) (Call 0 (minute 0) Launch)
+pub planned_tick : (open_rows ≡ open_rows) × IsIntent busy open_rows (minute 0) (Call 0 (minute 0) Launch)
 planned_tick = (refl, call_asked 0)
 
-abbrev asking : List HeardLetter
+abbrev pub asking : List HeardLetter
 asking = record { from = 0; messages = Prepare 16 1 ∷ [] } ∷ []
 
 abbrev calm_now : Calm
@@ -75,10 +75,10 @@ calm_then = calm_round 2 (minute 0) advice_now none_waits calm_now
 
 -- ---- what holds of them
 
-one_of_two : IsOneOf 2 0
+pub one_of_two : IsOneOf 2 0
 one_of_two = record { member = lit< tt; few = omega arith; more = omega arith }
 
-stands_now : IsCandidate [] far 0 candidate_now
+pub stands_now : IsCandidate [] far 0 candidate_now
 stands_now = record { is = refl; promised = refl; launch = refl; learned = refl; from_base = refl }
 
 campaigned : HasCampaigned 2 0 [] far calm_now
@@ -113,8 +113,11 @@ campaigned_again = record { one = one_of_two; above = omega arith; stands = stan
 
 -- ---- the round, and the next
 
+pub coherent_candidate : IsCoherent (identity_of 2 0) candidate_now
+coherent_candidate = record { promised = omega arith; term = record { promised = refl; member = refl; round = refl }; votes = All-nil (λ vote. vote.ballot ≤ 16) }
+
 coherent_now : (who : ℕ) → who < 2 → IsCoherent (identity_of 2 who) (calm_now.replicas who)
-coherent_now zero below = record { promised = omega arith; term = record { promised = refl; member = refl; round = refl }; votes = All-nil (λ vote. vote.ballot ≤ 16) }
+coherent_now zero below = coherent_candidate
 coherent_now (suc zero) below = record { promised = omega arith; term = tt; votes = All-nil (λ vote. vote.ballot ≤ 9) }
 coherent_now (suc (suc more)) below = absurd (omega (arith, below))
 

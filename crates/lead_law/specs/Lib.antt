@@ -1,2 +1,3 @@
 pub mod Again
 pub mod Campaign
+pub mod Made
