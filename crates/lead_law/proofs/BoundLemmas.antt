@@ -238,7 +238,7 @@ short_snap top p slot rows state below short =
       | inr has ↦ rw has short
     ]
 
-short_line : (self : Identity) (top p from : ℕ) (message : Message) (once : Once) (state : State) → StaysWithin top p message → IsNoAcceptance message → IsShort top p state → IsShort top p (after_acts (line self from message once state) state)
+pub short_line : (self : Identity) (top p from : ℕ) (message : Message) (once : Once) (state : State) → StaysWithin top p message → IsNoAcceptance message → IsShort top p state → IsShort top p (after_acts (line self from message once state) state)
 unfolding line on_lead
 short_line self top p from (Prepare ballot slot) once state within none short = short_prepare top p from ballot slot once.copied state within.low short
 short_line self top p from (Promise ballot slot votes) once state within none short = short_promise top p self.members from ballot slot votes state state.term short

@@ -5,6 +5,7 @@ pub mod CandidateLemmas
 pub mod DecidedLemmas
 pub mod EarlyLemmas
 pub mod MadeLemmas
+pub mod NamedLemmas
 pub mod NextEntryLemmas
 pub mod PromiseLemmas
 pub mod ReplyLemmas

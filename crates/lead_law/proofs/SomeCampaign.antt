@@ -9,7 +9,7 @@ use Rattle.paxos_base.specs.declared.entry.Kind.TheVariants.{Launch}
 use Rattle.paxos_base.specs.declared.entry.Vote.{Vote}
 use Rattle.paxos_base.specs.declared.rows.JobRow.{JobRow}
 use Rattle.cluster_sched.specs.declared.row.SchedRow.{SchedRow}
-use Rattle.due_set.specs.Table.{IsSound}
+use Rattle.due_set.specs.Table.{IsSound, Table}
 use Rattle.launch_machine.specs.Answers.{IsIntent}
 use Rattle.launch_machine.specs.declared.machine.Intent.TheVariants.{Call}
 use Rattle.term_core.specs.declared.term.Term.TheVariants.{Candidate, Follower}
@@ -27,6 +27,7 @@ use Rattle.calm_law.specs.Calm.{Advice, ArePlanned, Calm, HeardLetter, IsAdvised
 use Rattle.calm_law.specs.Ruled.{Progress}
 use Rattle.lead_law.specs.Again.{EndsWithCampaign, HasCampaignedAgain}
 use Rattle.lead_law.specs.Campaign.{HasCampaigned, IsCandidate, IsOneOf}
+use Rattle.lead_law.specs.Named.{AreNamed, IsNamedUpTo}
 use Rattle.lead_law.proofs.TermLemmas.{sound_events}
 
 -- ---- the replicas
@@ -154,6 +155,18 @@ advised_then = record { coherent = coherent; planned = planned }
     planned (suc zero) below = follows_then
     planned (suc (suc more)) below = absurd (omega (arith, below))
 
+-- no promise and no letter goes beyond the candidate's ballot
+named_now : IsNamedUpTo 2 16 calm_now
+named_now = record { low = low; named = named }
+  where
+    low : (who : ℕ) → who < 2 → promised_in (calm_now.replicas who).kept ≤ 16
+    low zero below = omega arith
+    low (suc more) below = omega arith
+
+    named : (who : ℕ) → who < 2 → AreNamed 16 (calm_now.mails who)
+    named zero below = tt
+    named (suc more) below = ((omega arith, tt), tt)
+
 -- ---- that there are such
 
 pub some_campaign : (members : ℕ) × (candidate : ℕ) × (best : List Vote) × (at : Progress) × (now : ℤ) × (advice : ℕ → Advice) × (answers : ℕ → Option SchedRow) × (calm : Calm) × (then_now : ℤ) × (then_advice : ℕ → Advice) × HasCampaigned members candidate best at calm × IsAdvised members at.table now advice calm × (answers candidate ≡ None) × IsAdvised members at.table then_now then_advice (calm_round members now advice answers calm)
@@ -161,3 +174,6 @@ some_campaign = (2, 0, [], far, minute 0, advice_now, none_waits, calm_now, minu
 
 pub some_second : (members : ℕ) × (candidate : ℕ) × (top : ℕ) × (best : List Vote) × (at : Progress) × (now : ℤ) × (advice : ℕ → Advice) × (answers : ℕ → Option SchedRow) × (calm : Calm) × (then_now : ℤ) × (then_advice : ℕ → Advice) × IsSound at.table × HasCampaignedAgain members candidate top best at calm × IsAdvised members at.table now advice calm × (answers candidate ≡ None) × IsAdvised members at.table then_now then_advice (calm_round members now advice answers calm)
 some_second = (2, 0, 9, [], far, minute 0, advice_now, none_waits, calm_now, minute 0, advice_now, sound, campaigned_again, advised_now, refl, advised_then)
+
+pub some_named : (members : ℕ) × (top : ℕ) × (table : Table) × (now : ℤ) × (advice : ℕ → Advice) × (calm : Calm) × (members ≤ 7) × (2 ≤ members) × IsAdvised members table now advice calm × IsNamedUpTo members top calm
+some_named = (2, 16, busy, minute 0, advice_now, calm_now, omega arith, omega arith, advised_now, named_now)

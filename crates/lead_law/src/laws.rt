@@ -13,6 +13,14 @@ ghost use Rattle.calm_law.specs.Ruled.{Progress};
 ghost use Rattle.lead_law.specs.Again.{ComesToLeadAgain, HasCampaignedAgain, IsBounded, IsPromised};
 ghost use Rattle.lead_law.specs.Campaign.{ComesToLead, HasCampaigned, HasYielded, IsAnswered, IsOneOf};
 ghost use Rattle.lead_law.specs.Made.{after_campaign, campaigned_at, own_votes};
+ghost use Rattle.lead_law.specs.Named.{IsNamedUpTo};
+
+/// Without a campaign the greatest promise stands still: where no replica has promised a ballot above one, and no letter names such,
+/// so it is after a round, whatever was learned.
+pub fn no_promise_rises_without_a_campaign()
+    ensures { (members top : ℕ) (table : Table) (now : ℤ) (advice : ℕ → Advice) (answers : ℕ → Option SchedRow) (calm : Calm) → members ≤ 7 → 2 ≤ members
+        → IsAdvised members table now advice calm → IsNamedUpTo members top calm → IsNamedUpTo members top (calm_round members now advice answers calm) }
+{}
 
 /// In the round after a campaign of one that has learned no less than any other, all others answer it: each promises its ballot and
 /// follows, or has promised a higher one, which it names. In the next round the candidate leads and leads alone, or it follows and
@@ -90,7 +98,8 @@ pub fn a_second_campaign_wins()
 {}
 
 /// There are replicas of which one has campaigned: of two over one job, the first, whose ballot the other has not promised yet. Their
-/// two next rounds can be taken; where the other has promised more, the first yields in them.
+/// two next rounds can be taken; where the other has promised more, the first yields in them. No promise and no letter
+/// of theirs goes beyond some ballot.
 pub fn a_campaign_may_be_made()
     ensures first { (members : ℕ) × (candidate : ℕ) × (best : List Vote) × (at : Progress) × (now : ℤ) × (advice : ℕ → Advice) × (answers : ℕ → Option SchedRow)
         × (calm : Calm) × (then_now : ℤ) × (then_advice : ℕ → Advice) × HasCampaigned members candidate best at calm
@@ -107,4 +116,6 @@ pub fn a_campaign_may_be_made()
         (calm_round members now advice answers (calm_round members now advice answers calm))
         × (answers candidate ≡ None)
         × IsLaunchTable at.table ((calm_round members now advice answers (calm_round members now advice answers calm)).replicas candidate) rows }
+    ensures named { (members : ℕ) × (top : ℕ) × (table : Table) × (now : ℤ) × (advice : ℕ → Advice) × (calm : Calm) × (members ≤ 7) × (2 ≤ members)
+        × IsAdvised members table now advice calm × IsNamedUpTo members top calm }
 {}
