@@ -101,14 +101,14 @@ answer_cases members candidate best at calm answered who below = elim (cases_eq 
 ]
 
 -- the round in which it hears the answers
-second_round_of : (members candidate : ℕ) (best : List Vote) (at : Progress) (now : ℤ) (advice : ℕ → Advice) (answers : ℕ → Option SchedRow) (calm : Calm) → IsAnswered members candidate best at calm → calm.waits candidate ≡ None → IsAdvised members at.table now advice calm → (((who : ℕ) → who < members → (who ≡ candidate → ⊥) → IsBehind at.ballot at.prefix (calm.replicas who)) → IsRuled members candidate at.ballot at.prefix calm) → ComesToLead members candidate at advice calm (calm_round members now advice answers calm) ⊎ HasYielded members candidate calm (calm_round members now advice answers calm)
+second_round_of : (members candidate : ℕ) (best : List Vote) (at : Progress) (now : ℤ) (advice : ℕ → Advice) (answers : ℕ → Option SchedRow) (calm : Calm) → IsAnswered members candidate best at calm → calm.waits candidate ≡ None → IsAdvised members at.table now advice calm → (((who : ℕ) → who < members → (who ≡ candidate → ⊥) → IsBehind at.ballot at.prefix (calm.replicas who)) → IsRuled members candidate at.ballot at.prefix calm) → ComesToLead members candidate at advice calm (calm_round members now advice answers calm) ⊎ HasYielded members candidate at.ballot calm (calm_round members now advice answers calm)
 second_round_of members candidate best at now advice answers calm answered alone advised ruled_if =
     elim (all_or_some members (HasPromisedTo candidate at calm) (HasRefusedTo candidate at calm) (answer_cases members candidate best at calm answered)) [
       | inl all ↦ inl (leads_alone members candidate at now advice answers calm alone advised (ruled_if (λ who below apart. (all who below apart).behind))
           (leads all (ruled_if (λ who below apart. (all who below apart).behind))))
       | inr some ↦
           let first = yields some.0 some.2.1 in
-          inr (record { follows = first.follows; seen = λ who below apart. seen (promised_in (calm.replicas some.0).kept) some.2.1.higher first who below apart })
+          inr (record { follows = first.follows; higher = omega (arith, first.seen, some.2.1.higher); seen = λ who below apart. seen (promised_in (calm.replicas some.0).kept) some.2.1.higher first who below apart })
     ]
   where
     next : Calm
@@ -139,7 +139,7 @@ second_round_of members candidate best at now advice answers calm answered alone
         counted all q below = elim (cases_eq q candidate) [ inl same ↦ inl same | inr apart ↦ let mine = all q below apart in inr (mine.votes, mine.told) ]
 
 -- the two rounds after a campaign
-pub second_decides : (members candidate : ℕ) (best : List Vote) (at : Progress) (now then_now : ℤ) (advice then_advice : ℕ → Advice) (answers then_answers : ℕ → Option SchedRow) (calm : Calm) → HasCampaigned members candidate best at calm → IsAdvised members at.table now advice calm → answers candidate ≡ None → IsAdvised members at.table then_now then_advice (calm_round members now advice answers calm) → ((base : ℕ) × ComesToLead members candidate (with_base base at) then_advice (calm_round members now advice answers calm) (calm_round members then_now then_advice then_answers (calm_round members now advice answers calm))) ⊎ HasYielded members candidate (calm_round members now advice answers calm) (calm_round members then_now then_advice then_answers (calm_round members now advice answers calm))
+pub second_decides : (members candidate : ℕ) (best : List Vote) (at : Progress) (now then_now : ℤ) (advice then_advice : ℕ → Advice) (answers then_answers : ℕ → Option SchedRow) (calm : Calm) → HasCampaigned members candidate best at calm → IsAdvised members at.table now advice calm → answers candidate ≡ None → IsAdvised members at.table then_now then_advice (calm_round members now advice answers calm) → ((base : ℕ) × ComesToLead members candidate (with_base base at) then_advice (calm_round members now advice answers calm) (calm_round members then_now then_advice then_answers (calm_round members now advice answers calm))) ⊎ HasYielded members candidate at.ballot (calm_round members now advice answers calm) (calm_round members then_now then_advice then_answers (calm_round members now advice answers calm))
 second_decides members candidate best at now then_now advice then_advice answers then_answers calm campaigned advised alone then_advised =
     let first = first_answered members candidate best at now advice answers calm campaigned advised in
     let far : Progress = with_base first.0 at in

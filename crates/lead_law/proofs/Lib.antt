@@ -1,10 +1,16 @@
 pub mod AnswerLemmas
+pub mod BoundLemmas
+pub mod BoundedRounds
 pub mod CandidateLemmas
 pub mod DecidedLemmas
 pub mod EarlyLemmas
+pub mod MadeLemmas
+pub mod NamedLemmas
 pub mod NextEntryLemmas
 pub mod PromiseLemmas
 pub mod ReplyLemmas
 pub mod SomeCampaign
+pub mod SomeYield
 pub mod TermLemmas
 pub mod WinLemmas
+pub mod YieldLemmas

@@ -9,7 +9,7 @@ use Rattle.paxos_base.specs.declared.entry.Kind.TheVariants.{Launch}
 use Rattle.paxos_base.specs.declared.entry.Vote.{Vote}
 use Rattle.paxos_base.specs.declared.rows.JobRow.{JobRow}
 use Rattle.cluster_sched.specs.declared.row.SchedRow.{SchedRow}
-use Rattle.due_set.specs.Table.{IsSound}
+use Rattle.due_set.specs.Table.{IsSound, Table}
 use Rattle.launch_machine.specs.Answers.{IsIntent}
 use Rattle.launch_machine.specs.declared.machine.Intent.TheVariants.{Call}
 use Rattle.term_core.specs.declared.term.Term.TheVariants.{Candidate, Follower}
@@ -27,44 +27,45 @@ use Rattle.calm_law.specs.Calm.{Advice, ArePlanned, Calm, HeardLetter, IsAdvised
 use Rattle.calm_law.specs.Ruled.{Progress}
 use Rattle.lead_law.specs.Again.{EndsWithCampaign, HasCampaignedAgain}
 use Rattle.lead_law.specs.Campaign.{HasCampaigned, IsCandidate, IsOneOf}
+use Rattle.lead_law.specs.Named.{AreNamed, IsNamedUpTo}
 use Rattle.lead_law.proofs.TermLemmas.{sound_events}
 
 -- ---- the replicas
 
 -- a launch is open, and its start lies below the base
-abbrev open_rows : List JobRow
+abbrev pub open_rows : List JobRow
 open_rows = opened 0 ∷ []
 
-abbrev far : Progress
+abbrev pub far : Progress
 far = record { ballot = 16; table = busy; rows = open_rows; prefix = 1; base = 1 }
 
-abbrev kept_with : (tried promised : ℕ) → Durable
+abbrev pub kept_with : (tried promised : ℕ) → Durable
 kept_with tried promised = record { tried = tried; promised = Some promised; votes = []; base = 1; rows = open_rows }
 
-abbrev candidate_now : State
+abbrev pub candidate_now : State
 candidate_now = record { kept = kept_with 2 16; learned = []; term = Candidate 16 1 (only_member 0) []; seen = 16 }
 
 abbrev other_now : State
 other_now = record { kept = kept_with 0 9; learned = []; term = Follower None; seen = 9 }
 
 -- the first of two, and the other
-abbrev two : {A : Type 0} → A → A → ℕ → A
+abbrev pub two : {A : Type 0} → A → A → ℕ → A
 two first second zero = first
 two first second (suc more) = second
 
-abbrev plan_now : Plan
+abbrev pub plan_now : Plan
 plan_now = record { rows = open_rows; intent = Call 0 (minute 0) Launch }
 
-abbrev advice_now : ℕ → Advice
+abbrev pub advice_now : ℕ → Advice
 advice_now who = record { rows = open_rows; plan = plan_now }
 
-abbrev none_waits : ℕ → Option SchedRow
+abbrev pub none_waits : ℕ → Option SchedRow
 none_waits who = None
 
-planned_tick : (open_rows ≡ open_rows) × IsIntent busy open_rows (minute 0) (Call 0 (minute 0) Launch)
+pub planned_tick : (open_rows ≡ open_rows) × IsIntent busy open_rows (minute 0) (Call 0 (minute 0) Launch)
 planned_tick = (refl, call_asked 0)
 
-abbrev asking : List HeardLetter
+abbrev pub asking : List HeardLetter
 asking = record { from = 0; messages = Prepare 16 1 ∷ [] } ∷ []
 
 abbrev calm_now : Calm
@@ -75,10 +76,10 @@ calm_then = calm_round 2 (minute 0) advice_now none_waits calm_now
 
 -- ---- what holds of them
 
-one_of_two : IsOneOf 2 0
+pub one_of_two : IsOneOf 2 0
 one_of_two = record { member = lit< tt; few = omega arith; more = omega arith }
 
-stands_now : IsCandidate [] far 0 candidate_now
+pub stands_now : IsCandidate [] far 0 candidate_now
 stands_now = record { is = refl; promised = refl; launch = refl; learned = refl; from_base = refl }
 
 campaigned : HasCampaigned 2 0 [] far calm_now
@@ -113,8 +114,11 @@ campaigned_again = record { one = one_of_two; above = omega arith; stands = stan
 
 -- ---- the round, and the next
 
+pub coherent_candidate : IsCoherent (identity_of 2 0) candidate_now
+coherent_candidate = record { promised = omega arith; term = record { promised = refl; member = refl; round = refl }; votes = All-nil (λ vote. vote.ballot ≤ 16) }
+
 coherent_now : (who : ℕ) → who < 2 → IsCoherent (identity_of 2 who) (calm_now.replicas who)
-coherent_now zero below = record { promised = omega arith; term = record { promised = refl; member = refl; round = refl }; votes = All-nil (λ vote. vote.ballot ≤ 16) }
+coherent_now zero below = coherent_candidate
 coherent_now (suc zero) below = record { promised = omega arith; term = tt; votes = All-nil (λ vote. vote.ballot ≤ 9) }
 coherent_now (suc (suc more)) below = absurd (omega (arith, below))
 
@@ -151,6 +155,18 @@ advised_then = record { coherent = coherent; planned = planned }
     planned (suc zero) below = follows_then
     planned (suc (suc more)) below = absurd (omega (arith, below))
 
+-- no promise and no letter goes beyond the candidate's ballot
+named_now : IsNamedUpTo 2 16 calm_now
+named_now = record { low = low; named = named }
+  where
+    low : (who : ℕ) → who < 2 → promised_in (calm_now.replicas who).kept ≤ 16
+    low zero below = omega arith
+    low (suc more) below = omega arith
+
+    named : (who : ℕ) → who < 2 → AreNamed 16 (calm_now.mails who)
+    named zero below = tt
+    named (suc more) below = ((omega arith, tt), tt)
+
 -- ---- that there are such
 
 pub some_campaign : (members : ℕ) × (candidate : ℕ) × (best : List Vote) × (at : Progress) × (now : ℤ) × (advice : ℕ → Advice) × (answers : ℕ → Option SchedRow) × (calm : Calm) × (then_now : ℤ) × (then_advice : ℕ → Advice) × HasCampaigned members candidate best at calm × IsAdvised members at.table now advice calm × (answers candidate ≡ None) × IsAdvised members at.table then_now then_advice (calm_round members now advice answers calm)
@@ -158,3 +174,6 @@ some_campaign = (2, 0, [], far, minute 0, advice_now, none_waits, calm_now, minu
 
 pub some_second : (members : ℕ) × (candidate : ℕ) × (top : ℕ) × (best : List Vote) × (at : Progress) × (now : ℤ) × (advice : ℕ → Advice) × (answers : ℕ → Option SchedRow) × (calm : Calm) × (then_now : ℤ) × (then_advice : ℕ → Advice) × IsSound at.table × HasCampaignedAgain members candidate top best at calm × IsAdvised members at.table now advice calm × (answers candidate ≡ None) × IsAdvised members at.table then_now then_advice (calm_round members now advice answers calm)
 some_second = (2, 0, 9, [], far, minute 0, advice_now, none_waits, calm_now, minute 0, advice_now, sound, campaigned_again, advised_now, refl, advised_then)
+
+pub some_named : (members : ℕ) × (top : ℕ) × (table : Table) × (now : ℤ) × (advice : ℕ → Advice) × (calm : Calm) × (members ≤ 7) × (2 ≤ members) × IsAdvised members table now advice calm × IsNamedUpTo members top calm
+some_named = (2, 16, busy, minute 0, advice_now, calm_now, omega arith, omega arith, advised_now, named_now)

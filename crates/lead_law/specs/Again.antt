@@ -8,6 +8,13 @@ use Rattle.calm_law.specs.Calm.{Advice, Calm, HeardLetter}
 use Rattle.calm_law.specs.Ruled.{AreWithin, IsBehind, Occurs, Progress}
 use Rattle.lead_law.specs.Campaign.{ComesToLead, IsCandidate, IsOneOf}
 
+-- No replica has promised a ballot above `top`, or has learned an entry that isn't below the prefix, and no letter names such a ballot or
+-- tells such an entry.
+pub record IsBounded (members top prefix : ℕ) (calm : Calm) : Type 0 where
+  pub low : (who : ℕ) → who < members → promised_in (calm.replicas who).kept ≤ top
+  pub short : (who : ℕ) → who < members → prefix_of (calm.replicas who) ≤ prefix
+  pub within : (who : ℕ) → who < members → AreWithin top prefix (calm.mails who)
+
 -- the mail ends with the campaign, and the letters before it name no ballot above `top`, and tell entries below the candidate's prefix
 -- alone
 pub record EndsWithCampaign (candidate top : ℕ) (at : Progress) (mail : List HeardLetter) : Type 0 where

@@ -62,7 +62,8 @@ pub record ComesToLead (members leader : ℕ) (at : Progress) (advice : ℕ → 
   pub leading : IsLeading best None at (before_tick members advice calm leader)
   pub ruled : IsRuled members leader at.ballot at.prefix next
 
--- It follows after the round, and has seen each ballot that another had promised before it.
-pub record HasYielded (members candidate : ℕ) (calm next : Calm) : Type 0 where
+-- It follows after the round, and has seen a ballot above its own, and each ballot that another had promised before it.
+pub record HasYielded (members candidate ballot : ℕ) (calm next : Calm) : Type 0 where
   pub follows : IsFollower (next.replicas candidate).term
+  pub higher : ballot < (next.replicas candidate).seen
   pub seen : (who : ℕ) → who < members → (who ≡ candidate → ⊥) → promised_in (calm.replicas who).kept ≤ (next.replicas candidate).seen

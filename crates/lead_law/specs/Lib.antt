@@ -1,2 +1,4 @@
 pub mod Again
 pub mod Campaign
+pub mod Made
+pub mod Named

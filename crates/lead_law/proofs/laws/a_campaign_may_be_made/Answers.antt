@@ -1,4 +1,5 @@
-use Rattle.lead_law.proofs.SomeCampaign.{some_campaign, some_second}
+use Rattle.lead_law.proofs.SomeCampaign.{some_campaign, some_named, some_second}
+use Rattle.lead_law.proofs.SomeYield.{some_yield}
 use Rattle.lead_law.proofs.laws.a_campaign_may_be_made.Goals as goal
 
 pub returns-clause-first : goal.returns-clause-first
@@ -6,3 +7,9 @@ returns-clause-first c = some_campaign
 
 pub returns-clause-again : goal.returns-clause-again
 returns-clause-again c = some_second
+
+pub returns-clause-yielded : goal.returns-clause-yielded
+returns-clause-yielded c = some_yield
+
+pub returns-clause-named : goal.returns-clause-named
+returns-clause-named c = some_named
