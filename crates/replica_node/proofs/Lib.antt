@@ -2,6 +2,7 @@ pub mod AgainLemmas
 pub mod AttachedLemmas
 pub mod ChangeLemmas
 pub mod FaultLemmas
+pub mod KeptLemmas
 pub mod QuietLemmas
 pub mod ReopenLemmas
 pub mod RestLemmas

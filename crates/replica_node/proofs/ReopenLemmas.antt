@@ -1,9 +1,12 @@
 -- What a node says where it is reopened.
-use Rattle.std.proofs.Common.{◌≡◌, ◌⊎◌, ℕ, Option, None, Some, sym, ◌∙◌, subst, inl, inr}
+use Rattle.std.proofs.Common.{◌≡◌, ◌⊎◌, ℕ, Option, None, Some, refl, sym, ap, ◌∙◌, subst, inl, inr}
 use Rattle.std.proofs.lemmas.Option.{same_Some}
 use Rattle.due_set.specs.Table.{Table}
 use Rattle.gate_file.specs.File.{bodies_of}
+use Rattle.disk_model.specs.declared.armed.Arm.{Arm}
+use Rattle.disk_model.specs.declared.fault.FileNo.{FileNo}
 use Rattle.disk_model.specs.Images.{Image}
+use Rattle.disk_model.specs.Told.{Told, image_left}
 use Rattle.paxos_base.specs.Durable.{after_delta}
 use Rattle.paxos_base.specs.declared.durable.Delta.{Delta}
 use Rattle.paxos_base.specs.declared.durable.Durable.{Durable}
@@ -18,6 +21,7 @@ use Rattle.replica_store.specs.declared.store.Store.{Store}
 use Rattle.replica_store.proofs.FileLemmas.{files_stand_for_one, recoverable_stands}
 use Rattle.replica_store.proofs.SaveLemmas.{settled_recoverable}
 use Rattle.replica_node.specs.Change.{IsDecided}
+use Rattle.replica_node.specs.Kept.{IsAnsweredByArm, IsKeptByArm, KeepsChange, LeavesByArm}
 use Rattle.replica_node.specs.Stopped.{HasPlanned}
 use Rattle.replica_node.proofs.ChangeLemmas.{decided_kept, decided_lost}
 
@@ -56,3 +60,30 @@ found_stands jobs now may_leave image recoverable left =
 
 pub not_both : (jobs : ℕ) (found now after : Durable) (image : Image) → now ≡ found → (found ≡ after → ⊥) → FilesStand jobs now image → FilesStand jobs after image → ⊥
 not_both jobs found now after image same lost stand other = lost (sym same ∙ files_stand_for_one jobs image now after stand other)
+
+-- ---- by the numbers of the arm
+
+module _ (jobs : ℕ) (area : FileNo) (before found now : Durable) (change : Delta) (arm : Arm) (answer : Option Delta) (image : Image) (facts : Reopens jobs before found now change answer) (kept : now ≡ kept_after answer before)
+    (stand : FilesStand jobs now image) (left : IsKeptByArm jobs area before change arm image) where
+  is_change : KeepsChange area change arm → (answer ≡ Some change) ⊎ (answer ≡ None) → answer ≡ Some change
+  is_change keeps (inl is) = is
+  is_change keeps (inr none) =
+      absurd (facts.lost none (sym facts.same ∙ files_stand_for_one jobs image now (after_delta change before) stand (left.saved keeps)))
+
+  is_none : (KeepsChange area change arm → ⊥) → (after_delta change before ≡ before → ⊥) → (answer ≡ Some change) ⊎ (answer ≡ None) → answer ≡ None
+  is_none loses differs (inl is) =
+      let after : now ≡ after_delta change before = kept ∙ ap (λ (a : Option Delta). kept_after a before) is in
+      absurd (differs (sym after ∙ files_stand_for_one jobs image now before stand (left.lost loses)))
+  is_none loses differs (inr none) = none
+
+  answer_by_arm : (answer ≡ Some change) ⊎ (answer ≡ None) → IsAnsweredByArm area before change arm answer
+  answer_by_arm either =
+      record {
+        saved = λ keeps. is_change keeps either;
+        lost = λ loses differs. is_none loses differs either;
+      }
+
+pub tells_answer : (jobs : ℕ) (area : FileNo) (before found now : Durable) (change : Delta) (arm : Arm) (answer : Option Delta) (told : Option Told) → Reopens jobs before found now change answer → now ≡ kept_after answer before
+    → ((one : Told) → told ≡ Some one → FilesStand jobs now (image_left one)) → (answer ≡ Some change) ⊎ (answer ≡ None) → LeavesByArm jobs area before change arm told → IsAnsweredByArm area before change arm answer
+tells_answer jobs area before found now change arm answer None facts kept stand either left = absurd left
+tells_answer jobs area before found now change arm answer (Some told) facts kept stand either left = answer_by_arm jobs area before found now change arm answer (image_left told) facts kept (stand told refl) left either

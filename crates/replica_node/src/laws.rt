@@ -1,11 +1,17 @@
 //! Laws of a replica on its disk. Each is the contract of a function that does nothing.
-ghost use Rattle.std.specs.Prelude.{◌≡◌, length};
+ghost use Rattle.std.specs.Prelude.{◌≡◌, ◌↔◌, ◌≤◌, ◌%◌, ℕ, List, length};
+ghost use Rattle.disk_model.specs.declared.armed.Arm.{Arm};
+ghost use Rattle.disk_model.specs.declared.fault.FileNo.TheVariants.{AreaA, AreaB};
 ghost use Rattle.disk_model.specs.Images.{Image};
 ghost use Rattle.due_set.specs.Table.{Table};
+ghost use Rattle.paxos_base.specs.declared.durable.Delta.TheVariants.{Base};
+ghost use Rattle.paxos_base.specs.declared.rows.JobRow.{JobRow};
 ghost use Rattle.step_law.specs.State.{State};
 ghost use Rattle.replica_core.specs.Replica.{ReplicaState};
 ghost use Rattle.replica_core.specs.declared.input.Input.{Input};
 ghost use Rattle.replica_store.specs.Files.{FilesStand, IsRecoverable};
+ghost use Rattle.replica_store.specs.Kept.{Shows};
+ghost use Rattle.replica_node.specs.Kept.{KeepsChange};
 ghost use Rattle.replica_node.specs.declared.node.Node.{Node};
 ghost use Rattle.replica_node.specs.Node.{disk_of, replica_of, IsNodeAtRest, LeadsTo};
 
@@ -24,4 +30,13 @@ pub fn a_node_at_rest_is_recoverable<D: Disk>()
 pub fn a_step_leads_to_one_state()
     ensures { (table : Table) (input : Input) (replica : ReplicaState) (one other : State)
         → LeadsTo table input replica one → LeadsTo table input replica other → one ≡ other }
+{}
+
+/// An armed disk that stops within the save of a base keeps it by the low bit of the byte that its image shows: 1 where the
+/// first area is in use, and so an even number of bases was kept before, and 0 where the second is.
+pub fn a_base_is_kept_by_the_low_bit()
+    ensures first { (slot : ℕ) (rows : List JobRow) (arm : Arm)
+        → KeepsChange AreaA (Base slot rows) arm ↔ ((3 ≤ arm.left) × Shows (λ byte. byte % 2 ≡ 1) arm.image) }
+    ensures second { (slot : ℕ) (rows : List JobRow) (arm : Arm)
+        → KeepsChange AreaB (Base slot rows) arm ↔ ((3 ≤ arm.left) × Shows (λ byte. byte % 2 ≡ 0) arm.image) }
 {}

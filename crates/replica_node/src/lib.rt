@@ -11,5 +11,7 @@ mod node;
 mod reopen;
 
 pub use fault::NodeFault;
-pub use laws::{a_node_at_rest_is_recoverable, a_step_leads_to_one_state};
+pub use laws::{
+    a_base_is_kept_by_the_low_bit, a_node_at_rest_is_recoverable, a_step_leads_to_one_state,
+};
 pub use node::Node;

@@ -1,5 +1,7 @@
-ghost use Rattle.std.specs.Prelude.{◌≡◌, ◌↔◌, ◌<◌, ◌≤◌, ◌⊎◌, ⊤, ℕ, List, IsTrue, true, false, Ok, Err, None, Some, IsSome, IfOk, OnOk, OnErr, IsErrOf, length, Option};
+ghost use Rattle.std.specs.Prelude.{◌≡◌, ◌↔◌, ◌<◌, ◌≤◌, ◌⊎◌, ⊤, ℕ, List, IsTrue, true, false, Ok, Err, None, Some, IsSome, IsSomeAnd, IfOk, OnOk, OnErr, IsErrOf, length, Option};
 ghost use Rattle.std.specs.Option.{option_copied};
+ghost use Rattle.disk_model.specs.declared.armed.Arm.{Arm};
+ghost use Rattle.disk_model.specs.declared.fault.FileNo.{FileNo};
 ghost use Rattle.disk_model.specs.Images.{Image, file_of, LeavesOnly};
 ghost use Rattle.disk_model.specs.Made.{MadeCalls};
 ghost use Rattle.disk_model.specs.Told.{Tells, Told, after_arm, after_disarm, image_left};
@@ -16,9 +18,10 @@ ghost use Rattle.replica_core.specs.Commit.{kept_after};
 ghost use Rattle.replica_core.specs.Replica.{IsSmall};
 ghost use Rattle.replica_core.specs.Step.{IsAlike, IsInputInside, IsOfTable, Steps, fault_in};
 ghost use Rattle.replica_store.specs.Files.{selected, FilesStand, FilesStandForEither, IsRecoverable};
-ghost use Rattle.replica_store.specs.Store.{jobs_of, StoreKeeps, IsStoreSettled};
+ghost use Rattle.replica_store.specs.Store.{area_of, jobs_of, StoreKeeps, IsStoreSettled};
 ghost use Rattle.replica_node.specs.declared.fault.NodeFault.TheVariants.{Stopped, OutOfMemory, Damaged, Letter};
 ghost use Rattle.replica_node.specs.Faults.{of_disk, EndsRun, HasNodeAnswer, IsRefused, letter_told};
+ghost use Rattle.replica_node.specs.Kept.{area_for, IsAnsweredByArm, IsSynced, LeavesByArm};
 
 use crate::fault::NodeFault;
 use crate::reopen::{attach_stopped, take_kept};
@@ -42,6 +45,7 @@ pub struct Node<D> {
 
 impl<D: Disk> Node<D> {
     ghost use Rattle.replica_node.specs.Node.{disk_after, disk_of, fault_of, calls_for, replica_of, runs_in, store_of, FilesStandAround, IsChangeOf, IsNodeAtRest, IsRecoverableAround, RecordsStand};
+    ghost use Rattle.replica_node.specs.Kept.{IsNodeArmed, IsNodeClean};
     ghost use Rattle.replica_node.specs.Stopped.{IsStoppedWithin, cut_short};
 
     /// Whether it runs: no call has told of a stop or a fault of the disk.
@@ -83,6 +87,7 @@ impl<D: Disk> Node<D> {
         ensures identity { IfOk result (λ node. (replica_of node).identity ≡ record { me = me; members = members }) }
         ensures started { IfOk result (λ node. (replica_of node).state ≡ started me (replica_of node).state.kept) }
         ensures stand { IfOk result (λ node. FilesStand (length table.now.jobs) (replica_of node).state.kept (D.seen disk)) }
+        ensures clean { IsSome (D.told disk) → IfOk result (IsNodeClean D.told) }
 
         // From a disk that was recoverable, with the state before a change or after it, one of the two is found; whatever a
         // stop within this call leaves stands for one of them, and the disk stays recoverable.
@@ -131,6 +136,11 @@ impl<D: Disk> Node<D> {
         // Whatever a stop leaves from now on stands for the state after the step.
         ensures safe { D.honest (disk_of self.old) → OnOk result ((image : Image) → D.may_leave (disk_of self.new) image
             → FilesStand (length table.now.jobs) (replica_of self.new).state.kept image) }
+        // Nothing of the chooser and of the store's area waits for a sync, in what the disk tells, where nothing did before.
+        ensures clean { IsNodeClean D.told self.old → OnOk result (IsNodeClean D.told self.new) }
+        ensures letter_clean { (fault : LetterFault) → result ≡ Err (Letter fault) → IsNodeClean D.told self.old → IsNodeClean D.told self.new }
+        ensures area { (change : Option Delta) → IsChangeOf table.now input.entry (replica_of self.old) change
+            → OnOk result (area_of (store_of self.new) ≡ area_for change (area_of (store_of self.old))) }
 
         ensures alike { OnErr result (IsAlike (replica_of self.new) (replica_of self.old)) }
         ensures refused { IsRefused result → IsNodeAtRest D.seen D.may_leave D.honest table.now self.new }
@@ -141,6 +151,10 @@ impl<D: Disk> Node<D> {
         // Where the disk stopped, that was within the save of the step's change, and the node can be reopened.
         ensures stopped { IsSome (D.told (disk_of self.old)) → IsErrOf result Stopped
             → IsStoppedWithin D.may_leave D.honest D.told table.now input.entry (replica_of self.old) self.new }
+        // Whether the change is kept then, the numbers say that the disk was armed with.
+        ensures kept_by_arm { (change : Delta) (arm : Arm) → IsChangeOf table.now input.entry (replica_of self.old) (Some change) → IsErrOf result Stopped
+            → IsNodeClean D.told self.old → IsNodeArmed D.told self.old arm
+            → LeavesByArm (length table.now.jobs) (area_of (store_of self.old)) (replica_of self.old).state.kept change arm (D.told (disk_of self.new)) }
         ensures undamaged { (gate : ℕ) → result ≡ Err (Damaged gate) → ⊥ }
 
         // Whatever a stop within the call leaves stands for the state before the step or for that after it, and a replica can
@@ -189,6 +203,11 @@ impl<D: Disk> Node<D> {
         ensures no_letter { (fault : LetterFault) → result ≡ Err (Letter fault) → ⊥ }
         ensures told { (own : Option ℕ) → RecordsStand self.old own
             → Tells (MadeCalls of_disk (calls_for self.old own (option_copied delta.entry)) result) (D.told (disk_of self.old)) (D.told (disk_of self.new)) }
+        ensures clean { IsNodeClean D.told self.old → OnOk result (IsNodeClean D.told self.new) }
+        ensures area { OnOk result (area_of (store_of self.new) ≡ area_for (option_copied delta.entry) (area_of (store_of self.old))) }
+        ensures kept_by_arm { (change : Delta) (arm : Arm) → option_copied delta.entry ≡ Some change → IsErrOf result Stopped
+            → IsNodeClean D.told self.old → IsNodeArmed D.told self.old arm
+            → LeavesByArm (jobs_of (store_of self.old)) (area_of (store_of self.old)) (replica_of self.old).state.kept change arm (D.told (disk_of self.new)) }
         ensures answer { HasNodeAnswer D.honest D.counts (disk_of self.old) (disk_of self.new) result }
     {
         let Some(delta) = delta else {
@@ -212,6 +231,7 @@ impl<D: Disk> Node<D> {
 
 impl<D: ArmedDisk> Node<D> {
     ghost use Rattle.replica_node.specs.Node.{disk_after, disk_of, fault_of, replica_of, runs_in, store_of, IsNodeAtRest};
+    ghost use Rattle.replica_node.specs.Kept.{IsNodeArmed, IsNodeClean};
     ghost use Rattle.replica_node.specs.Stopped.{IsQuiet, IsStopped, reopened};
 
     /// Lets `pass` more writes, cuts and syncs of its disk succeed, and the next one stop within and leave the image of that
@@ -229,6 +249,8 @@ impl<D: ArmedDisk> Node<D> {
         ensures runs { runs_in self.new ≡ runs_in self.old }
         ensures at_rest { (table : Table) → IsNodeAtRest D.seen D.may_leave D.honest table self.old
             → IsNodeAtRest D.seen D.may_leave D.honest table self.new }
+        ensures clean { IsNodeClean D.told self.old → IsNodeClean D.told self.new }
+        ensures armed { IsNodeClean D.told self.old → IsNodeArmed D.told self.new (record { left = pass; image = image }) }
     {
         self.disk.arm(pass, image);
     }
@@ -247,6 +269,7 @@ impl<D: ArmedDisk> Node<D> {
         ensures runs { runs_in self.new ≡ runs_in self.old }
         ensures at_rest { (table : Table) → IsNodeAtRest D.seen D.may_leave D.honest table self.old
             → IsNodeAtRest D.seen D.may_leave D.honest table self.new }
+        ensures clean { IsNodeClean D.told self.old → IsNodeClean D.told self.new }
     {
         self.disk.disarm();
     }
@@ -278,6 +301,10 @@ impl<D: ArmedDisk> Node<D> {
         ensures lost { (stop : IsStopped D.may_leave D.honest D.told table.now self) → D.honest (disk_of self)
             → IfOk result (λ found. found.1 ≡ None
             → FilesStand (length table.now.jobs) (after_delta stop.change (replica_of self).state.kept) (D.seen (disk_of found.0)) → ⊥) }
+        // Where the numbers that the disk was armed with say whether the stop kept the change, they decide the answer.
+        ensures answer_by_arm { (stop : IsStopped D.may_leave D.honest D.told table.now self) (area : FileNo) (arm : Arm) → D.honest (disk_of self)
+            → LeavesByArm (length table.now.jobs) area (replica_of self).state.kept stop.change arm (D.told (disk_of self))
+            → IfOk result (λ found. IsAnsweredByArm area (replica_of self).state.kept stop.change arm found.1) }
         ensures recoverable { D.honest (disk_of self) → IfOk result (λ found. IsRecoverable (length table.now.jobs) (replica_of found.0).state.kept (replica_of found.0).state.kept
             (D.may_leave (disk_of found.0))) }
 
@@ -334,6 +361,7 @@ fn start<D: Disk>(
     ensures started { IfOk result (λ found. found.1.state ≡ started me found.1.state.kept) }
     ensures of_table { IfOk result (λ found. IsOfTable table.now found.1) }
     ensures stand { IfOk result (λ found. FilesStand (length table.now.jobs) found.1.state.kept (D.seen disk.old)) }
+    ensures clean { IsSome (D.told disk.old) → IfOk result (λ found. IsSomeAnd (D.told disk.new) (IsSynced (area_of found.0))) }
     ensures either { (before after : Durable) → D.honest disk.old → IsRecoverable (length table.now.jobs) before after (D.may_leave disk.old)
         → IfOk result (λ found. (found.1.state.kept ≡ before) ⊎ (found.1.state.kept ≡ after)) }
     ensures sound { (before after : Durable) (gate : ℕ) → D.honest disk.old → IsRecoverable (length table.now.jobs) before after (D.may_leave disk.old)

@@ -1,8 +1,10 @@
-use Rattle.std.proofs.Common.{ℕ, ◌∙◌, subst}
+use Rattle.std.proofs.Common.{ℕ, ◌∙◌, subst, length}
+use Rattle.replica_store.specs.Store.{area_of}
 use Rattle.gate_file.specs.File.{bodies_of}
 use Rattle.paxos_base.specs.Rows.{RowsStand}
 use Rattle.replica_node.proofs.AttachedLemmas.{fit_to_start}
 use Rattle.replica_node.proofs.FaultLemmas.{damaged_below}
+use Rattle.replica_node.proofs.KeptLemmas.{tells_attached}
 use Rattle.replica_node.proofs.node.start.Goals as goal
 
 -- ---- the store is not attached
@@ -52,3 +54,10 @@ returns-clause-images g c = rw (← c.jobs.ensures.count) c.attach.ensures.image
 
 pub returns-clause-recoverable : goal.returns-clause-recoverable
 returns-clause-recoverable g c = rw (← c.jobs.ensures.count) c.attach.ensures.recoverable
+
+pub returns-clause-clean : goal.returns-clause-clean
+returns-clause-clean g c tells =
+    let image = g.D.Disk.seen c.args.disk.now in
+    let found = c.in_ok-store.ensures.stand in
+    tells_attached image (length found.bodies) (area_of c.in_ok-store.store) (c.in_ok-store.store, c.in_ok-store.kept) (g.D.Disk.told c.args.disk.now) (g.D.Disk.told c.attach.new.disk) tells c.in_ok-store.ensures.area
+    (c.in_ok-store.ensures.told found.bodies found.has)

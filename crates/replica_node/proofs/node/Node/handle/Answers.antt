@@ -9,11 +9,16 @@ use Rattle.replica_store.specs.Files.{FilesStandForEither}
 use Rattle.replica_core.specs.declared.out.StepOut.{StepOut}
 use Rattle.replica_node.specs.Faults.{of_disk}
 use Rattle.replica_node.specs.declared.fault.NodeFault.TheVariants as Node
+use Rattle.paxos_base.specs.declared.durable.Delta.{Delta}
+use Rattle.step_law.specs.State.{State}
+use Rattle.std.specs.Prelude.{Option}
+use Rattle.replica_store.specs.Store.{area_of}
+use Rattle.replica_node.specs.Kept.{LeavesByArm, area_for}
 use Rattle.replica_node.specs.Node.{FilesStandAround, calls_for}
 use Rattle.replica_node.proofs.FaultLemmas.{memory_below}
 use Rattle.replica_node.proofs.RestLemmas.{at_rest_after, at_rest_still, either_around, few_members, leaves_weaker, recoverable_around, stands_at_rest}
 use Rattle.replica_node.proofs.StepLemmas.{change_follows, plans_alike}
-use Rattle.replica_node.proofs.ToldLemmas.{told_done, told_failed, told_of_step}
+use Rattle.replica_node.proofs.ToldLemmas.{one_change, told_done, told_failed, told_of_step}
 use Rattle.replica_node.proofs.StoppedLemmas.{stopped_within, tells_stopped}
 use Rattle.std.specs.Prelude.{IsErrOf}
 use Rattle.store_format.specs.Area.{StandFor}
@@ -79,7 +84,31 @@ returns-in-Ok-clause-told g c =
     told_of_step c.args.table.now c.args.input old now plans.event delta (Ok c.complete.result) (g.D.Disk.told old.disk) (g.D.Disk.told c.keep.new.self.disk) plans.event_is told c.plan.ensures.alike refl
     (λ own stand. told_done of_disk of_disk (calls_for now own delta) tt c.complete.result (g.D.Disk.told old.disk) (g.D.Disk.told c.keep.new.self.disk) (c.in-Ok.ensures.told own stand))
 
+pub returns-in-Ok-clause-area : goal.returns-in-Ok-clause-area
+returns-in-Ok-clause-area g c change of =
+    let old = c.args.self.now in
+    let delta = option_copied c.delta.result in
+    let plans = c.in_ok-planned.ensures.planned in
+    let changes = c.delta.ensures old.replica (step old.replica.identity plans.event old.replica.state) plans.plans in
+    let one : change ≡ delta = one_change c.args.table.now c.args.input old.replica plans.event delta change plans.event_is changes of in
+    subst (λ (d : Option Delta). area_of c.keep.new.self.store ≡ area_for d (area_of old.store)) (sym one) c.in-Ok.ensures.area
+
 -- ---- the disk stopped
+
+pub returns-in-Err-Stopped-clause-kept_by_arm : goal.returns-in-Err-Stopped-clause-kept_by_arm
+returns-in-Err-Stopped-clause-kept_by_arm g c change arm of is clean armed =
+    let old = c.args.self.now in
+    let rest = c.requires.at_rest in
+    let delta = option_copied c.delta.result in
+    let plans = c.in_ok-planned.ensures.planned in
+    let changes = c.delta.ensures old.replica (step old.replica.identity plans.event old.replica.state) plans.plans in
+    let one : Some change ≡ delta = one_change c.args.table.now c.args.input old.replica plans.event delta (Some change) plans.event_is changes of in
+    let failed : c.keep.result ≡ Err Node.Stopped = c.in-Err-Stopped.is ∙ ap Err c.in-Err-Stopped.field-0-is in
+    let stops : IsErrOf c.keep.result Node.Stopped = subst (λ (r : Result Unit NodeFault). IsErrOf r Node.Stopped) (sym failed) refl in
+    let told = g.D.Disk.told c.keep.new.self.disk in
+    subst (λ (jobs : ℕ). LeavesByArm jobs (area_of old.store) old.replica.state.kept change arm told) rest.jobs
+    (subst (λ (state : State). LeavesByArm old.store.jobs (area_of old.store) state.kept change arm told) c.plan.ensures.alike.state
+    (c.keep.ensures.kept_by_arm change arm (sym one) stops clean armed))
 
 pub returns-in-Err-Stopped-clause-stopped : goal.returns-in-Err-Stopped-clause-stopped
 returns-in-Err-Stopped-clause-stopped g c some is =

@@ -1,4 +1,7 @@
-use Rattle.std.proofs.Common.{◌≡◌, length, sym, ap, subst}
+use Rattle.std.proofs.Common.{◌≡◌, Err, length, sym, ap, ◌∙◌, subst}
+use Rattle.std.proofs.lemmas.Option.{same_Some}
+use Rattle.paxos_base.specs.declared.durable.Delta.{Delta}
+use Rattle.replica_node.specs.Kept.{LeavesByArm}
 use Rattle.std.specs.Option.{option_copied}
 use Rattle.gate_file.specs.File.{bodies_of}
 use Rattle.paxos_base.specs.declared.durable.Durable.{Durable}
@@ -10,6 +13,7 @@ use Rattle.replica_store.specs.declared.fault.StoreFault.TheVariants as Store
 use Rattle.replica_store.proofs.FileLemmas.{bodies_stand_for_one}
 use Rattle.replica_store.proofs.SaveLemmas.{settled_recoverable}
 use Rattle.replica_node.specs.Faults.{of_disk}
+use Rattle.replica_node.proofs.KeptLemmas.{tells_by_arm, tells_saved}
 use Rattle.replica_node.proofs.ToldLemmas.{told_done, told_stored}
 use Rattle.replica_node.proofs.node.Node.keep.Goals as goal
 
@@ -58,3 +62,23 @@ pub returns-in-Err-DiskFault-clause-told : goal.returns-in-Err-DiskFault-clause-
 returns-in-Err-DiskFault-clause-told g c own stand =
     let node = c.args.self.now in
     rw c.in-Some.is (told_stored (save_calls (area_of node.store) (length (records_of node.store)) node.replica.state.kept own c.in-Some.delta.now) c.in-Err-DiskFault.field-0 Store.DiskFault (g.D.Disk.told node.disk) (g.D.Disk.told c.save.new.disk) c.in-Err-DiskFault.field-0-is (c.in-Err-DiskFault.ensures.told node.replica.state.kept own stand))
+
+pub returns-in-Ok-clause-clean : goal.returns-in-Ok-clause-clean
+returns-in-Ok-clause-clean g c clean =
+    let node = c.args.self.now in
+    let own = c.requires.keeps in
+    tells_saved g.D.Disk.seen g.D.Disk.may_leave g.D.Disk.honest node.disk node.store node.replica.state.kept own.0 c.in-Some.delta.now c.requires.settled c.save.new.self (g.D.Disk.told node.disk) (g.D.Disk.told c.save.new.disk)
+    (g.met.D.Disk.done_is_seen node.disk) clean c.in-Ok.ensures.area (c.in-Ok.ensures.told node.replica.state.kept own.0 own.1)
+
+pub returns-in-Err-Stopped-clause-kept_by_arm : goal.returns-in-Err-Stopped-clause-kept_by_arm
+returns-in-Err-Stopped-clause-kept_by_arm g c change arm is stopped clean armed =
+    let node = c.args.self.now in
+    let kept = node.replica.state.kept in
+    let own = c.requires.keeps in
+    let here = ap option_copied c.in-Some.is in
+    let same : c.in-Some.delta.now ≡ change = same_Some c.in-Some.delta.now change (sym here ∙ is) in
+    let jobs = jobs_of node.store in
+    subst (λ (d : Delta). LeavesByArm jobs (area_of node.store) kept d arm (g.D.Disk.told c.save.new.disk)) same
+    (tells_by_arm g.D.Disk.seen g.D.Disk.may_leave g.D.Disk.honest node.disk node.store kept own.0 c.in-Some.delta.now c.requires.settled arm (g.D.Disk.told node.disk) (g.D.Disk.told c.save.new.disk)
+    (g.met.D.Disk.done_is_seen node.disk) clean armed own.1 (c.requires.follows c.in-Some.delta.now here) c.in-Err-Stopped.field-0 c.in-Err-Stopped.field-0-is
+    (c.in-Err-Stopped.ensures.told kept own.0 own.1) c.save.ensures.spelled (λ slot rows base. c.in-Err-Stopped.ensures.base_spelled kept own.0 slot rows own.1 base (ap Err c.in-Err-Stopped.field-0-is)))

@@ -5,7 +5,7 @@ use Rattle.paxos_base.specs.declared.durable.Durable.{Durable}
 use Rattle.store_format.specs.Area.{IsFirstRecordAtFault}
 use Rattle.replica_store.specs.Files.{FilesStand, IsRecoverable}
 use Rattle.replica_node.proofs.FaultLemmas.{same_fault}
-use Rattle.replica_node.proofs.ReopenLemmas.{Reopens, change_or_none, found_recoverable, found_stands, not_both, planned_as, reopens}
+use Rattle.replica_node.proofs.ReopenLemmas.{Reopens, change_or_none, found_recoverable, found_stands, not_both, planned_as, reopens, tells_answer}
 use Rattle.replica_node.proofs.node.Node.reopen.Goals as goal
 
 -- ---- it is attached
@@ -83,6 +83,23 @@ returns-in-Ok-clause-image g c told honest is =
     let here : IsRecoverable jobs now now (g.D.Disk.may_leave disk) =
     found_recoverable g.D.Disk.seen g.D.Disk.may_leave g.D.Disk.honest disk store jobs found now c.in-Ok.ensures.settled c.in-Ok.ensures.keeps (c.in-Ok.ensures.jobs ∙ count) facts.same still in
     subst (λ (k : Durable). FilesStand jobs k (image_left told)) (sym facts.same) (subst (λ (n : ℕ). FilesStand n found (image_left told)) count (c.in-Ok.ensures.image told is))
+
+pub returns-in-Ok-clause-answer_by_arm : goal.returns-in-Ok-clause-answer_by_arm
+returns-in-Ok-clause-answer_by_arm g c stop area arm honest left =
+    let before = c.args.self.replica.state.kept in
+    let after = after_delta stop.change before in
+    let jobs = length c.args.table.now.jobs in
+    let count = c.jobs.ensures.count in
+    let found = c.in-Ok.kept in
+    let now = c.take_kept-change.new.replica.state.kept in
+    let planned = planned_as c.args.table.now c.args.self.replica c.in-Some.planned stop.planned stop.change c.args.self.stopped c.in-Some.is stop.is_cut_short stop.has_planned in
+    let recoverable : IsRecoverable c.jobs.result before after (g.D.Disk.may_leave c.args.self.disk) = rw count (stop.recoverable honest) in
+    let decided = c.take_kept-change.ensures.answer stop.change planned in
+    let kept = c.take_kept-change.ensures.kept stop.change planned in
+    let facts : Reopens jobs before found now stop.change c.take_kept-change.result =
+    reopens jobs before found now stop.change c.take_kept-change.result c.in-Ok.store c.in-Ok.ensures.keeps stop.has_planned.follows (c.in-Ok.ensures.either before after honest recoverable) decided kept in
+    tells_answer jobs area before found now stop.change arm c.take_kept-change.result (g.D.Disk.told c.args.self.disk) facts kept (λ told is. returns-in-Ok-clause-image g c told honest is)
+    (change_or_none stop.change found c.take_kept-change.result decided) left
 
 pub returns-in-Ok-clause-lost : goal.returns-in-Ok-clause-lost
 returns-in-Ok-clause-lost g c stop honest none =

@@ -1,0 +1,198 @@
+-- A node's disk stays clean through its calls, and the numbers of its arm say whether a change is kept.
+use Rattle.std.proofs.Common.{◌≡◌, ◌⊎◌, ℕ, ◌<◌, ◌≤◌, ◌%◌, ◌/◌, Option, None, Some, List, Ok, Err, length, map, refl, sym, ◌∙◌, subst, inl, inr, arith}
+use Rattle.std.specs.Prelude.{IsSome, IsSomeAnd}
+use Rattle.std.proofs.lemmas.Bool.{cases_order, eq-eqb, ne_eqb}
+use Rattle.std.proofs.lemmas.Nat.{mod_below}
+use Rattle.disk_model.specs.declared.armed.Arm.{Arm}
+use Rattle.disk_model.specs.declared.fault.DiskFault.TheVariants as Disk
+use Rattle.disk_model.specs.declared.fault.FileNo.{FileNo}
+use Rattle.disk_model.specs.declared.fault.FileNo.TheVariants.{AreaA, AreaB, Chooser}
+use Rattle.disk_model.specs.Images.{Image}
+use Rattle.disk_model.specs.Made.{AllDone, DiskCall, MadeCalls}
+use Rattle.disk_model.specs.Told.{Tells, Told, after_arm, after_disarm, image_left}
+use Rattle.disk_model.proofs.StopLemmas.{all_run}
+use Rattle.paxos_base.specs.declared.durable.Delta.{Delta}
+use Rattle.paxos_base.specs.declared.durable.Delta.TheVariants.{Tried, Promised, Voted, Base}
+use Rattle.paxos_base.specs.declared.durable.Durable.{Durable}
+use Rattle.paxos_base.specs.declared.rows.JobRow.{JobRow}
+use Rattle.store_format.specs.Area.{StandFor, base_records}
+use Rattle.store_format.specs.Order.{ChangeMayFollow, delta_record}
+use Rattle.store_format.specs.Records.{AreRecords, IsRecord, record_bytes}
+use Rattle.store_format.specs.declared.body.Record.{Record}
+use Rattle.store_format.specs.declared.body.Record.TheVariants as Item
+use Rattle.replica_store.specs.Faults as stored
+use Rattle.replica_store.specs.Files.{other_area, selected, selected_by, FilesStand}
+use Rattle.replica_store.specs.Kept.{IsReady, Shows, StopsInSave}
+use Rattle.replica_store.specs.Made.{area_after, attach_calls, save_calls}
+use Rattle.replica_store.specs.Store.{IsStoreSettled, area_of, jobs_of, records_of}
+use Rattle.replica_store.specs.declared.fault.StoreFault.{StoreFault}
+use Rattle.replica_store.specs.declared.fault.StoreFault.TheVariants as Store
+use Rattle.replica_store.specs.declared.store.Store.{Store as AStore}
+use Rattle.replica_store.proofs.BaseLemmas.{base_early, base_kept, base_lost}
+use Rattle.replica_store.proofs.CleanLemmas.{armed_clean, attached_clean, disarmed_clean, ready_clean, settled_ready}
+use Rattle.replica_store.proofs.KeptLemmas.{record_early, record_kept, record_lost}
+use Rattle.replica_node.specs.Kept.{IsKeptByArm, IsSynced, LeavesByArm}
+
+-- ---- a save that was stopped
+
+below_or_from : (left few : ℕ) → (left < few) ⊎ (few ≤ left)
+below_or_from left few =
+    elim (cases_order left few) [
+      | inl same ↦ inr (omega (arith, same))
+      | inr apart ↦ elim apart [ inl below ↦ inl below | inr above ↦ inr (omega (arith, above)) ]
+    ]
+
+not_kept : (jobs few : ℕ) (P : ℕ → Type 0) (kept : Durable) (arm : Arm) (image : Image) → (arm.left < few → FilesStand jobs kept image) → (few ≤ arm.left → (Shows P arm.image → ⊥) → FilesStand jobs kept image)
+    → ((few ≤ arm.left) × Shows P arm.image → ⊥) → (arm.left < few) ⊎ (few ≤ arm.left) → FilesStand jobs kept image
+not_kept jobs few P kept arm image early lost none (inl less) = early less
+not_kept jobs few P kept arm image early lost none (inr more) = lost more (λ shows. none (more, shows))
+
+module _ (jobs : ℕ) (area : FileNo) (kept : Durable) (own : Option ℕ) (arm : Arm) (old new : Told) where
+  record_by_arm : (change : Delta) (item : Record) → StopsInSave jobs area kept own change arm old new → delta_record change ≡ Some item → ((2 ≤ arm.left) × Shows (λ byte. byte ≡ 1) arm.image → ⊥) → FilesStand jobs kept (image_left new)
+  record_by_arm change item save is none =
+      not_kept jobs 2 (λ byte. byte ≡ 1) kept arm (image_left new) (record_early jobs area kept own change item arm old new save is) (record_lost jobs area kept own change item arm old new save is) none (below_or_from arm.left 2)
+
+  pub kept_by_arm : (change : Delta) → StopsInSave jobs area kept own change arm old new → ((item : Record) → delta_record change ≡ Some item → IsRecord (record_bytes item) item)
+      → ((slot : ℕ) (rows : List JobRow) → change ≡ Base slot rows → AreRecords (map record_bytes (base_records kept own slot rows)) (base_records kept own slot rows)) → IsKeptByArm jobs area kept change arm (image_left new)
+  kept_by_arm (Tried ballot) save spelled base =
+      record {
+        saved = λ keeps. record_kept jobs area kept own (Tried ballot) (Item.Tried ballot) arm old new save refl (spelled (Item.Tried ballot) refl) keeps.0 keeps.1;
+        lost = record_by_arm (Tried ballot) (Item.Tried ballot) save refl;
+      }
+  kept_by_arm (Promised ballot) save spelled base =
+      record {
+        saved = λ keeps. record_kept jobs area kept own (Promised ballot) (Item.Promised ballot) arm old new save refl (spelled (Item.Promised ballot) refl) keeps.0 keeps.1;
+        lost = record_by_arm (Promised ballot) (Item.Promised ballot) save refl;
+      }
+  kept_by_arm (Voted vote) save spelled base =
+      record {
+        saved = λ keeps. record_kept jobs area kept own (Voted vote) (Item.Voted vote) arm old new save refl (spelled (Item.Voted vote) refl) keeps.0 keeps.1;
+        lost = record_by_arm (Voted vote) (Item.Voted vote) save refl;
+      }
+  kept_by_arm (Base slot rows) save spelled base =
+      record {
+        saved = λ keeps. base_kept jobs area kept own slot rows arm old new save (base slot rows refl) keeps.0 keeps.1;
+        lost = λ none. not_kept jobs 3 (λ byte. selected_by byte ≡ other_area area) kept arm (image_left new) (base_early jobs area kept own slot rows arm old new save) (base_lost jobs area kept own slot rows arm old new save) none (below_or_from arm.left 3);
+      }
+
+-- ---- between two calls
+
+module _ {D : Type 0} (seen : D → Image) (may_leave : D → Image → Type 0) (honest : D → Type 0) (disk : D) (store : AStore) (kept : Durable) (own : Option ℕ) (change : Delta) (settled : IsStoreSettled seen may_leave honest disk store) where
+  abbrev calls : List DiskCall
+  calls = save_calls (area_of store) (length (records_of store)) kept own change
+
+  ready : (old : Told) → old.done ≡ seen disk → IsSynced (area_of store) old → IsReady (area_of store) (records_of store) old
+  ready old done synced = settled_ready seen may_leave honest disk store old settled done synced.runs synced.chooser synced.area_clean
+
+  saved_synced : (old new : Told) → old.done ≡ seen disk → IsSynced (area_of store) old → AllDone calls old new → IsSynced (area_after change (area_of store)) new
+  saved_synced old new done synced made =
+      let clean = ready_clean (area_of store) (records_of store) kept own change old new (ready old done synced) made in
+      record { runs = all_run calls old new synced.runs made; chooser = clean.0; area_clean = clean.1 }
+
+  pub tells_saved : (after : AStore) (old new : Option Told) → ((now : Told) → old ≡ Some now → now.done ≡ seen disk) → IsSomeAnd old (IsSynced (area_of store)) → area_of after ≡ area_after change (area_of store)
+      → Tells (MadeCalls {T = Unit} stored.of_disk calls (Ok tt)) old new → IsSomeAnd new (IsSynced (area_of after))
+  tells_saved after None new done clean area tells = absurd clean
+  tells_saved after (Some old) None done clean area tells = absurd tells
+  tells_saved after (Some old) (Some new) done clean area tells = subst (λ (file : FileNo). IsSynced file new) (sym area) (saved_synced old new (done old refl) clean tells.all)
+
+  stops_in_save : (arm : Arm) (old new : Told) → old.done ≡ seen disk → IsSynced (area_of store) old → old.arm ≡ Some arm → StandFor (jobs_of store) (records_of store) kept own → ChangeMayFollow (jobs_of store) kept change
+      → MadeCalls {T = Unit} stored.of_disk calls (Err Store.Stopped) old new → StopsInSave (jobs_of store) (area_of store) kept own change arm old new
+  stops_in_save arm old new done synced armed stand follows made =
+      record {
+        records = records_of store;
+        ready = ready old done synced;
+        stand = stand;
+        follows = follows;
+        armed = armed;
+        stops = made.broken Disk.Stopped refl;
+      }
+
+  pub tells_by_arm : (arm : Arm) (old new : Option Told) → ((now : Told) → old ≡ Some now → now.done ≡ seen disk) → IsSomeAnd old (IsSynced (area_of store)) → IsSomeAnd old (λ now. now.arm ≡ Some arm)
+      → StandFor (jobs_of store) (records_of store) kept own → ChangeMayFollow (jobs_of store) kept change → (fault : StoreFault) → fault ≡ Store.Stopped → Tells (MadeCalls {T = Unit} stored.of_disk calls (Err fault)) old new
+      → ((item : Record) → delta_record change ≡ Some item → IsRecord (record_bytes item) item)
+      → ((slot : ℕ) (rows : List JobRow) → change ≡ Base slot rows → AreRecords (map record_bytes (base_records kept own slot rows)) (base_records kept own slot rows))
+      → LeavesByArm (jobs_of store) (area_of store) kept change arm new
+  tells_by_arm arm None new done clean armed stand follows fault is tells spelled base = absurd clean
+  tells_by_arm arm (Some old) None done clean armed stand follows fault is tells spelled base = absurd tells
+  tells_by_arm arm (Some old) (Some new) done clean armed stand follows fault is tells spelled base =
+      let made : MadeCalls {T = Unit} stored.of_disk calls (Err Store.Stopped) old new = subst (λ (f : StoreFault). MadeCalls {T = Unit} stored.of_disk calls (Err f) old new) is tells in
+      kept_by_arm (jobs_of store) (area_of store) kept own arm old new change (stops_in_save arm old new (done old refl) clean armed stand follows made) spelled base
+
+-- ---- an attach
+
+attached_synced : (image : Image) (count : ℕ) (old new : Told) → AllDone (attach_calls image count) old new → IsSynced (selected image) new
+attached_synced image count old new made =
+    let clean = attached_clean image count old new made in
+    record { runs = all_run (attach_calls image count) old new made.1.0 made; chooser = clean.0; area_clean = clean.1 }
+
+pub tells_attached : {T : Type 0} (image : Image) (count : ℕ) (area : FileNo) (value : T) (old new : Option Told) → IsSome old → area ≡ selected image → Tells (MadeCalls stored.of_disk (attach_calls image count) (Ok value)) old new
+    → IsSomeAnd new (IsSynced area)
+tells_attached image count area value None new some is tells = absurd (cc some)
+tells_attached image count area value (Some old) None some is tells = absurd tells
+tells_attached image count area value (Some old) (Some new) some is tells = subst (λ (file : FileNo). IsSynced file new) (sym is) (attached_synced image count old new tells.all)
+
+-- ---- an arm, and its end
+
+arm_synced : (pass image : ℕ) (area : FileNo) (told : Told) → IsSynced area told → IsSynced area (after_arm pass image told) × ((after_arm pass image told).arm ≡ Some (record { left = pass; image = image }))
+arm_synced pass image area told synced = (
+  record {
+    runs = rw synced.runs refl;
+    chooser = armed_clean pass image Chooser told synced.chooser;
+    area_clean = armed_clean pass image area told synced.area_clean;
+  },
+  rw synced.runs refl,
+)
+
+pub tells_armed : (pass image : ℕ) (area : FileNo) (old new : Option Told) → IsSomeAnd old (IsSynced area) → Tells (λ one two. two ≡ after_arm pass image one) old new
+    → IsSomeAnd new (IsSynced area) × IsSomeAnd new (λ now. now.arm ≡ Some (record { left = pass; image = image }))
+tells_armed pass image area None new synced tells = absurd synced
+tells_armed pass image area (Some old) None synced tells = absurd tells
+tells_armed pass image area (Some old) (Some new) synced tells =
+    subst (λ (t : Told). IsSynced area t × (t.arm ≡ Some (record { left = pass; image = image }))) (sym tells) (arm_synced pass image area old synced)
+
+disarm_synced : (area : FileNo) (told : Told) → IsSynced area told → IsSynced area (after_disarm told)
+disarm_synced area told synced =
+    record {
+      runs = rw synced.runs refl;
+      chooser = disarmed_clean Chooser told synced.chooser;
+      area_clean = disarmed_clean area told synced.area_clean;
+    }
+
+pub tells_disarmed : (area : FileNo) (old new : Option Told) → IsSomeAnd old (IsSynced area) → Tells (λ one two. two ≡ after_disarm one) old new → IsSomeAnd new (IsSynced area)
+tells_disarmed area None new synced tells = absurd synced
+tells_disarmed area (Some old) None synced tells = absurd tells
+tells_disarmed area (Some old) (Some new) synced tells = subst (IsSynced area) (sym tells) (disarm_synced area old synced)
+
+-- ---- the byte of a chooser
+
+pub shows_weaker : (P Q : ℕ → Type 0) (number : ℕ) → ((byte : ℕ) → P byte → Q byte) → Shows P number → Shows Q number
+shows_weaker P Q number weaker (inl done) = inl done
+shows_weaker P Q number weaker (inr shown) = inr (shown.0, weaker (number / 3 % 256) shown.1)
+
+first_not_second : AreaA ≡ AreaB → ⊥
+first_not_second is = cc is
+
+pub selects_second : (byte : ℕ) → byte % 2 ≡ 1 → selected_by byte ≡ AreaB
+selects_second byte odd = rw (eq-eqb (byte % 2) 1 odd) refl
+
+pub selects_first : (byte : ℕ) → byte % 2 ≡ 0 → selected_by byte ≡ AreaA
+selects_first byte even = rw (ne_eqb (byte % 2) 1 (λ is. omega (arith, is, even))) refl
+
+pub bit_of_first : (byte : ℕ) → selected_by byte ≡ AreaA → byte % 2 ≡ 0
+bit_of_first byte is =
+    let low : byte % 2 < 2 = mod_below byte 2 (omega arith) in
+    elim (cases_order (byte % 2) 1) [
+      | inl odd ↦ absurd (first_not_second (sym is ∙ selects_second byte odd))
+      | inr apart ↦ elim apart [ inl below ↦ omega (arith, below) | inr above ↦ absurd (omega (arith, above, low)) ]
+    ]
+
+pub bit_of_second : (byte : ℕ) → selected_by byte ≡ AreaB → byte % 2 ≡ 1
+bit_of_second byte is =
+    let low : byte % 2 < 2 = mod_below byte 2 (omega arith) in
+    elim (cases_order (byte % 2) 1) [
+      | inl odd ↦ odd
+      | inr apart ↦ elim apart [
+        | inl below ↦ absurd (first_not_second (sym (selects_first byte (omega (arith, below))) ∙ is))
+        | inr above ↦ absurd (omega (arith, above, low))
+      ]
+    ]
