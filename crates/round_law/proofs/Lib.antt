@@ -1,0 +1,10 @@
+pub mod AllLemmas
+pub mod BookLemmas
+pub mod CalmLemmas
+pub mod DeliverLemmas
+pub mod NameLemmas
+pub mod PartLemmas
+pub mod PassLemmas
+pub mod PostLemmas
+pub mod SomeRound
+pub mod StandsLemmas

@@ -1,0 +1,8 @@
+use Rattle.round_law.proofs.CalmLemmas.{round_is_calm, round_leaves_no_fault}
+use Rattle.round_law.proofs.laws.a_round_is_calm.Goals as goal
+
+pub returns-clause-calm : goal.returns-clause-calm
+returns-clause-calm c = round_is_calm
+
+pub returns-clause-faultless : goal.returns-clause-faultless
+returns-clause-faultless c = round_leaves_no_fault
