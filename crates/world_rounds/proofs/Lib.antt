@@ -13,3 +13,4 @@ pub mod RoundsOfAll
 pub mod Starting
 pub mod Setting
 pub mod Campaigns
+pub mod Waiting

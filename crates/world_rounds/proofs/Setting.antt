@@ -93,7 +93,8 @@ module _ {D : Type 0} (seen : D → Image) (may_leave : D → Image → Type 0) 
       → ((situation : Situation) (other : ℕ) → other ≢ who → (change situation).mails other ≡ situation.mails other)
       → ((situation : Situation) (other : ℕ) → other ≢ who → (change situation).skews other ≡ situation.skews other)
       → ((situation : Situation) (other : ℕ) → other ≢ who → (change situation).fates other ≡ situation.fates other)
-      → ((letters : List LetterRow) (situation : Situation) → IsMailOf letters situation who [] member.mail → IsMailOf letters (change situation) who [] next.mail)
+      → ((table : Table) (rows : List Row) (situation : Situation) → IsWorldAt seen may_leave honest table rows old situation → IsMailOf old.book.letters situation who [] member.mail
+      → IsMailOf old.book.letters (change situation) who [] next.mail)
       → Changes seen may_leave honest change old new
   member_set old new who member next change book latest cuts there members node steps standing last same_cuts mails skews fates mine = λ table rows situation is.
       world_set table rows old new situation (change situation) is book latest (ap length members ∙ length-set old.members.items who next) (standing situation) (last situation)
@@ -105,7 +106,7 @@ module _ {D : Type 0} (seen : D → Image) (may_leave : D → Image → Type 0) 
           ap (λ (m : Member D). m.node) here.1 ∙ node,
           ap (λ (m : Member D). m.steps) here.1 ∙ steps,
           subst (λ k. IsMailOf old.book.letters (change situation) k [] x.mail) (sym here.0)
-              (subst (λ (m : Member D). IsMailOf old.book.letters (change situation) who [] m.mail) (sym here.1) (mine old.book.letters situation (is.ahead.each who member there).mail)),
+              (subst (λ (m : Member D). IsMailOf old.book.letters (change situation) who [] m.mail) (sym here.1) (mine table rows situation is (is.ahead.each who member there).mail)),
         )
         | inr other ↦ (
           x,
@@ -123,7 +124,7 @@ module _ {D : Type 0} (seen : D → Image) (may_leave : D → Image → Type 0) 
   skew_set old new who minutes member next book latest cuts there members node steps mail small =
       member_set old new who member next (λ situation. record situation { skews = with_fact who minutes situation.skews }) book latest cuts there members node steps (λ s. refl) (λ s. refl) (λ s. refl)
       (λ s other differs. refl) (λ s other differs. fact_there who minutes s.skews other differs) (λ s other differs. refl)
-      (λ letters s is. rw mail (record { runs = is.runs; letters_are = is.letters_are; skew = sym (fact_here who minutes s.skews); small = small; fate = is.fate; waits = is.waits; sent = is.sent }))
+      (λ table rows s at is. rw mail (record { runs = is.runs; letters_are = is.letters_are; skew = sym (fact_here who minutes s.skews); small = small; fate = is.fate; waits = is.waits; sent = is.sent }))
 
   pub fate_set : (old new : World D) (who : ℕ) (becomes : Fate) (member next : Member D) → new.book ≡ old.book → new.latest ≡ old.latest → new.cuts ≡ old.cuts → slice_get old.members.items who ≡ Some member
       → new.members.items ≡ set old.members.items who next → next.node ≡ member.node → next.steps ≡ member.steps → next.mail ≡ record member.mail { fate = becomes }
@@ -131,7 +132,7 @@ module _ {D : Type 0} (seen : D → Image) (may_leave : D → Image → Type 0) 
   fate_set old new who becomes member next book latest cuts there members node steps mail =
       member_set old new who member next (λ situation. record situation { fates = with_fact who becomes situation.fates }) book latest cuts there members node steps (λ s. refl) (λ s. refl) (λ s. refl)
       (λ s other differs. refl) (λ s other differs. refl) (λ s other differs. fact_there who becomes s.fates other differs)
-      (λ letters s is. rw mail (record { runs = is.runs; letters_are = is.letters_are; skew = is.skew; small = is.small; fate = sym (fact_here who becomes s.fates); waits = is.waits; sent = is.sent }))
+      (λ table rows s at is. rw mail (record { runs = is.runs; letters_are = is.letters_are; skew = is.skew; small = is.small; fate = sym (fact_here who becomes s.fates); waits = is.waits; sent = is.sent }))
 
   -- nobody has a turn, and something is set
   pub sets_go : (table : Table) (n : ℕ) (old new : World D) (tasks : Situation → List Task) (change : Situation → Situation)

@@ -103,6 +103,15 @@ impl<D: Disk> World<D> {
                 self.heal();
                 Ok(())
             }
+            Command::Drop { from, to } => {
+                self.drop_letters(from, to);
+                Ok(())
+            }
+            Command::Reverse { member } => {
+                self.reverse_letters(member);
+                Ok(())
+            }
+            Command::Again { letter } => self.send_again(letter),
             Command::Skew { member, minutes } => {
                 self.skew(member, minutes);
                 Ok(())

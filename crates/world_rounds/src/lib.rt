@@ -3,6 +3,7 @@
 
 mod commands;
 mod fault;
+mod letters;
 mod mails;
 mod member;
 mod rounds;

@@ -57,3 +57,27 @@ returns-in-Skew-clause-members g c = ap (λ (book : BookState). book.members) c.
 
 pub returns-in-Fate-clause-members : goal.returns-in-Fate-clause-members
 returns-in-Fate-clause-members g c = ap (λ (book : BookState). book.members) c.set_fate.ensures.book
+
+pub returns-in-Drop-clause-goes : goal.returns-in-Drop-clause-goes
+returns-in-Drop-clause-goes g c =
+    subst (λ command. GoesOnBy g.D.Disk.seen g.D.Disk.may_leave g.D.Disk.honest c.args.table.now (IsPartOf c.args.self.now.book.members c.args.table.now command) c.args.self.now c.drop_letters.new.self)
+    (sym c.in-Drop.is) (sets_go g.D.Disk.seen g.D.Disk.may_leave g.D.Disk.honest c.args.table.now c.args.self.now.book.members c.args.self.now c.drop_letters.new.self (tasks_for (command.Drop c.in-Drop.from c.in-Drop.to)) (set_by (command.Drop c.in-Drop.from c.in-Drop.to)) (λ rows situation is. refl) c.drop_letters.ensures.sets)
+
+pub returns-in-Drop-clause-members : goal.returns-in-Drop-clause-members
+returns-in-Drop-clause-members g c = ap (λ (book : BookState). book.members) c.drop_letters.ensures.book
+
+pub returns-in-Reverse-clause-goes : goal.returns-in-Reverse-clause-goes
+returns-in-Reverse-clause-goes g c =
+    subst (λ command. GoesOnBy g.D.Disk.seen g.D.Disk.may_leave g.D.Disk.honest c.args.table.now (IsPartOf c.args.self.now.book.members c.args.table.now command) c.args.self.now c.reverse_letters.new.self)
+    (sym c.in-Reverse.is) (sets_go g.D.Disk.seen g.D.Disk.may_leave g.D.Disk.honest c.args.table.now c.args.self.now.book.members c.args.self.now c.reverse_letters.new.self (tasks_for (command.Reverse c.in-Reverse.member)) (set_by (command.Reverse c.in-Reverse.member)) (λ rows situation is. refl) c.reverse_letters.ensures.sets)
+
+pub returns-in-Reverse-clause-members : goal.returns-in-Reverse-clause-members
+returns-in-Reverse-clause-members g c = ap (λ (book : BookState). book.members) c.reverse_letters.ensures.book
+
+pub returns-in-Again-clause-goes : goal.returns-in-Again-clause-goes
+returns-in-Again-clause-goes g c =
+    subst (λ command. OnOk c.send_again.result (GoesOnBy g.D.Disk.seen g.D.Disk.may_leave g.D.Disk.honest c.args.table.now (IsPartOf c.args.self.now.book.members c.args.table.now command) c.args.self.now c.send_again.new.self))
+    (sym c.in-Again.is) (on_ok c.send_again.result _ _ (sets_go g.D.Disk.seen g.D.Disk.may_leave g.D.Disk.honest c.args.table.now c.args.self.now.book.members c.args.self.now c.send_again.new.self (tasks_for (command.Again c.in-Again.letter)) (set_by (command.Again c.in-Again.letter)) (λ rows situation is. refl)) c.send_again.ensures.sets)
+
+pub returns-in-Again-clause-members : goal.returns-in-Again-clause-members
+returns-in-Again-clause-members g c = on_any c.send_again.result _ (ap (λ (book : BookState). book.members) c.send_again.ensures.book)

@@ -1,0 +1,72 @@
+//! What commands do to the letters that wait: they are lost, turned round, or join their mail once more.
+ghost use Rattle.std.specs.Prelude.{◌≡◌, ◌<◌, OnOk, length, map, slice_get};
+ghost use Rattle.due_set.specs.Table.{Table};
+ghost use Rattle.script_law.specs.Commands.{from_others, is_from, set_by};
+ghost use Rattle.script_text.specs.declared.command.Command.TheVariants as command;
+ghost use Rattle.world_law.specs.Book.{posted_as};
+ghost use Rattle.world_rounds.specs.Mails.{Changes};
+ghost use Rattle.world_rounds.specs.World.{IsWorld, book_of};
+
+use crate::fault::WorldFault;
+use crate::steps::letter_at;
+use crate::world::World;
+use disk_model::Disk;
+use world_law::Book;
+
+// Whether the letter of a number is from a replica.
+fn is_from(book: &Book, who: u8, number: u64) -> bool
+    ensures { result ≡ is_from who (slice_get (map posted_as book.now.letters) number) }
+{
+    match book.letters().get(number as usize) {
+        Some(letter) => letter.from == who,
+        None => false,
+    }
+}
+
+// The letters from a replica leave a mail.
+fn drop_from(book: &Book, who: u8, mail: &mut Vec<u64>)
+    ensures { mail.new.items ≡ from_others (map posted_as book.now.letters) who mail.old.items }
+{
+    mail.retain(|number| !is_from(book, who, *number));
+}
+
+impl<D: Disk> World<D> {
+    // The letters from the one replica leave the other's mail.
+    pub(crate) fn drop_letters(&mut self, from: u8, to: u8)
+        requires member { to < length self.old.members.items }
+        ensures sets { Changes D.seen D.may_leave D.honest (set_by (command.Drop from to)) self.old self.new }
+        ensures book { book_of self.new ≡ book_of self.old }
+    {
+        drop_from(
+            &self.book,
+            from,
+            &mut self.members[to as usize].mail.letters,
+        );
+    }
+
+    // A replica's mail is in the opposite order.
+    pub(crate) fn reverse_letters(&mut self, who: u8)
+        requires member { who < length self.old.members.items }
+        ensures sets { Changes D.seen D.may_leave D.honest (set_by (command.Reverse who)) self.old self.new }
+        ensures book { book_of self.new ≡ book_of self.old }
+    {
+        self.members[who as usize].mail.letters.reverse();
+    }
+
+    // A letter joins its addressee's mail once more, where there is such a letter and its addressee runs.
+    pub(crate) fn send_again(&mut self, number: u32) -> Result<(), WorldFault>
+        requires world { (table : Table) × IsWorld D.seen D.may_leave D.honest table self.old }
+        ensures sets { OnOk result (Changes D.seen D.may_leave D.honest (set_by (command.Again number)) self.old self.new) }
+        ensures book { book_of self.new ≡ book_of self.old }
+    {
+        if number as usize >= self.book.letters().len() {
+            return Ok(());
+        }
+        let to = letter_at(&self.book, number as u64).to;
+        if !self.members[to as usize].mail.runs {
+            return Ok(());
+        }
+        self.members[to as usize].mail.letters.push(number as u64)?;
+        Ok(())
+    }
+}
