@@ -1,5 +1,5 @@
 -- A node's disk stays clean through its calls, and the numbers of its arm say whether a change is kept.
-use Rattle.std.proofs.Common.{◌≡◌, ◌⊎◌, ℕ, ◌<◌, ◌≤◌, ◌%◌, ◌/◌, Option, None, Some, List, Ok, Err, length, map, refl, sym, ◌∙◌, subst, inl, inr, arith}
+use Rattle.std.proofs.Common.{◌≡◌, ◌⊎◌, ℕ, ◌<◌, ◌≤◌, ◌%◌, ◌-◌, ◌/◌, Option, None, Some, List, Ok, Err, length, map, refl, sym, ◌∙◌, subst, inl, inr, arith}
 use Rattle.std.specs.Prelude.{IsSome, IsSomeAnd}
 use Rattle.std.proofs.lemmas.Bool.{cases_order, eq-eqb, ne_eqb}
 use Rattle.std.proofs.lemmas.Nat.{mod_below}
@@ -10,7 +10,7 @@ use Rattle.disk_model.specs.declared.fault.FileNo.TheVariants.{AreaA, AreaB, Cho
 use Rattle.disk_model.specs.Images.{Image}
 use Rattle.disk_model.specs.Made.{AllDone, DiskCall, MadeCalls}
 use Rattle.disk_model.specs.Told.{Tells, Told, after_arm, after_disarm, image_left}
-use Rattle.disk_model.proofs.StopLemmas.{all_run}
+use Rattle.disk_model.proofs.StopLemmas.{all_pass, all_run, stops_at}
 use Rattle.paxos_base.specs.declared.durable.Delta.{Delta}
 use Rattle.paxos_base.specs.declared.durable.Delta.TheVariants.{Tried, Promised, Voted, Base}
 use Rattle.paxos_base.specs.declared.durable.Durable.{Durable}
@@ -31,7 +31,11 @@ use Rattle.replica_store.specs.declared.store.Store.{Store as AStore}
 use Rattle.replica_store.proofs.BaseLemmas.{base_early, base_kept, base_lost}
 use Rattle.replica_store.proofs.CleanLemmas.{armed_clean, attached_clean, disarmed_clean, ready_clean, settled_ready}
 use Rattle.replica_store.proofs.KeptLemmas.{record_early, record_kept, record_lost}
-use Rattle.replica_node.specs.Kept.{IsKeptByArm, IsSynced, LeavesByArm}
+use Rattle.replica_node.specs.Faults.{of_disk}
+use Rattle.replica_node.specs.Kept.{IsKeptByArm, IsSynced, LeavesByArm, calls_of}
+use Rattle.replica_node.specs.Node.{calls_for}
+use Rattle.replica_node.specs.declared.fault.NodeFault.TheVariants as Node
+use Rattle.replica_node.specs.declared.node.Node.{Node as ANode}
 
 -- ---- a save that was stopped
 
@@ -196,3 +200,26 @@ bit_of_second byte is =
         | inr above ↦ absurd (omega (arith, above, low))
       ]
     ]
+
+-- ---- how many calls of an arm a step takes
+
+pub count_calls : {D : Type 0} (node : ANode D) (own : Option ℕ) (change : Option Delta) → length (calls_for node own change) ≡ calls_of change
+count_calls node own None = refl
+count_calls node own (Some (Tried ballot)) = refl
+count_calls node own (Some (Promised ballot)) = refl
+count_calls node own (Some (Voted vote)) = refl
+count_calls node own (Some (Base slot rows)) = refl
+
+pub tells_counted : {T : Type 0} (list : List DiskCall) (count : ℕ) (value : T) (arm : Arm) (old new : Option Told) → length list ≡ count → IsSomeAnd old (λ now. now.arm ≡ Some arm) → Tells (MadeCalls of_disk list (Ok value)) old new
+    → (count ≤ arm.left) × IsSomeAnd new (λ now. now.arm ≡ Some (record arm { left = arm.left - count }))
+tells_counted list count value arm None new long armed tells = absurd armed
+tells_counted list count value arm (Some old) None long armed tells = absurd tells
+tells_counted list count value arm (Some old) (Some new) long armed tells =
+    subst (λ (n : ℕ). (n ≤ arm.left) × (new.arm ≡ Some (record arm { left = arm.left - n }))) long (all_pass list arm old new armed tells.all)
+
+pub tells_too_few : (T : Type 0) (area : FileNo) (list : List DiskCall) (count : ℕ) (arm : Arm) (old new : Option Told) → length list ≡ count → IsSomeAnd old (IsSynced area) → IsSomeAnd old (λ now. now.arm ≡ Some arm)
+    → Tells (MadeCalls {T = T} of_disk list (Err Node.Stopped)) old new → arm.left < count
+tells_too_few T area list count arm None new long clean armed tells = absurd clean
+tells_too_few T area list count arm (Some old) None long clean armed tells = absurd tells
+tells_too_few T area list count arm (Some old) (Some new) long clean armed tells =
+    subst (λ (n : ℕ). arm.left < n) long (stops_at list arm old new clean.runs armed (tells.broken Disk.Stopped refl)).0.within

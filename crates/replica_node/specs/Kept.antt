@@ -1,5 +1,5 @@
 -- Whether a step's change is kept, where an armed disk stops within its save.
-use Rattle.std.specs.Prelude.{◌≡◌, ◌≤◌, ℕ, false, Option, None, Some, IsSomeAnd}
+use Rattle.std.specs.Prelude.{◌≡◌, ◌≤◌, ◌+◌, ℕ, false, Option, None, Some, IsSomeAnd}
 use Rattle.disk_model.specs.declared.armed.Arm.{Arm}
 use Rattle.disk_model.specs.declared.fault.FileNo.{FileNo}
 use Rattle.disk_model.specs.declared.fault.FileNo.TheVariants.{Chooser}
@@ -47,7 +47,12 @@ calls_before (Promised ballot) = 2
 calls_before (Voted vote) = 2
 calls_before (Base slot rows) = 3
 
--- That byte shows the state after the change: an open gate, or a chooser that selects the other area.
+-- How many calls of the disk save the change of a step, where it has one.
+abbrev pub calls_of : Option Delta → ℕ
+calls_of None = 0
+calls_of (Some change) = calls_before change + 2
+
+-- The byte that makes a change hold shows the state after it: an open gate, or a chooser that selects the other area.
 abbrev pub IsByteAfter : FileNo → Delta → ℕ → Type 0
 IsByteAfter area (Tried ballot) byte = byte ≡ 1
 IsByteAfter area (Promised ballot) byte = byte ≡ 1

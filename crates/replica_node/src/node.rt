@@ -1,4 +1,4 @@
-ghost use Rattle.std.specs.Prelude.{◌≡◌, ◌↔◌, ◌<◌, ◌≤◌, ◌⊎◌, ⊤, ℕ, List, IsTrue, true, false, Ok, Err, None, Some, IsSome, IsSomeAnd, IfOk, OnOk, OnErr, IsErrOf, length, Option};
+ghost use Rattle.std.specs.Prelude.{◌≡◌, ◌↔◌, ◌<◌, ◌≤◌, ◌-◌, ◌⊎◌, ⊤, ℕ, List, IsTrue, true, false, Ok, Err, None, Some, IsSome, IsSomeAnd, IfOk, OnOk, OnErr, IsErrOf, length, Option};
 ghost use Rattle.std.specs.Option.{option_copied};
 ghost use Rattle.disk_model.specs.declared.armed.Arm.{Arm};
 ghost use Rattle.disk_model.specs.declared.fault.FileNo.{FileNo};
@@ -21,7 +21,7 @@ ghost use Rattle.replica_store.specs.Files.{selected, FilesStand, FilesStandForE
 ghost use Rattle.replica_store.specs.Store.{area_of, jobs_of, StoreKeeps, IsStoreSettled};
 ghost use Rattle.replica_node.specs.declared.fault.NodeFault.TheVariants.{Stopped, OutOfMemory, Damaged, Letter};
 ghost use Rattle.replica_node.specs.Faults.{of_disk, EndsRun, HasNodeAnswer, IsRefused, letter_told};
-ghost use Rattle.replica_node.specs.Kept.{area_for, IsAnsweredByArm, IsSynced, LeavesByArm};
+ghost use Rattle.replica_node.specs.Kept.{area_for, calls_of, IsAnsweredByArm, IsSynced, LeavesByArm};
 
 use crate::fault::NodeFault;
 use crate::reopen::{attach_stopped, take_kept};
@@ -141,6 +141,11 @@ impl<D: Disk> Node<D> {
         ensures letter_clean { (fault : LetterFault) → result ≡ Err (Letter fault) → IsNodeClean D.told self.old → IsNodeClean D.told self.new }
         ensures area { (change : Option Delta) → IsChangeOf table.now input.entry (replica_of self.old) change
             → OnOk result (area_of (store_of self.new) ≡ area_for change (area_of (store_of self.old))) }
+        // It uses up as many calls of the disk's arm as save its change, and stops where fewer are left.
+        ensures armed { (change : Option Delta) (arm : Arm) → IsChangeOf table.now input.entry (replica_of self.old) change → IsNodeArmed D.told self.old arm
+            → OnOk result ((calls_of change ≤ arm.left) × IsNodeArmed D.told self.new (record arm { left = arm.left - calls_of change })) }
+        ensures too_few { (change : Option Delta) (arm : Arm) → IsChangeOf table.now input.entry (replica_of self.old) change → IsErrOf result Stopped
+            → IsNodeClean D.told self.old → IsNodeArmed D.told self.old arm → arm.left < calls_of change }
 
         ensures alike { OnErr result (IsAlike (replica_of self.new) (replica_of self.old)) }
         ensures refused { IsRefused result → IsNodeAtRest D.seen D.may_leave D.honest table.now self.new }

@@ -13,7 +13,8 @@ use Rattle.paxos_base.specs.declared.durable.Delta.{Delta}
 use Rattle.step_law.specs.State.{State}
 use Rattle.std.specs.Prelude.{Option}
 use Rattle.replica_store.specs.Store.{area_of}
-use Rattle.replica_node.specs.Kept.{LeavesByArm, area_for}
+use Rattle.replica_node.specs.Kept.{LeavesByArm, area_for, calls_of}
+use Rattle.replica_node.proofs.KeptLemmas.{count_calls, tells_counted, tells_too_few}
 use Rattle.replica_node.specs.Node.{FilesStandAround, calls_for}
 use Rattle.replica_node.proofs.FaultLemmas.{memory_below}
 use Rattle.replica_node.proofs.RestLemmas.{at_rest_after, at_rest_still, either_around, few_members, leaves_weaker, recoverable_around, stands_at_rest}
@@ -93,6 +94,13 @@ returns-in-Ok-clause-area g c change of =
     let one : change ≡ delta = one_change c.args.table.now c.args.input old.replica plans.event delta change plans.event_is changes of in
     subst (λ (d : Option Delta). area_of c.keep.new.self.store ≡ area_for d (area_of old.store)) (sym one) c.in-Ok.ensures.area
 
+pub returns-in-Ok-clause-armed : goal.returns-in-Ok-clause-armed
+returns-in-Ok-clause-armed g c change arm of armed =
+    let old = c.args.self.now in
+    let own = c.requires.at_rest.keeps in
+    tells_counted (calls_for old own.0 change) (calls_of change) c.complete.result arm (g.D.Disk.told old.disk) (g.D.Disk.told c.keep.new.self.disk) (count_calls old own.0 change) armed
+    (returns-in-Ok-clause-told g c own.0 change own.1 of)
+
 -- ---- the disk stopped
 
 pub returns-in-Err-Stopped-clause-kept_by_arm : goal.returns-in-Err-Stopped-clause-kept_by_arm
@@ -166,6 +174,13 @@ returns-in-Err-Stopped-clause-told g c =
     told_of_step c.args.table.now c.args.input old now plans.event delta (Err Node.Stopped) (g.D.Disk.told old.disk) (g.D.Disk.told c.keep.new.self.disk) plans.event_is told c.plan.ensures.alike refl
     (λ own stand. told_failed {U = StepOut} (calls_for now own delta) Node.Stopped c.keep.result (Err Node.Stopped) (c.in-Err-Stopped.is ∙ ap Err c.in-Err-Stopped.field-0-is) refl (g.D.Disk.told old.disk) (g.D.Disk.told c.keep.new.self.disk)
     (c.keep.ensures.told own stand))
+
+pub returns-in-Err-Stopped-clause-too_few : goal.returns-in-Err-Stopped-clause-too_few
+returns-in-Err-Stopped-clause-too_few g c change arm of is clean armed =
+    let old = c.args.self.now in
+    let own = c.requires.at_rest.keeps in
+    tells_too_few StepOut (area_of old.store) (calls_for old own.0 change) (calls_of change) arm (g.D.Disk.told old.disk) (g.D.Disk.told c.keep.new.self.disk) (count_calls old own.0 change) clean armed
+    (returns-in-Err-Stopped-clause-told g c own.0 change own.1 of)
 
 -- ---- another fault
 
