@@ -6,5 +6,6 @@ pub mod NameLemmas
 pub mod PartLemmas
 pub mod PassLemmas
 pub mod PostLemmas
+pub mod RoundsLemmas
 pub mod SomeRound
 pub mod StandsLemmas

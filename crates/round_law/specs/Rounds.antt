@@ -1,5 +1,5 @@
 -- Rounds of a legal book in which all run and nothing is lost.
-use Rattle.std.specs.Prelude.{◌≡◌, ℕ, ◌*◌, ◌^◌, ◌<◌, ◌≤◌, ℤ, pos, true, List, [], ◌++◌, length, Option, Contains}
+use Rattle.std.specs.Prelude.{◌≡◌, ℕ, zero, suc, ◌*◌, ◌^◌, ◌<◌, ◌≤◌, ℤ, pos, true, List, [], ◌++◌, length, Option, Contains}
 use Rattle.zone_minutes.specs.Window.{IsInWindow}
 use Rattle.due_set.specs.Table.{IsSound, Table}
 use Rattle.launch_machine.specs.Clerk.{first_rows}
@@ -9,7 +9,7 @@ use Rattle.book_law.specs.Book.{PostedLetter, Row, standing_after}
 use Rattle.book_law.specs.Legal.{IsLegal}
 use Rattle.calm_law.specs.Calm.{Advice, Calm, IsAdvised, calls_at, calm_round}
 use Rattle.calm_law.specs.Rounds.{IsAnswerTo}
-use Rattle.script_law.specs.Round.{IsRound}
+use Rattle.script_law.specs.Round.{AreRounds, IsRound}
 use Rattle.script_law.specs.Situation.{Situation}
 use Rattle.round_law.specs.Stands.{StandsFor}
 
@@ -26,16 +26,24 @@ pub record IsWithinBounds (book : List Row) (posted : List PostedLetter) : Type 
   pub turns : length book < 2 ^ 59
   pub letters : (letter : PostedLetter) → Contains posted letter → length letter.bytes < 56 * 2 ^ 31
 
--- The book is legal and goes on with a round at an instant of the window, without a fault and within the limits.
-pub record GoesRound (members : ℕ) (table : Table) (at : ℤ) (book rows : List Row) (situation after : Situation) : Type 0 where
+-- The book is legal and goes on with a part, at an instant of the window, without a fault and within the limits.
+pub record GoesOnBy (part : Situation → List Row → Situation → Type 0) (members : ℕ) (table : Table) (at : ℤ) (book rows : List Row) (situation after : Situation) : Type 0 where
   pub few : members ≤ 7
   pub sound : IsSound table
   pub within : IsInWindow table.window at
   pub legal : IsLegal members table (book ++ rows)
   pub standing : situation.standing ≡ standing_after members (first_rows table) book
   pub faultless : IsFaultless members situation
-  pub round : IsRound members table.window at situation rows after
+  pub round : part situation rows after
   pub limits : IsWithinBounds (book ++ rows) after.standing.posted
+
+-- it goes on with a round
+abbrev pub GoesRound : ℕ → Table → (at : ℤ) → (book rows : List Row) → (situation after : Situation) → Type 0
+GoesRound members table at = GoesOnBy (IsRound members table.window at) members table at
+
+-- it goes on with so many rounds
+abbrev pub GoesRounds : ℕ → Table → (at : ℤ) → ℕ → (book rows : List Row) → (situation after : Situation) → Type 0
+GoesRounds members table at rounds = GoesOnBy (AreRounds members table.window at rounds) members table at
 
 -- **The situation stands for a calm round**: by true advice, after which each replica that calls has the answer to its call.
 pub record StandsForRound (members : ℕ) (table : Table) (at : ℤ) (calm : Calm) (after : Situation) : Type 0 where
@@ -44,3 +52,11 @@ pub record StandsForRound (members : ℕ) (table : Table) (at : ℤ) (calm : Cal
   pub advised : IsAdvised members table at advice calm
   pub answered : (who : ℕ) → who < members → IsAnswerTo (calls_at members at advice calm who) (answers who)
   pub stands : StandsFor members (length table.jobs) after (calm_round members at advice answers calm)
+
+-- The situation stands for so many calm rounds, one after another.
+abbrev pub StandsForRounds : ℕ → Table → (at : ℤ) → ℕ → Calm → Situation → Type 0
+StandsForRounds members table at zero calm after = StandsFor members (length table.jobs) after calm
+StandsForRounds members table at (suc more) calm after =
+    (advice : ℕ → Advice) × (answers : ℕ → Option SchedRow) × IsAdvised members table at advice calm
+    × ((who : ℕ) → who < members → IsAnswerTo (calls_at members at advice calm who) (answers who))
+    × StandsForRounds members table at more (calm_round members at advice answers calm) after
