@@ -14,3 +14,4 @@ pub mod Starting
 pub mod Setting
 pub mod Campaigns
 pub mod Waiting
+pub mod Halts

@@ -10,12 +10,12 @@ use Rattle.world_rounds.specs.World.{IsSkew}
 abbrev pub IsTaken : Window → ℕ → Command → Type 0
 IsTaken window members (Round at rounds) = IsInWindow window at.0
 IsTaken window members (Campaign who) = who < members
+IsTaken window members (Stop who) = who < members
 IsTaken window members (Cut from to) = ⊤
 IsTaken window members Heal = ⊤
 IsTaken window members (Reverse who) = who < members
 IsTaken window members (Skew who minutes) = (who < members) × IsSkew minutes
 IsTaken window members (Fate who word) = who < members
-IsTaken window members (Stop who) = ⊥
 IsTaken window members (Break who pass image) = ⊥
 IsTaken window members (Restart who) = ⊥
 IsTaken window members (Drop from to) = to < members

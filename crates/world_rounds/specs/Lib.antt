@@ -1,3 +1,4 @@
+pub mod Alone
 pub mod Campaigns
 pub mod Commands
 pub mod Faults

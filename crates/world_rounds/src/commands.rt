@@ -98,6 +98,7 @@ impl<D: Disk> World<D> {
         match *command {
             Command::Round { at, rounds } => self.round(table, at, rounds),
             Command::Campaign { member } => self.campaign(table, member),
+            Command::Stop { member } => self.stop(table, member),
             Command::Cut { from, to } => self.cut(from, to),
             Command::Heal => {
                 self.heal();

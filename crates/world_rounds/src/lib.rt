@@ -1,6 +1,7 @@
 //! Replicas in rounds, each a node on a disk of its own, and the book of their turns.
 #![tactic(auto)]
 
+mod alone;
 mod commands;
 mod fault;
 mod letters;
