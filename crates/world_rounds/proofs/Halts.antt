@@ -34,7 +34,7 @@ use Rattle.world_rounds.specs.World.{GoesOnBy, IsMemberAhead, IsNodeStopped, IsW
 use Rattle.world_rounds.specs.declared.member.Member.{Member}
 use Rattle.world_rounds.specs.declared.world.World.{World}
 
-has_same : (old new : BookState) → new.letters ≡ old.letters → HasLetters old.letters new
+pub has_same : (old new : BookState) → new.letters ≡ old.letters → HasLetters old.letters new
 has_same old new same = λ number letter there. ap (λ letters. slice_get letters number) same ∙ there
 
 -- a turn that may come next in a book may come in the book with more room

@@ -15,3 +15,4 @@ pub mod Setting
 pub mod Campaigns
 pub mod Waiting
 pub mod Halts
+pub mod Arrivals

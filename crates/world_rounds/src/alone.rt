@@ -1,6 +1,7 @@
-//! Turns that are no steps: a replica stops.
-ghost use Rattle.std.specs.Prelude.{◌≡◌, ◌<◌, ℕ, List, OnOk, OnErr, length};
+//! Turns that are no steps: a replica stops, a late call arrives.
+ghost use Rattle.std.specs.Prelude.{◌≡◌, ◌<◌, ◌&&◌, ℕ, List, OnOk, OnErr, length, nat_lt, not};
 ghost use Rattle.book_law.specs.Book.{Row};
+ghost use Rattle.script_law.specs.Commands.{has_number};
 ghost use Rattle.script_law.specs.Script.{IsPartOf};
 ghost use Rattle.script_text.specs.declared.command.Command.TheVariants as command;
 ghost use Rattle.world_law.specs.Book.{IsLegalBook};
@@ -43,6 +44,13 @@ fn commit_alone(
     Ok(())
 }
 
+// Whether a late call of this number has not arrived.
+fn may_arrive(book: &Book, late: u32) -> bool
+    ensures { result ≡ (nat_lt late (length book.now.ledger.late) && not (has_number late book.now.arrived)) }
+{
+    (late as usize) < book.ledger().late().len() && !book.arrived().contains(&late)
+}
+
 impl<D: Disk> World<D> {
     // A replica stops, if it runs: it loses its mail and the answer that waits for it.
     pub(crate) fn stop(&mut self, table: &JobTable, who: u8) -> Result<(), WorldFault>
@@ -66,5 +74,18 @@ impl<D: Disk> World<D> {
         mail.letters.clear();
         mail.waits = None;
         Ok(())
+    }
+
+    // A late call arrives, if there is one of this number that has not.
+    pub(crate) fn arrive(&mut self, table: &JobTable, late: u32) -> Result<(), WorldFault>
+        requires world { IsWorld D.seen D.may_leave D.honest table.now self.old }
+        ensures goes { OnOk result (GoesOnBy D.seen D.may_leave D.honest table.now (IsPartOf (book_of self.old).members table.now (command.Arrive late)) self.old self.new) }
+        ensures members { OnOk result ((book_of self.new).members ≡ (book_of self.old).members) }
+        ensures legal { OnErr result (IsLegalBook table.now (book_of self.new)) }
+    {
+        if !may_arrive(&self.book, late) {
+            return Ok(());
+        }
+        commit_alone(self.alloc, &mut self.book, table, Turn::Arrived { late })
     }
 }
