@@ -16,3 +16,4 @@ pub mod Campaigns
 pub mod Waiting
 pub mod Halts
 pub mod Arrivals
+pub mod Restarts

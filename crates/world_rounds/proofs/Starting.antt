@@ -8,6 +8,7 @@ use Rattle.std.proofs.lemmas.Option.{slice_get_within}
 use Rattle.disk_model.specs.Images.{Image}
 use Rattle.due_set.specs.Table.{IsSound, Table}
 use Rattle.launch_machine.specs.Clerk.{first_rows}
+use Rattle.paxos_base.specs.declared.durable.Durable.{Durable}
 use Rattle.step_law.specs.State.{Identity, started}
 use Rattle.step_law.proofs.Lists.{nothing_in}
 use Rattle.agree_law.specs.Transition.{identity_of}
@@ -20,6 +21,10 @@ use Rattle.world_rounds.specs.Start.{IsFreshMember}
 use Rattle.world_rounds.specs.World.{IsMemberAhead, IsSkew, IsWorldAt}
 use Rattle.world_rounds.specs.declared.member.Member.{Member}
 use Rattle.world_rounds.specs.declared.world.World.{World}
+
+pub either_way : (kept first : Durable) → (kept ≡ first) ⊎ (kept ≡ first) → kept ≡ first
+either_way kept first (inl is) = is
+either_way kept first (inr is) = is
 
 module _ {D : Type 0} (seen : D → Image) (may_leave : D → Image → Type 0) (honest : D → Type 0) (table : Table) where
   standing_first : (members : ℕ) (book : BookState) → book.members ≡ members → (first_situation members table).standing ≡ standing_behind table [] book

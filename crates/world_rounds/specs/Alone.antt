@@ -1,11 +1,16 @@
--- A turn that is no step, and that joins a book.
-use Rattle.std.specs.Prelude.{◌≡◌, List, [], ◌∷◌, ◌++◌, None}
+-- A turn that is no step, and that joins a book; and a replica that starts again.
+use Rattle.std.specs.Prelude.{◌≡◌, ℕ, true, List, [], ◌∷◌, ◌++◌, None}
+use Rattle.disk_model.specs.Images.{Image}
 use Rattle.due_set.specs.Table.{Table}
+use Rattle.step_law.specs.State.{started}
+use Rattle.agree_law.specs.Transition.{identity_of}
 use Rattle.book_law.specs.Book.{Row}
 use Rattle.book_law.specs.Legal.{MayFollow}
 use Rattle.book_law.specs.declared.turn.Turn.{Turn}
 use Rattle.world_law.specs.Book.{BookState, IsRowOf, StandsBehind, call_of, standing_behind}
+use Rattle.replica_node.specs.Node.{IsNodeAtRest, disk_of, replica_of}
 use Rattle.world_law.specs.Replicas.{change_alone}
+use Rattle.world_rounds.specs.declared.member.Member.{Member}
 
 -- The turn may come next in a book at rest, as this row; it is no step and keeps no change.
 pub record IsAlone (table : Table) (rows : List Row) (book : BookState) (turn : Turn) (row : Row) : Type 0 where
@@ -21,3 +26,16 @@ pub record HasJoinedAlone (table : Table) (rows : List Row) (old new : BookState
   pub rest : new.pending ≡ None
   pub members : new.members ≡ old.members
   pub letters : new.letters ≡ old.letters
+
+-- A replica of so many runs again, from what it kept while it was stopped; what is on its way to it and set for it stays.
+pub record HasStartedAgain {D : Type 0} (seen : D → Image) (may_leave : D → Image → Type 0) (honest : D → Type 0) (table : Table) (members who : ℕ) (old new : Member D) : Type 0 where
+  pub at_rest : IsNodeAtRest seen may_leave honest table new.node
+  pub trusted : honest (disk_of new.node)
+  pub identity : (replica_of new.node).identity ≡ identity_of members who
+  pub state : (replica_of new.node).state ≡ started who (replica_of old.node).state.kept
+  pub runs : new.mail.runs ≡ true
+  pub letters : new.mail.letters ≡ old.mail.letters
+  pub skew : new.mail.skew ≡ old.mail.skew
+  pub fate : new.mail.fate ≡ old.mail.fate
+  pub waits : new.mail.waits ≡ old.mail.waits
+  pub steps : new.steps ≡ old.steps

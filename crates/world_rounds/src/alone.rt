@@ -1,20 +1,23 @@
-//! Turns that are no steps: a replica stops, a late call arrives.
-ghost use Rattle.std.specs.Prelude.{◌≡◌, ◌<◌, ◌&&◌, ℕ, List, OnOk, OnErr, length, nat_lt, not};
+//! Turns that are no steps: a replica stops or starts again, a late call arrives.
+ghost use Rattle.std.specs.Prelude.{◌≡◌, ◌<◌, ◌≤◌, IfOk, ◌&&◌, ℕ, List, OnOk, OnErr, length, nat_lt, not};
 ghost use Rattle.book_law.specs.Book.{Row};
+ghost use Rattle.replica_node.specs.Node.{IsNodeAtRest, disk_of};
 ghost use Rattle.script_law.specs.Commands.{has_number};
 ghost use Rattle.script_law.specs.Script.{IsPartOf};
 ghost use Rattle.script_text.specs.declared.command.Command.TheVariants as command;
 ghost use Rattle.world_law.specs.Book.{IsLegalBook};
-ghost use Rattle.world_rounds.specs.Alone.{HasJoinedAlone, IsAlone};
+ghost use Rattle.world_rounds.specs.Alone.{HasJoinedAlone, HasStartedAgain, IsAlone};
 ghost use Rattle.world_rounds.specs.World.{GoesOnBy, IsWorld, book_of};
 
 use crate::fault::WorldFault;
+use crate::member::Member;
 use crate::world::World;
 use book_law::Turn;
 use disk_model::Disk;
 use due_set::JobTable;
 use replica_core::{LearntList, StepOut};
 use replica_draft::LetterList;
+use replica_node::Node;
 use std::alloc::Global;
 use world_law::Book;
 
@@ -51,6 +54,34 @@ fn may_arrive(book: &Book, late: u32) -> bool
     (late as usize) < book.ledger().late().len() && !book.arrived().contains(&late)
 }
 
+// A replica that was stopped starts again with what its disk keeps.
+fn start_again<D: Disk>(
+    alloc: Global,
+    table: &JobTable,
+    who: u8,
+    members: u8,
+    stopped: Member<D>,
+) -> Result<Member<D>, WorldFault>
+    requires me { who < members }
+    requires few { members ≤ 7 }
+    requires at_rest { IsNodeAtRest D.seen D.may_leave D.honest table.now stopped.node }
+    requires trusted { D.honest (disk_of stopped.node) }
+    ensures { IfOk result (λ started. HasStartedAgain D.seen D.may_leave D.honest table.now members who stopped started) }
+{
+    let Member {
+        node,
+        mut mail,
+        steps,
+    } = stopped;
+    match Node::recover(alloc, who, members, table, node.into_disk()) {
+        Ok(node) => {
+            mail.runs = true;
+            Ok(Member { node, mail, steps })
+        }
+        Err((_disk, fault)) => Err(WorldFault::from(fault)),
+    }
+}
+
 impl<D: Disk> World<D> {
     // A replica stops, if it runs: it loses its mail and the answer that waits for it.
     pub(crate) fn stop(&mut self, table: &JobTable, who: u8) -> Result<(), WorldFault>
@@ -74,6 +105,24 @@ impl<D: Disk> World<D> {
         mail.letters.clear();
         mail.waits = None;
         Ok(())
+    }
+
+    // A replica that is stopped starts again with what its disk keeps.
+    pub(crate) fn restart(&mut self, table: &JobTable, who: u8) -> Result<(), WorldFault>
+        requires world { IsWorld D.seen D.may_leave D.honest table.now self.old }
+        requires member { who < length self.old.members.items }
+        ensures goes { OnOk result (GoesOnBy D.seen D.may_leave D.honest table.now (IsPartOf (book_of self.old).members table.now (command.Restart who)) self.old self.new) }
+        ensures members { OnOk result ((book_of self.new).members ≡ (book_of self.old).members) }
+        ensures legal { OnErr result (IsLegalBook table.now (book_of self.new)) }
+    {
+        if self.members[who as usize].mail.runs {
+            return Ok(());
+        }
+        let members = self.members.len() as u8;
+        let stopped = self.members.remove(who as usize);
+        let started = start_again(self.alloc, table, who, members, stopped)?;
+        self.members.insert(who as usize, started)?;
+        commit_alone(self.alloc, &mut self.book, table, Turn::Restarted { who })
     }
 
     // A late call arrives, if there is one of this number that has not.

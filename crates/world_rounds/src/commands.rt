@@ -121,6 +121,7 @@ impl<D: Disk> World<D> {
                 self.set_fate(member, fate);
                 Ok(())
             }
+            Command::Restart { member } => self.restart(table, member),
             Command::Arrive { late } => self.arrive(table, late),
             _ => unreachable!(),
         }

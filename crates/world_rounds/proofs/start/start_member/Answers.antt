@@ -1,14 +1,10 @@
-use Rattle.std.proofs.Common.{◌≡◌, ◌⊎◌, length, refl, ap, ◌∙◌, inl, inr}
+use Rattle.std.proofs.Common.{length, refl, ap, ◌∙◌}
 use Rattle.launch_machine.specs.Clerk.{first_rows}
 use Rattle.step_law.specs.State.{started}
 use Rattle.agree_law.specs.World.{fresh}
-use Rattle.paxos_base.specs.declared.durable.Durable.{Durable}
 use Rattle.replica_store.proofs.FileLemmas.{empty_recoverable}
+use Rattle.world_rounds.proofs.Starting.{either_way}
 use Rattle.world_rounds.proofs.start.start_member.Goals as goal
-
-either_way : (kept first : Durable) → (kept ≡ first) ⊎ (kept ≡ first) → kept ≡ first
-either_way kept first (inl is) = is
-either_way kept first (inr is) = is
 
 pub returns-in-Ok : goal.returns-in-Ok
 returns-in-Ok g c =

@@ -28,6 +28,11 @@ returns-in-Stop-clause-goes g c =
     subst (λ command. OnOk c.stop.result (GoesOnBy g.D.Disk.seen g.D.Disk.may_leave g.D.Disk.honest c.args.table.now (IsPartOf c.args.self.now.book.members c.args.table.now command) c.args.self.now c.stop.new.self))
     (sym c.in-Stop.is) c.stop.ensures.goes
 
+pub returns-in-Restart-clause-goes : goal.returns-in-Restart-clause-goes
+returns-in-Restart-clause-goes g c =
+    subst (λ command. OnOk c.restart.result (GoesOnBy g.D.Disk.seen g.D.Disk.may_leave g.D.Disk.honest c.args.table.now (IsPartOf c.args.self.now.book.members c.args.table.now command) c.args.self.now c.restart.new.self))
+    (sym c.in-Restart.is) c.restart.ensures.goes
+
 pub returns-in-Arrive-clause-goes : goal.returns-in-Arrive-clause-goes
 returns-in-Arrive-clause-goes g c =
     subst (λ command. OnOk c.arrive.result (GoesOnBy g.D.Disk.seen g.D.Disk.may_leave g.D.Disk.honest c.args.table.now (IsPartOf c.args.self.now.book.members c.args.table.now command) c.args.self.now c.arrive.new.self))

@@ -1,0 +1,28 @@
+use Rattle.std.proofs.Common.{length, refl, sym, ap, ◌∙◌, subst}
+use Rattle.replica_store.specs.Files.{IsRecoverable}
+use Rattle.replica_node.specs.Node.{replica_of}
+use Rattle.replica_node.specs.Node.{replica_of}
+use Rattle.replica_node.proofs.RestLemmas.{recoverable_at_rest}
+use Rattle.step_law.specs.State.{started}
+use Rattle.world_rounds.proofs.Starting.{either_way}
+use Rattle.world_rounds.proofs.alone.start_again.Goals as goal
+
+pub returns-in-Ok : goal.returns-in-Ok
+returns-in-Ok g c =
+    let kept = (replica_of c.args.stopped.node).state.kept in
+    let trusted : g.D.Disk.honest c.into_disk.result = subst g.D.Disk.honest (sym c.into_disk.ensures) c.requires.trusted in
+    let recoverable = recoverable_at_rest g.D.Disk.seen g.D.Disk.may_leave g.D.Disk.honest c.args.table.now c.args.stopped.node c.requires.at_rest c.requires.trusted in
+    let found =
+    c.in-Ok.ensures.either kept kept trusted (subst (λ disk. IsRecoverable (length c.args.table.now.jobs) kept kept (g.D.Disk.may_leave disk)) (sym c.into_disk.ensures) recoverable) in
+    record {
+      at_rest = c.in-Ok.ensures.at_rest;
+      trusted = c.in-Ok.ensures.answer.honest_still.1 trusted;
+      identity = c.in-Ok.ensures.identity;
+      state = c.in-Ok.ensures.started ∙ ap (started c.args.who) (either_way _ kept found);
+      runs = refl;
+      letters = refl;
+      skew = refl;
+      fate = refl;
+      waits = refl;
+      steps = refl;
+    }
