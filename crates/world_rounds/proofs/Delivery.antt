@@ -20,7 +20,8 @@ use Rattle.world_rounds.proofs.StepsAt.{cases_number}
 use Rattle.world_rounds.proofs.Worlds.{set_cases}
 use Rattle.world_rounds.specs.Mails.{Changes, arrival_of, arrived}
 use Rattle.world_rounds.specs.Steps.{IsSentTo}
-use Rattle.world_rounds.specs.World.{IsMailOf, IsMemberAhead, IsSkew, IsWorld, IsWorldAt}
+use Rattle.script_text.specs.Command.{IsSkew}
+use Rattle.world_rounds.specs.World.{IsMailOf, IsMemberAhead, IsWorld, IsWorldAt}
 use Rattle.world_rounds.specs.declared.member.Mail.{Mail}
 use Rattle.world_rounds.specs.declared.member.Member.{Member}
 use Rattle.world_rounds.specs.declared.world.World.{World}

@@ -23,7 +23,8 @@ use Rattle.world_law.specs.Book.{BookState, standing_behind}
 use Rattle.world_rounds.specs.Rounds.{HasTakenRound, IsMemberIdle}
 use Rattle.world_rounds.specs.Steps.{IsBeside, MayHear, MayTakeAnswer, WasToldOf, answer_causes, causes_of, hear_causes}
 use Rattle.world_rounds.specs.Taking.{tasks_by}
-use Rattle.world_rounds.specs.World.{IsMemberAhead, IsSkew, heard_in}
+use Rattle.script_text.specs.Command.{IsSkew}
+use Rattle.world_rounds.specs.World.{IsMemberAhead, heard_in}
 use Rattle.world_rounds.specs.declared.member.Member.{Member}
 use Rattle.world_rounds.specs.declared.steps.Taken.{Taken}
 

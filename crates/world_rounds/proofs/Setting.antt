@@ -16,7 +16,8 @@ use Rattle.world_rounds.proofs.AfterTurn.{fact_here, fact_there}
 use Rattle.world_rounds.proofs.Delivery.{same_mails}
 use Rattle.world_rounds.proofs.Worlds.{set_cases}
 use Rattle.world_rounds.specs.Mails.{Changes}
-use Rattle.world_rounds.specs.World.{GoesOnBy, IsMailOf, IsSkew, IsWorldAt}
+use Rattle.script_text.specs.Command.{IsSkew}
+use Rattle.world_rounds.specs.World.{GoesOnBy, IsMailOf, IsWorldAt}
 use Rattle.world_rounds.specs.declared.member.Mail.{Mail}
 use Rattle.world_rounds.specs.declared.member.Member.{Member}
 use Rattle.world_rounds.specs.declared.world.World.{World}

@@ -18,7 +18,8 @@ use Rattle.replica_node.specs.Node.{replica_of}
 use Rattle.script_law.specs.Situation.{first_situation, is_cut}
 use Rattle.world_law.specs.Book.{BookState, StandsBehind, standing_behind}
 use Rattle.world_rounds.specs.Start.{IsFreshMember}
-use Rattle.world_rounds.specs.World.{IsMemberAhead, IsSkew, IsWorldAt}
+use Rattle.script_text.specs.Command.{IsSkew}
+use Rattle.world_rounds.specs.World.{IsMemberAhead, IsWorldAt}
 use Rattle.world_rounds.specs.declared.member.Member.{Member}
 use Rattle.world_rounds.specs.declared.world.World.{World}
 
@@ -37,7 +38,7 @@ module _ {D : Type 0} (seen : D → Image) (may_leave : D → Image → Type 0) 
       runs = new.runs ∙ sym runs;
       letters_are = sym new.letters;
       skew = new.skew;
-      small = subst IsSkew (sym new.skew) (record { least = omega (arith, ints); most = omega (arith, ints) });
+      small = subst IsSkew (sym new.skew) (omega (arith, ints), omega (arith, ints));
       fate = new.fate;
       waits = new.waits;
       sent = λ number has. absurd (nothing_in (subst (λ letters. Contains letters number) new.letters has));

@@ -4,7 +4,7 @@ use Rattle.zone_minutes.specs.Window.{IsInWindow}
 use Rattle.zone_minutes.specs.declared.minute.Window.{Window}
 use Rattle.script_text.specs.declared.command.Command.{Command}
 use Rattle.script_text.specs.declared.command.Command.TheVariants.{Round, Campaign, Stop, Break, Restart, Cut, Heal, Drop, Repeat, Reverse, Again, Skew, Fate, Arrive, Settle, Walk, Free}
-use Rattle.world_rounds.specs.World.{IsSkew}
+use Rattle.script_text.specs.Command.{IsSkew}
 
 -- The command is one that a world takes, and names replicas of it, an instant of the window, and a clock at most so far ahead.
 abbrev pub IsTaken : Window → ℕ → Command → Type 0

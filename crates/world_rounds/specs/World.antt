@@ -1,5 +1,5 @@
 -- A world of replicas, by the situation in which they are.
-use Rattle.std.specs.Prelude.{◌≡◌, ℕ, ◌≤◌, true, false, List, [], ◌∷◌, ◌++◌, length, Option, None, Some, Contains, slice_get, ℤ, pos, negsuc, ◌≤ℤ◌}
+use Rattle.std.specs.Prelude.{◌≡◌, ℕ, ◌≤◌, true, false, List, [], ◌∷◌, ◌++◌, length, Option, None, Some, Contains, slice_get}
 use Rattle.std.specs.List.{flat_map}
 use Rattle.cluster_sched.specs.declared.fate.Fate.{Fate}
 use Rattle.cluster_sched.specs.declared.fate.Fate.TheVariants as becomes
@@ -13,6 +13,7 @@ use Rattle.book_law.specs.declared.turn.Cause.{Cause}
 use Rattle.book_law.specs.declared.turn.Cause.TheVariants.{Hear}
 use Rattle.replica_node.specs.Node.{IsNodeAtRest, disk_of, replica_of}
 use Rattle.replica_node.specs.declared.node.Node.{Node}
+use Rattle.script_text.specs.Command.{IsSkew}
 use Rattle.script_law.specs.Situation.{Situation, is_cut}
 use Rattle.world_law.specs.Book.{BookState, StandsBehind, standing_behind}
 use Rattle.world_law.specs.declared.letter.LetterRow.{LetterRow}
@@ -38,11 +39,6 @@ pub record IsBookAt (table : Table) (rows : List Row) (book : BookState) (situat
   pub rest : book.pending ≡ None
   pub few : book.members ≤ 7
   pub standing : situation.standing ≡ standing_behind table rows book
-
--- a clock is at most 10,000 minutes ahead or behind
-pub record IsSkew (minutes : ℤ) : Type 0 where
-  pub least : negsuc 9_999 ≤ℤ minutes
-  pub most : minutes ≤ℤ pos 10_000
 
 -- What a world has of a replica is what the situation has, but for the letters that were heard in steps that aren't turns yet; and the
 -- letters of its mail go to it.

@@ -7,7 +7,8 @@ ghost use Rattle.script_text.specs.declared.command.Command.TheVariants as comma
 ghost use Rattle.world_law.specs.Book.{IsLegalBook};
 ghost use Rattle.world_rounds.specs.Commands.{IsTaken};
 ghost use Rattle.world_rounds.specs.Mails.{Changes};
-ghost use Rattle.world_rounds.specs.World.{GoesOnBy, IsSkew, IsWorld, book_of};
+ghost use Rattle.script_text.specs.Command.{IsSkew};
+ghost use Rattle.world_rounds.specs.World.{GoesOnBy, IsWorld, book_of};
 
 use crate::fault::WorldFault;
 use crate::world::World;

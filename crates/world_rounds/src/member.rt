@@ -4,7 +4,7 @@ ghost use Rattle.script_law.specs.Round.{clock_reading};
 ghost use Rattle.zone_minutes.specs.Window.{IsInWindow, IsWithinLimits};
 ghost use Rattle.world_rounds.specs.Campaigns.{TakesCampaign};
 ghost use Rattle.world_rounds.specs.Rounds.{MayTakeRound, TakesRound};
-ghost use Rattle.world_rounds.specs.World.{IsSkew};
+ghost use Rattle.script_text.specs.Command.{IsSkew};
 
 use crate::fault::WorldFault;
 use crate::steps::{Taken, hear_letters, take_answer, take_step};

@@ -51,7 +51,7 @@ returns-in-Heal-clause-goes g c =
 pub returns-in-Skew-clause-goes : goal.returns-in-Skew-clause-goes
 returns-in-Skew-clause-goes g c =
     let taken = subst (λ command. IsTaken c.args.table.now.window c.args.self.now.book.members command) c.in-Skew.is c.requires.taken in
-    let fits : FitsSigned w64 c.in-Skew.minutes = omega (arith, ints, taken.1.least, taken.1.most) in
+    let fits : FitsSigned w64 c.in-Skew.minutes = omega (arith, ints, taken.1.0, taken.1.1) in
     let same : to_z w64 (of_z w64 c.in-Skew.minutes) ≡ c.in-Skew.minutes = to_z-of_z w64 c.in-Skew.minutes fits in
     subst (λ command. GoesOnBy g.D.Disk.seen g.D.Disk.may_leave g.D.Disk.honest c.args.table.now (IsPartOf c.args.self.now.book.members c.args.table.now command) c.args.self.now c.skew.new.self)
     (sym c.in-Skew.is) (sets_go g.D.Disk.seen g.D.Disk.may_leave g.D.Disk.honest c.args.table.now c.args.self.now.book.members c.args.self.now c.skew.new.self (tasks_for (command.Skew c.in-Skew.member c.in-Skew.minutes)) (set_by (command.Skew c.in-Skew.member c.in-Skew.minutes)) (λ rows situation is. refl) (subst (λ minutes. Changes g.D.Disk.seen g.D.Disk.may_leave g.D.Disk.honest (set_by (command.Skew c.in-Skew.member minutes)) c.args.self.now c.skew.new.self) same c.skew.ensures.sets))
