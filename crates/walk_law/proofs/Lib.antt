@@ -1,0 +1,6 @@
+pub mod CallLemmas
+pub mod ReadLemmas
+pub mod PartLemmas
+pub mod DrainLemmas
+pub mod SettledLemmas
+pub mod Whole
