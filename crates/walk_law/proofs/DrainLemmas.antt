@@ -59,7 +59,7 @@ turns_keep : (members : ℕ) (situation : Situation) (rows : List Row) → (afte
 turns_keep members situation [] = refl
 turns_keep members situation (row ∷ rows) = turns_keep members (after_turn members situation row) rows
 
-played : (members : ℕ) (at : ℤ) (tasks : List Task) (situation : Situation) (rows : List Row) (after : Situation) → AreTasksBy at tasks → AreRight situation → Performs members tasks situation rows after → IsCalm at rows after
+pub played : (members : ℕ) (at : ℤ) (tasks : List Task) (situation : Situation) (rows : List Row) (after : Situation) → AreTasksBy at tasks → AreRight situation → Performs members tasks situation rows after → IsCalm at rows after
 played members at tasks situation rows after by right performs = record {
   by = turns_by members at situation tasks rows by performs.turns;
   right = λ who. ap (λ (s : Situation). s.skews who) performs.is ∙ ap (λ skews. skews who) (turns_keep members situation rows) ∙ right who;
@@ -88,7 +88,7 @@ campaigns_by at who (Leader ballot best flight) = no_tasks at
 reads_by : (window : Window) (at minute : ℤ) (skew : ℤ) → skew ≡ pos 0 → window.from.0 ≤ℤ at → minute ≤ℤ at → (clock_reading window minute skew).0 ≤ℤ at
 reads_by window at minute skew right from low = omega (arith, ints, clamps, right, from, low)
 
-round_by : (members : ℕ) (window : Window) (at minute : ℤ) (situation : Situation) → AreRight situation → window.from.0 ≤ℤ at → minute ≤ℤ at → AreTasksBy at (round_tasks members window minute situation)
+pub round_by : (members : ℕ) (window : Window) (at minute : ℤ) (situation : Situation) → AreRight situation → window.from.0 ≤ℤ at → minute ≤ℤ at → AreTasksBy at (round_tasks members window minute situation)
 round_by members window at minute situation right from low task has = by_step (is_step members window minute situation task has)
   where
     by_cause : (who : ℕ) (cause : Cause) → Contains (round_tasks members window minute situation) (Do who cause) → ReadsBy at cause

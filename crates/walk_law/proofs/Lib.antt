@@ -4,3 +4,7 @@ pub mod PartLemmas
 pub mod DrainLemmas
 pub mod SettledLemmas
 pub mod Whole
+pub mod SomeTable
+pub mod SomeMoves
+pub mod SomeRounds
+pub mod SomeWalk

@@ -34,7 +34,7 @@ pub record Comes (members : ℕ) (situation : Situation) (rows : List Row) (afte
 
 -- ---- how parts are put together
 
-abbrev Goes : ℕ → (Situation → List Row → Situation → Type 0) → Type 0
+abbrev pub Goes : ℕ → (Situation → List Row → Situation → Type 0) → Type 0
 Goes members part = (situation : Situation) (rows : List Row) (after : Situation) → part situation rows after → Comes members situation rows after
 
 then_comes : (members : ℕ) (situation middle after : Situation) (front back : List Row) → Comes members situation front middle → Comes members middle back after → Comes members situation (front ++ back) after
@@ -65,7 +65,7 @@ turns_come : (members : ℕ) (situation : Situation) (rows : List Row) → Comes
 turns_come members situation [] = record { standing = refl; latest = refl }
 turns_come members situation (row ∷ rows) = (let more = turns_come members (after_turn members situation row) rows in record { standing = more.standing; latest = more.latest })
 
-performs : (members : ℕ) (tasks : List Task) → Goes members (Performs members tasks)
+pub performs : (members : ℕ) (tasks : List Task) → Goes members (Performs members tasks)
 performs members tasks situation rows after done =
     let turns = turns_come members situation rows in
     record { standing = ap (λ s. s.standing) done.is ∙ turns.standing; latest = ap (λ s. s.latest) done.is ∙ turns.latest }
@@ -199,7 +199,7 @@ turn_rises latest (Stopped who (Some cause) kept) = cause_rises latest cause
 turn_rises latest (Restarted who) = omega (arith, ints)
 turn_rises latest (Arrived number) = omega (arith, ints)
 
-rises : (latest : ℤ) (rows : List Row) → latest ≤ℤ latest_in latest rows
+pub rises : (latest : ℤ) (rows : List Row) → latest ≤ℤ latest_in latest rows
 rises latest [] = omega (arith, ints)
 rises latest (row ∷ rows) =
     let first = turn_rises latest row.turn in

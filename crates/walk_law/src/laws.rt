@@ -1,6 +1,6 @@
 //! Laws of what a book holds that obeys a script. Each is the contract of a function that does nothing.
-ghost use Rattle.std.specs.Prelude.{◌≤◌, ◌≤ℤ◌, ℕ, ℤ, List};
-ghost use Rattle.due_set.specs.Table.{IsJobDue, Table};
+ghost use Rattle.std.specs.Prelude.{◌<◌, ◌≤◌, ◌≤ℤ◌, ◌<ℤ◌, ℕ, ℤ, List, length};
+ghost use Rattle.due_set.specs.Table.{IsJobDue, IsSound, Table};
 ghost use Rattle.paxos_base.specs.declared.entry.Entry.{Entry};
 ghost use Rattle.paxos_base.specs.declared.entry.Kind.{Kind};
 ghost use Rattle.paxos_base.specs.declared.entry.Kind.TheVariants.{Launch};
@@ -39,4 +39,12 @@ pub fn the_latest_reading_bounds_the_script()
         → (script_end obeyed).latest ≤ℤ at → AreTurnsBy at (script_turns obeyed) }
     ensures least { (members : ℕ) (table : Table) (script : List Command) (rows : List Row) (obeyed : Obeys members table script rows) (at : ℤ)
         → table.window.from.0 ≤ℤ at → AreTurnsBy at (script_turns obeyed) → (script_end obeyed).latest ≤ℤ at }
+{}
+
+/// There is a legal book that obeys a script, and has launches: one replica's, whose clock ticks in the script, of a job with two due
+/// instants that this reading has not passed; grace lasts as long as the window.
+pub fn a_walk_may_launch()
+    ensures { (table : Table) × (script : List Command) × (rows : List Row) × (obeyed : Obeys 1 table script rows) × (job : ℕ) × (at : ℤ) × (later : ℤ)
+        × IsSound table × IsLegal 1 table rows × IsGraceLong table × IsJobDue table job at × IsJobDue table job later × (at <ℤ later)
+        × AreTurnsBy at (script_turns obeyed) × (0 < length (script_turns obeyed)) }
 {}

@@ -3,4 +3,6 @@
 
 mod laws;
 
-pub use laws::{a_walk_launches_each_due_instant, the_latest_reading_bounds_the_script};
+pub use laws::{
+    a_walk_launches_each_due_instant, a_walk_may_launch, the_latest_reading_bounds_the_script,
+};
