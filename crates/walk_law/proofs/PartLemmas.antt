@@ -1,5 +1,5 @@
 -- Each part of a script comes to the standing and to the latest clock reading of its turns.
-use Rattle.std.proofs.Common.{◌≡◌, ℕ, zero, suc, Option, Some, None, List, [], ◌∷◌, ◌++◌, fold, ℤ, ◌≤ℤ◌, refl, sym, ap, ◌∙◌, inl, inr, subst, arith}
+use Rattle.std.proofs.Common.{◌≡◌, ◌↔◌, ℕ, zero, suc, Option, Some, None, List, [], ◌∷◌, ◌++◌, fold, ℤ, ◌≤ℤ◌, refl, sym, ap, ◌∙◌, inl, inr, subst, arith}
 use Rattle.std.specs.List.{slice_get}
 use Rattle.std.specs.Int.{int_min}
 use Rattle.std.proofs.lemmas.Bool.{cases_Bool}
@@ -226,3 +226,15 @@ each_by at latest (row ∷ rows) low =
     let rest = rises (latest_after row.turn latest) rows in
     All-cons (λ (r : Row). IsTurnBy at r.turn) row rows (turn_read at latest row.turn (omega (arith, ints, rest, low)))
     (each_by at (latest_after row.turn latest) rows low)
+
+-- and so of turns in any situation
+pub turns_latest : (members : ℕ) (situation : Situation) (rows : List Row) (at : ℤ) → ((after_turns members situation rows).latest ≤ℤ at) ↔ ((situation.latest ≤ℤ at) × AreTurnsBy at rows)
+turns_latest members situation rows at = (
+  (λ low.
+      let all : latest_in situation.latest rows ≤ℤ at = subst (λ reading. reading ≤ℤ at) come.latest low in
+      let first = rises situation.latest rows in (omega (arith, ints, first, all), each_by at situation.latest rows all)),
+  (λ both. subst (λ reading. reading ≤ℤ at) (sym come.latest) (latest_by at situation.latest rows both.1 both.0)),
+)
+  where
+    come : Comes members situation rows (after_turns members situation rows)
+    come = turns_come members situation rows

@@ -1,5 +1,5 @@
 //! Laws of what a book holds that obeys a script. Each is the contract of a function that does nothing.
-ghost use Rattle.std.specs.Prelude.{◌<◌, ◌≤◌, ◌≤ℤ◌, ◌<ℤ◌, ℕ, ℤ, List, length};
+ghost use Rattle.std.specs.Prelude.{◌↔◌, ◌<◌, ◌≤◌, ◌≤ℤ◌, ◌<ℤ◌, ℕ, ℤ, List, length};
 ghost use Rattle.due_set.specs.Table.{IsJobDue, IsSound, Table};
 ghost use Rattle.paxos_base.specs.declared.entry.Entry.{Entry};
 ghost use Rattle.paxos_base.specs.declared.entry.Kind.{Kind};
@@ -12,6 +12,7 @@ ghost use Rattle.book_law.specs.Book.{Row, votes_in};
 ghost use Rattle.book_law.specs.Legal.{IsLegal};
 ghost use Rattle.fits_law.specs.Fitting.{held_in};
 ghost use Rattle.script_law.specs.Script.{Obeys};
+ghost use Rattle.script_law.specs.Situation.{Situation, after_turns};
 ghost use Rattle.walk_law.specs.Readings.{AreTurnsBy, IsGraceLong, script_end, script_turns};
 
 /// Where a legal book of one to seven replicas obeys a script, each due instant of a crontab job has been started and has ended.
@@ -32,9 +33,12 @@ pub fn a_walk_launches_each_due_instant()
         → IsHeld (held_in members table rows) job at Launch }
 {}
 
-/// The latest reading as the walk begins tells what the clocks of the script's turns have not passed: each instant of the window
-/// from that reading on, and no other.
+/// The latest reading after some turns is no later than an instant where it was none before them, and no clock reading of the turns
+/// is. So the latest reading as the walk begins tells which instants the clocks of the script's turns have not passed: of the window
+/// those from that reading on, and no others.
 pub fn the_latest_reading_bounds_the_script()
+    ensures turns { (members : ℕ) (situation : Situation) (rows : List Row) (at : ℤ)
+        → ((after_turns members situation rows).latest ≤ℤ at) ↔ ((situation.latest ≤ℤ at) × AreTurnsBy at rows) }
     ensures each { (members : ℕ) (table : Table) (script : List Command) (rows : List Row) (obeyed : Obeys members table script rows) (at : ℤ)
         → (script_end obeyed).latest ≤ℤ at → AreTurnsBy at (script_turns obeyed) }
     ensures least { (members : ℕ) (table : Table) (script : List Command) (rows : List Row) (obeyed : Obeys members table script rows) (at : ℤ)
