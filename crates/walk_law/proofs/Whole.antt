@@ -53,6 +53,16 @@ passes_here n table at book rows situation who is by asks = record {
   asks = subst (λ (st : Standing). AsksNothing table at (st.replicas who)) is asks;
 }
 
+-- the one that asked for nothing last, where that was at the instant, or else one that asks for nothing at a later one
+passes_at : (n : ℕ) (table : Table) (above at : ℤ) (book rows : List Row) (situation : Situation) (last who : ℕ) → IsOf n table book situation → AreTurnsBy at book → above ≤ℤ at
+    → AsksNothing table above (situation.standing.replicas last) → (above <ℤ at → AsksNothing table at (situation.standing.replicas who)) → Passes n table at (book ++ rows)
+passes_at n table above at book rows situation last who is by low here later =
+    by_lt_z above at
+    (λ before. passes_here n table at book rows situation who is by (later before))
+    (λ not_before.
+    let same : above ≡ at = omega (arith, ints, low, not_before) in
+    passes_here n table at book rows situation last is by (subst (λ t. AsksNothing table t (situation.standing.replicas last)) same here))
+
 longer : (at : ℤ) (book rows : List Row) → AreTurnsBy at book → AreTurnsBy at rows → AreTurnsBy at (book ++ rows)
 longer at book rows one two = All-append (λ (r : Row). IsTurnBy at r.turn) book rows one two
 
@@ -61,18 +71,10 @@ walks_past : (minutes n : ℕ) (table : Table) (who last : ℕ) (above to at : �
     → table.window.from.0 ≤ℤ at → above ≤ℤ at → at ≤ℤ to → IsOf n table book situation → AreTurnsBy at book → AreRight situation
     → AsksNothing table above (situation.standing.replicas last) → WalksIn minutes n table who above to situation rows after → Passes n table at (book ++ rows)
 walks_past zero n table who last above to at book rows situation after from low high is by right asks walks =
-    by_lt_z above at
-    (λ before. passes_here n table at book rows situation who is by (walks.is_quiet at before high))
-    (λ not_before.
-    let same : above ≡ at = omega (arith, ints, low, not_before) in
-    passes_here n table at book rows situation last is by (subst (λ t. AsksNothing table t (situation.standing.replicas last)) same asks))
+    passes_at n table above at book rows situation last who is by low asks (λ before. walks.is_quiet at before high)
 walks_past (suc more) n table who last above to at book rows situation after from low high is by right asks (minute, next, walks) =
     by_lt_z at minute
-    (λ passed. by_lt_z above at
-    (λ before. passes_here n table at book rows situation who is by (next.least at before passed))
-    (λ not_before.
-    let same : above ≡ at = omega (arith, ints, low, not_before) in
-    passes_here n table at book rows situation last is by (subst (λ t. AsksNothing table t (situation.standing.replicas last)) same asks)))
+    (λ passed. passes_at n table above at book rows situation last who is by low asks (λ before. next.least at before passed))
     (λ reached.
     let drained = drains_by n table who at minute situation walks.front walks.middle right from reached walks.one in
     let quiet = drains_quiet n table who minute situation walks.front walks.middle walks.one in
