@@ -35,7 +35,10 @@ use Rattle.round_law.specs.Rounds.{GoesRound, IsFaultless, StandsForRound}
 use Rattle.round_law.specs.Stands.{IsLetterAt, StandsFor}
 use Rattle.round_law.proofs.BookLemmas.{all_follow}
 use Rattle.round_law.proofs.CalmLemmas.{round_is_calm, round_leaves_no_fault}
-use Rattle.alone_law.specs.Alone.{GoesCampaign, HasFewerLeft, IsAtRest, LeadsItself}
+use Rattle.campaign_law.specs.Campaigns.{GoesCampaign}
+use Rattle.drain_law.specs.Drain.{HasFewerLeft}
+use Rattle.drain_law.specs.Rest.{IsAtRest}
+use Rattle.alone_law.specs.Alone.{LeadsItself}
 use Rattle.alone_law.proofs.NextLemmas.{LeadsOn, StaysSo}
 use Rattle.alone_law.proofs.RoundLemmas.{round_alone, round_stays, unheard}
 use Rattle.alone_law.proofs.StepLemmas.{alone, campaign_leads, campaign_term, campaigned, uncalled_campaign, untold_campaign}

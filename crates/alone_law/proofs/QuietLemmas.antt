@@ -10,7 +10,7 @@ use Rattle.book_law.specs.Legal.{IsLegal}
 use Rattle.script_law.specs.Settling.{IsQuiet}
 use Rattle.script_law.specs.Situation.{Situation}
 use Rattle.idle_law.specs.Quiet.{EndsQuietly, HasPromisedMost}
-use Rattle.alone_law.specs.Alone.{IsAtRest}
+use Rattle.drain_law.specs.Rest.{IsAtRest}
 
 level_alone : (situation : Situation) (other : ℕ) → other < 1 → prefix_of (situation.standing.replicas other) ≡ prefix_of (situation.standing.replicas 0)
 level_alone situation zero below = refl

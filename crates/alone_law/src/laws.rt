@@ -15,7 +15,10 @@ ghost use Rattle.script_law.specs.Situation.{Situation};
 ghost use Rattle.idle_law.specs.Quiet.{EndsQuietly};
 ghost use Rattle.round_law.specs.Leads.{GoesDrainRound};
 ghost use Rattle.round_law.specs.Rounds.{IsFaultless};
-ghost use Rattle.alone_law.specs.Alone.{GoesCampaign, HasFewerLeft, IsAtRest, LeadsItself};
+ghost use Rattle.campaign_law.specs.Campaigns.{GoesCampaign};
+ghost use Rattle.drain_law.specs.Drain.{HasFewerLeft};
+ghost use Rattle.drain_law.specs.Rest.{IsAtRest};
+ghost use Rattle.alone_law.specs.Alone.{LeadsItself};
 
 /// The one replica of a cluster leads itself once it has stood for leader, where no letter waits for it. It is bound by the votes that it
 /// keeps from its prefix on, and an answer that waited for it is dropped. There is no fault after its campaign.
