@@ -4,6 +4,8 @@ use Rattle.std.proofs.lemmas.Bool.{cases_lt}
 use Rattle.due_set.specs.Table.{Table}
 use Rattle.launch_machine.specs.Clerk.{first_rows}
 use Rattle.paxos_base.specs.declared.entry.Entry.{Entry}
+use Rattle.paxos_base.specs.declared.rows.JobRow.{JobRow}
+use Rattle.step_law.specs.Step.{IsLaunchTable}
 use Rattle.agree_law.specs.Log.{IsLog}
 use Rattle.book_law.specs.Book.{Row, standing_after, votes_in}
 use Rattle.book_law.specs.Legal.{IsLegal}
@@ -23,7 +25,7 @@ use Rattle.campaign_law.proofs.RoundLemmas.{drain_leaves_no_fault}
 use Rattle.campaign_law.proofs.TurnLemmas as turn
 use Rattle.drain_law.specs.Drain.{HasFewerLeft}
 use Rattle.drain_law.specs.Rest.{IsAtRest}
-use Rattle.drain_law.proofs.LeadLemmas.{drained, goes_round}
+use Rattle.drain_law.proofs.LeadLemmas.{alone_has_table, drained, goes_round}
 use Rattle.drain_law.proofs.RestLemmas.{ends_quietly}
 use Rattle.alone_law.proofs.BookLemmas.{campaign_is_won, round_leads, round_brings_nearer, round_leaves_right}
 use Rattle.alone_law.proofs.BookLemmas as itself_at
@@ -53,6 +55,14 @@ leads_nearer members table who at book rows situation after (itself one first le
     (to_one (λ m w. GoesDrainRound m table w at book rows situation after) members who one first goes))
 leads_nearer members table who at book rows situation after (among alone) goes =
     (drained members table who at book rows situation after alone (goes_round members table who at book rows situation after alone goes)).nearer
+
+pub now_has_table : (members : ℕ) (table : Table) (who : ℕ) (situation : Situation) → LeadsNow members table who situation → (rows : List JobRow) × IsLaunchTable table (situation.standing.replicas who) rows
+now_has_table members table who situation (itself one first leads) = (
+  leads.at.rows,
+  subst (λ w. IsLaunchTable table (situation.standing.replicas w) leads.at.rows) (sym first)
+      (subst (λ t. IsLaunchTable t (situation.standing.replicas 0) leads.at.rows) leads.over leads.leading.launch),
+)
+now_has_table members table who situation (among alone) = alone_has_table members table who situation alone
 
 pub now_ends : (members : ℕ) (table : Table) (who : ℕ) (at : ℤ) (book : List Row) (situation : Situation) (log : List Entry) → IsLegal members table book → situation.standing ≡ standing_after members (first_rows table) book → LeadsNow members table who situation → IsQuiet members table who at situation → IsLog members (votes_in book) log → EndsQuietly members table book who at situation log
 now_ends members table who at book situation log legal standing (itself one first leads) quiet is_log =

@@ -1,8 +1,10 @@
 //! Laws of settling, for each number of replicas. Each is the contract of a function that does nothing.
 ghost use Rattle.std.specs.Prelude.{◌≡◌, ◌⊎◌, ℕ, suc, ◌<◌, ◌≤◌, ℤ, List, []};
 ghost use Rattle.paxos_base.specs.declared.entry.Entry.{Entry};
+ghost use Rattle.paxos_base.specs.declared.rows.JobRow.{JobRow};
 ghost use Rattle.due_set.specs.Table.{Table};
 ghost use Rattle.launch_machine.specs.Clerk.{first_rows};
+ghost use Rattle.step_law.specs.Step.{IsLaunchTable};
 ghost use Rattle.agree_law.specs.Log.{IsLog};
 ghost use Rattle.book_law.specs.Book.{Row, standing_after, votes_in};
 ghost use Rattle.book_law.specs.Legal.{IsLegal};
@@ -46,11 +48,13 @@ pub fn settling_leaves_no_fault()
         → IsFaultless members after }
 {}
 
-/// One that leads was at rest before a round of a drain, or fewer rounds are left to it after it.
+/// One that leads was at rest before a round of a drain, or fewer rounds are left to it after it, by its launch table, which it has.
 pub fn one_comes_to_rest()
-    ensures { (members : ℕ) (table : Table) (who : ℕ) (at : ℤ) (book rows : List Row) (situation after : Situation)
+    ensures nearer { (members : ℕ) (table : Table) (who : ℕ) (at : ℤ) (book rows : List Row) (situation after : Situation)
         → LeadsNow members table who situation → GoesDrainRound members table who at book rows situation after
         → IsAtRest table who at situation ⊎ HasFewerLeft table who situation after }
+    ensures launch { (members : ℕ) (table : Table) (who : ℕ) (situation : Situation)
+        → LeadsNow members table who situation → (rows : List JobRow) × IsLaunchTable table (situation.standing.replicas who) rows }
 {}
 
 /// One that leads and is at rest stays so through rounds of a drain at that instant, and after five of them it is quiet.
