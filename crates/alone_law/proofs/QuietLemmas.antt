@@ -10,7 +10,7 @@ use Rattle.book_law.specs.Legal.{IsLegal}
 use Rattle.script_law.specs.Settling.{IsQuiet}
 use Rattle.script_law.specs.Situation.{Situation}
 use Rattle.idle_law.specs.Quiet.{EndsQuietly, HasPromisedMost}
-use Rattle.alone_law.specs.Alone.{IsAtRest}
+use Rattle.drain_law.specs.Rest.{IsAtRest}
 
 level_alone : (situation : Situation) (other : ℕ) → other < 1 → prefix_of (situation.standing.replicas other) ≡ prefix_of (situation.standing.replicas 0)
 level_alone situation zero below = refl
@@ -23,10 +23,7 @@ most_alone situation (suc more) below = absurd (omega (arith, below))
 pub rest_is_quiet : (table : Table) (at : ℤ) (situation : Situation) → IsAtRest table 0 at situation → IsQuiet 1 table 0 at situation
 rest_is_quiet table at situation rest = record { free = rest.free; answered = rest.answered; rests = rest.rests; level = level_alone situation }
 
-pub quiet_is_rest : (table : Table) (at : ℤ) (situation : Situation) → IsQuiet 1 table 0 at situation → IsAtRest table 0 at situation
-quiet_is_rest table at situation quiet = record { free = quiet.free; answered = quiet.answered; rests = quiet.rests }
-
-pub quiet_ends : (table : Table) (at : ℤ) (book : List Row) (situation : Situation) (log : List Entry) → IsQuiet 1 table 0 at situation → IsLegal 1 table book
-    → situation.standing ≡ standing_after 1 (first_rows table) book → IsLog 1 (votes_in book) log → EndsQuietly 1 table book 0 at situation log
-quiet_ends table at book situation log quiet legal standing is_log =
+pub quiet_ends : (table : Table) (at : ℤ) (book : List Row) (situation : Situation) (log : List Entry) → IsLegal 1 table book
+    → situation.standing ≡ standing_after 1 (first_rows table) book → IsQuiet 1 table 0 at situation → IsLog 1 (votes_in book) log → EndsQuietly 1 table book 0 at situation log
+quiet_ends table at book situation log legal standing quiet is_log =
     record { few = omega arith; legal = legal; standing = standing; member = omega arith; quiet = quiet; most = most_alone situation; is_log = is_log }

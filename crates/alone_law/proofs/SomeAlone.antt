@@ -19,7 +19,9 @@ use Rattle.book_law.proofs.Turns.{legal_append}
 use Rattle.bounds_law.proofs.Keeping.{empty_is_legal}
 use Rattle.script_law.specs.Situation.{Situation, after_turns, delivered, first_situation}
 use Rattle.round_law.specs.Leads.{GoesDrainRound}
-use Rattle.alone_law.specs.Alone.{GoesCampaign, IsAtRest, LeadsItself}
+use Rattle.campaign_law.specs.Campaigns.{GoesCampaign}
+use Rattle.drain_law.specs.Rest.{IsAtRest}
+use Rattle.alone_law.specs.Alone.{LeadsItself}
 use Rattle.alone_law.proofs.BookLemmas.{campaign_is_won, campaign_leaves_no_fault}
 
 abbrev quiet_table : Table
