@@ -23,7 +23,7 @@ most_alone situation (suc more) below = absurd (omega (arith, below))
 pub rest_is_quiet : (table : Table) (at : ℤ) (situation : Situation) → IsAtRest table 0 at situation → IsQuiet 1 table 0 at situation
 rest_is_quiet table at situation rest = record { free = rest.free; answered = rest.answered; rests = rest.rests; level = level_alone situation }
 
-pub quiet_ends : (table : Table) (at : ℤ) (book : List Row) (situation : Situation) (log : List Entry) → IsLegal 1 table book
-    → situation.standing ≡ standing_after 1 (first_rows table) book → IsQuiet 1 table 0 at situation → IsLog 1 (votes_in book) log → EndsQuietly 1 table book 0 at situation log
-quiet_ends table at book situation log legal standing quiet is_log =
+pub quiet_ends : (table : Table) (at : ℤ) (book : List Row) (situation : Situation) (log : List Entry) → IsQuiet 1 table 0 at situation → IsLegal 1 table book
+    → situation.standing ≡ standing_after 1 (first_rows table) book → IsLog 1 (votes_in book) log → EndsQuietly 1 table book 0 at situation log
+quiet_ends table at book situation log quiet legal standing is_log =
     record { few = omega arith; legal = legal; standing = standing; member = omega arith; quiet = quiet; most = most_alone situation; is_log = is_log }

@@ -74,8 +74,8 @@ pub fn each_drain_round_brings_one_nearer()
 pub fn one_at_rest_is_quiet()
     ensures quiet { (table : Table) (at : ℤ) (situation : Situation) → IsAtRest table 0 at situation → IsQuiet 1 table 0 at situation }
     ensures ends { (table : Table) (at : ℤ) (book : List Row) (situation : Situation) (log : List Entry)
-        → IsLegal 1 table book → situation.standing ≡ standing_after 1 (first_rows table) book
-        → IsQuiet 1 table 0 at situation → IsLog 1 (votes_in book) log → EndsQuietly 1 table book 0 at situation log }
+        → IsQuiet 1 table 0 at situation → IsLegal 1 table book → situation.standing ≡ standing_after 1 (first_rows table) book
+        → IsLog 1 (votes_in book) log → EndsQuietly 1 table book 0 at situation log }
 {}
 
 /// There is a legal book of one replica that goes on with its campaign, while no letter waits for it. There are legal books that go on
