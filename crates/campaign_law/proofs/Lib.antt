@@ -3,6 +3,8 @@ pub mod FirstLemmas
 pub mod PhaseLemmas
 pub mod RoundLemmas
 pub mod SomeDrain
+pub mod SomeTurns
+pub mod SomeYield
 pub mod TakesLemmas
 pub mod TriedLemmas
 pub mod TurnLemmas

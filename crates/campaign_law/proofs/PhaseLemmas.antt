@@ -217,14 +217,14 @@ from_promised members table who at book rows situation after goes was =
 -- ---- one that leads alone
 
 -- how the leader of a stage stands
-record Stands (members leader : ℕ) (calm : Calm) : Type 0 where
-  member : leader < members
-  ballot : ℕ
-  best : List Vote
-  flight : Option Flight
-  is : (calm.replicas leader).term ≡ Leader ballot best flight
+pub record Stands (members leader : ℕ) (calm : Calm) : Type 0 where
+  pub member : leader < members
+  pub ballot : ℕ
+  pub best : List Vote
+  pub flight : Option Flight
+  pub is : (calm.replicas leader).term ≡ Leader ballot best flight
 
-leader_stands : (members leader : ℕ) (best : List Vote) (at : Progress) (calm : Calm) → Stage members leader best at calm → Stands members leader calm
+pub leader_stands : (members leader : ℕ) (best : List Vote) (at : Progress) (calm : Calm) → Stage members leader best at calm → Stands members leader calm
 leader_stands members leader best at calm (free now) = record { member = now.free.ruled.member; ballot = _; best = _; flight = _; is = now.free.leading.is }
 leader_stands members leader best at calm (answer row waits) = record { member = waits.free.ruled.member; ballot = _; best = _; flight = _; is = waits.free.leading.is }
 leader_stands members leader best at calm (asked entry waited flight few under all) =

@@ -13,7 +13,7 @@ use Rattle.round_law.specs.Stands.{StandsFor}
 
 -- ---- a first campaign
 
--- replicas of which one has just campaigned, in a ballot that no other has promised, and none has learned more; over this table
+-- Replicas over this table, of which one has just campaigned, in a ballot that no other has promised, and none has learned more.
 pub record FirstCampaign (members : ℕ) (table : Table) (who : ℕ) : Type 0 where
   pub calm : Calm
   pub best : List Vote
@@ -74,9 +74,9 @@ pub record IsAfterPromises (members : ℕ) (table : Table) (who : ℕ) (situatio
 
 -- ---- the rounds that are left
 
--- The replica doesn't lead yet, and so many rounds of a drain are left until it does, at most: of four, the first hears the
--- campaign, and the second what was answered to it; the third begins with a second campaign, where one is needed, and the last hears what
--- was answered to that.
+-- The replica doesn't lead yet, and so many rounds of a drain are left until it does, at most. Of four, the first hears the campaign,
+-- and the second what was answered to it; the third begins with a second campaign, where one is needed, and the last hears what was
+-- answered to that.
 abbrev pub IsOnItsWay : (rounds : ℕ) → ℕ → Table → (who : ℕ) → Situation → Type 0
 IsOnItsWay zero members table who situation = ⊥
 IsOnItsWay (suc zero) members table who situation = IsAfterPromises members table who situation

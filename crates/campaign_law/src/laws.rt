@@ -1,5 +1,5 @@
 //! Laws of campaigns in legal books. Each is the contract of a function that does nothing.
-ghost use Rattle.std.specs.Prelude.{◌≡◌, ℕ, suc, ◌<◌, ◌≤◌, ℤ, List, [], length, Contains};
+ghost use Rattle.std.specs.Prelude.{◌≡◌, ℕ, suc, ◌<◌, ◌≤◌, ℤ, List, [], ◌++◌, length, Contains};
 ghost use Rattle.std.specs.List.{AllByRecursion};
 ghost use Rattle.due_set.specs.Table.{Table};
 ghost use Rattle.launch_machine.specs.Clerk.{first_rows};
@@ -19,7 +19,7 @@ ghost use Rattle.round_law.specs.Rounds.{IsFaultless};
 ghost use Rattle.round_law.specs.Stands.{StandsFor};
 ghost use Rattle.campaign_law.specs.Campaigns.{GoesCampaign, unanswered};
 ghost use Rattle.campaign_law.specs.Tried.{IsTried};
-ghost use Rattle.campaign_law.specs.Within.{LeadsWithin};
+ghost use Rattle.campaign_law.specs.Within.{IsAfterYielding, LeadsWithin};
 
 /// In a legal book each ballot that a replica has promised, or has voted in, or that a posted letter names as it is heard, is one that
 /// its own replica has tried. So the next ballot of a replica is new: nobody has promised it.
@@ -79,7 +79,9 @@ pub fn one_comes_to_lead_alone()
 {}
 
 /// There is a legal book in which this happens: of two replicas over a table without jobs the first campaigns, a round of a drain
-/// follows, and another, after which it leads alone, and is quiet; and one more round follows.
+/// follows, and another, after which it leads alone, and is quiet; and one more round follows. In another book the second replica has
+/// promised a higher ballot before, of its own, so the first yields after two rounds, and doesn't lead alone after a third: four may be
+/// needed.
 pub fn one_may_come_to_lead()
     ensures campaign { (members : ℕ) × (table : Table) × (at : ℤ) × (book : List Row) × (rows : List Row) × (situation : Situation) × (after : Situation)
         × (2 ≤ members) × GoesCampaign members table (coordinator members situation) at book rows situation after
@@ -87,6 +89,13 @@ pub fn one_may_come_to_lead()
     ensures round { (rounds : ℕ) × (members : ℕ) × (table : Table) × (who : ℕ) × (at : ℤ) × (book : List Row) × (rows : List Row)
         × (situation : Situation) × (after : Situation) × GoesDrainRound members table who at book rows situation after
         × LeadsWithin (suc rounds) members table who situation }
+    ensures yields { (members : ℕ) × (table : Table) × (who : ℕ) × (at : ℤ) × (book : List Row) × (rows : List Row)
+        × (situation : Situation) × (after : Situation) × GoesDrainRound members table who at book rows situation after
+        × IsAfterYielding members table who situation }
+    ensures four { (members : ℕ) × (table : Table) × (who : ℕ) × (at : ℤ) × (book : List Row) × (one : List Row) × (two : List Row) × (three : List Row)
+        × (situation : Situation) × (first : Situation) × (second : Situation) × (third : Situation) × LeadsWithin 4 members table who situation
+        × GoesDrainRound members table who at book one situation first × GoesDrainRound members table who at (book ++ one) two first second
+        × GoesDrainRound members table who at ((book ++ one) ++ two) three second third × (LeadsAlone members table who third → ⊥) }
     ensures leads { (members : ℕ) × (table : Table) × (who : ℕ) × (at : ℤ) × (book : List Row) × (rows : List Row)
         × (situation : Situation) × (after : Situation) × GoesDrainRound members table who at book rows situation after
         × LeadsAlone members table who situation }
