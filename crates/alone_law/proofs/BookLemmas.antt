@@ -2,10 +2,12 @@
 use Rattle.std.proofs.Common.{◌≡◌, ℕ, zero, suc, ◌-◌, ◌<◌, List, [], ◌∷◌, ◌++◌, append-nil, length, Option, None, Some, ℤ, refl, sym, ap, ◌∙◌, inl, inr, ◌⊎◌, arith, subst}
 use Rattle.std.specs.List.{AllZip, filter, range_with_len, slice_get}
 use Rattle.paxos_base.specs.Vote.{votes_from}
+use Rattle.paxos_base.specs.declared.rows.JobRow.{JobRow}
 use Rattle.paxos_base.specs.declared.entry.Vote.{Vote}
 use Rattle.cluster_sched.specs.declared.row.SchedRow.{SchedRow}
 use Rattle.due_set.specs.Table.{IsSound, Table}
 use Rattle.launch_machine.specs.Answers.{IsIntent}
+use Rattle.launch_machine.specs.Clerk.{first_rows}
 use Rattle.launch_machine.specs.declared.machine.Intent.TheVariants as intent
 use Rattle.launch_machine.proofs.ClerkLemmas.{AppliesAll-same}
 use Rattle.launch_machine.proofs.ExistLemmas.{all_applied}
@@ -17,7 +19,7 @@ use Rattle.step_law.specs.State.{State, prefix_of}
 use Rattle.step_law.specs.Step.{Event, IsLaunchTable, step}
 use Rattle.step_law.specs.Step as told
 use Rattle.step_law.specs.declared.out.OutLetter.{OutLetter}
-use Rattle.book_law.specs.Book.{PostedLetter, Row, Standing, after_row}
+use Rattle.book_law.specs.Book.{PostedLetter, Row, after_row, standing_after}
 use Rattle.book_law.specs.Legal.{IsMade, MayFollow}
 use Rattle.book_law.specs.declared.turn.CallRow.{CallRow}
 use Rattle.book_law.specs.declared.turn.Cause.TheVariants.{Campaign}
@@ -33,11 +35,12 @@ use Rattle.script_law.specs.Situation.{AreTurnsFor, Do, Performs, Situation, aft
 use Rattle.round_law.specs.Leads.{GoesDrainRound}
 use Rattle.round_law.specs.Rounds.{GoesRound, IsFaultless, StandsForRound}
 use Rattle.round_law.specs.Stands.{IsLetterAt, StandsFor}
-use Rattle.round_law.proofs.BookLemmas.{all_follow}
+use Rattle.round_law.proofs.BookLemmas.{all_follow, stand_after}
 use Rattle.round_law.proofs.CalmLemmas.{round_is_calm, round_leaves_no_fault}
 use Rattle.campaign_law.specs.Campaigns.{GoesCampaign}
 use Rattle.drain_law.specs.Drain.{HasFewerLeft}
 use Rattle.drain_law.specs.Rest.{IsAtRest}
+use Rattle.drain_law.proofs.LeadLemmas.{delivers_none}
 use Rattle.alone_law.specs.Alone.{LeadsItself}
 use Rattle.alone_law.proofs.NextLemmas.{LeadsOn, StaysSo}
 use Rattle.alone_law.proofs.RoundLemmas.{round_alone, round_stays, unheard}
@@ -160,56 +163,56 @@ campaign_drops table at book rows situation after goes =
     let came = came_to table at book rows situation after goes in
     ap (λ (s : Situation). s.standing.waits 0) came.1 ∙ none_waits situation came.0
 
+pub campaign_stands : (table : Table) (at : ℤ) (book rows : List Row) (situation after : Situation) → GoesCampaign 1 table 0 at book rows situation after
+    → after.standing ≡ standing_after 1 (first_rows table) (book ++ rows)
+campaign_stands table at book rows situation after goes =
+    ap (λ (s : Situation). s.standing) goes.round.is ∙ stand_after 1 table book rows situation goes.standing
+
 -- ---- a round of a drain
 
--- It is a round, from a situation with the same replica, for which no letter waits.
-record RoundFrom (table : Table) (at : ℤ) (book rows : List Row) (situation after : Situation) : Type 0 where
-  middle : Situation
-  standing : middle.standing ≡ situation.standing
-  unheard : middle.mails 0 ≡ []
-  goes : GoesRound 1 table at book rows middle after
-
-drain_is_round : (table : Table) (at : ℤ) (book rows : List Row) (situation after : Situation) → LeadsItself table situation → GoesDrainRound 1 table 0 at book rows situation after
-    → RoundFrom table at book rows situation after
+-- a leader has no turn for a campaign
+pub drain_is_round : (table : Table) (at : ℤ) (book rows : List Row) (situation after : Situation) → LeadsItself table situation → GoesDrainRound 1 table 0 at book rows situation after
+    → GoesRound 1 table at book rows situation after
 drain_is_round table at book rows situation after leads goes =
     let first = length situation.standing.posted in
     let parts = goes.round in
     let idle : Performs 1 [] situation parts.front parts.middle = subst (λ term. Performs 1 (campaign_tasks 0 term) situation parts.front parts.middle) leads.leading.is parts.one in
     let none : parts.front ≡ [] = idle.turns in
-    let is : parts.middle ≡ delivered first situation = idle.is ∙ ap (λ list. delivered first (after_turns 1 situation list)) none in
+    let is : parts.middle ≡ situation = idle.is ∙ (ap (λ list. delivered first (after_turns 1 situation list)) none ∙ delivers_none situation) in
     let rows_are : rows ≡ parts.back = parts.parts ∙ ap (λ list. list ++ parts.back) none in
     record {
-      middle = parts.middle;
-      standing = ap (λ (s : Situation). s.standing) is;
-      unheard = ap (λ (s : Situation). s.mails 0) is
-          ∙ (ap (λ list. list ++ letters_for situation first 0) leads.unheard ∙ none_join situation first 0 refl);
-      goes = record {
-        few = goes.few;
-        sound = goes.sound;
-        within = goes.within;
-        legal = goes.legal;
-        standing = ap (λ (s : Situation). s.standing) is ∙ goes.standing;
-        faultless = subst (λ s. IsFaultless 1 s) (sym is) (record { runs = goes.faultless.runs; uncut = goes.faultless.uncut; right = goes.faultless.right; done = goes.faultless.done });
-        round = subst (λ list. IsRound 1 table.window at parts.middle list after) (sym rows_are) parts.two;
-        limits = goes.limits;
-      };
+      few = goes.few;
+      sound = goes.sound;
+      within = goes.within;
+      legal = goes.legal;
+      standing = goes.standing;
+      faultless = goes.faultless;
+      round = subst (λ list. IsRound 1 table.window at situation list after) (sym rows_are)
+          (subst (λ (here : Situation). IsRound 1 table.window at here parts.back after) is parts.two);
+      limits = goes.limits;
     }
 
--- such a situation stands for its replica without a letter, and the answer that waits for it
-stands_alone : (table : Table) (middle : Situation) (waits : Option SchedRow) → middle.standing.waits 0 ≡ waits → middle.mails 0 ≡ []
-    → StandsFor 1 (length table.jobs) middle (unheard middle.standing.replicas waits)
-stands_alone table middle waits same none = record {
+pub drain_stands : (table : Table) (at : ℤ) (book rows : List Row) (situation after : Situation) → LeadsItself table situation → GoesDrainRound 1 table 0 at book rows situation after
+    → after.standing ≡ standing_after 1 (first_rows table) (book ++ rows)
+drain_stands table at book rows situation after leads goes =
+    let round = drain_is_round table at book rows situation after leads goes in
+    ap (λ (s : Situation). s.standing) round.round.is ∙ stand_after 1 table book rows situation goes.standing
+
+-- the situation stands for its replica without a letter, and the answer that waits for it
+stands_alone : (table : Table) (situation : Situation) (waits : Option SchedRow) → situation.standing.waits 0 ≡ waits → situation.mails 0 ≡ []
+    → StandsFor 1 (length table.jobs) situation (unheard situation.standing.replicas waits)
+stands_alone table situation waits same none = record {
   replicas = λ who below. refl;
   waits = λ who below. waits_there who below;
   mails = λ who below. mail_there who below;
 }
   where
-    waits_there : (who : ℕ) → who < 1 → waits ≡ middle.standing.waits who
+    waits_there : (who : ℕ) → who < 1 → waits ≡ situation.standing.waits who
     waits_there zero below = sym same
     waits_there (suc more) below = absurd (omega (arith, below))
 
-    mail_there : (who : ℕ) → who < 1 → AllZip (IsLetterAt 1 (length table.jobs) middle.standing.posted who) (middle.mails who) []
-    mail_there zero below = subst (λ list. AllZip (IsLetterAt 1 (length table.jobs) middle.standing.posted 0) list []) (sym none) tt
+    mail_there : (who : ℕ) → who < 1 → AllZip (IsLetterAt 1 (length table.jobs) situation.standing.posted who) (situation.mails who) []
+    mail_there zero below = subst (λ list. AllZip (IsLetterAt 1 (length table.jobs) situation.standing.posted 0) list []) (sym none) tt
     mail_there (suc more) below = absurd (omega (arith, below))
 
 no_letters : (posted : List PostedLetter) (jobs : ℕ) (numbers : List ℕ) → AllZip (IsLetterAt 1 jobs posted 0) numbers [] → numbers ≡ []
@@ -224,43 +227,40 @@ record CameTo (table : Table) (at : ℤ) (situation after : Situation) (leads : 
       → StaysSo leads.best leads.at (after.standing.waits 0) (after.standing.replicas 0)
   faultless : IsFaultless 1 after
 
+rest_stays : (table : Table) (at : ℤ) (situation after : Situation) (leads : LeadsItself table situation) (waits : Option SchedRow) → waits ≡ None → votes_from leads.at.prefix leads.best ≡ []
+    → IsIntent leads.at.table leads.at.rows at intent.Rest → StandsForRound 1 table at (unheard situation.standing.replicas waits) after
+    → StaysSo leads.best leads.at (after.standing.waits 0) (after.standing.replicas 0)
+rest_stays table at situation after leads None none unbound rests one =
+    let before : Calm = unheard situation.standing.replicas None in
+    let advised : IsAdvised 1 leads.at.table at one.advice before = subst (λ t. IsAdvised 1 t at one.advice before) (sym leads.over) one.advised in
+    let stays = round_stays leads.best leads.at at situation.standing.replicas one.advice one.answers leads.leading unbound rests advised (one.answered 0 (omega arith)) in
+    subst (λ w. StaysSo leads.best leads.at w (after.standing.replicas 0)) (one.stands.waits 0 (omega arith))
+    (subst (λ s. StaysSo leads.best leads.at (one.answers 0) s) (one.stands.replicas 0 (omega arith)) stays)
+rest_stays table at situation after leads (Some row) none unbound rests one = absurd cc
+
 round_comes_to : (table : Table) (at : ℤ) (book rows : List Row) (situation after : Situation) (leads : LeadsItself table situation) → GoesDrainRound 1 table 0 at book rows situation after
     → CameTo table at situation after leads
 round_comes_to table at book rows situation after leads goes =
-    let from = drain_is_round table at book rows situation after leads goes in
     let state : State = situation.standing.replicas 0 in
     let waits : Option SchedRow = situation.standing.waits 0 in
-    let before : Calm = unheard from.middle.standing.replicas waits in
-    let replica : from.middle.standing.replicas 0 ≡ state = ap (λ (s : Standing). s.replicas 0) from.standing in
-    let stands : StandsFor 1 (length table.jobs) from.middle before = stands_alone table from.middle waits (ap (λ (s : Standing). s.waits 0) from.standing) from.unheard in
-    let one : StandsForRound 1 table at before after = round_is_calm 1 table at book rows from.middle after before from.goes stands in
+    let before : Calm = unheard situation.standing.replicas waits in
+    let round = drain_is_round table at book rows situation after leads goes in
+    let stands : StandsFor 1 (length table.jobs) situation before = stands_alone table situation waits refl leads.unheard in
+    let one : StandsForRound 1 table at before after = round_is_calm 1 table at book rows situation after before round stands in
     let next : Calm = calm_round 1 at one.advice one.answers before in
     let advised : IsAdvised 1 leads.at.table at one.advice before = subst (λ t. IsAdvised 1 t at one.advice before) (sym leads.over) one.advised in
-    let leading : IsLeading leads.best None leads.at (from.middle.standing.replicas 0) = subst (λ s. IsLeading leads.best None leads.at s) (sym replica) leads.leading in
     let sound : IsSound leads.at.table = subst IsSound (sym leads.over) goes.sound in
-    let went = round_alone leads.best leads.at sound at waits from.middle.standing.replicas one.advice one.answers leading leads.answers advised (one.answered 0 (omega arith)) in
+    let went = round_alone leads.best leads.at sound at waits situation.standing.replicas one.advice one.answers leads.leading leads.answers advised (one.answered 0 (omega arith)) in
     let replica_then : next.replicas 0 ≡ after.standing.replicas 0 = one.stands.replicas 0 (omega arith) in
     let waits_then : one.answers 0 ≡ after.standing.waits 0 = one.stands.waits 0 (omega arith) in
     record {
-      on = subst (λ s. LeadsOn leads.best leads.at at waits s (after.standing.waits 0) (after.standing.replicas 0)) replica
-          (subst (λ w. LeadsOn leads.best leads.at at waits (from.middle.standing.replicas 0) w (after.standing.replicas 0)) waits_then
-          (subst (λ s. LeadsOn leads.best leads.at at waits (from.middle.standing.replicas 0) (one.answers 0) s) replica_then went.on));
+      on = subst (λ w. LeadsOn leads.best leads.at at waits state w (after.standing.replicas 0)) waits_then
+          (subst (λ s. LeadsOn leads.best leads.at at waits state (one.answers 0) s) replica_then went.on);
       unheard_then = no_letters after.standing.posted (length table.jobs) (after.mails 0)
           (subst (λ list. AllZip (IsLetterAt 1 (length table.jobs) after.standing.posted 0) (after.mails 0) list) went.unheard_then (one.stands.mails 0 (omega arith)));
-      stays = λ none unbound rests. rest_stays table at from.middle after leads waits none unbound rests leading one;
-      faultless = round_leaves_no_fault 1 table at book rows from.middle after before from.goes stands;
+      stays = λ none unbound rests. rest_stays table at situation after leads waits none unbound rests one;
+      faultless = round_leaves_no_fault 1 table at book rows situation after before round stands;
     }
-  where
-    rest_stays : (table : Table) (at : ℤ) (middle after : Situation) (leads : LeadsItself table situation) (waits : Option SchedRow) → waits ≡ None → votes_from leads.at.prefix leads.best ≡ []
-        → IsIntent leads.at.table leads.at.rows at intent.Rest → IsLeading leads.best None leads.at (middle.standing.replicas 0)
-        → StandsForRound 1 table at (unheard middle.standing.replicas waits) after → StaysSo leads.best leads.at (after.standing.waits 0) (after.standing.replicas 0)
-    rest_stays table at middle after leads None none unbound rests leading one =
-        let before : Calm = unheard middle.standing.replicas None in
-        let advised : IsAdvised 1 leads.at.table at one.advice before = subst (λ t. IsAdvised 1 t at one.advice before) (sym leads.over) one.advised in
-        let stays = round_stays leads.best leads.at at middle.standing.replicas one.advice one.answers leading unbound rests advised (one.answered 0 (omega arith)) in
-        subst (λ w. StaysSo leads.best leads.at w (after.standing.replicas 0)) (one.stands.waits 0 (omega arith))
-        (subst (λ s. StaysSo leads.best leads.at (one.answers 0) s) (one.stands.replicas 0 (omega arith)) stays)
-    rest_stays table at middle after leads (Some row) none unbound rests leading one = absurd cc
 
 -- ---- what it says
 
@@ -349,3 +349,7 @@ rest_goes_on table at book rows situation after leads goes rest = record {
 pub round_leaves_right : (table : Table) (at : ℤ) (book rows : List Row) (situation after : Situation) → LeadsItself table situation → GoesDrainRound 1 table 0 at book rows situation after
     → IsFaultless 1 after
 round_leaves_right table at book rows situation after leads goes = (round_comes_to table at book rows situation after leads goes).faultless
+
+pub has_table : (table : Table) (situation : Situation) → LeadsItself table situation → (rows : List JobRow) × IsLaunchTable table (situation.standing.replicas 0) rows
+has_table table situation leads =
+    (leads.at.rows, subst (λ t. IsLaunchTable t (situation.standing.replicas 0) leads.at.rows) leads.over leads.leading.launch)

@@ -23,9 +23,6 @@ most_alone situation (suc more) below = absurd (omega (arith, below))
 pub rest_is_quiet : (table : Table) (at : ℤ) (situation : Situation) → IsAtRest table 0 at situation → IsQuiet 1 table 0 at situation
 rest_is_quiet table at situation rest = record { free = rest.free; answered = rest.answered; rests = rest.rests; level = level_alone situation }
 
-pub quiet_is_rest : (table : Table) (at : ℤ) (situation : Situation) → IsQuiet 1 table 0 at situation → IsAtRest table 0 at situation
-quiet_is_rest table at situation quiet = record { free = quiet.free; answered = quiet.answered; rests = quiet.rests }
-
 pub quiet_ends : (table : Table) (at : ℤ) (book : List Row) (situation : Situation) (log : List Entry) → IsQuiet 1 table 0 at situation → IsLegal 1 table book
     → situation.standing ≡ standing_after 1 (first_rows table) book → IsLog 1 (votes_in book) log → EndsQuietly 1 table book 0 at situation log
 quiet_ends table at book situation log quiet legal standing is_log =

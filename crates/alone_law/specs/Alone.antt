@@ -1,5 +1,5 @@
--- A cluster of one, whose replica leads and has nobody to ask.
-use Rattle.std.specs.Prelude.{◌≡◌, true, ⊤, List, [], Option, None, Some}
+-- When the one replica of a cluster leads, which has nobody to ask.
+use Rattle.std.specs.Prelude.{◌≡◌, ⊤, true, List, [], Option, None, Some}
 use Rattle.paxos_base.specs.Vote.{votes_from}
 use Rattle.paxos_base.specs.declared.entry.Vote.{Vote}
 use Rattle.cluster_sched.specs.declared.row.SchedRow.{SchedRow}
