@@ -14,6 +14,10 @@ pub mod Starting
 pub mod Setting
 pub mod Campaigns
 pub mod Waiting
+pub mod Repeats
 pub mod Halts
 pub mod Arrivals
 pub mod Restarts
+pub mod QuietLemmas
+pub mod CalmLemmas
+pub mod DrainLemmas

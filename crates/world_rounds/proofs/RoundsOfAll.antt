@@ -31,7 +31,7 @@ use Rattle.world_rounds.specs.declared.world.World.{World}
 some_one : {X : Type 0} (found : Option X) (one other : X) → found ≡ Some one → found ≡ Some other → one ≡ other
 some_one found one other a b = cc
 
-take_front : {X : Type 0} (n : ℕ) (xs ys : List X) → n ≡ length xs → take n (xs ++ ys) ≡ xs
+pub take_front : {X : Type 0} (n : ℕ) (xs ys : List X) → n ≡ length xs → take n (xs ++ ys) ≡ xs
 take_front zero [] [] is = refl
 take_front zero [] (y ∷ ys) is = refl
 take_front (suc n) [] ys is = absurd (omega arith)

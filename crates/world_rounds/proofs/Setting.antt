@@ -48,12 +48,12 @@ mail_as letters one other who mail standing mails skews fates is = record {
 
 module _ {D : Type 0} (seen : D → Image) (may_leave : D → Image → Type 0) (honest : D → Type 0) where
   -- of each replica of a world there was one before with the same node
-  abbrev AreSet : (old new : World D) → Situation → Type 0
+  abbrev pub AreSet : (old new : World D) → Situation → Type 0
   AreSet old new situation =
       (who : ℕ) (next : Member D) → slice_get new.members.items who ≡ Some next
       → (member : Member D) × (slice_get old.members.items who ≡ Some member) × (next.node ≡ member.node) × (next.steps ≡ member.steps) × IsMailOf old.book.letters situation who [] next.mail
 
-  world_set : (table : Table) (rows : List Row) (old new : World D) (situation other : Situation) → IsWorldAt seen may_leave honest table rows old situation → new.book ≡ old.book → new.latest ≡ old.latest
+  pub world_set : (table : Table) (rows : List Row) (old new : World D) (situation other : Situation) → IsWorldAt seen may_leave honest table rows old situation → new.book ≡ old.book → new.latest ≡ old.latest
       → length new.members.items ≡ length old.members.items → other.standing ≡ situation.standing → other.latest ≡ situation.latest
       → ((from to : ℕ) → is_cut from to new.cuts.items ≡ is_cut from to other.cuts) → AreSet old new other → IsWorldAt seen may_leave honest table rows new other
   world_set table rows old new situation other is book latest count standing last cuts each = record {

@@ -1,6 +1,8 @@
 pub mod Alone
+pub mod Calm
 pub mod Campaigns
 pub mod Commands
+pub mod Drains
 pub mod Faults
 pub mod Mails
 pub mod Start
@@ -8,4 +10,5 @@ pub mod Steps
 pub mod Taking
 pub mod Turns
 pub mod World
+pub mod Quiet
 pub mod Rounds

@@ -67,7 +67,7 @@ impl<D: Disk> World<D> {
     }
 
     // A replica stands for leader, if it runs.
-    fn campaign(&mut self, table: &JobTable, who: u8) -> Result<(), WorldFault>
+    pub(crate) fn campaign(&mut self, table: &JobTable, who: u8) -> Result<(), WorldFault>
         requires world { IsWorld D.seen D.may_leave D.honest table.now self.old }
         requires member { who < length self.old.members.items }
         ensures goes { OnOk result (GoesOnBy D.seen D.may_leave D.honest table.now (IsPartOf (book_of self.old).members table.now (command.Campaign who)) self.old self.new) }
@@ -109,6 +109,7 @@ impl<D: Disk> World<D> {
                 self.drop_letters(from, to);
                 Ok(())
             }
+            Command::Repeat { from, to } => self.repeat_letters(from, to),
             Command::Reverse { member } => {
                 self.reverse_letters(member);
                 Ok(())
@@ -124,6 +125,7 @@ impl<D: Disk> World<D> {
             }
             Command::Restart { member } => self.restart(table, member),
             Command::Arrive { late } => self.arrive(table, late),
+            Command::Settle { at } => self.settle(table, at),
             _ => unreachable!(),
         }
     }

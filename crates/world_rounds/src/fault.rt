@@ -4,7 +4,7 @@ ghost use Rattle.world_rounds.specs.declared.fault.WorldFault.TheVariants.{OutOf
 
 use cron_io::OutOfMemory;
 use replica_node::NodeFault;
-use std::alloc::AllocFailed;
+use std::alloc::{AllocError, AllocFailed};
 
 /// Why a world has come to its end. It takes no more calls, and its book is legal.
 #[derive(Clone, Copy, Debug, PartialEq, Eq)]
@@ -27,6 +27,14 @@ impl<T: Drop> From<AllocFailed<T>> for WorldFault {
     ghost from_gives = { λ _ e. e ≡ NoMemory };
 
     fn from(_: AllocFailed<T>) -> Self {
+        WorldFault::OutOfMemory
+    }
+}
+
+impl From<AllocError> for WorldFault {
+    ghost from_gives = { λ _ e. e ≡ NoMemory };
+
+    fn from(_: AllocError) -> Self {
         WorldFault::OutOfMemory
     }
 }

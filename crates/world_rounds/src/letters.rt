@@ -1,7 +1,7 @@
 //! What commands do to the letters that wait: they are lost, turned round, or join their mail once more.
-ghost use Rattle.std.specs.Prelude.{◌≡◌, ◌<◌, OnOk, length, map, slice_get};
+ghost use Rattle.std.specs.Prelude.{◌≡◌, ◌<◌, ◌&&◌, not, IfOk, OnOk, length, map, slice_get};
 ghost use Rattle.due_set.specs.Table.{Table};
-ghost use Rattle.script_law.specs.Commands.{from_others, is_from, set_by};
+ghost use Rattle.script_law.specs.Commands.{each_once, from_one, from_others, has_number, is_from, set_by};
 ghost use Rattle.script_text.specs.declared.command.Command.TheVariants as command;
 ghost use Rattle.world_law.specs.Book.{posted_as};
 ghost use Rattle.world_rounds.specs.Mails.{Changes};
@@ -11,6 +11,7 @@ use crate::fault::WorldFault;
 use crate::steps::letter_at;
 use crate::world::World;
 use disk_model::Disk;
+use std::alloc::Global;
 use world_law::Book;
 
 // Whether the letter of a number is from a replica.
@@ -30,6 +31,27 @@ fn drop_from(book: &Book, who: u8, mail: &mut Vec<u64>)
     mail.retain(|number| !is_from(book, who, *number));
 }
 
+// Whether the letter of a number is from a replica and is not among these.
+fn is_another_from(book: &Book, who: u8, found: &[u64], number: u64) -> bool
+    ensures { result ≡ (is_from who (slice_get (map posted_as book.now.letters) number) && not (has_number number found.now)) }
+{
+    is_from(book, who, number) && !found.contains(&number)
+}
+
+// The letters of a mail that are from a replica, each once.
+fn once_from(alloc: Global, book: &Book, who: u8, mail: &[u64]) -> Result<Vec<u64>, WorldFault>
+    ensures { IfOk result (λ found. found.items ≡ each_once (from_one (map posted_as book.now.letters) who mail.now)) }
+{
+    let mut found: Vec<u64> = Vec::new(alloc);
+    'numbers: for number in mail {
+        let number = *number;
+        if is_another_from(book, who, &found, number) {
+            found.push(number)?;
+        }
+    }
+    Ok(found)
+}
+
 impl<D: Disk> World<D> {
     // The letters from the one replica leave the other's mail.
     pub(crate) fn drop_letters(&mut self, from: u8, to: u8)
@@ -42,6 +64,18 @@ impl<D: Disk> World<D> {
             from,
             &mut self.members[to as usize].mail.letters,
         );
+    }
+
+    // Each letter from the one replica in the other's mail joins that mail once more.
+    pub(crate) fn repeat_letters(&mut self, from: u8, to: u8) -> Result<(), WorldFault>
+        requires member { to < length self.old.members.items }
+        ensures sets { OnOk result (Changes D.seen D.may_leave D.honest (set_by (command.Repeat from to)) self.old self.new) }
+        ensures book { book_of self.new ≡ book_of self.old }
+    {
+        let mail = &mut self.members[to as usize].mail.letters;
+        let once = once_from(self.alloc, &self.book, from, mail)?;
+        mail.extend_from_slice(&once)?;
+        Ok(())
     }
 
     // A replica's mail is in the opposite order.

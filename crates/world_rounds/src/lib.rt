@@ -2,12 +2,15 @@
 #![tactic(auto)]
 
 mod alone;
+mod calm;
 mod commands;
 mod fault;
 mod letters;
 mod mails;
 mod member;
+mod quiet;
 mod rounds;
+mod settling;
 mod start;
 mod steps;
 mod turns;

@@ -1,6 +1,8 @@
 //! A replica of a world.
 ghost use Rattle.std.specs.Prelude.{◌≡◌, true, OnOk};
 ghost use Rattle.script_law.specs.Round.{clock_reading};
+ghost use Rattle.step_law.specs.State.{prefix_of};
+ghost use Rattle.replica_node.specs.Node.{replica_of};
 ghost use Rattle.zone_minutes.specs.Window.{IsInWindow, IsWithinLimits};
 ghost use Rattle.world_rounds.specs.Campaigns.{TakesCampaign};
 ghost use Rattle.world_rounds.specs.Rounds.{MayTakeRound, TakesRound};
@@ -52,6 +54,13 @@ fn reading_of(mail: &Mail, window: Window, at: Minute) -> Minute
 }
 
 impl<D: Disk> Member<D> {
+    // The first slot whose entry it has not learned.
+    pub(crate) fn prefix(&self) -> u64
+        ensures { result ≡ prefix_of (replica_of self.now.node).state }
+    {
+        self.node.replica().prefix()
+    }
+
     // It stands for leader.
     pub(crate) fn take_campaign(&mut self, table: &JobTable, book: &Book) -> Result<(), WorldFault>
         requires runs { self.old.mail.runs ≡ true }

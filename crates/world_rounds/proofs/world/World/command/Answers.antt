@@ -96,3 +96,16 @@ returns-in-Again-clause-goes g c =
 
 pub returns-in-Again-clause-members : goal.returns-in-Again-clause-members
 returns-in-Again-clause-members g c = on_any c.send_again.result _ (ap (λ (book : BookState). book.members) c.send_again.ensures.book)
+
+pub returns-in-Repeat-clause-goes : goal.returns-in-Repeat-clause-goes
+returns-in-Repeat-clause-goes g c =
+    subst (λ command. OnOk c.repeat_letters.result (GoesOnBy g.D.Disk.seen g.D.Disk.may_leave g.D.Disk.honest c.args.table.now (IsPartOf c.args.self.now.book.members c.args.table.now command) c.args.self.now c.repeat_letters.new.self))
+    (sym c.in-Repeat.is) (on_ok c.repeat_letters.result _ _ (sets_go g.D.Disk.seen g.D.Disk.may_leave g.D.Disk.honest c.args.table.now c.args.self.now.book.members c.args.self.now c.repeat_letters.new.self (tasks_for (command.Repeat c.in-Repeat.from c.in-Repeat.to)) (set_by (command.Repeat c.in-Repeat.from c.in-Repeat.to)) (λ rows situation is. refl)) c.repeat_letters.ensures.sets)
+
+pub returns-in-Repeat-clause-members : goal.returns-in-Repeat-clause-members
+returns-in-Repeat-clause-members g c = on_any c.repeat_letters.result _ (ap (λ (book : BookState). book.members) c.repeat_letters.ensures.book)
+
+pub returns-in-Settle-clause-goes : goal.returns-in-Settle-clause-goes
+returns-in-Settle-clause-goes g c =
+    subst (λ command. OnOk c.settle.result (GoesOnBy g.D.Disk.seen g.D.Disk.may_leave g.D.Disk.honest c.args.table.now (IsPartOf c.args.self.now.book.members c.args.table.now command) c.args.self.now c.settle.new.self))
+    (sym c.in-Settle.is) c.settle.ensures.goes
