@@ -166,6 +166,10 @@ module _ {D : Type 0} (seen : D → Image) (may_leave : D → Image → Type 0) 
       let gone = so_far.goes rows situation is in
       (gone.0, gone.1, walked_whole old.book.members table who at above to situation gone.1 gone.0 gone.2 (none gone.1 (rows ++ gone.0, gone.3)), gone.3)
 
+  -- its latest clock reading is not before the window
+  pub since_in : (world : World D) → IsWorld seen may_leave honest table world → table.window.from.0 ≤ℤ world.latest.0
+  since_in world is = subst (λ latest. table.window.from.0 ≤ℤ latest) (sym is.is.ahead.latest) is.is.ahead.at.since
+
   -- it settles, and walks on
   pub walks : (at to : ℤ) (who : ℕ) (old middle new : World D) → at ≡ int_min old.latest.0 to
       → GoesOnBy seen may_leave honest table (Settles old.book.members table at) old middle → middle.book.members ≡ old.book.members

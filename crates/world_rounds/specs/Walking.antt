@@ -4,11 +4,6 @@ use Rattle.due_set.specs.Table.{Table}
 use Rattle.book_law.specs.Book.{Row}
 use Rattle.script_law.specs.Settling.{WalksOn}
 use Rattle.script_law.specs.Situation.{Situation}
-use Rattle.world_rounds.specs.declared.world.World.{World}
-
--- the latest clock reading of a world
-abbrev pub latest_of : {D : Type 0} → World D → ℤ
-latest_of world = world.latest.0
 
 -- **What has come belongs to a walk**, of which the last drain was at the minute above: however the walk goes on from here, so it goes on
 -- from the start.

@@ -6,7 +6,6 @@ ghost use Rattle.script_law.specs.Settling.{AsksNothingUntil, IsNextMinute, Walk
 ghost use Rattle.script_law.specs.Situation.{Situation};
 ghost use Rattle.world_law.specs.Book.{IsLegalBook};
 ghost use Rattle.world_rounds.specs.Quiet.{AllRun, IsIn};
-ghost use Rattle.world_rounds.specs.Walking.{latest_of};
 ghost use Rattle.world_rounds.specs.World.{GoesOnBy, IsWorld, book_of};
 
 use crate::fault::WorldFault;
@@ -89,7 +88,6 @@ impl<D: Disk> World<D> {
     pub fn walk(&mut self, table: &JobTable, to: Minute) -> Result<(), WorldFault>
         requires world { IsWorld D.seen D.may_leave D.honest table.now self.old }
         requires some { 0 < (book_of self.old).members }
-        requires since { table.now.window.from.0 ≤ℤ latest_of self.old }
         requires inside { IsInWindow table.now.window to.0 }
         ensures goes { OnOk result (GoesOnBy D.seen D.may_leave D.honest table.now (Walks (book_of self.old).members table.now to.0) self.old self.new) }
         ensures members { OnOk result ((book_of self.new).members ≡ (book_of self.old).members) }
