@@ -1,5 +1,5 @@
 -- Want of memory is the only fault of a node beside a book.
-use Rattle.std.proofs.Common.{◌≡◌, ℕ, List, [], ◌∷◌, Option, None, Some, Result, Ok, Err, refl, sym, ap, ◌∙◌, subst}
+use Rattle.std.proofs.Common.{◌≡◌, ℕ, List, [], ◌∷◌, Option, None, Some, Result, Err, refl, sym, ap, ◌∙◌, subst}
 use Rattle.std.specs.List.{Contains, slice_get}
 use Rattle.cluster_sched.specs.declared.row.SchedRow.{SchedRow}
 use Rattle.disk_model.specs.Images.{Image}
@@ -23,10 +23,10 @@ use Rattle.replica_node.specs.Node.{replica_of}
 use Rattle.replica_node.specs.declared.fault.NodeFault.{NodeFault}
 use Rattle.replica_node.specs.declared.fault.NodeFault.TheVariants as Node
 use Rattle.replica_node.specs.declared.node.Node.{Node as Seat}
-use Rattle.world_law.specs.Book.{BookState, StandsBehind, posted_as, standing_behind}
+use Rattle.world_law.specs.Book.{BookState, StandsBehind, posted_as}
 use Rattle.world_law.specs.Replicas.{IsLetterInput}
 use Rattle.world_law.specs.declared.letter.LetterRow.{LetterRow}
-use Rattle.world_rounds.specs.Steps.{IsSentTo, IsToldOf, TookSteps, WasToldOf, waits_behind, waits_in}
+use Rattle.world_rounds.specs.Steps.{IsToldOf, TookSteps, WasToldOf, waits_behind, waits_in}
 use Rattle.world_rounds.specs.declared.steps.Taken.{Taken}
 
 -- ---- an answer that tells of no disk and of no letter

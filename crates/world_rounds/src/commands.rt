@@ -88,7 +88,7 @@ impl<D: Disk> World<D> {
     ///
     /// # Errors
     ///
-    /// A fault of a disk, and want of memory. The world takes no more calls then, and its book is legal.
+    /// Want of memory. The world takes no more calls then, and its book is legal.
     pub fn command(&mut self, table: &JobTable, command: &Command) -> Result<(), OutOfMemory>
         requires world { IsWorld D.seen D.may_leave D.honest D.told table.now self.old }
         requires taken { IsTaken table.now.window (book_of self.old).members command.now }
@@ -126,6 +126,7 @@ impl<D: Disk> World<D> {
             Command::Restart { member } => self.restart(table, member),
             Command::Arrive { late } => self.arrive(table, late),
             Command::Settle { at } => self.settle(table, at),
+            Command::Walk { to } => self.walk(table, to),
             _ => unreachable!(),
         }
     }

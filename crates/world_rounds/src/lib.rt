@@ -15,6 +15,7 @@ mod settling;
 mod start;
 mod steps;
 mod turns;
+mod walking;
 mod world;
 
 pub use laws::a_new_disk_in_memory_is_fresh;

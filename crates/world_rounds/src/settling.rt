@@ -93,8 +93,7 @@ impl<D: Disk> World<D> {
     ///
     /// # Errors
     ///
-    /// A fault of a disk, and want of memory, also where it isn't quiet after 2^31 rounds. The world takes no more calls then,
-    /// and its book is legal.
+    /// Want of memory, also where it isn't quiet after 2^31 rounds. The world takes no more calls then, and its book is legal.
     pub fn settle(&mut self, table: &JobTable, at: Minute) -> Result<(), OutOfMemory>
         requires world { IsWorld D.seen D.may_leave D.honest D.told table.now self.old }
         requires some { 0 < (book_of self.old).members }

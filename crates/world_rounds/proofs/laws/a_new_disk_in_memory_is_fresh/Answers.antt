@@ -1,6 +1,6 @@
-use Rattle.std.proofs.Common.{◌≡◌, Some, false, List, ℕ, [], refl, sym, ap, ◌∙◌, subst}
-use Rattle.disk_model.specs.Images.{Image, file_of}
-use Rattle.disk_model.specs.MemDisk.{new_told, no_files}
+use Rattle.std.proofs.Common.{◌≡◌, [], refl, sym, ap, ◌∙◌, subst}
+use Rattle.disk_model.specs.Images.{file_of}
+use Rattle.disk_model.specs.MemDisk.{no_files}
 use Rattle.disk_model.specs.declared.fault.FileNo.{FileNo}
 use Rattle.disk_model.specs.declared.fault.FileNo.TheVariants.{AreaA, AreaB, Chooser}
 use Rattle.replica_node.specs.Reliable.{IsReliable}
