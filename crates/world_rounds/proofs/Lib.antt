@@ -1,6 +1,7 @@
 pub mod Foreseen
 pub mod StepLemmas
 pub mod HearLemmas
+pub mod MemoryLemmas
 pub mod Calls
 pub mod Joined
 pub mod AfterTurn

@@ -3,7 +3,6 @@ pub mod Calm
 pub mod Campaigns
 pub mod Commands
 pub mod Drains
-pub mod Faults
 pub mod Mails
 pub mod Start
 pub mod Steps

@@ -9,8 +9,8 @@ ghost use Rattle.world_law.specs.Book.{IsLegalBook};
 ghost use Rattle.world_rounds.specs.Quiet.{AllRun, IsIn};
 ghost use Rattle.world_rounds.specs.World.{GoesOnBy, IsWorld, book_of};
 
-use crate::fault::WorldFault;
 use crate::world::World;
+use cron_io::OutOfMemory;
 use disk_model::Disk;
 use due_set::JobTable;
 use zone_minutes::Minute;
@@ -20,11 +20,11 @@ const MOST_ROUNDS: u32 = 1 << 31;
 
 impl<D: Disk> World<D> {
     // The replica stands for leader.
-    fn lead(&mut self, table: &JobTable, who: u8) -> Result<(), WorldFault>
-        requires world { IsWorld D.seen D.may_leave D.honest table.now self.old }
+    fn lead(&mut self, table: &JobTable, who: u8) -> Result<(), OutOfMemory>
+        requires world { IsWorld D.seen D.may_leave D.honest D.told table.now self.old }
         requires run { AllRun self.old }
         requires member { who < length self.old.members.items }
-        ensures goes { OnOk result (GoesOnBy D.seen D.may_leave D.honest table.now (Plays (book_of self.old).members (λ situation. Do who Campaign ∷ [])) self.old self.new) }
+        ensures goes { OnOk result (GoesOnBy D.seen D.may_leave D.honest D.told table.now (Plays (book_of self.old).members (λ situation. Do who Campaign ∷ [])) self.old self.new) }
         ensures run { OnOk result (AllRun self.new) }
         ensures members { OnOk result ((book_of self.new).members ≡ (book_of self.old).members) }
         ensures legal { OnErr result (IsLegalBook table.now (book_of self.new)) }
@@ -33,12 +33,12 @@ impl<D: Disk> World<D> {
     }
 
     // The replica stands for leader where it follows, and a round comes after that.
-    fn lead_round(&mut self, table: &JobTable, who: u8, at: Minute) -> Result<(), WorldFault>
-        requires world { IsWorld D.seen D.may_leave D.honest table.now self.old }
+    fn lead_round(&mut self, table: &JobTable, who: u8, at: Minute) -> Result<(), OutOfMemory>
+        requires world { IsWorld D.seen D.may_leave D.honest D.told table.now self.old }
         requires run { AllRun self.old }
         requires member { who < length self.old.members.items }
         requires inside { IsInWindow table.now.window at.0 }
-        ensures goes { OnOk result (GoesOnBy D.seen D.may_leave D.honest table.now (IsDrainRound (book_of self.old).members table.now who at.0) self.old self.new) }
+        ensures goes { OnOk result (GoesOnBy D.seen D.may_leave D.honest D.told table.now (IsDrainRound (book_of self.old).members table.now who at.0) self.old self.new) }
         ensures members { OnOk result ((book_of self.new).members ≡ (book_of self.old).members) }
         ensures legal { OnErr result (IsLegalBook table.now (book_of self.new)) }
     {
@@ -49,12 +49,12 @@ impl<D: Disk> World<D> {
     }
 
     // Rounds of a drain until it is quiet.
-    pub(crate) fn drain(&mut self, table: &JobTable, who: u8, at: Minute) -> Result<(), WorldFault>
-        requires world { IsWorld D.seen D.may_leave D.honest table.now self.old }
+    pub(crate) fn drain(&mut self, table: &JobTable, who: u8, at: Minute) -> Result<(), OutOfMemory>
+        requires world { IsWorld D.seen D.may_leave D.honest D.told table.now self.old }
         requires run { AllRun self.old }
         requires member { who < length self.old.members.items }
         requires inside { IsInWindow table.now.window at.0 }
-        ensures goes { OnOk result (GoesOnBy D.seen D.may_leave D.honest table.now (Drains (book_of self.old).members table.now who at.0) self.old self.new) }
+        ensures goes { OnOk result (GoesOnBy D.seen D.may_leave D.honest D.told table.now (Drains (book_of self.old).members table.now who at.0) self.old self.new) }
         ensures run { OnOk result (AllRun self.new) }
         ensures members { OnOk result ((book_of self.new).members ≡ (book_of self.old).members) }
         ensures legal { OnErr result (IsLegalBook table.now (book_of self.new)) }
@@ -65,16 +65,16 @@ impl<D: Disk> World<D> {
             }
             self.lead_round(table, who, at)?;
         }
-        Err(WorldFault::OutOfMemory)
+        Err(OutOfMemory)
     }
 
     // Settles, and tells which replica leads.
-    pub(crate) fn settle_led(&mut self, table: &JobTable, at: Minute) -> Result<u8, WorldFault>
-        requires world { IsWorld D.seen D.may_leave D.honest table.now self.old }
+    pub(crate) fn settle_led(&mut self, table: &JobTable, at: Minute) -> Result<u8, OutOfMemory>
+        requires world { IsWorld D.seen D.may_leave D.honest D.told table.now self.old }
         requires some { 0 < (book_of self.old).members }
         requires inside { IsInWindow table.now.window at.0 }
-        ensures goes { OnOk result (GoesOnBy D.seen D.may_leave D.honest table.now (Settles (book_of self.old).members table.now at.0) self.old self.new) }
-        ensures leads { IfOk result (λ who. (situation : Situation) → IsIn D.seen D.may_leave D.honest table.now self.old situation
+        ensures goes { OnOk result (GoesOnBy D.seen D.may_leave D.honest D.told table.now (Settles (book_of self.old).members table.now at.0) self.old self.new) }
+        ensures leads { IfOk result (λ who. (situation : Situation) → IsIn D.seen D.may_leave D.honest D.told table.now self.old situation
             → who ≡ coordinator (book_of self.old).members situation) }
         ensures member { IfOk result (λ who. who < length self.new.members.items) }
         ensures run { OnOk result (AllRun self.new) }
@@ -93,13 +93,12 @@ impl<D: Disk> World<D> {
     ///
     /// # Errors
     ///
-    /// A fault of a disk, and want of memory, also where it isn't quiet after 2^31 rounds. The world takes no more calls then,
-    /// and its book is legal.
-    pub fn settle(&mut self, table: &JobTable, at: Minute) -> Result<(), WorldFault>
-        requires world { IsWorld D.seen D.may_leave D.honest table.now self.old }
+    /// Want of memory, also where it isn't quiet after 2^31 rounds. The world takes no more calls then, and its book is legal.
+    pub fn settle(&mut self, table: &JobTable, at: Minute) -> Result<(), OutOfMemory>
+        requires world { IsWorld D.seen D.may_leave D.honest D.told table.now self.old }
         requires some { 0 < (book_of self.old).members }
         requires inside { IsInWindow table.now.window at.0 }
-        ensures goes { OnOk result (GoesOnBy D.seen D.may_leave D.honest table.now (Settles (book_of self.old).members table.now at.0) self.old self.new) }
+        ensures goes { OnOk result (GoesOnBy D.seen D.may_leave D.honest D.told table.now (Settles (book_of self.old).members table.now at.0) self.old self.new) }
         ensures members { OnOk result ((book_of self.new).members ≡ (book_of self.old).members) }
         ensures legal { OnErr result (IsLegalBook table.now (book_of self.new)) }
     {
