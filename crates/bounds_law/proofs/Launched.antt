@@ -46,7 +46,7 @@ day_near window zone now date inside is =
     }
 
 -- a launch that may be started is of an instant of the window, or on a day near it
-start_near : (table : Table) (job : ℕ) (row : JobRow) (at now : ℤ) → MayStart table job row at now → IsTimeNear table.window (job_kind table job) at
+pub start_near : (table : Table) (job : ℕ) (row : JobRow) (at now : ℤ) → MayStart table job row at now → IsTimeNear table.window (job_kind table job) at
 start_near table job row at now (inl (next, come)) =
     subst (λ kind. IsTimeNear table.window kind at) (sym (ap kind_of next.due.is_in.is_job ∙ next.due.kind)) next.due.inside
 start_near table job row at now (inr opens) =

@@ -1,2 +1,5 @@
+pub mod Again
+pub mod Altering
 pub mod Changes
+pub mod Honest
 pub mod Said

@@ -7,7 +7,7 @@ ghost use Rattle.cron_serve.specs.Input.{IsTaken, IsTakenFrame, IsRefusedAsRun, 
 use crate::text::as_text;
 use due_set::JobTable;
 use job_table::build_table;
-use run_text::{RunFault, RunFile, read_frame, read_run};
+use run_text::{Player, RunFault, RunFile, read_frame, read_run};
 use std::alloc::Global;
 
 /// The table of the jobs of an input that was read.
@@ -22,7 +22,7 @@ pub fn take_table(alloc: Global, bytes: &[u8]) -> Result<JobTable, RunFault>
     ensures refused { IfErr result (λ fault. IfRefused fault (IsRefusedAsRun bytes.now)) }
 {
     let text = as_text(bytes)?;
-    let run = read_run(alloc, text)?;
+    let run = read_run(alloc, text, Player::Clerk)?;
     build_table(alloc, &run)
 }
 
@@ -39,5 +39,5 @@ pub fn take_frame(alloc: Global, bytes: &[u8]) -> Result<RunFile<'_>, RunFault>
     ensures refused { IfErr result (λ fault. IfRefused fault (IsRefusedAsFrame bytes.now)) }
 {
     let text = as_text(bytes)?;
-    read_frame(alloc, text)
+    read_frame(alloc, text, Player::Clerk)
 }

@@ -17,8 +17,8 @@ use std::alloc::Global;
 use std::process::Abort;
 use std::test::*;
 
-// What a disk keeps: the round that was tried, the promise (0 is none), how many votes, and the base.
-type Kept = (u64, u64, usize, u64);
+/// What a disk keeps: the round that was tried, the promise (0 is none), how many votes, and the base.
+pub type Kept = (u64, u64, usize, u64);
 
 // A step of a node that is fresh, or that was told something before. The last two of the calls that save its change make it
 // safe: they open the gate of a record, or write the chooser's byte, and these images show that byte as it is to be.
@@ -129,7 +129,8 @@ fn step_armed(
     }
 }
 
-fn handle_armed(
+/// A node whose disk is armed does a step, and is reopened where that is stopped.
+pub fn handle_armed(
     rt: &impl Abort,
     alloc: Global,
     table: &JobTable,
@@ -192,7 +193,8 @@ fn end_of(step: &Step, arm: (u32, u32)) -> End {
     }
 }
 
-fn kept_on(alloc: Global, disk: &mut MemDisk) -> Result<Kept, Fail> {
+/// What the disk keeps.
+pub fn kept_on(alloc: Global, disk: &mut MemDisk) -> Result<Kept, Fail> {
     let found = found_on(alloc, disk)?;
     let promised = found.promised.map_or(0, |ballot| ballot.number());
     Ok((found.tried, promised, found.votes.items.len(), found.base))

@@ -15,7 +15,7 @@ use std::test::*;
 use zone_minutes::{Minute, Window};
 
 // An hour of 2024.
-const HOUR: Window = Window {
+pub const HOUR: Window = Window {
     from: Minute(28_530_720),
     until: Minute(28_530_780),
 };

@@ -70,20 +70,24 @@ module _ (jobs : ℕ) (area : FileNo) (before found now : Durable) (change : Del
   is_change keeps (inr none) =
       absurd (facts.lost none (sym facts.same ∙ files_stand_for_one jobs image now (after_delta change before) stand (left.saved keeps)))
 
-  is_none : (KeepsChange area change arm → ⊥) → (after_delta change before ≡ before → ⊥) → (answer ≡ Some change) ⊎ (answer ≡ None) → answer ≡ None
-  is_none loses differs (inl is) =
+  is_none : (KeepsChange area change arm → ⊥) → (answer ≡ Some change) ⊎ (answer ≡ None) → (answer ≡ None) ⊎ (after_delta change before ≡ before)
+  is_none loses (inl is) =
       let after : now ≡ after_delta change before = kept ∙ ap (λ (a : Option Delta). kept_after a before) is in
-      absurd (differs (sym after ∙ files_stand_for_one jobs image now before stand (left.lost loses)))
-  is_none loses differs (inr none) = none
+      inr (sym after ∙ files_stand_for_one jobs image now before stand (left.lost loses))
+  is_none loses (inr none) = inl none
 
   answer_by_arm : (answer ≡ Some change) ⊎ (answer ≡ None) → IsAnsweredByArm area before change arm answer
   answer_by_arm either =
       record {
         saved = λ keeps. is_change keeps either;
-        lost = λ loses differs. is_none loses differs either;
+        lost = λ loses. is_none loses either;
       }
 
 pub tells_answer : (jobs : ℕ) (area : FileNo) (before found now : Durable) (change : Delta) (arm : Arm) (answer : Option Delta) (told : Option Told) → Reopens jobs before found now change answer → now ≡ kept_after answer before
     → ((one : Told) → told ≡ Some one → FilesStand jobs now (image_left one)) → (answer ≡ Some change) ⊎ (answer ≡ None) → LeavesByArm jobs area before change arm told → IsAnsweredByArm area before change arm answer
 tells_answer jobs area before found now change arm answer None facts kept stand either left = absurd left
 tells_answer jobs area before found now change arm answer (Some told) facts kept stand either left = answer_by_arm jobs area before found now change arm answer (image_left told) facts kept (stand told refl) left either
+
+-- a change that alters what was kept is answered where the disk keeps it, and nowhere else
+pub lost_answer : (area : FileNo) (kept : Durable) (change : Delta) (arm : Arm) (answer : Option Delta) → IsAnsweredByArm area kept change arm answer → (after_delta change kept ≡ kept → ⊥) → (KeepsChange area change arm → ⊥) → answer ≡ None
+lost_answer area kept change arm answer answered alters loses = elim (answered.lost loses) [ inl none ↦ none | inr same ↦ absurd (alters same) ]

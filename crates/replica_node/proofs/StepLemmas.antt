@@ -7,14 +7,16 @@ use Rattle.paxos_base.specs.Rows.{RowsStand}
 use Rattle.paxos_base.specs.declared.durable.Delta.{Delta}
 use Rattle.paxos_base.specs.declared.durable.Durable.{Durable}
 use Rattle.paxos_base.specs.declared.rows.JobRow.{JobRow}
-use Rattle.step_law.specs.Act.{Act, Observe, Stand, Gather, TakeLead, Pledge, Cast, Propose, Count, Wait, Learn, Rebase, Call, Send, Restart, after_act}
+use Rattle.step_law.specs.Act.{Act}
 use Rattle.step_law.specs.Coherent.{IsCoherent}
-use Rattle.step_law.specs.Folds.{after_acts, deltas_by, deltas_of}
+use Rattle.step_law.specs.Folds.{after_acts, deltas_of}
 use Rattle.step_law.specs.State.{State, prefix_of}
 use Rattle.step_law.specs.Step.{Event, IsPlanned, step}
 use Rattle.step_law.specs.Step as told
 use Rattle.store_format.specs.Order.{ChangeMayFollow, after_deltas}
 use Rattle.change_law.specs.Changes.{BaseMayFollow}
+use Rattle.change_law.specs.Anew.{ProposesAnew}
+use Rattle.change_law.proofs.Altering.{Alters, change_alters, kept_by_acts}
 use Rattle.change_law.proofs.Changes.{changes_follow}
 use Rattle.change_law.proofs.Said.{setting_of, step_may_be_done}
 use Rattle.replica_draft.specs.Draft.{Desk, delta_of, deltas_in}
@@ -28,25 +30,6 @@ use Rattle.replica_core.specs.declared.input.Input.TheVariants.{Campaign, Tick, 
 use Rattle.replica_core.specs.declared.replica.Planned.{Planned}
 
 -- ---- what is kept after a step
-
--- what acts leave is what their changes do, one after another
-kept_by_acts : (acts : List Act) (state : State) → (after_acts acts state).kept ≡ after_deltas (deltas_of acts) state.kept
-unfolding after_act deltas_by
-kept_by_acts [] state = refl
-kept_by_acts (Observe ballot ∷ acts) state = kept_by_acts acts (after_act (Observe ballot) state)
-kept_by_acts (Stand me ballot ∷ acts) state = kept_by_acts acts (after_act (Stand me ballot) state)
-kept_by_acts (Gather from votes ∷ acts) state = kept_by_acts acts (after_act (Gather from votes) state)
-kept_by_acts (TakeLead ∷ acts) state = kept_by_acts acts (after_act TakeLead state)
-kept_by_acts (Pledge ballot ∷ acts) state = kept_by_acts acts (after_act (Pledge ballot) state)
-kept_by_acts (Cast vote ∷ acts) state = kept_by_acts acts (after_act (Cast vote) state)
-kept_by_acts (Propose me vote ∷ acts) state = kept_by_acts acts (after_act (Propose me vote) state)
-kept_by_acts (Count from ∷ acts) state = kept_by_acts acts (after_act (Count from) state)
-kept_by_acts (Wait ∷ acts) state = kept_by_acts acts (after_act Wait state)
-kept_by_acts (Learn slot entry ∷ acts) state = kept_by_acts acts (after_act (Learn slot entry) state)
-kept_by_acts (Rebase slot rows ∷ acts) state = kept_by_acts acts (after_act (Rebase slot rows) state)
-kept_by_acts (Call row ∷ acts) state = kept_by_acts acts (after_act (Call row) state)
-kept_by_acts (Send whom message ∷ acts) state = kept_by_acts acts (after_act (Send whom message) state)
-kept_by_acts (Restart me ∷ acts) state = kept_by_acts acts (after_act (Restart me) state)
 
 kept_by_delta : (delta : Option Delta) (kept : Durable) → after_deltas (option_to_list delta) kept ≡ kept_after delta kept
 kept_by_delta None kept = refl
@@ -113,3 +96,10 @@ change_follows table input old now planned delta change few coherent of_table al
     subst (λ (state : State). ChangeMayFollow (length table.jobs) state.kept change) (sym alike.state)
     (changes_follow (setting_of old.identity table plans.event) (length table.jobs) acts old.state change coherent (step_may_be_done old.identity table plans.event old.state few coherent planned_event) one
     (subst (λ (state : State). BaseMayFollow (length table.jobs) state.kept change) alike.state may))
+
+-- it alters what the replica keeps, where the replica proposes anew
+pub planned_alters : (old now : ReplicaState) (event : Event) (delta : Option Delta) (change : Delta) → old.identity.me < 8 → IsAlike now old → deltas_of (step old.identity event old.state) ≡ option_to_list delta → delta ≡ Some change
+    → ProposesAnew now.state → Alters now.state.kept change
+planned_alters old now event delta change few alike told is =
+    let one : deltas_of (step old.identity event old.state) ≡ change ∷ [] = told ∙ ap (λ (d : Option Delta). option_to_list d) is in
+    subst (λ (state : State). ProposesAnew state → Alters state.kept change) (sym alike.state) (λ anew. change_alters old.identity event old.state change few anew one)

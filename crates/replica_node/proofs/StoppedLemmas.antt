@@ -9,6 +9,8 @@ use Rattle.disk_model.specs.Told.{HasStopped, Tells, Told}
 use Rattle.due_set.specs.Table.{Table}
 use Rattle.paxos_base.specs.declared.durable.Delta.{Delta}
 use Rattle.store_format.specs.Order.{ChangeMayFollow}
+use Rattle.change_law.specs.Anew.{ProposesAnew}
+use Rattle.change_law.proofs.Altering.{Alters}
 use Rattle.step_law.specs.Folds.{deltas_of}
 use Rattle.step_law.specs.Step.{step}
 use Rattle.replica_core.specs.Commit.{kept_after}
@@ -45,11 +47,12 @@ tells_stopped calls result (Some old) (Some new) some is tells =
 pub stopped_within : {D : Type 0} (may_leave : D → Image → Type 0) (honest : D → Type 0) (told : D → Option Told) (table : Table) (input : Input) (old : ReplicaState) (node : ANode D) (planned : Planned) (delta : Option Delta)
     → runs_in node ≡ false → cut_short node ≡ Some planned → IsAlike (replica_of node) old → IsOfTable table old → IsSmall old.state old.machine.rows → CanTake table (replica_of node) planned
     → (plans : PlansStep table input old planned) → deltas_of (step old.identity plans.event old.state) ≡ option_to_list delta → IsSome delta
-    → ((change : Delta) → delta ≡ Some change → ChangeMayFollow (length table.jobs) (replica_of node).state.kept change) → HasStopped (told (disk_of node))
+    → ((change : Delta) → delta ≡ Some change → ChangeMayFollow (length table.jobs) (replica_of node).state.kept change)
+    → ((change : Delta) → delta ≡ Some change → ProposesAnew (replica_of node).state → Alters (replica_of node).state.kept change) → HasStopped (told (disk_of node))
     → (honest (disk_of node) → IsRecoverable (length table.jobs) (replica_of node).state.kept (kept_after delta (replica_of node).state.kept) (may_leave (disk_of node)))
     → IsStoppedWithin may_leave honest told table input old node
-stopped_within may_leave honest told table input old node planned None ended cut alike of_table small can plans changes some follows stopped recoverable = absurd (cc some)
-stopped_within may_leave honest told table input old node planned (Some change) ended cut alike of_table small can plans changes some follows stopped recoverable =
+stopped_within may_leave honest told table input old node planned None ended cut alike of_table small can plans changes some follows alters stopped recoverable = absurd (cc some)
+stopped_within may_leave honest told table input old node planned (Some change) ended cut alike of_table small can plans changes some follows alters stopped recoverable =
     record {
       stop = record {
         ended = ended;
@@ -64,6 +67,7 @@ stopped_within may_leave honest told table input old node planned (Some change) 
           plans = plans_alike old (replica_of node) (step old.identity plans.event old.state) planned alike plans.plans;
           changes = changes;
           follows = follows change refl;
+          alters = alters change refl;
         };
         stopped = stopped;
         recoverable = recoverable;

@@ -1,5 +1,5 @@
 -- Whether a step's change is kept, where an armed disk stops within its save.
-use Rattle.std.specs.Prelude.{◌≡◌, ◌≤◌, ◌+◌, ℕ, false, Option, None, Some, IsSomeAnd}
+use Rattle.std.specs.Prelude.{◌≡◌, ◌≤◌, ◌+◌, ◌⊎◌, ℕ, false, Option, None, Some, IsSomeAnd}
 use Rattle.disk_model.specs.declared.armed.Arm.{Arm}
 use Rattle.disk_model.specs.declared.fault.FileNo.{FileNo}
 use Rattle.disk_model.specs.declared.fault.FileNo.TheVariants.{Chooser}
@@ -73,7 +73,7 @@ pub record IsKeptByArm (jobs : ℕ) (area : FileNo) (kept : Durable) (change : D
 abbrev pub LeavesByArm : ℕ → FileNo → Durable → Delta → Arm → Option Told → Type 0
 LeavesByArm jobs area kept change arm told = IsSomeAnd told (λ now. IsKeptByArm jobs area kept change arm (image_left now))
 
--- The answer is the change where the disk keeps it, and else none, but where the change sets nothing else than what was kept.
+-- The answer is the change where the disk keeps it, and else none, but where what was kept is the same with the change.
 pub record IsAnsweredByArm (area : FileNo) (kept : Durable) (change : Delta) (arm : Arm) (answer : Option Delta) : Type 0 where
   pub saved : KeepsChange area change arm → answer ≡ Some change
-  pub lost : (KeepsChange area change arm → ⊥) → (after_delta change kept ≡ kept → ⊥) → answer ≡ None
+  pub lost : (KeepsChange area change arm → ⊥) → (answer ≡ None) ⊎ (after_delta change kept ≡ kept)

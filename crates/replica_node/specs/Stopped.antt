@@ -1,11 +1,12 @@
 -- A node that was stopped within the save of a step's change, and what a node that is reopened says of it.
-use Rattle.std.specs.Prelude.{◌≡◌, false, Option, None, Some, Result, Ok, Err, List, [], ◌∷◌, length, IfSome}
+use Rattle.std.specs.Prelude.{◌≡◌, ◌≢◌, false, Option, None, Some, Result, Ok, Err, List, [], ◌∷◌, length, IfSome}
 use Rattle.disk_model.specs.Images.{Image}
 use Rattle.disk_model.specs.Told.{Told, HasStopped}
 use Rattle.due_set.specs.Table.{Table}
 use Rattle.paxos_base.specs.Durable.{after_delta}
 use Rattle.paxos_base.specs.declared.durable.Delta.{Delta}
 use Rattle.store_format.specs.Order.{ChangeMayFollow}
+use Rattle.change_law.specs.Anew.{ProposesAnew}
 use Rattle.step_law.specs.Act.{Act}
 use Rattle.step_law.specs.Folds.{deltas_of}
 use Rattle.replica_core.specs.Replica.{IsSmall, ReplicaState}
@@ -21,7 +22,8 @@ use Rattle.replica_node.specs.declared.node.Node.{Node}
 abbrev pub cut_short : {D : Type 0} → Node D → Option Planned
 cut_short node = node.stopped
 
--- a replica has planned a step that makes this one change, and can take it
+-- A replica has planned a step that makes this one change, and can take it. The change alters what is kept, unless it is a vote that
+-- a leader has cast before it proposes it.
 pub record HasPlanned (table : Table) (replica : ReplicaState) (planned : Planned) (change : Delta) : Type 0 where
   pub of_table : IsOfTable table replica
   pub small : IsSmall replica.state replica.machine.rows
@@ -30,6 +32,7 @@ pub record HasPlanned (table : Table) (replica : ReplicaState) (planned : Planne
   pub plans : Plans replica acts planned
   pub changes : deltas_of acts ≡ change ∷ []
   pub follows : ChangeMayFollow (length table.jobs) replica.state.kept change
+  pub alters : ProposesAnew replica.state → after_delta change replica.state.kept ≢ replica.state.kept
 
 -- A node was stopped within the save of a step's change: it doesn't run, its replica is as before the step, its disk tells that it
 -- has stopped, and a replica can go on from there with what is kept before the change or after it.

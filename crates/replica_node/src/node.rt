@@ -11,6 +11,7 @@ ghost use Rattle.paxos_base.specs.Durable.{after_delta};
 ghost use Rattle.paxos_base.specs.declared.durable.Delta.{Delta};
 ghost use Rattle.paxos_base.specs.declared.durable.Durable.{Durable};
 ghost use Rattle.paxos_letter.specs.declared.fault.LetterFault.{LetterFault};
+ghost use Rattle.change_law.specs.Anew.{ProposesAnew};
 ghost use Rattle.step_law.specs.State.{started};
 ghost use Rattle.store_format.specs.Area.{IsFirstRecordAtFault};
 ghost use Rattle.store_format.specs.Order.{ChangeMayFollow};
@@ -21,7 +22,7 @@ ghost use Rattle.replica_store.specs.Files.{selected, FilesStand, FilesStandForE
 ghost use Rattle.replica_store.specs.Store.{area_of, jobs_of, StoreKeeps, IsStoreSettled};
 ghost use Rattle.replica_node.specs.declared.fault.NodeFault.TheVariants.{Stopped, OutOfMemory, Damaged, Letter};
 ghost use Rattle.replica_node.specs.Faults.{of_disk, EndsRun, HasNodeAnswer, IsRefused, letter_told};
-ghost use Rattle.replica_node.specs.Kept.{area_for, calls_of, IsAnsweredByArm, IsSynced, LeavesByArm};
+ghost use Rattle.replica_node.specs.Kept.{area_for, calls_of, IsAnsweredByArm, IsSynced, KeepsChange, LeavesByArm};
 
 use crate::fault::NodeFault;
 use crate::reopen::{attach_stopped, take_kept};
@@ -306,10 +307,14 @@ impl<D: ArmedDisk> Node<D> {
         ensures lost { (stop : IsStopped D.may_leave D.honest D.told table.now self) → D.honest (disk_of self)
             → IfOk result (λ found. found.1 ≡ None
             → FilesStand (length table.now.jobs) (after_delta stop.change (replica_of self).state.kept) (D.seen (disk_of found.0)) → ⊥) }
-        // Where the numbers that the disk was armed with say whether the stop kept the change, they decide the answer.
+        // Where the numbers that the disk was armed with say whether the stop kept the change, they decide the answer: where they
+        // don't keep it, it is none, but for a vote that a leader casts again.
         ensures answer_by_arm { (stop : IsStopped D.may_leave D.honest D.told table.now self) (area : FileNo) (arm : Arm) → D.honest (disk_of self)
             → LeavesByArm (length table.now.jobs) area (replica_of self).state.kept stop.change arm (D.told (disk_of self))
             → IfOk result (λ found. IsAnsweredByArm area (replica_of self).state.kept stop.change arm found.1) }
+        ensures lost_by_arm { (stop : IsStopped D.may_leave D.honest D.told table.now self) (area : FileNo) (arm : Arm) → D.honest (disk_of self)
+            → LeavesByArm (length table.now.jobs) area (replica_of self).state.kept stop.change arm (D.told (disk_of self))
+            → ProposesAnew (replica_of self).state → (KeepsChange area stop.change arm → ⊥) → IfOk result (λ found. found.1 ≡ None) }
         ensures recoverable { D.honest (disk_of self) → IfOk result (λ found. IsRecoverable (length table.now.jobs) (replica_of found.0).state.kept (replica_of found.0).state.kept
             (D.may_leave (disk_of found.0))) }
 

@@ -5,3 +5,4 @@ pub mod OrderLemmas
 pub mod OneOrder
 pub mod ListingLemmas
 pub mod CountLaws
+pub mod BookLemmas

@@ -1,5 +1,5 @@
 //! Laws of a report. Each is the contract of a function that does nothing.
-ghost use Rattle.std.specs.Prelude.{◌≡◌, ◌↔◌, ℕ, ℤ, List, Contains, length};
+ghost use Rattle.std.specs.Prelude.{◌≡◌, ◌↔◌, ◌≤◌, ℕ, ℤ, List, None, Contains, length};
 ghost use Rattle.due_set.specs.Due.{IsRising};
 ghost use Rattle.due_set.specs.Table.{Table, IsJobDueList, IsRunByPeriod};
 ghost use Rattle.cluster_sched.specs.Held.{AreNamedOnce};
@@ -7,6 +7,10 @@ ghost use Rattle.cluster_sched.specs.declared.row.SchedRow.{SchedRow};
 ghost use Rattle.launch_law.specs.Launched.{LaunchesEachDue, OpensBy};
 ghost use Rattle.paxos_base.specs.declared.entry.Kind.{Kind};
 ghost use Rattle.paxos_base.specs.declared.entry.Kind.TheVariants.{Launch, Void};
+ghost use Rattle.book_law.specs.Book.{Row};
+ghost use Rattle.fits_law.specs.Fitting.{held_in};
+ghost use Rattle.world_law.specs.Book.{BookState, StandsBehind};
+ghost use Rattle.report_text.specs.Book.{IsBookReport};
 ghost use Rattle.report_text.specs.Listing.{instants_of, rows_of};
 ghost use Rattle.report_text.specs.Report.{IsInOrder, IsReport, count_of_kind};
 
@@ -40,4 +44,15 @@ pub fn a_report_counts_what_it_lists()
     ensures launched { (table : Table) (held : List SchedRow) (job : ℕ) (dues : List ℤ) → AreNamedOnce held → LaunchesEachDue table held
         → (IsRunByPeriod table job → ⊥) → IsJobDueList table job dues → count_of_kind held job Launch ≡ length dues }
     ensures void { (table : Table) (held : List SchedRow) (job : ℕ) → LaunchesEachDue table held → count_of_kind held job Void ≡ 0 }
+{}
+
+/// A book of one to seven replicas has one report at most. Whichever rows stand behind the book, it is over what the scheduler holds
+/// after them; and where no call is pending, over what the book's ledger holds.
+pub fn a_book_has_one_report()
+    ensures one { (table : Table) (book : BookState) (a b : List ℕ) → book.members ≤ 7 → IsBookReport table book a → IsBookReport table book b
+        → a ≡ b }
+    ensures rows { (table : Table) (book : BookState) (rows : List Row) (text : List ℕ) → StandsBehind table rows book
+        → IsBookReport table book text → IsReport table book.members (held_in book.members table rows) text }
+    ensures ledger { (table : Table) (book : BookState) (text : List ℕ) → book.pending ≡ None → IsBookReport table book text
+        → IsReport table book.members book.ledger.held text }
 {}

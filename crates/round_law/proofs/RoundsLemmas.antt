@@ -52,7 +52,7 @@ rounds_stand members table at (suc more) book rows situation after parts is =
     ∙ ap (standing_after members (first_rows table)) (append_assoc book parts.front parts.back ∙ ap (λ list. book ++ list) (sym parts.parts))
 
 -- a front of a book is within the limits of the book
-front_bounds : (members : ℕ) (table : Table) (book rows : List Row) → IsWithinBounds (book ++ rows) (standing_after members (first_rows table) (book ++ rows)).posted
+pub front_bounds : (members : ℕ) (table : Table) (book rows : List Row) → IsWithinBounds (book ++ rows) (standing_after members (first_rows table) (book ++ rows)).posted
     → IsWithinBounds book (standing_after members (first_rows table) book).posted
 front_bounds members table book rows bounds =
     let long = length-append book rows in

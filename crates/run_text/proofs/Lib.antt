@@ -7,6 +7,7 @@ mod PhraseLemmas
 mod PartLemmas
 mod SectionLemmas
 pub mod SoundLemmas
+mod ScriptLemmas
 mod StepLemmas
 mod TableLemmas
 pub mod UniqueLemmas

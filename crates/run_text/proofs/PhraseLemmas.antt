@@ -5,7 +5,7 @@ use Rattle.std.specs.Str.Pattern.{FindsTextPrefix, StripsPrefix}
 use Rattle.std.proofs.lemmas.Str.Pattern.{IsSplitOnceResult, split_parts}
 use Rattle.std.proofs.lemmas.List.{append_cancel_left}
 use Rattle.std.proofs.lemmas.Fmt.{decimal_injective}
-use Rattle.run_text.specs.Grammar.{IsLabelStart, IsLabelByte, IsLabel, IsZoneByte, IsZoneName, replicas_line, IsGraceLine, section_word, IsSectionLine, HasSectionWord}
+use Rattle.run_text.specs.Grammar.{IsLabelStart, IsLabelByte, IsLabel, IsZoneByte, IsZoneName, replicas_line, IsReplicasLine, IsGraceLine, section_word, IsSectionLine, HasSectionWord}
 use Rattle.run_text.specs.declared.run.SectionKind.{SectionKind}
 use Rattle.run_text.specs.declared.run.SectionKind.TheVariants.{User, System, Anacron}
 use Rattle.run_text.proofs.ListLemmas.{Lacks, Lacks-from_get_or, same_cut, lacks_none}
@@ -96,6 +96,9 @@ section_from_parts line kind label zone count word rest last number first second
 -- one number of replicas stands in a line
 pub one_replicas_line : (a b : ℕ) → a ≤ 7 → b ≤ 7 → replicas_line a ≡ replicas_line b → a ≡ b
 one_replicas_line a b small short same = decimal_injective a b (omega arith) (omega arith) (append_cancel_left (codes "replicas ") (decimal a) (decimal b) same)
+
+pub one_members : (line : List ℕ) (a b : ℕ) → IsReplicasLine line a → IsReplicasLine line b → a ≡ b
+one_members line a b first second = one_replicas_line a b first.few second.few (sym first.is ∙ second.is)
 
 -- one number of minutes stands in a grace line
 pub one_grace_line : (line : List ℕ) (a b : ℕ) → IsGraceLine line a → IsGraceLine line b → a ≡ b

@@ -10,6 +10,12 @@ use Rattle.run_text.specs.declared.run.SectionKind.TheVariants.{User, System, An
 abbrev pub replicas_line : ℕ → List ℕ
 replicas_line members = codes "replicas " ++ decimal members
 
+-- the line names a number of replicas, from 1 to 7
+pub record IsReplicasLine (line : List ℕ) (members : ℕ) : Type 0 where
+  pub is : line ≡ replicas_line members
+  pub some : 1 ≤ members
+  pub few : members ≤ 7
+
 -- the line names a window within the limits
 pub record IsWindowLine (line : List ℕ) (window : Window) : Type 0 where
   pub is : line ≡ window_line window
@@ -68,7 +74,7 @@ first_word (c ∷ cs) = if c == 32 then [] else c ∷ first_word cs
 abbrev pub HasSectionWord : List ℕ → Type 0
 HasSectionWord line = (kind : SectionKind) × (first_word line ≡ section_word kind)
 
--- a word of the script's commands, none of which has a form yet
+-- the word of a command of the script
 pub data IsCommandWord (word : List ℕ) : Type 0 where
   round : word ≡ codes "round" → IsCommandWord word
   campaign : word ≡ codes "campaign" → IsCommandWord word

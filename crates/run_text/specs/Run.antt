@@ -1,10 +1,11 @@
--- A run: how many replicas there are, a window of time, the zones under their names, and the tables of jobs.
+-- A run: how many replicas there are, a window of time, the zones under their names, the tables of jobs, and a script.
 use Rattle.std.specs.Prelude.{ℕ, List, ◌++◌, ◌∷◌, [], map, Result, Ok, Err}
 use Rattle.hex.specs.Hex.{decode_of}
 use Rattle.hex.specs.declared.error.FromHexError.{FromHexError}
 use Rattle.zone_minutes.specs.Zone.{Source, FixedOffset, PosixRule, TzifFile}
 use Rattle.zone_minutes.specs.declared.minute.Window.{Window}
 use Rattle.crontab_text.specs.Lines.{lines_of}
+use Rattle.script_text.specs.declared.command.Command.{Command}
 use Rattle.run_text.specs.declared.run.SectionKind.{SectionKind}
 use Rattle.run_text.specs.declared.run.Section.{Section as SectionText}
 use Rattle.run_text.specs.declared.run.ZoneText.{ZoneText}
@@ -33,10 +34,11 @@ pub record Run : Type 0 where
   pub grace : ℕ
   pub zones : List NamedZone
   pub sections : List Section
+  pub commands : List Command
 
--- a run of no job
+-- a run of no job and no command
 abbrev pub run_with : ℕ → Window → ℕ → Run
-run_with members window grace = record { members = members; window = window; grace = grace; zones = []; sections = [] }
+run_with members window grace = record { members = members; window = window; grace = grace; zones = []; sections = []; commands = [] }
 
 -- the section with more lines at its end
 abbrev pub with_lines : Section → List (List ℕ) → Section
@@ -70,6 +72,14 @@ with_zone run zone = with_zones run (zone ∷ [])
 abbrev pub with_parts : Run → List NamedZone → List Section → Run
 with_parts run zones sections = with_sections (with_zones run zones) sections
 
+-- the run with more commands at the end of its script
+abbrev pub with_commands : Run → List Command → Run
+with_commands run commands = record run { commands = run.commands ++ commands }
+
+-- the run with a command more at the end of its script
+abbrev pub with_command : Run → Command → Run
+with_command run command = with_commands run (command ∷ [])
+
 -- what the program's values of a run stand for
 abbrev pub section_of : SectionText → Section
 section_of section =
@@ -95,4 +105,5 @@ run_of run = record {
   grace = run.grace;
   zones = map zone_of run.zones.items;
   sections = map section_of run.sections.items;
+  commands = run.commands.items;
 }

@@ -2,10 +2,14 @@
 use Rattle.std.specs.Prelude.{◌≡◌, ◌⊎◌, ℕ, ◌+◌, ◌<◌, ◌≤◌, ◌^◌, List, [], ◌∷◌, ◌++◌, length, map, ⊤}
 use Rattle.std.specs.Borrow.{Bor}
 use Rattle.crontab_text.specs.Lines.{lines_of}
-use Rattle.run_text.specs.Follow.{Above, Nothing, Sections, IsOfLine, inside}
+use Rattle.script_text.specs.Script.{IsLeftBy}
+use Rattle.script_text.specs.declared.command.Command.{Command}
+use Rattle.script_text.specs.declared.limits.Limits.{Limits}
+use Rattle.run_text.specs.Follow.{Above, Nothing, Sections, Script, IsOfLine, inside}
 use Rattle.run_text.specs.Reading.{ReadsFrom, RefusesFrom, HasDigits}
-use Rattle.run_text.specs.Run.{NamedZone, Run, section_of, zone_of, opened, with_section, with_zone, with_parts}
+use Rattle.run_text.specs.Run.{NamedZone, Run, section_of, zone_of, opened, with_section, with_zone, with_parts, with_command}
 use Rattle.run_text.specs.Zones.{names_of}
+use Rattle.run_text.specs.declared.head.Head.{Head}
 use Rattle.run_text.specs.declared.opening.Opening.{Opening}
 use Rattle.run_text.specs.declared.part.Part.{Part}
 use Rattle.run_text.specs.declared.part.Part.TheVariants.{Zone as ZonePart, Section as SectionPart}
@@ -15,7 +19,7 @@ use Rattle.run_text.specs.declared.refusal.Refusal.{Refusal}
 use Rattle.run_text.specs.declared.refusal.RunFault.{RunFault}
 use Rattle.run_text.specs.declared.refusal.RunFault.TheVariants.{Refused, OutOfMemory}
 use Rattle.run_text.specs.declared.run.Section.{Section as SectionText}
-use Rattle.run_text.specs.declared.table.Tables.{Tables}
+use Rattle.run_text.specs.declared.rules.Rules.{Rules}
 use Rattle.cron_fields.specs.Cause.{cause_number}
 use Rattle.cron_fields.specs.declared.cause.Cause.TheVariants.{BadSection}
 
@@ -34,13 +38,13 @@ abbrev pub place_of : Reader → Above → Place
 place_of reader above = record { number = reader.number + 1; above = above; rest = reader.rest.now }
 
 -- the text is refused from that place on
-abbrev pub RefusedFrom : Tables → Place → Refusal → Type 0
-RefusedFrom tables place refusal = RefusesFrom tables place.number place.above (lines_of place.rest) refusal
+abbrev pub RefusedFrom : Rules → Place → Refusal → Type 0
+RefusedFrom rules place refusal = RefusesFrom rules place.number place.above (lines_of place.rest) refusal
 
 -- what is read or refused from the later place on is so from the earlier one on
-pub record LeadsTo (tables : Tables) (from to : Place) : Type 0 where
-  pub reads : (run : Run) → ReadsFrom tables to.number to.above (lines_of to.rest) run → ReadsFrom tables from.number from.above (lines_of from.rest) run
-  pub refuses : (refusal : Refusal) → RefusedFrom tables to refusal → RefusedFrom tables from refusal
+pub record LeadsTo (rules : Rules) (from to : Place) : Type 0 where
+  pub reads : (run : Run) → ReadsFrom rules to.number to.above (lines_of to.rest) run → ReadsFrom rules from.number from.above (lines_of from.rest) run
+  pub refuses : (refusal : Refusal) → RefusedFrom rules to refusal → RefusedFrom rules from refusal
 
 -- the lines that are left can be counted
 abbrev pub HasRoom : Reader → Type 0
@@ -66,15 +70,15 @@ abbrev pub IsWhole : Reader → Opening → Type 0
 IsWhole reader opening = opening.count ≤ length (lines_of reader.rest.now)
 
 -- the reader passed the lines of a section
-pub record PassesTable (tables : Tables) (old new : Reader) (opening : Opening) (section : SectionText) : Type 0 where
+pub record PassesTable (rules : Rules) (old new : Reader) (opening : Opening) (section : SectionText) : Type 0 where
   pub whole : IsWhole old opening
-  pub leads : (run : Run) → LeadsTo tables (place_of old (at_table old opening run)) (place_of new (Sections (with_section run (section_of section))))
+  pub leads : (run : Run) → LeadsTo rules (place_of old (at_table old opening run)) (place_of new (Sections (with_section run (section_of section))))
 
 -- the reader found too few lines for a section, or a line that is none of a table
-abbrev pub RefusesTable : Tables → Reader → Opening → Refusal → Type 0
-RefusesTable tables reader opening refusal =
+abbrev pub RefusesTable : Rules → Reader → Opening → Refusal → Type 0
+RefusesTable rules reader opening refusal =
     ((length (lines_of reader.rest.now) < opening.count) × (refusal.cause ≡ cause_number BadSection) × IsOfLine reader.number refusal)
-    ⊎ (IsWhole reader opening × ((run : Run) → RefusedFrom tables (place_of reader (at_table reader opening run)) refusal))
+    ⊎ (IsWhole reader opening × ((run : Run) → RefusedFrom rules (place_of reader (at_table reader opening run)) refusal))
 
 -- the texts of some names
 abbrev pub texts_of : List (Bor (List ℕ)) → List (List ℕ)
@@ -95,8 +99,8 @@ names_with names (ZonePart zone) = names ++ zone.name ∷ []
 names_with names (SectionPart section) = names
 
 -- the reader passed a part, below zones of these names, and keeps the names
-pub record PassesPart (tables : Tables) (old new : Reader) (before after : List (Bor (List ℕ))) (part : Part) : Type 0 where
-  pub leads : (run : Run) → HasNames before run.zones → LeadsTo tables (place_of old (Sections run)) (place_of new (Sections (with_part run part)))
+pub record PassesPart (rules : Rules) (old new : Reader) (before after : List (Bor (List ℕ))) (part : Part) : Type 0 where
+  pub leads : (run : Run) → HasNames before run.zones → LeadsTo rules (place_of old (Sections run)) (place_of new (Sections (with_part run part)))
   pub names : after ≡ names_with before part
 
 -- the digits of a zone stand for some bytes, and the text of a section isn't longer than that
@@ -112,3 +116,20 @@ AddsPart old new (SectionPart section) = (new.zones.items ≡ old.zones.items) �
 -- the run with all these parts
 abbrev pub with_all : Run → Parts → Run
 with_all run parts = with_parts run (map zone_of parts.zones.items) (map section_of parts.sections.items)
+
+-- the run has this head, and no command so far
+pub record BeginsScript (head : Head) (run : Run) : Type 0 where
+  pub members : run.members ≡ head.members
+  pub window : run.window ≡ head.window
+  pub none : run.commands ≡ []
+
+-- the run has this head, and its commands leave so much of the limits of a script
+pub record HasScript (head : Head) (run : Run) (left : Limits) : Type 0 where
+  pub members : run.members ≡ head.members
+  pub window : run.window ≡ head.window
+  pub left_is : IsLeftBy run.commands left
+
+-- the reader passed a command, before and behind which so much is left of the limits
+pub record PassesCommand (rules : Rules) (head : Head) (old new : Reader) (before after : Limits) (command : Command) : Type 0 where
+  pub leads : (run : Run) → HasScript head run before → LeadsTo rules (place_of old (Script run)) (place_of new (Script (with_command run command)))
+  pub left_is : (run : Run) → HasScript head run before → HasScript head (with_command run command) after

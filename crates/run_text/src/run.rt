@@ -1,4 +1,5 @@
 use crontab_text::Style;
+use script_text::Command;
 use zone_minutes::Window;
 
 /// What the lines of a section are.
@@ -65,7 +66,7 @@ pub struct ZoneLine<'a> {
 /// What a run file says, or its frame, if it was read by `read_frame`. Its texts are parts of the file's text.
 #[derive(Debug, Drop)]
 pub struct RunFile<'a> {
-    /// How many replicas there are.
+    /// How many replicas there are, from 1 to 7.
     pub members: u8,
     pub window: Window,
     /// Minutes, from 0 to 525,600.
@@ -73,4 +74,6 @@ pub struct RunFile<'a> {
     /// The zones that its sections and its tables may name, beside `UTC`.
     pub zones: Vec<ZoneLine<'a>>,
     pub sections: Vec<Section<'a>>,
+    /// The commands of its script.
+    pub commands: Vec<Command>,
 }

@@ -1,47 +1,103 @@
-//! The script, which has no command so far, and the end of the file.
-ghost use Rattle.std.specs.Prelude.{◌+◌, IfErr, OnOk};
+//! The script: its commands, and the end of the file.
+ghost use Rattle.std.specs.Prelude.{◌≡◌, ◌+◌, ◌<◌, List, length, IfOk, IfErr, OnOk, IfSome, IfNone};
 ghost use Rattle.crontab_text.specs.Lines.{lines_of};
-ghost use Rattle.run_text.specs.Follow.{Script, End};
+ghost use Rattle.script_text.specs.declared.command.Command.{Command as Says};
+ghost use Rattle.run_text.specs.Follow.{Script, End, SaysCommand};
 ghost use Rattle.run_text.specs.Reading.{ReadsFrom};
-ghost use Rattle.run_text.specs.Run.{Run};
-ghost use Rattle.run_text.specs.Steps.{place_of, LeadsTo, RefusedFrom, HasRoom};
-ghost use Rattle.run_text.specs.declared.table.Tables.{Tables};
+ghost use Rattle.run_text.specs.Run.{Run, with_command, with_commands};
+ghost use Rattle.run_text.specs.Steps.{place_of, LeadsTo, RefusedFrom, HasRoom, IfRefused, BeginsScript, HasScript, PassesCommand};
+ghost use Rattle.run_text.specs.declared.rules.Rules.{Rules as Ruled};
 
+use crate::head::Head;
 use crate::reader::Reader;
-use crate::refusal::Refusal;
-use crate::words::has_command_word;
+use crate::refusal::{Refusal, RunFault};
+use crate::rules::Rules;
 use cron_fields::Cause;
+use script_text::{Command, Limits, read_command};
+use std::alloc::Global;
 
-/// Reads the rest of the file from the line on that is behind the one that opens the script.
-pub fn read_script(reader: &mut Reader<'_>) -> Result<(), Refusal>
+/// Reads the rest of a file with this head, from the line on that is behind the one that opens the script: the commands.
+pub fn read_script(
+    alloc: Global,
+    reader: &mut Reader<'_>,
+    head: Head,
+    rules: Rules,
+) -> Result<Vec<Command>, RunFault>
     requires { HasRoom reader.old }
-    ensures read { OnOk result ((tables : Tables) (run : Run) → ReadsFrom tables (reader.old.number + 1) (Script run) (lines_of reader.old.rest.now) run) }
-    ensures refused { IfErr result (λ refusal. (tables : Tables) (run : Run) → RefusedFrom tables (place_of reader.old (Script run)) refusal) }
+    ensures read { IfOk result (λ commands. (run : Run) → BeginsScript head run
+        → ReadsFrom rules (reader.old.number + 1) (Script run) (lines_of reader.old.rest.now) (with_commands run commands.items)) }
+    ensures refused { IfErr result (λ fault. IfRefused fault (λ refusal. (run : Run) → BeginsScript head run
+        → RefusedFrom rules (place_of reader.old (Script run)) refusal)) }
 {
-    read_last_line(reader)?;
-    match reader.next_line() {
-        Some(_) => Err(Refusal::of_line(reader.number, Cause::BadScript)),
-        None => Ok(()),
+    let mut commands = Vec::new(alloc);
+    let mut left = Limits::whole();
+    'commands: while let Some(command) = read_line(reader, head, &mut left, rules)? {
+        commands.push(command)?;
     }
+    read_end(reader)?;
+    Ok(commands)
 }
 
-// Reads the line that ends the script.
-fn read_last_line(reader: &mut Reader<'_>) -> Result<(), Refusal>
+/// Passes the rest of a file with this head, from the line on that is behind the one that opens the script, and keeps no command.
+pub fn pass_script(reader: &mut Reader<'_>, head: Head, rules: Rules) -> Result<(), Refusal>
     requires { HasRoom reader.old }
-    ensures read { OnOk result ((tables : Tables) (run : Run) → LeadsTo tables (place_of reader.old (Script run)) (place_of reader.new (End run))) }
-    ensures refused { IfErr result (λ refusal. (tables : Tables) (run : Run) → RefusedFrom tables (place_of reader.old (Script run)) refusal) }
+    ensures read { OnOk result ((commands : List Says) × ((run : Run) → BeginsScript head run
+        → ReadsFrom rules (reader.old.number + 1) (Script run) (lines_of reader.old.rest.now) (with_commands run commands))) }
+    ensures refused { IfErr result (λ refusal. (run : Run) → BeginsScript head run → RefusedFrom rules (place_of reader.old (Script run)) refusal) }
+{
+    let mut left = Limits::whole();
+    'commands: while let Some(_command) = read_line(reader, head, &mut left, rules)? {}
+    read_end(reader)
+}
+
+// Reads the next command, or else the line that ends the script: None.
+fn read_line(
+    reader: &mut Reader<'_>,
+    head: Head,
+    left: &mut Limits,
+    rules: Rules,
+) -> Result<Option<Command>, Refusal>
+    requires { HasRoom reader.old }
+    ensures command { IfOk result (λ read. IfSome read (PassesCommand rules head reader.old reader.new left.old left.new)) }
+    ensures end { IfOk result (λ read. IfNone read ((run : Run) → LeadsTo rules (place_of reader.old (Script run)) (place_of reader.new (End run)))) }
+    ensures refused { IfErr result (λ refusal. (run : Run) → HasScript head run left.old → RefusedFrom rules (place_of reader.old (Script run)) refusal) }
     ensures room { OnOk result (HasRoom reader.new) }
+    ensures shorter { OnOk result (length reader.new.rest.now < length reader.old.rest.now) }
 {
     let Some(line) = reader.next_line() else {
         return Err(Refusal::of_line(reader.number, Cause::MissingLine));
     };
     if line == "end" {
-        return Ok(());
+        return Ok(None);
     }
-    let cause = if has_command_word(line) {
-        Cause::NoFormYet
-    } else {
-        Cause::BadScript
-    };
-    Err(Refusal::of_line(reader.number, cause))
+    if rules.player.lacks_word_of(line) {
+        return Err(Refusal::of_line(reader.number, Cause::NoFormYet));
+    }
+    match command_of(line, head, left) {
+        Some(command) => Ok(Some(command)),
+        None => Err(Refusal::of_line(reader.number, Cause::BadScript)),
+    }
+}
+
+// The command that a line says, within the limits of a script.
+fn command_of(line: &str, head: Head, left: &mut Limits) -> Option<Command>
+    ensures says { IfSome result (λ command. (run : Run) → HasScript head run left.old → SaysCommand run line.now command) }
+    ensures left { IfSome result (λ command. (run : Run) → HasScript head run left.old → HasScript head (with_command run command) left.new) }
+    ensures none { IfNone result ((run : Run) (command : Says) → HasScript head run left.old → SaysCommand run line.now command → ⊥) }
+{
+    let command = read_command(line, head.members, &head.window)?;
+    *left = left.after(&command)?;
+    Some(command)
+}
+
+// Finds that no line is behind the one that ends the script.
+fn read_end(reader: &mut Reader<'_>) -> Result<(), Refusal>
+    requires { HasRoom reader.old }
+    ensures read { OnOk result ((rules : Ruled) (run : Run) → ReadsFrom rules (reader.old.number + 1) (End run) (lines_of reader.old.rest.now) run) }
+    ensures refused { IfErr result (λ refusal. (rules : Ruled) (run : Run) → RefusedFrom rules (place_of reader.old (End run)) refusal) }
+{
+    match reader.next_line() {
+        Some(_) => Err(Refusal::of_line(reader.number, Cause::BadScript)),
+        None => Ok(()),
+    }
 }

@@ -46,8 +46,8 @@ pub fn is_zone_name(text: &str) -> bool
     !bytes.is_empty() && bytes.len() <= 64 && bytes.iter().all(|byte| is_zone_byte(*byte))
 }
 
-// The text up to its first space.
-fn first_word(text: &str) -> &str
+/// The text up to its first space.
+pub fn first_word(text: &str) -> &str
     ensures { result.now ≡ first_word text.now }
 {
     match text.split_once(' ') {
@@ -83,12 +83,12 @@ pub fn has_zone_word(line: &str) -> bool
     first_word(line) == "zone"
 }
 
-/// Whether the line's first word is that of a command, none of which has a form yet.
-pub fn has_command_word(line: &str) -> bool
-    ensures { IsTrue result ↔ IsCommandWord (first_word line.now) }
+/// Whether the word is that of a command.
+pub fn is_command_word(word: &str) -> bool
+    ensures { IsTrue result ↔ IsCommandWord word.now }
 {
     matches!(
-        first_word(line),
+        word,
         "round"
             | "campaign"
             | "stop"

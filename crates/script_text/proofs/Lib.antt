@@ -2,4 +2,4 @@ mod CommandLemmas
 mod CutLemmas
 mod LineLemmas
 mod OperandLemmas
-mod UniqueLemmas
+pub mod UniqueLemmas

@@ -25,6 +25,8 @@ mod match_tests;
 #[cfg(test)]
 mod refused_tests;
 #[cfg(test)]
+mod round_tests;
+#[cfg(test)]
 mod rows;
 #[cfg(test)]
 mod run_file_tests;

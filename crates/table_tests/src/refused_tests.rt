@@ -1,6 +1,6 @@
 //! Run files that are refused, by the first line that may not stand where it stands.
 use crate::rows::{short, sides};
-use run_text::{RunFault, read_run};
+use run_text::{Player, RunFault, read_run};
 use std::alloc::Global;
 use std::process::Abort;
 use std::test::Fail;
@@ -228,7 +228,7 @@ crontab alice A 2¶zone A posix X¶ => line 6: cause 4 at 0
 
 // What the text is refused for.
 fn refusal_of(alloc: Global, text: &str) -> Result<String, Fail> {
-    match read_run(alloc, short(text)?) {
+    match read_run(alloc, short(text)?, Player::Clerk) {
         Ok(_) => Err(Fail::from("a run")),
         Err(RunFault::OutOfMemory) => Err(Fail::from("no memory")),
         Err(RunFault::Refused(refusal)) => Ok(format!(in alloc;

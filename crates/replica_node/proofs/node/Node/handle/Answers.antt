@@ -18,7 +18,7 @@ use Rattle.replica_node.proofs.KeptLemmas.{count_calls, tells_counted, tells_too
 use Rattle.replica_node.specs.Node.{FilesStandAround, calls_for}
 use Rattle.replica_node.proofs.FaultLemmas.{memory_below}
 use Rattle.replica_node.proofs.RestLemmas.{at_rest_after, at_rest_still, either_around, few_members, leaves_weaker, recoverable_around, stands_at_rest}
-use Rattle.replica_node.proofs.StepLemmas.{change_follows, plans_alike}
+use Rattle.replica_node.proofs.StepLemmas.{change_follows, planned_alters, plans_alike}
 use Rattle.replica_node.proofs.ToldLemmas.{one_change, told_done, told_failed, told_of_step}
 use Rattle.replica_node.proofs.StoppedLemmas.{stopped_within, tells_stopped}
 use Rattle.std.specs.Prelude.{IsErrOf}
@@ -140,6 +140,7 @@ returns-in-Err-Stopped-clause-stopped g c some is =
     (subst (λ (r : ReplicaState). CanTake table r planned) (sym c.keep.ensures.replica) c.in_ok-planned.ensures.can) plans changes (c.keep.ensures.changed stops)
     (λ change is_change. subst (λ (r : ReplicaState). ChangeMayFollow (length table.jobs) r.state.kept change) (sym c.keep.ensures.replica)
     (change_follows table c.args.input old.replica now planned delta change (few_members old.replica.identity.me old.replica.identity.members rest.member rest.few) rest.coherent rest.of_table c.plan.ensures.alike plans c.in_ok-planned.ensures.can changes is_change))
+    (λ change is_change. planned_alters old.replica node.replica plans.event delta change (few_members old.replica.identity.me old.replica.identity.members rest.member rest.few) alike changes is_change)
     (tells_stopped (calls_for mid own.0 delta) c.keep.result (g.D.Disk.told old.disk) (g.D.Disk.told node.disk) some stops (c.keep.ensures.told own.0 stand))
     (λ honest. subst (λ (r : ReplicaState). IsRecoverable (length table.jobs) r.state.kept (kept_after delta r.state.kept) (g.D.Disk.may_leave node.disk)) (sym c.keep.ensures.replica)
     (subst (λ (jobs : ℕ). IsRecoverable jobs now.state.kept (kept_after delta now.state.kept) (g.D.Disk.may_leave node.disk)) rest.jobs (c.keep.ensures.recoverable (c.keep.ensures.answer.honest_still.0 honest))))

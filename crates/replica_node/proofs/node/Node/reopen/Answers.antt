@@ -5,7 +5,7 @@ use Rattle.paxos_base.specs.declared.durable.Durable.{Durable}
 use Rattle.store_format.specs.Area.{IsFirstRecordAtFault}
 use Rattle.replica_store.specs.Files.{FilesStand, IsRecoverable}
 use Rattle.replica_node.proofs.FaultLemmas.{same_fault}
-use Rattle.replica_node.proofs.ReopenLemmas.{Reopens, change_or_none, found_recoverable, found_stands, not_both, planned_as, reopens, tells_answer}
+use Rattle.replica_node.proofs.ReopenLemmas.{Reopens, change_or_none, found_recoverable, found_stands, lost_answer, not_both, planned_as, reopens, tells_answer}
 use Rattle.replica_node.proofs.node.Node.reopen.Goals as goal
 
 -- ---- it is attached
@@ -100,6 +100,10 @@ returns-in-Ok-clause-answer_by_arm g c stop area arm honest left =
     reopens jobs before found now stop.change c.take_kept-change.result c.in-Ok.store c.in-Ok.ensures.keeps stop.has_planned.follows (c.in-Ok.ensures.either before after honest recoverable) decided kept in
     tells_answer jobs area before found now stop.change arm c.take_kept-change.result (g.D.Disk.told c.args.self.disk) facts kept (λ told is. returns-in-Ok-clause-image g c told honest is)
     (change_or_none stop.change found c.take_kept-change.result decided) left
+
+pub returns-in-Ok-clause-lost_by_arm : goal.returns-in-Ok-clause-lost_by_arm
+returns-in-Ok-clause-lost_by_arm g c stop area arm honest left anew loses =
+    lost_answer area c.args.self.replica.state.kept stop.change arm c.take_kept-change.result (returns-in-Ok-clause-answer_by_arm g c stop area arm honest left) (stop.has_planned.alters anew) loses
 
 pub returns-in-Ok-clause-lost : goal.returns-in-Ok-clause-lost
 returns-in-Ok-clause-lost g c stop honest none =

@@ -1,0 +1,10 @@
+pub mod CallLemmas
+pub mod FirstLemmas
+pub mod PhaseLemmas
+pub mod RoundLemmas
+pub mod SomeDrain
+pub mod SomeTurns
+pub mod SomeYield
+pub mod TakesLemmas
+pub mod TriedLemmas
+pub mod TurnLemmas

@@ -1,0 +1,3 @@
+pub mod Campaigns
+pub mod Tried
+pub mod Within

@@ -1,0 +1,4 @@
+pub mod LeadLemmas
+pub mod RestLemmas
+pub mod SomeRest
+pub mod SomeTurns

@@ -1,0 +1,75 @@
+-- What a book's report lists.
+use Rattle.std.proofs.Common.{◌≡◌, ℕ, ◌≤◌, List, None, All, sym, subst, ◌∙◌}
+use Rattle.std.proofs.lemmas.List.Elements.{All-weaker}
+use Rattle.std.proofs.lemmas.Option.{slice_get_within}
+use Rattle.due_set.specs.Table.{Table}
+use Rattle.cluster_sched.specs.Held.{AreNamedOnce}
+use Rattle.cluster_sched.specs.Names.{IsNameIn}
+use Rattle.cluster_sched.specs.declared.row.SchedRow.{SchedRow}
+use Rattle.paxos_base.specs.declared.entry.Entry.{Entry}
+use Rattle.launch_law.specs.Fits.{Fits, IsBacked}
+use Rattle.book_law.specs.Book.{Row}
+use Rattle.book_law.proofs.Agreement.{book_log}
+use Rattle.fits_law.specs.Fitting.{held_in}
+use Rattle.fits_law.proofs.Whole.{whole}
+use Rattle.bounds_law.proofs.Launched.{start_near}
+use Rattle.world_law.specs.Book.{BookState, StandsBehind}
+use Rattle.world_law.proofs.Called.{held_at_rest}
+use Rattle.world_law.proofs.Settled.{turns_settle}
+use Rattle.report_text.specs.Book.{IsBookReport}
+use Rattle.report_text.specs.Report.{IsReport}
+use Rattle.report_text.proofs.OneOrder.{one_text}
+
+-- a row whose start takes effect is of a launch of the table
+name_of_backed : (table : Table) (log : List Entry) (row : SchedRow) → IsBacked table log row → IsNameIn table row.name
+name_of_backed table log row backed =
+    let start = backed.start.1.takes.2 in
+    record {
+      job = slice_get_within table.jobs row.name.job backed.spec backed.is_in.is_job;
+      inside = start_near table row.name.job start.row row.name.at backed.start.0 start.may;
+    }
+
+module _ (table : Table) (rows : List Row) (book : BookState) (few : book.members ≤ 7) (behind : StandsBehind table rows book) where
+  -- what is held fits the log
+  fits : (log : List Entry) × Fits table log (held_in book.members table rows)
+  fits =
+      let (log, is_log) = book_log book.members table rows few behind.legal in
+      (log, whole book.members table rows few behind.legal log is_log)
+
+  pub named : All (λ (row : SchedRow). IsNameIn table row.name) (held_in book.members table rows)
+  named =
+      All-weaker (IsBacked table fits.0) (λ (row : SchedRow). IsNameIn table row.name) (name_of_backed table fits.0) (held_in book.members table rows) fits.1.backed
+
+  pub once : AreNamedOnce (held_in book.members table rows)
+  once = fits.1.once
+
+-- the rows that the ledger holds are launches of the table
+pub named_at_rest : (table : Table) (rows : List Row) (book : BookState) → book.members ≤ 7 → StandsBehind table rows book → book.pending ≡ None
+    → All (λ (row : SchedRow). IsNameIn table row.name) book.ledger.held
+named_at_rest table rows book few behind rest =
+    subst (All (λ (row : SchedRow). IsNameIn table row.name)) (sym (held_at_rest table rows book rest behind)) (named table rows book few behind)
+
+-- the report of what the ledger holds is the book's
+pub book_report : (table : Table) (rows : List Row) (book : BookState) (text : List ℕ) → StandsBehind table rows book → book.pending ≡ None
+    → IsReport table book.members book.ledger.held text → IsBookReport table book text
+book_report table rows book text behind rest report = record {
+  rows = rows;
+  behind = behind;
+  report = subst (λ held. IsReport table book.members held text) (held_at_rest table rows book rest behind) report;
+}
+
+pub of_rows : (table : Table) (book : BookState) (rows : List Row) (text : List ℕ) → StandsBehind table rows book → IsBookReport table book text
+    → IsReport table book.members (held_in book.members table rows) text
+of_rows table book rows text behind is =
+    let same = turns_settle book.members table is.rows rows is.behind.legal behind.legal (sym is.behind.turns ∙ behind.turns) in
+    subst (λ standing. IsReport table book.members standing.held text) same.stands is.report
+
+pub of_ledger : (table : Table) (book : BookState) (text : List ℕ) → book.pending ≡ None → IsBookReport table book text
+    → IsReport table book.members book.ledger.held text
+of_ledger table book text rest is =
+    subst (λ held. IsReport table book.members held text) (sym (held_at_rest table is.rows book rest is.behind)) is.report
+
+pub one_report : (table : Table) (book : BookState) (a b : List ℕ) → book.members ≤ 7 → IsBookReport table book a → IsBookReport table book b → a ≡ b
+one_report table book a b few first second =
+    one_text table book.members (held_in book.members table first.rows) a b first.report (of_rows table book first.rows b first.behind second)
+    (once table first.rows book few first.behind)

@@ -1,0 +1,10 @@
+pub mod CallLemmas
+pub mod ReadLemmas
+pub mod PartLemmas
+pub mod DrainLemmas
+pub mod SettledLemmas
+pub mod Whole
+pub mod SomeTable
+pub mod SomeMoves
+pub mod SomeRounds
+pub mod SomeWalk
