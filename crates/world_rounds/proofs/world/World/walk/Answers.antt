@@ -1,6 +1,3 @@
-use Rattle.std.proofs.Common.{◌≡◌, ◌≤ℤ◌, ◌<ℤ◌, arith}
-use Rattle.std.proofs.lemmas.Int.{clamps, ints}
-use Rattle.zone_minutes.specs.Window.{IsInWindow}
 use Rattle.script_law.specs.Settling.{Settles}
 use Rattle.world_rounds.proofs.DrainLemmas.{world_gone}
 use Rattle.world_rounds.proofs.RoundsOfAll.{on_ok}
