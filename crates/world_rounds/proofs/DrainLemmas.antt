@@ -150,7 +150,7 @@ module _ {D : Type 0} (seen : D → Image) (may_leave : D → Image → Type 0) 
       (subst (λ after. Performs n (tasks_for (command.Campaign who) situation) situation rows after) (sym part.two.is)
       (subst (λ rows. Performs n (tasks_for (command.Campaign who) situation) situation rows part.middle) (sym whole) part.one))
 
-  runs_in : (rows : List Row) (world : World D) (situation : Situation) (who : ℕ) → IsWorldAt seen may_leave honest told_of table rows world situation → AllRun world → who < length world.members.items
+  pub runs_in : (rows : List Row) (world : World D) (situation : Situation) (who : ℕ) → IsWorldAt seen may_leave honest told_of table rows world situation → AllRun world → who < length world.members.items
       → situation.standing.runs who ≡ true
   runs_in rows world situation who is run below =
       let found = found_at world.members.items who below in

@@ -23,3 +23,4 @@ pub mod QuietLemmas
 pub mod CalmLemmas
 pub mod DrainLemmas
 pub mod WalkLemmas
+pub mod LoopLemmas

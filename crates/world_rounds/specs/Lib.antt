@@ -1,4 +1,5 @@
 pub mod Alone
+pub mod Bounds
 pub mod Calm
 pub mod Campaigns
 pub mod Commands

@@ -6,7 +6,8 @@ ghost use Rattle.replica_core.specs.Replica.{ReplicaState};
 ghost use Rattle.replica_core.specs.Step.{IsOfTable};
 ghost use Rattle.replica_node.specs.Node.{replica_of};
 ghost use Rattle.script_law.specs.Settling.{AsksNothing, IsFreeTerm, IsQuiet};
-ghost use Rattle.world_rounds.specs.Quiet.{AllRun, IsAtRest, IsFollower, Tells};
+ghost use Rattle.drain_law.specs.Rest.{IsAtRest};
+ghost use Rattle.world_rounds.specs.Quiet.{AllRun, IsFollower, Tells};
 ghost use Rattle.world_rounds.specs.World.{IsWorld, book_of};
 ghost use Rattle.world_rounds.specs.declared.member.Member.{Member as Seat};
 

@@ -4,6 +4,8 @@ ghost use Rattle.std.specs.Int.{int_min};
 ghost use Rattle.zone_minutes.specs.Window.{IsInWindow};
 ghost use Rattle.script_law.specs.Settling.{AsksNothingUntil, IsNextMinute, Walks, WalksOn};
 ghost use Rattle.script_law.specs.Situation.{Situation};
+ghost use Rattle.settle_law.specs.Settles.{LeadsNow};
+ghost use Rattle.world_rounds.specs.Bounds.{IsGiven};
 ghost use Rattle.world_law.specs.Book.{IsLegalBook};
 ghost use Rattle.world_rounds.specs.Quiet.{AllRun, IsIn};
 ghost use Rattle.world_rounds.specs.World.{GoesOnBy, IsWorld, book_of};
@@ -63,6 +65,7 @@ impl<D: Disk> World<D> {
         to: Minute,
     ) -> Result<(), OutOfMemory>
         requires world { IsWorld D.seen D.may_leave D.honest D.told table.now self.old }
+        requires given { IsGiven D.seen D.may_leave D.honest D.told table.now (λ members situation. LeadsNow members table.now who situation) self.old }
         requires run { AllRun self.old }
         requires member { who < length self.old.members.items }
         requires inside { IsInWindow table.now.window at.0 }
