@@ -182,6 +182,7 @@ impl<D: Disk> World<D> {
         requires some { 0 < (book_of self.old).members }
         requires inside { IsInWindow table.now.window at.0 }
         ensures goes { OnOk result (GoesOnBy D.seen D.may_leave D.honest D.told table.now (Settles (book_of self.old).members table.now at.0) self.old self.new) }
+        ensures bounded { OnOk result (IsBounded (book_of self.new)) }
         ensures members { OnOk result ((book_of self.new).members ≡ (book_of self.old).members) }
         ensures legal { OnErr result (IsLegalBook table.now (book_of self.new)) }
     {
