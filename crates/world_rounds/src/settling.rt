@@ -13,8 +13,8 @@ ghost use Rattle.world_rounds.specs.Quiet.{AllRun, IsIn};
 ghost use Rattle.world_rounds.specs.World.{GoesOnBy, IsWorld, book_of};
 
 use crate::bounds::check_bounds;
-use cron_io::OutOfMemory;
 use crate::world::World;
+use cron_io::OutOfMemory;
 use disk_model::Disk;
 use due_set::JobTable;
 use zone_minutes::Minute;
@@ -107,7 +107,12 @@ impl<D: Disk> World<D> {
     }
 
     // Rounds of a drain until all are level with the one that leads and is at rest: five at most.
-    fn drain_until_level(&mut self, table: &JobTable, who: u8, at: Minute) -> Result<(), OutOfMemory>
+    fn drain_until_level(
+        &mut self,
+        table: &JobTable,
+        who: u8,
+        at: Minute,
+    ) -> Result<(), OutOfMemory>
         requires given { IsGiven D.seen D.may_leave D.honest D.told table.now (λ members situation. HasRestedFor 0 members table.now who at.0 situation) self.old }
         requires run { AllRun self.old }
         requires member { who < length self.old.members.items }
@@ -171,12 +176,13 @@ impl<D: Disk> World<D> {
     ///
     /// # Errors
     ///
-    /// A fault of a disk, and want of memory. The world takes no more calls then, and its book is legal.
+    /// Want of memory. The world takes no more calls then, and its book is legal.
     pub fn settle(&mut self, table: &JobTable, at: Minute) -> Result<(), OutOfMemory>
         requires world { IsWorld D.seen D.may_leave D.honest D.told table.now self.old }
         requires some { 0 < (book_of self.old).members }
         requires inside { IsInWindow table.now.window at.0 }
         ensures goes { OnOk result (GoesOnBy D.seen D.may_leave D.honest D.told table.now (Settles (book_of self.old).members table.now at.0) self.old self.new) }
+        ensures bounded { OnOk result (IsBounded (book_of self.new)) }
         ensures members { OnOk result ((book_of self.new).members ≡ (book_of self.old).members) }
         ensures legal { OnErr result (IsLegalBook table.now (book_of self.new)) }
     {

@@ -5,13 +5,13 @@ ghost use Rattle.zone_minutes.specs.Window.{IsInWindow};
 ghost use Rattle.script_law.specs.Settling.{AsksNothingUntil, IsNextMinute, Walks, WalksOn};
 ghost use Rattle.script_law.specs.Situation.{Situation};
 ghost use Rattle.settle_law.specs.Settles.{LeadsNow};
-ghost use Rattle.world_rounds.specs.Bounds.{IsGiven};
+ghost use Rattle.world_rounds.specs.Bounds.{IsBounded, IsGiven};
 ghost use Rattle.world_law.specs.Book.{IsLegalBook};
 ghost use Rattle.world_rounds.specs.Quiet.{AllRun, IsIn};
 ghost use Rattle.world_rounds.specs.World.{GoesOnBy, IsWorld, book_of};
 
-use cron_io::OutOfMemory;
 use crate::world::World;
+use cron_io::OutOfMemory;
 use disk_model::Disk;
 use due_set::JobTable;
 use zone_minutes::Minute;
@@ -71,6 +71,7 @@ impl<D: Disk> World<D> {
         requires inside { IsInWindow table.now.window at.0 }
         requires within { IsInWindow table.now.window to.0 }
         ensures goes { OnOk result (GoesOnBy D.seen D.may_leave D.honest D.told table.now (WalksOn (book_of self.old).members table.now who at.0 to.0) self.old self.new) }
+        ensures bounded { OnOk result (IsBounded (book_of self.new)) }
         ensures members { OnOk result ((book_of self.new).members ≡ (book_of self.old).members) }
         ensures legal { OnErr result (IsLegalBook table.now (book_of self.new)) }
     {
@@ -93,6 +94,7 @@ impl<D: Disk> World<D> {
         requires some { 0 < (book_of self.old).members }
         requires inside { IsInWindow table.now.window to.0 }
         ensures goes { OnOk result (GoesOnBy D.seen D.may_leave D.honest D.told table.now (Walks (book_of self.old).members table.now to.0) self.old self.new) }
+        ensures bounded { OnOk result (IsBounded (book_of self.new)) }
         ensures members { OnOk result ((book_of self.new).members ≡ (book_of self.old).members) }
         ensures legal { OnErr result (IsLegalBook table.now (book_of self.new)) }
     {

@@ -22,3 +22,6 @@ returns-clause-goes g c =
     (walks g.D.Disk.seen g.D.Disk.may_leave g.D.Disk.honest g.D.Disk.told c.args.table.now c.earlier_of-at.result.0 c.args.to.0 c.in_ok-who.who c.args.self.now c.settle_led.new.self c.walk_on.new.self c.earlier_of-at.ensures c.in_ok-who.ensures.goes
     c.in_ok-who.ensures.members c.in_ok-who.ensures.leads)
     c.walk_on.ensures.goes
+
+pub returns-clause-bounded : goal.returns-clause-bounded
+returns-clause-bounded g c = c.walk_on.ensures.bounded

@@ -33,3 +33,6 @@ returns-clause-goes g c =
 
 pub drain-requires-clause-given : goal.drain-requires-clause-given
 drain-requires-clause-given g c = c.minutes.invariant.2
+
+pub returns-clause-bounded : goal.returns-clause-bounded
+returns-clause-bounded g c = c.minutes.invariant.2.bounded
