@@ -1,7 +1,7 @@
 -- Rounds of one replica, by its turns, and rounds until it is quiet.
-use Rattle.std.proofs.Common.{◌≡◌, ℕ, zero, suc, ◌+◌, ◌*◌, ◌<◌, ℤ, pos, Option, Some, None, List, [], ◌∷◌, ◌++◌, length, refl, sym, ap, ◌∙◌, arith, subst, append-nil, append_assoc}
+use Rattle.std.proofs.Common.{◌≡◌, ℕ, zero, suc, ◌+◌, ◌*◌, ◌<◌, ◌≤◌, ℤ, pos, Option, Some, None, List, [], ◌∷◌, ◌++◌, length, refl, sym, ap, ◌∙◌, arith, subst, append-nil, append_assoc}
 use Rattle.std.proofs.lemmas.Int.{ints, clamps}
-use Rattle.std.proofs.lemmas.List.{length_push}
+use Rattle.std.proofs.lemmas.List.{length-append, length_push}
 use Rattle.zone_minutes.specs.declared.minute.Minute.{Minute}
 use Rattle.paxos_base.specs.Vote.{put_vote, votes_from}
 use Rattle.paxos_base.specs.declared.entry.Entry.{Entry}
@@ -31,6 +31,7 @@ pub record Performed (book : List Row) (situation : Situation) (tasks : List Tas
   pub after : Situation
   pub performs : Performs 1 tasks situation rows after
   pub has : Has (book ++ rows) after state held waits
+  pub few : length rows ≤ 2
 
 pub performs_none : (book : List Row) (situation : Situation) (state : State) (held : List SchedRow) (waits : Option SchedRow) → Has book situation state held waits → Performed book situation [] state held waits
 performs_none book situation state held waits has = record {
@@ -39,6 +40,7 @@ performs_none book situation state held waits has = record {
   performs = record { turns = refl; is = refl };
   has = subst (λ some. Has some (delivered (length situation.standing.posted) situation) state held waits) (sym (append-nil book))
       (delivers book situation state held waits (length situation.standing.posted) has);
+  few = omega arith;
 }
 
 pub performs_one : (book : List Row) (situation : Situation) (cause : Cause) (one other : State) (held held_then : List SchedRow) (waits waits_then : Option SchedRow) → Move one held waits cause other held_then waits_then
@@ -50,6 +52,7 @@ performs_one book situation cause one other held held_then waits waits_then move
       after = delivered (length situation.standing.posted) (after_turn 1 situation goes.row);
       performs = record { turns = (goes.does, refl); is = refl };
       has = delivers (book ++ goes.row ∷ []) (after_turn 1 situation goes.row) other held_then waits_then (length situation.standing.posted) goes.has;
+      few = omega arith;
     }
 
 performs_two : (book : List Row) (situation : Situation) (cause second : Cause) (one other last : State) (held held_then held_last : List SchedRow) (waits waits_then waits_last : Option SchedRow)
@@ -65,6 +68,7 @@ performs_two book situation cause second one other last held held_then held_last
       performs = record { turns = (goes.does, (more.does, refl)); is = refl };
       has = delivers (book ++ goes.row ∷ more.row ∷ []) (after_turn 1 there more.row) last held_last waits_last (length situation.standing.posted)
           (subst (λ some. Has some (after_turn 1 there more.row) last held_last waits_last) (append_assoc book (goes.row ∷ []) (more.row ∷ [])) more.has);
+      few = omega arith;
     }
 
 -- ---- rounds
@@ -108,6 +112,7 @@ pub record Drained (rounds : ℕ) (book : List Row) (situation : Situation) (k :
   pub after : Situation
   pub drains : DrainsIn rounds 1 brief 0 (minute k) situation rows after
   pub has : Has (book ++ rows) after state held None
+  pub few : length rows ≤ 4 * rounds
 
 drained : (book : List Row) (situation : Situation) (k : ℕ) (state : State) (held : List SchedRow) → Has book situation state held None → IsQuiet 1 brief 0 (minute k) situation → Drained zero book situation k state held
 drained book situation k state held has quiet = record {
@@ -115,6 +120,7 @@ drained book situation k state held has quiet = record {
   after = situation;
   drains = record { is_quiet = quiet; stays = record { none = refl; is = refl } };
   has = subst (λ some. Has some situation state held None) (sym (append-nil book)) has;
+  few = omega arith;
 }
 
 -- a leader doesn't stand for leader
@@ -157,6 +163,13 @@ more rounds book situation k votes entries held waits other last held_then held_
       after = rested.after;
       drains = one_more rounds k situation stood.after went.after rested.after stood.rows went.rows rested.rows busy stood.performs went.performs rested.drains;
       has = regrouped book stood.rows went.rows rested.rows rested.after last held_last rested.has;
+      few =
+          let inner = length-append stood.rows went.rows in
+          let outer = length-append (stood.rows ++ went.rows) rested.rows in
+          let one = stood.few in
+          let two = went.few in
+          let three = rested.few in
+          omega (arith, inner, outer, one, two, three);
     }
 
 -- ---- a launch

@@ -1,7 +1,8 @@
 -- A book of one replica that obeys a script with a round: it settles, launches, and walks to the next minute, where it launches again.
-use Rattle.std.proofs.Common.{◌≡◌, ℕ, ◌<◌, ℤ, pos, ◌-ℤ◌, ◌<ℤ◌, None, List, [], ◌∷◌, ◌++◌, length, refl, sym, ap, ◌∙◌, arith, subst, append-nil, append_assoc, lit<}
+use Rattle.std.proofs.Common.{◌≡◌, ℕ, ◌<◌, ◌≤◌, ℤ, pos, ◌-ℤ◌, ◌<ℤ◌, None, List, [], ◌∷◌, ◌++◌, length, refl, sym, ap, ◌∙◌, arith, subst, append-nil, append_assoc, lit<}
 use Rattle.std.specs.Int.{int_min}
 use Rattle.std.proofs.lemmas.Int.{ints, clamps}
+use Rattle.std.proofs.lemmas.List.{length-append}
 use Rattle.due_set.specs.Table.{IsJobDue, IsSound, Table}
 use Rattle.script_text.specs.declared.command.Command.{Command}
 use Rattle.script_text.specs.declared.command.Command.TheVariants as command
@@ -221,3 +222,24 @@ pub some_walk : (table : Table) × (script : List Command) × (rows : List Row) 
 unfolding obeyed
 some_walk =
     (brief, some_script, some_rows, obeyed, 0, minute 0, minute 1, sound, is_legal, omega (arith, ints), due 0 (lit< tt), due 1 (lit< tt), omega (arith, ints), calm.by, has_turns)
+
+-- ---- how long it is
+
+few_rows : length some_rows ≤ 100
+few_rows =
+    let whole = length-append ticked.rows (settling_rows ++ second.drained.rows) in
+    let walk = length-append settling_rows second.drained.rows in
+    let settling = length-append restarted.rows (led.rows ++ first.drained.rows) in
+    let campaign = length-append led.rows first.drained.rows in
+    let a = ticked.few in
+    let b = restarted.few in
+    let c = led.few in
+    let d = first.drained.few in
+    let e = second.drained.few in
+    omega (arith, whole, walk, settling, campaign, a, b, c, d, e)
+
+-- the same book: it has few turns, and posts no letter
+pub short_walk : (table : Table) × (script : List Command) × (rows : List Row) × (obeyed : Obeys 1 table script rows)
+    × IsSound table × IsLegal 1 table rows × (length rows ≤ 100) × (obeyed.after.standing.posted ≡ []) × (0 < length (script_turns obeyed))
+unfolding obeyed
+short_walk = (brief, some_script, some_rows, obeyed, sound, is_legal, few_rows, second.drained.has.posted_are, has_turns)
