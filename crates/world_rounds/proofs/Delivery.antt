@@ -115,7 +115,7 @@ module _ {D : Type 0} (seen : D → Image) (may_leave : D → Image → Type 0) 
       → IsWorldAt seen may_leave honest table rows world (arrived number situation)
   unmoved rows world situation number is none = record {
     ahead = record {
-      at = record { sound = is.ahead.at.sound; behind = is.ahead.at.behind; rest = is.ahead.at.rest; few = is.ahead.at.few; standing = is.ahead.at.standing };
+      at = record { sound = is.ahead.at.sound; behind = is.ahead.at.behind; rest = is.ahead.at.rest; few = is.ahead.at.few; standing = is.ahead.at.standing; since = is.ahead.at.since };
       count = is.ahead.count;
       each = λ who member found. member_same rows world.book situation number who member (is.ahead.each who member found) (none who member found);
       cuts = is.ahead.cuts;
@@ -132,7 +132,7 @@ module _ {D : Type 0} (seen : D → Image) (may_leave : D → Image → Type 0) 
       → next.mail.fate ≡ member.mail.fate → next.mail.waits ≡ member.mail.waits → IsWorldAt seen may_leave honest table rows after (arrived number situation)
   moved rows world after situation number letter member next is there mine whole runs book members cuts latest node steps letters running skew fate waits = record {
     ahead = record {
-      at = record { sound = is.ahead.at.sound; behind = rw book is.ahead.at.behind; rest = rw book is.ahead.at.rest; few = rw book is.ahead.at.few; standing = rw book is.ahead.at.standing };
+      at = record { sound = is.ahead.at.sound; behind = rw book is.ahead.at.behind; rest = rw book is.ahead.at.rest; few = rw book is.ahead.at.few; standing = rw book is.ahead.at.standing; since = is.ahead.at.since };
       count = rw book (ap length members ∙ length-set world.members.items letter.to next ∙ is.ahead.count);
       each = λ who x found. rw book (elim (set_cases world.members.items letter.to next who x (subst (λ members. slice_get members who ≡ Some x) members found)) [
         | inl here ↦ subst (λ w. IsMemberAhead seen may_leave honest table rows world.book (arrived number situation) w [] x) (sym here.0)
@@ -199,7 +199,7 @@ module _ {D : Type 0} (seen : D → Image) (may_leave : D → Image → Type 0) 
       → IsWorldAt seen may_leave honest table rows world situation → IsWorldAt seen may_leave honest table rows world (record situation { mails = mails })
   same_mails table rows world situation mails same is = record {
     ahead = record {
-      at = record { sound = is.ahead.at.sound; behind = is.ahead.at.behind; rest = is.ahead.at.rest; few = is.ahead.at.few; standing = is.ahead.at.standing };
+      at = record { sound = is.ahead.at.sound; behind = is.ahead.at.behind; rest = is.ahead.at.rest; few = is.ahead.at.few; standing = is.ahead.at.standing; since = is.ahead.at.since };
       count = is.ahead.count;
       each = λ who member found. let was = is.ahead.each who member found in
           record { mail = mail_like world.book.letters situation mails who member.mail (same who) was.mail; running = was.running; stopped = was.stopped };

@@ -21,3 +21,4 @@ pub mod Restarts
 pub mod QuietLemmas
 pub mod CalmLemmas
 pub mod DrainLemmas
+pub mod WalkLemmas

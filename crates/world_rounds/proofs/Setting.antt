@@ -1,5 +1,5 @@
 -- What a command sets in a world.
-use Rattle.std.proofs.Common.{◌≡◌, ◌≢◌, ℕ, ◌-◌, true, eqb, ◌&&◌, if◌then◌else◌, List, [], ◌∷◌, ◌++◌, length, ℤ, Some, refl, sym, ap, ◌∙◌, subst, inl, inr, arith}
+use Rattle.std.proofs.Common.{◌≡◌, ◌≢◌, ℕ, ◌-◌, true, eqb, ◌&&◌, if◌then◌else◌, List, [], ◌∷◌, ◌++◌, length, ℤ, ◌≤ℤ◌, Some, refl, sym, ap, ◌∙◌, subst, inl, inr, arith}
 use Rattle.std.proofs.Common.{append-nil as append_nil}
 use Rattle.std.specs.List.{slice_get}
 use Rattle.std.proofs.Math.ListN.{set}
@@ -64,6 +64,7 @@ module _ {D : Type 0} (seen : D → Image) (may_leave : D → Image → Type 0) 
         rest = rw book is.ahead.at.rest;
         few = rw book is.ahead.at.few;
         standing = rw book (standing ∙ is.ahead.at.standing);
+        since = subst (λ latest. table.window.from.0 ≤ℤ latest) (sym last) is.ahead.at.since;
       };
       count = rw book (count ∙ is.ahead.count);
       each = λ who next found.

@@ -71,7 +71,7 @@ module _ {D : Type 0} (seen : D → Image) (may_leave : D → Image → Type 0) 
       → world.cuts.items ≡ [] → world.latest ≡ table.window.from → IsWorldAt seen may_leave honest table [] world (first_situation members table)
   world_starts members world sound few behind rest same count fresh_each cuts latest = record {
     ahead = record {
-      at = record { sound = sound; behind = behind; rest = rest; few = rw same few; standing = standing_first members world.book same };
+      at = record { sound = sound; behind = behind; rest = rest; few = rw same few; standing = standing_first members world.book same; since = omega (arith, ints) };
       count = count ∙ sym same;
       each = λ who member found.
           let within : who < length world.members.items = slice_get_within world.members.items who member found in

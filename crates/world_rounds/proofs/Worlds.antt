@@ -1,12 +1,17 @@
 -- A world goes on by a turn.
-use Rattle.std.proofs.Common.{◌≡◌, ◌≢◌, ◌⊎◌, ℕ, zero, suc, List, [], ◌∷◌, ◌++◌, length, Option, None, Some, IfSome, refl, sym, ap, ◌∙◌, subst, inl, inr, arith}
+use Rattle.std.proofs.Common.{◌≡◌, ◌≢◌, ◌⊎◌, ℕ, zero, suc, List, [], ◌∷◌, ◌++◌, length, ℤ, ◌≤ℤ◌, Option, None, Some, IfSome, refl, sym, ap, ◌∙◌, subst, inl, inr, arith}
 use Rattle.std.specs.List.{slice_get}
 use Rattle.std.proofs.Math.ListN.{set}
+use Rattle.std.proofs.lemmas.Int.{clamps, ints}
 use Rattle.std.proofs.lemmas.List.{length-set}
 use Rattle.disk_model.specs.Images.{Image}
 use Rattle.due_set.specs.Table.{Table}
 use Rattle.book_law.specs.Book.{Row, turn_of, with_fact}
 use Rattle.book_law.specs.declared.turn.CallRow.{CallRow}
+use Rattle.book_law.specs.declared.turn.Cause.{Cause}
+use Rattle.book_law.specs.declared.turn.Cause.TheVariants.{Answer, Campaign, Hear, Tick}
+use Rattle.book_law.specs.declared.turn.Turn.{Turn}
+use Rattle.book_law.specs.declared.turn.Turn.TheVariants.{Arrived, Did, Restarted, Stopped}
 use Rattle.replica_core.specs.Replica.{ReplicaState}
 use Rattle.script_law.specs.Situation.{Situation, after_turn, is_cut, latest_after, latest_with}
 use Rattle.world_law.specs.Book.{StandsBehind}
@@ -30,6 +35,20 @@ set_cases (z ∷ xs) (suc i) y (suc k) x is = elim (set_cases xs i y k x is) [
   | inr there ↦ inr (λ same. there.0 (omega arith), there.1)
 ]
 
+-- the latest clock reading is no earlier after a cause, or after a turn
+later_with : (low : ℤ) (cause : Cause) (latest : ℤ) → low ≤ℤ latest → low ≤ℤ latest_with cause latest
+later_with low Campaign latest since = since
+later_with low (Tick now) latest since = omega (arith, ints, clamps)
+later_with low (Hear letter) latest since = since
+later_with low Answer latest since = since
+
+later_reading : (low : ℤ) (turn : Turn) (latest : ℤ) → low ≤ℤ latest → low ≤ℤ latest_after turn latest
+later_reading low (Did who cause made) latest since = later_with low cause latest since
+later_reading low (Stopped who (Some cause) kept) latest since = later_with low cause latest since
+later_reading low (Stopped who None kept) latest since = since
+later_reading low (Restarted who) latest since = since
+later_reading low (Arrived late) latest since = since
+
 module _ {D : Type 0} (seen : D → Image) (may_leave : D → Image → Type 0) (honest : D → Type 0) (table : Table) where
   -- the world after one turn, by its replicas
   pub world_on : (rows : List Row) (world after : World D) (situation : Situation) (steps left : ℕ → List Taken) (row : Row) → IsWorldAhead seen may_leave honest table rows world situation steps
@@ -45,6 +64,7 @@ module _ {D : Type 0} (seen : D → Image) (may_leave : D → Image → Type 0) 
       rest = rest;
       few = rw members ahead.at.few;
       standing = sym (stands_after table rows row world.book after.book situation ahead.at members);
+      since = later_reading table.window.from.0 row.turn situation.latest ahead.at.since;
     };
     count = count ∙ ahead.count ∙ sym members;
     each = each;

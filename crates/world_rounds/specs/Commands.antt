@@ -23,5 +23,5 @@ IsTaken window members (Repeat from to) = to < members
 IsTaken window members (Again letter) = ⊤
 IsTaken window members (Arrive late) = ⊤
 IsTaken window members (Settle at) = (0 < members) × IsInWindow window at.0
-IsTaken window members (Walk to) = ⊥
+IsTaken window members (Walk to) = (0 < members) × IsInWindow window to.0
 IsTaken window members (Free at turns) = ⊥

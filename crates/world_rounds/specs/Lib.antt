@@ -9,6 +9,7 @@ pub mod Start
 pub mod Steps
 pub mod Taking
 pub mod Turns
+pub mod Walking
 pub mod World
 pub mod Quiet
 pub mod Rounds

@@ -1,5 +1,5 @@
 -- A world of replicas, by the situation in which they are.
-use Rattle.std.specs.Prelude.{◌≡◌, ℕ, ◌≤◌, true, false, List, [], ◌∷◌, ◌++◌, length, Option, None, Some, Contains, slice_get}
+use Rattle.std.specs.Prelude.{◌≡◌, ℕ, ◌≤◌, ◌≤ℤ◌, true, false, List, [], ◌∷◌, ◌++◌, length, Option, None, Some, Contains, slice_get}
 use Rattle.std.specs.List.{flat_map}
 use Rattle.cluster_sched.specs.declared.fate.Fate.{Fate}
 use Rattle.cluster_sched.specs.declared.fate.Fate.TheVariants as becomes
@@ -32,13 +32,15 @@ heard_for cause = []
 abbrev pub heard_in : List Cause → List ℕ
 heard_in causes = flat_map heard_for causes
 
--- The rows stand behind a book at rest, of a table of jobs and at most seven replicas, and this is the situation after them.
+-- The rows stand behind a book at rest, of a table of jobs and at most seven replicas, and this is the situation after them, whose
+-- latest clock reading is of the window or later.
 pub record IsBookAt (table : Table) (rows : List Row) (book : BookState) (situation : Situation) : Type 0 where
   pub sound : IsSound table
   pub behind : StandsBehind table rows book
   pub rest : book.pending ≡ None
   pub few : book.members ≤ 7
   pub standing : situation.standing ≡ standing_behind table rows book
+  pub since : table.window.from.0 ≤ℤ situation.latest
 
 -- What a world has of a replica is what the situation has, but for the letters that were heard in steps that aren't turns yet; and the
 -- letters of its mail go to it.

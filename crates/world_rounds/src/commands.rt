@@ -126,6 +126,7 @@ impl<D: Disk> World<D> {
             Command::Restart { member } => self.restart(table, member),
             Command::Arrive { late } => self.arrive(table, late),
             Command::Settle { at } => self.settle(table, at),
+            Command::Walk { to } => self.walk(table, to),
             _ => unreachable!(),
         }
     }

@@ -14,6 +14,7 @@ mod settling;
 mod start;
 mod steps;
 mod turns;
+mod walking;
 mod world;
 
 pub use fault::WorldFault;

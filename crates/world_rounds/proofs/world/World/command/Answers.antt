@@ -109,3 +109,8 @@ pub returns-in-Settle-clause-goes : goal.returns-in-Settle-clause-goes
 returns-in-Settle-clause-goes g c =
     subst (λ command. OnOk c.settle.result (GoesOnBy g.D.Disk.seen g.D.Disk.may_leave g.D.Disk.honest c.args.table.now (IsPartOf c.args.self.now.book.members c.args.table.now command) c.args.self.now c.settle.new.self))
     (sym c.in-Settle.is) c.settle.ensures.goes
+
+pub returns-in-Walk-clause-goes : goal.returns-in-Walk-clause-goes
+returns-in-Walk-clause-goes g c =
+    subst (λ command. OnOk c.walk.result (GoesOnBy g.D.Disk.seen g.D.Disk.may_leave g.D.Disk.honest c.args.table.now (IsPartOf c.args.self.now.book.members c.args.table.now command) c.args.self.now c.walk.new.self))
+    (sym c.in-Walk.is) c.walk.ensures.goes

@@ -1,0 +1,195 @@
+-- Walks, in a world.
+use Rattle.std.proofs.Common.{◌≡◌, ℕ, zero, suc, ◌+◌, ◌<◌, ◌≤◌, true, false, List, [], ◌∷◌, ◌++◌, length, ℤ, pos, negsuc, ◌+ℤ◌, ◌≤ℤ◌, ◌<ℤ◌, refl, sym, ap, ◌∙◌, subst, inl, inr, arith, append_assoc}
+use Rattle.std.proofs.Common.{append-nil as append_nil}
+use Rattle.std.specs.Prelude.{unsigned_abs, ◌-ℤ◌}
+use Rattle.std.specs.Int.{int_min}
+use Rattle.std.proofs.lemmas.Int.{clamps, ints}
+use Rattle.zone_minutes.specs.Window.{IsInWindow}
+use Rattle.zone_minutes.specs.declared.minute.Window.{Window}
+use Rattle.disk_model.specs.Images.{Image}
+use Rattle.due_set.specs.Table.{Table}
+use Rattle.book_law.specs.Book.{Row}
+use Rattle.script_law.specs.Parts.{Then}
+use Rattle.script_law.specs.Settling.{AsksNothing, AsksNothingUntil, Drains, IsNextMinute, Settles, Walks, WalksOn, coordinator}
+use Rattle.script_law.specs.Situation.{Situation}
+use Rattle.step_law.specs.State.{State}
+use Rattle.world_rounds.proofs.StepsAt.{cases_number}
+use Rattle.world_rounds.specs.Quiet.{AllRun, IsIn, Tells}
+use Rattle.world_rounds.specs.Walking.{WalkedOn}
+use Rattle.world_rounds.specs.World.{GoesOnBy, IsWorld, IsWorldAt}
+use Rattle.world_rounds.specs.declared.world.World.{World}
+
+-- at each of the minutes from one on, and before another, the table asks for nothing
+abbrev pub AsksNothingIn : Table → (first end : ℕ) → State → Type 0
+AsksNothingIn table first end state = (minute : ℕ) → first ≤ minute → minute < end → AsksNothing table (pos minute) state
+
+pub asks_none_next : (table : Table) (first minute : ℕ) (state : State) → AsksNothingIn table first minute state → AsksNothing table (pos minute) state
+    → AsksNothingIn table first (minute + 1) state
+asks_none_next table first minute state so_far here = λ other from below. elim (cases_number other minute) [
+  | inl same ↦ subst (λ m. AsksNothing table (pos m) state) (sym same) here
+  | inr differs ↦ so_far other from (omega arith)
+]
+
+-- what holds of the minutes from a number on holds of those above a minute
+number_at : (above : ℤ) (first : ℕ) (other : ℤ) → pos first ≡ above +ℤ pos 1 → pos 0 ≤ℤ above → above <ℤ other → (minute : ℕ) × (other ≡ pos minute) × (first ≤ minute)
+number_at above first (pos minute) is low later = (minute, refl, omega (arith, ints))
+number_at above first (negsuc minute) is low later = absurd (omega (arith, ints))
+
+pub none_between : (table : Table) (above : ℤ) (first end : ℕ) (state : State) → pos first ≡ above +ℤ pos 1 → pos 0 ≤ℤ above → AsksNothingIn table first end state
+    → (other : ℤ) → above <ℤ other → other <ℤ pos end → AsksNothing table other state
+none_between table above first end state is low none = λ other later before.
+    let number = number_at above first other is low later in
+    let below : number.0 < end = (let same = number.1 in omega (arith, ints)) in
+    subst (λ m. AsksNothing table m state) (sym number.1) (none number.0 number.2 below)
+
+pub next_found : (table : Table) (above to : ℤ) (first minute : ℕ) (state : State) → pos first ≡ above +ℤ pos 1 → pos 0 ≤ℤ above → AsksNothingIn table first minute state
+    → first ≤ minute → pos minute ≤ℤ to → (AsksNothing table (pos minute) state → ⊥) → IsNextMinute table state above to (pos minute)
+next_found table above to first minute state is low none from within asks = record {
+  later = omega (arith, ints);
+  within = within;
+  asks = asks;
+  least = none_between table above first minute state is low none;
+}
+
+pub none_found : (table : Table) (above to : ℤ) (first end minute : ℕ) (state : State) → pos first ≡ above +ℤ pos 1 → pos 0 ≤ℤ above → pos end ≡ to +ℤ pos 1
+    → end ≤ minute → AsksNothingIn table first minute state → AsksNothingUntil table above to state
+none_found table above to first end minute state is low last past none = λ other later within.
+    none_between table above first minute state is low none other later (omega (arith, ints))
+
+-- the earlier of two minutes, of which one is of the window and the other is not before it, is of the window
+pub earlier_inside : (window : Window) (at one other : ℤ) → at ≡ int_min one other → window.from.0 ≤ℤ one → IsInWindow window other → IsInWindow window at
+earlier_inside window at one other is since inside =
+    let from = inside.since in
+    let before = inside.before in
+    record { since = omega (arith, ints, clamps); before = omega (arith, ints, clamps) }
+
+-- the next minute is of the window, and nearer to its end
+pub next_inside : (window : Window) (table : Table) (state : State) (above to minute : ℤ) → IsInWindow window above → IsInWindow window to → IsNextMinute table state above to minute
+    → IsInWindow window minute
+next_inside window table state above to minute from inside next =
+    let since = from.since in
+    let before = inside.before in
+    let later = next.later in
+    let within = next.within in
+    record { since = omega (arith, ints); before = omega (arith, ints) }
+
+pub next_nearer : (window : Window) (table : Table) (state : State) (above to minute : ℤ) → IsInWindow window to → IsNextMinute table state above to minute
+    → unsigned_abs (window.until.0 -ℤ minute) < unsigned_abs (window.until.0 -ℤ above)
+next_nearer window table state above to minute inside next =
+    let before = inside.before in
+    let later = next.later in
+    let within = next.within in
+    omega (arith, ints)
+
+-- ---- how walks are put together
+
+walked_none : (n : ℕ) (table : Table) (who : ℕ) (at to : ℤ) (situation : Situation) → WalkedOn n table who at at to situation [] situation
+walked_none n table who at to situation = λ more after walks. walks
+
+walked_next : (n : ℕ) (table : Table) (who : ℕ) (at above minute to : ℤ) (start middle here : Situation) (rows more : List Row) → WalkedOn n table who at above to start rows middle
+    → IsNextMinute table (middle.standing.replicas who) above to minute → Drains n table who minute middle more here → WalkedOn n table who at minute to start (rows ++ more) here
+walked_next n table who at above minute to start middle here rows more so_far next drains = λ last after walks.
+    subst (λ rows. WalksOn n table who at to start rows after) (sym (append_assoc rows more last))
+    (so_far (more ++ last) after (suc walks.0, (minute, next, record { front = more; middle = here; back = last; parts = refl; one = drains; two = walks.1 })))
+
+walked_whole : (n : ℕ) (table : Table) (who : ℕ) (at above to : ℤ) (start here : Situation) (rows : List Row) → WalkedOn n table who at above to start rows here
+    → AsksNothingUntil table above to (here.standing.replicas who) → WalksOn n table who at to start rows here
+walked_whole n table who at above to start here rows so_far none =
+    subst (λ rows. WalksOn n table who at to start rows here) (append_nil rows)
+    (so_far [] here (zero, record { is_quiet = none; stays = record { none = refl; is = refl } }))
+
+module _ {D : Type 0} (seen : D → Image) (may_leave : D → Image → Type 0) (honest : D → Type 0) (table : Table) where
+  -- ---- the next minute
+
+  -- at each of the minutes from one on, and before another, the launch table of a replica of the world asks for nothing
+  abbrev pub RestsIn : World D → (who first end : ℕ) → Type 0
+  RestsIn world who first end = (situation : Situation) → IsIn seen may_leave honest table world situation → AsksNothingIn table first end (situation.standing.replicas who)
+
+  pub rests_first : (world : World D) (who first : ℕ) → RestsIn world who first first
+  rests_first world who first = λ situation here minute from below. absurd (omega arith)
+
+  pub rests_next : (world : World D) (who first minute : ℕ) → RestsIn world who first minute
+      → Tells seen may_leave honest table (λ situation. AsksNothing table (pos minute) (situation.standing.replicas who)) world true → RestsIn world who first (minute + 1)
+  rests_next world who first minute so_far tells = λ situation here.
+      asks_none_next table first minute (situation.standing.replicas who) (so_far situation here) ((tells here.0 situation here.1).0 refl)
+
+  pub minute_found : (world : World D) (who : ℕ) (above to : ℤ) (first minute : ℕ) → pos first ≡ above +ℤ pos 1 → pos 0 ≤ℤ above → RestsIn world who first minute → first ≤ minute → pos minute ≤ℤ to
+      → Tells seen may_leave honest table (λ situation. AsksNothing table (pos minute) (situation.standing.replicas who)) world false
+      → (situation : Situation) → IsIn seen may_leave honest table world situation → IsNextMinute table (situation.standing.replicas who) above to (pos minute)
+  minute_found world who above to first minute is low so_far from within tells = λ situation here.
+      next_found table above to first minute (situation.standing.replicas who) is low (so_far situation here) from within
+      (λ asks. let no : false ≡ true = (tells here.0 situation here.1).1 asks in cc)
+
+  pub no_minute : (world : World D) (who : ℕ) (above to : ℤ) (first end minute : ℕ) → pos first ≡ above +ℤ pos 1 → pos 0 ≤ℤ above → pos end ≡ to +ℤ pos 1 → end ≤ minute → RestsIn world who first minute
+      → (situation : Situation) → IsIn seen may_leave honest table world situation → AsksNothingUntil table above to (situation.standing.replicas who)
+  no_minute world who above to first end minute is low last past so_far = λ situation here.
+      none_found table above to first end minute (situation.standing.replicas who) is low last past (so_far situation here)
+
+  -- ---- the walk
+
+  pub record HasWalked (who : ℕ) (at above to : ℤ) (old now : World D) : Type 0 where
+    pub goes : GoesOnBy seen may_leave honest table (WalkedOn old.book.members table who at above to) old now
+    pub world : IsWorld seen may_leave honest table now
+    pub run : AllRun now
+    pub members : now.book.members ≡ old.book.members
+
+  pub has_walked_none : (who : ℕ) (at to : ℤ) (world : World D) → IsWorld seen may_leave honest table world → AllRun world → HasWalked who at at to world world
+  has_walked_none who at to world is run = record {
+    goes = λ rows situation here. ([], situation, walked_none world.book.members table who at to situation, subst (λ rows. IsWorldAt seen may_leave honest table rows world situation) (sym (append_nil rows)) here);
+    world = is;
+    run = run;
+    members = refl;
+  }
+
+  pub has_walked_next : (who : ℕ) (at above minute to : ℤ) (old now new : World D) → HasWalked who at above to old now
+      → ((situation : Situation) → IsIn seen may_leave honest table now situation → IsNextMinute table (situation.standing.replicas who) above to minute)
+      → GoesOnBy seen may_leave honest table (Drains now.book.members table who minute) now new → AllRun new → new.book.members ≡ now.book.members → HasWalked who at minute to old new
+  has_walked_next who at above minute to old now new so_far next goes run members = record {
+    goes = λ rows situation is.
+        let front = so_far.goes rows situation is in
+        let back = goes (rows ++ front.0) front.1 front.3 in (
+          front.0 ++ back.0,
+          back.1,
+          walked_next old.book.members table who at above minute to situation front.1 back.1 front.0 back.0 front.2 (next front.1 (rows ++ front.0, front.3))
+              (subst (λ n. Drains n table who minute front.1 back.0 back.1) so_far.members back.2),
+          subst (λ rows. IsWorldAt seen may_leave honest table rows new back.1) (append_assoc rows front.0 back.0) back.3,
+        );
+    world = let here = so_far.world in let back = goes here.rows here.situation here.is in record { rows = here.rows ++ back.0; situation = back.1; is = back.3 };
+    run = run;
+    members = members ∙ so_far.members;
+  }
+
+  pub has_walked_whole : (who : ℕ) (at above to : ℤ) (old now : World D) → HasWalked who at above to old now
+      → ((situation : Situation) → IsIn seen may_leave honest table now situation → AsksNothingUntil table above to (situation.standing.replicas who))
+      → GoesOnBy seen may_leave honest table (WalksOn old.book.members table who at to) old now
+  has_walked_whole who at above to old now so_far none = λ rows situation is.
+      let gone = so_far.goes rows situation is in
+      (gone.0, gone.1, walked_whole old.book.members table who at above to situation gone.1 gone.0 gone.2 (none gone.1 (rows ++ gone.0, gone.3)), gone.3)
+
+  -- its latest clock reading is not before the window
+  pub since_in : (world : World D) → IsWorld seen may_leave honest table world → table.window.from.0 ≤ℤ world.latest.0
+  since_in world is = subst (λ latest. table.window.from.0 ≤ℤ latest) (sym is.is.ahead.latest) is.is.ahead.at.since
+
+  -- it settles, and walks on
+  pub walks : (at to : ℤ) (who : ℕ) (old middle new : World D) → at ≡ int_min old.latest.0 to
+      → GoesOnBy seen may_leave honest table (Settles old.book.members table at) old middle → middle.book.members ≡ old.book.members
+      → ((situation : Situation) → IsIn seen may_leave honest table old situation → who ≡ coordinator old.book.members situation)
+      → GoesOnBy seen may_leave honest table (WalksOn middle.book.members table who at to) middle new → GoesOnBy seen may_leave honest table (Walks old.book.members table to) old new
+  walks at to who old middle new is settles members leads on = λ rows situation here.
+      let n = old.book.members in
+      let one = settles rows situation here in
+      let two = on (rows ++ one.0) one.1 one.3 in
+      let latest : at ≡ int_min situation.latest to = is ∙ ap (λ latest. int_min latest to) here.ahead.latest in (
+        one.0 ++ two.0,
+        two.1,
+        subst (λ at. Then (Settles n table at) (WalksOn n table (coordinator n situation) at to) situation (one.0 ++ two.0) two.1) latest
+            (record {
+              front = one.0;
+              middle = one.1;
+              back = two.0;
+              parts = refl;
+              one = one.2;
+              two = subst (λ who. WalksOn n table who at to one.1 two.0 two.1) (leads situation (rows, here)) (subst (λ n. WalksOn n table who at to one.1 two.0 two.1) members two.2);
+            }),
+        subst (λ rows. IsWorldAt seen may_leave honest table rows new two.1) (append_assoc rows one.0 two.0) two.3,
+      )

@@ -1,0 +1,100 @@
+//! Walking: from one minute at which there is something to do to the next.
+ghost use Rattle.std.specs.Prelude.{◌≡◌, ◌<◌, ◌≤ℤ◌, ◌+ℤ◌, pos, IfNone, IfSome, OnOk, OnErr, length};
+ghost use Rattle.std.specs.Int.{int_min};
+ghost use Rattle.zone_minutes.specs.Window.{IsInWindow};
+ghost use Rattle.script_law.specs.Settling.{AsksNothingUntil, IsNextMinute, Walks, WalksOn};
+ghost use Rattle.script_law.specs.Situation.{Situation};
+ghost use Rattle.world_law.specs.Book.{IsLegalBook};
+ghost use Rattle.world_rounds.specs.Quiet.{AllRun, IsIn};
+ghost use Rattle.world_rounds.specs.World.{GoesOnBy, IsWorld, book_of};
+
+use crate::fault::WorldFault;
+use crate::world::World;
+use disk_model::Disk;
+use due_set::JobTable;
+use zone_minutes::Minute;
+
+// The number of the minute behind another.
+fn number_behind(minute: Minute) -> u32
+    requires low { pos 0 ≤ℤ minute.0 }
+    requires high { minute.0 ≤ℤ pos 120_968_640 }
+    ensures { pos result ≡ minute.0 +ℤ pos 1 }
+{
+    minute.0 as u32 + 1
+}
+
+// The earlier of two minutes.
+fn earlier_of(one: Minute, other: Minute) -> Minute
+    ensures { result.0 ≡ int_min one.0 other.0 }
+{
+    one.min(other)
+}
+
+impl<D: Disk> World<D> {
+    // The first minute above one, and at most another, at which the launch table of a replica asks for something.
+    fn next_minute(&self, table: &JobTable, who: u8, above: Minute, to: Minute) -> Option<Minute>
+        requires world { IsWorld D.seen D.may_leave D.honest table.now self.now }
+        requires run { AllRun self.now }
+        requires member { who < length self.now.members.items }
+        requires inside { IsInWindow table.now.window above.0 }
+        requires within { IsInWindow table.now.window to.0 }
+        ensures found { (situation : Situation) → IsIn D.seen D.may_leave D.honest table.now self.now situation
+            → IfSome result (λ minute. IsNextMinute table.now (situation.standing.replicas who) above.0 to.0 minute.0) }
+        ensures none { (situation : Situation) → IsIn D.seen D.may_leave D.honest table.now self.now situation
+            → IfNone result (AsksNothingUntil table.now above.0 to.0 (situation.standing.replicas who)) }
+    {
+        let first = number_behind(above);
+        let end = number_behind(to);
+        'minutes: for minute in first..end {
+            let minute = Minute(i64::from(minute));
+            if !self.asks_nothing(table, who, minute) {
+                return Some(minute);
+            }
+        }
+        None
+    }
+
+    // From one minute at which there is something to do to the next, each drained.
+    fn walk_on(
+        &mut self,
+        table: &JobTable,
+        who: u8,
+        at: Minute,
+        to: Minute,
+    ) -> Result<(), WorldFault>
+        requires world { IsWorld D.seen D.may_leave D.honest table.now self.old }
+        requires run { AllRun self.old }
+        requires member { who < length self.old.members.items }
+        requires inside { IsInWindow table.now.window at.0 }
+        requires within { IsInWindow table.now.window to.0 }
+        ensures goes { OnOk result (GoesOnBy D.seen D.may_leave D.honest table.now (WalksOn (book_of self.old).members table.now who at.0 to.0) self.old self.new) }
+        ensures members { OnOk result ((book_of self.new).members ≡ (book_of self.old).members) }
+        ensures legal { OnErr result (IsLegalBook table.now (book_of self.new)) }
+    {
+        let mut above = at;
+        'minutes: while let Some(minute) = self.next_minute(table, who, above, to) {
+            self.drain(table, who, minute)?;
+            above = minute;
+        }
+        Ok(())
+    }
+
+    /// Walks to an instant: settles at the latest clock reading so far, or at this instant where that is later, and then drains
+    /// each later minute up to this one at which there is something to do.
+    ///
+    /// # Errors
+    ///
+    /// Those of [`World::settle`], of each of the drains.
+    pub fn walk(&mut self, table: &JobTable, to: Minute) -> Result<(), WorldFault>
+        requires world { IsWorld D.seen D.may_leave D.honest table.now self.old }
+        requires some { 0 < (book_of self.old).members }
+        requires inside { IsInWindow table.now.window to.0 }
+        ensures goes { OnOk result (GoesOnBy D.seen D.may_leave D.honest table.now (Walks (book_of self.old).members table.now to.0) self.old self.new) }
+        ensures members { OnOk result ((book_of self.new).members ≡ (book_of self.old).members) }
+        ensures legal { OnErr result (IsLegalBook table.now (book_of self.new)) }
+    {
+        let at = earlier_of(self.latest, to);
+        let who = self.settle_led(table, at)?;
+        self.walk_on(table, who, at, to)
+    }
+}
