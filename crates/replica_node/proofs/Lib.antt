@@ -5,6 +5,7 @@ pub mod FaultLemmas
 pub mod KeptLemmas
 pub mod QuietLemmas
 pub mod ReopenLemmas
+pub mod ReliableLemmas
 pub mod RestLemmas
 pub mod StepLemmas
 pub mod StoppedLemmas

@@ -22,6 +22,7 @@ ghost use Rattle.replica_store.specs.Files.{selected, FilesStand, FilesStandForE
 ghost use Rattle.replica_store.specs.Store.{area_of, jobs_of, StoreKeeps, IsStoreSettled};
 ghost use Rattle.replica_node.specs.declared.fault.NodeFault.TheVariants.{Stopped, OutOfMemory, Damaged, Letter};
 ghost use Rattle.replica_node.specs.Faults.{of_disk, EndsRun, HasNodeAnswer, IsRefused, letter_told};
+ghost use Rattle.replica_node.specs.Reliable.{IsReliable};
 ghost use Rattle.replica_node.specs.Kept.{area_for, calls_of, IsAnsweredByArm, IsSynced, KeepsChange, LeavesByArm};
 
 use crate::fault::NodeFault;
@@ -89,6 +90,9 @@ impl<D: Disk> Node<D> {
         ensures started { IfOk result (λ node. (replica_of node).state ≡ started me (replica_of node).state.kept) }
         ensures stand { IfOk result (λ node. FilesStand (length table.now.jobs) (replica_of node).state.kept (D.seen disk)) }
         ensures clean { IsSome (D.told disk) → IfOk result (IsNodeClean D.told) }
+        // From a disk that is reliable, want of memory and files at fault are the only faults, and the node's disk is so.
+        ensures reliable { IsReliable (D.told disk) → IfOk result (λ node. IsReliable (D.told (disk_of node))) }
+        ensures unended { IsReliable (D.told disk) → EndsRun (fault_of result) → ⊥ }
 
         // From a disk that was recoverable, with the state before a change or after it, one of the two is found; whatever a
         // stop within this call leaves stands for one of them, and the disk stays recoverable.
@@ -140,6 +144,9 @@ impl<D: Disk> Node<D> {
         // Nothing of the chooser and of the store's area waits for a sync, in what the disk tells, where nothing did before.
         ensures clean { IsNodeClean D.told self.old → OnOk result (IsNodeClean D.told self.new) }
         ensures letter_clean { (fault : LetterFault) → result ≡ Err (Letter fault) → IsNodeClean D.told self.old → IsNodeClean D.told self.new }
+        // On a disk that is reliable it goes on, and the disk stays so.
+        ensures reliable { IsReliable (D.told (disk_of self.old)) → OnOk result (IsReliable (D.told (disk_of self.new))) }
+        ensures unended { IsReliable (D.told (disk_of self.old)) → EndsRun result → ⊥ }
         ensures area { (change : Option Delta) → IsChangeOf table.now input.entry (replica_of self.old) change
             → OnOk result (area_of (store_of self.new) ≡ area_for change (area_of (store_of self.old))) }
         // It uses up as many calls of the disk's arm as save its change, and stops where fewer are left.
@@ -209,6 +216,8 @@ impl<D: Disk> Node<D> {
         ensures no_letter { (fault : LetterFault) → result ≡ Err (Letter fault) → ⊥ }
         ensures told { (own : Option ℕ) → RecordsStand self.old own
             → Tells (MadeCalls of_disk (calls_for self.old own (option_copied delta.entry)) result) (D.told (disk_of self.old)) (D.told (disk_of self.new)) }
+        ensures reliable { IsReliable (D.told (disk_of self.old)) → OnOk result (IsReliable (D.told (disk_of self.new))) }
+        ensures unended { IsReliable (D.told (disk_of self.old)) → EndsRun result → ⊥ }
         ensures clean { IsNodeClean D.told self.old → OnOk result (IsNodeClean D.told self.new) }
         ensures area { OnOk result (area_of (store_of self.new) ≡ area_for (option_copied delta.entry) (area_of (store_of self.old))) }
         ensures kept_by_arm { (change : Delta) (arm : Arm) → option_copied delta.entry ≡ Some change → IsErrOf result Stopped
@@ -372,6 +381,8 @@ fn start<D: Disk>(
     ensures of_table { IfOk result (λ found. IsOfTable table.now found.1) }
     ensures stand { IfOk result (λ found. FilesStand (length table.now.jobs) found.1.state.kept (D.seen disk.old)) }
     ensures clean { IsSome (D.told disk.old) → IfOk result (λ found. IsSomeAnd (D.told disk.new) (IsSynced (area_of found.0))) }
+    ensures reliable { IsReliable (D.told disk.old) → OnOk result (IsReliable (D.told disk.new)) }
+    ensures unended { IsReliable (D.told disk.old) → EndsRun result → ⊥ }
     ensures either { (before after : Durable) → D.honest disk.old → IsRecoverable (length table.now.jobs) before after (D.may_leave disk.old)
         → IfOk result (λ found. (found.1.state.kept ≡ before) ⊎ (found.1.state.kept ≡ after)) }
     ensures sound { (before after : Durable) (gate : ℕ) → D.honest disk.old → IsRecoverable (length table.now.jobs) before after (D.may_leave disk.old)

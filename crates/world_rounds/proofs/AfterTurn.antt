@@ -4,6 +4,7 @@ use Rattle.std.proofs.lemmas.Bool.{cases_Bool, ne_eqb}
 use Rattle.cluster_sched.specs.declared.fate.Fate.{Fate}
 use Rattle.cluster_sched.specs.declared.row.SchedRow.{SchedRow}
 use Rattle.disk_model.specs.Images.{Image}
+use Rattle.disk_model.specs.Told.{Told}
 use Rattle.due_set.specs.Table.{Table}
 use Rattle.launch_machine.specs.Clerk.{first_rows}
 use Rattle.step_law.specs.State.{Identity, State}
@@ -134,14 +135,15 @@ stands_after table rows row book after situation at members =
     ap (λ n. standing_after n (first_rows table) (rows ++ row ∷ [])) members ∙ stands_next book.members (first_rows table) rows row
     ∙ ap (λ s. after_row book.members s row.turn row.event row.letters) (sym at.standing)
 
-module _ {D : Type 0} (seen : D → Image) (may_leave : D → Image → Type 0) (honest : D → Type 0) (table : Table) where
+module _ {D : Type 0} (seen : D → Image) (may_leave : D → Image → Type 0) (honest : D → Type 0) (told_of : D → Option Told) (table : Table) where
   node_stays : (rows : List Row) (row : Row) (book after : BookState) (other : ℕ) (steps : List Taken) (node : Node D) → after.members ≡ book.members → HasLetters book.letters after
       → (standing_behind table (rows ++ row ∷ []) after).replicas other ≡ (standing_behind table rows book).replicas other
       → (standing_behind table (rows ++ row ∷ []) after).runs other ≡ true → (standing_behind table (rows ++ row ∷ []) after).waits other ≡ (standing_behind table rows book).waits other
-      → IsNodeAhead seen may_leave honest table rows book other steps node → IsNodeAhead seen may_leave honest table (rows ++ row ∷ []) after other steps node
+      → IsNodeAhead seen may_leave honest told_of table rows book other steps node → IsNodeAhead seen may_leave honest told_of table (rows ++ row ∷ []) after other steps node
   node_stays rows row book after other steps node members has replica runs waits ahead = record {
     at_rest = ahead.at_rest;
     trusted = ahead.trusted;
+    reliable = ahead.reliable;
     first = ahead.first;
     stands = record {
       identity = rw members ahead.stands.identity;
@@ -156,8 +158,8 @@ module _ {D : Type 0} (seen : D → Image) (may_leave : D → Image → Type 0) 
 
   pub member_stays : (rows : List Row) (row : Row) (book after : BookState) (situation : Situation) (other : ℕ) (steps : List Taken) (member : Member D) → IsBookAt table rows book situation
       → after.members ≡ book.members → HasLetters book.letters after → Leaves book.members situation row other
-      → IsMemberAhead seen may_leave honest table rows book situation other steps member
-      → IsMemberAhead seen may_leave honest table (rows ++ row ∷ []) after (after_turn book.members situation row) other steps member
+      → IsMemberAhead seen may_leave honest told_of table rows book situation other steps member
+      → IsMemberAhead seen may_leave honest told_of table (rows ++ row ∷ []) after (after_turn book.members situation row) other steps member
   member_stays rows row book after situation other steps member at members has leaves ahead = record {
     mail = record {
       runs = ahead.mail.runs ∙ sym leaves.runs;
@@ -172,6 +174,7 @@ module _ {D : Type 0} (seen : D → Image) (may_leave : D → Image → Type 0) 
     stopped = λ stopped. let was = ahead.stopped (sym running ∙ stopped) in record {
       at_rest = was.at_rest;
       trusted = was.trusted;
+      reliable = was.reliable;
       identity = rw members was.identity;
       none = was.none;
       kept = replica ∙ was.kept;
@@ -214,26 +217,26 @@ did_mail who (Hear number) made mails rest is = fact_here who (drop 1 (mails who
 did_mail who Answer made mails rest is = is
 
 -- a replica that is a step ahead runs
-pub runs_ahead : {D : Type 0} (seen : D → Image) (may_leave : D → Image → Type 0) (honest : D → Type 0) (table : Table) (rows : List Row) (book : BookState) (situation : Situation) (who : ℕ) (taken : Taken)
-    (more : List Taken) (member : Member D) → IsMemberAhead seen may_leave honest table rows book situation who (taken ∷ more) member → (standing_behind table rows book).runs who ≡ true
-runs_ahead seen may_leave honest table rows book situation who taken more member ahead =
+pub runs_ahead : {D : Type 0} (seen : D → Image) (may_leave : D → Image → Type 0) (honest : D → Type 0) (told_of : D → Option Told) (table : Table) (rows : List Row) (book : BookState) (situation : Situation) (who : ℕ) (taken : Taken)
+    (more : List Taken) (member : Member D) → IsMemberAhead seen may_leave honest told_of table rows book situation who (taken ∷ more) member → (standing_behind table rows book).runs who ≡ true
+runs_ahead seen may_leave honest told_of table rows book situation who taken more member ahead =
     elim (cases_Bool ((standing_behind table rows book).runs who)) [
       | inl runs ↦ runs
       | inr stopped ↦ absurd (let none = (ahead.stopped stopped).none in cc)
     ]
 
-module _ {D : Type 0} (seen : D → Image) (may_leave : D → Image → Type 0) (honest : D → Type 0) (table : Table) where
+module _ {D : Type 0} (seen : D → Image) (may_leave : D → Image → Type 0) (honest : D → Type 0) (told_of : D → Option Told) (table : Table) where
   -- its first step may become a turn
   pub next_step : (rows : List Row) (book : BookState) (situation : Situation) (who : ℕ) (taken : Taken) (more : List Taken) (member : Member D) → IsBookAt table rows book situation
-      → (ahead : IsNodeAhead seen may_leave honest table rows book who (taken ∷ more) member.node) → IsNextStep table rows book who taken ahead.first ahead.took.0
+      → (ahead : IsNodeAhead seen may_leave honest told_of table rows book who (taken ∷ more) member.node) → IsNextStep table rows book who taken ahead.first ahead.took.0
   next_step rows book situation who taken more member at ahead =
       record { behind = at.behind; rest = at.rest; few = at.few; stands = ahead.stands; me = ahead.me; step = ahead.took.1 }
 
   pub member_did : (rows : List Row) (book after : BookState) (situation : Situation) (who : ℕ) (taken : Taken) (more : List Taken) (made : Option CallRow) (member : Member D)
-      → (at : IsBookAt table rows book situation) → (ahead : IsMemberAhead seen may_leave honest table rows book situation who (taken ∷ more) member)
-      → (node : IsNodeAhead seen may_leave honest table rows book who (taken ∷ more) member.node)
+      → (at : IsBookAt table rows book situation) → (ahead : IsMemberAhead seen may_leave honest told_of table rows book situation who (taken ∷ more) member)
+      → (node : IsNodeAhead seen may_leave honest told_of table rows book who (taken ∷ more) member.node)
       → (joined : HasJoinedAt table rows book after who taken member.mail.fate made node.took.0)
-      → IsMemberAhead seen may_leave honest table (rows ++ joined.row ∷ []) after (after_turn book.members situation joined.row) who more (record member { mail = noted made member.mail })
+      → IsMemberAhead seen may_leave honest told_of table (rows ++ joined.row ∷ []) after (after_turn book.members situation joined.row) who more (record member { mail = noted made member.mail })
   member_did rows book after situation who taken more made member at ahead node joined = record {
     mail = record {
       runs = ahead.mail.runs ∙ sym (ap (λ (runs : ℕ → Bool). runs who) runs);
@@ -250,6 +253,7 @@ module _ {D : Type 0} (seen : D → Image) (may_leave : D → Image → Type 0) 
     running = λ here. record {
       at_rest = node.at_rest;
       trusted = node.trusted;
+      reliable = node.reliable;
       first = node.took.0;
       stands = joined.stands;
       me = ap (λ (self : Identity). self.me) node.took.1.steps.took.identity ∙ node.me;
@@ -262,7 +266,7 @@ module _ {D : Type 0} (seen : D → Image) (may_leave : D → Image → Type 0) 
       runs = ap (λ turn. (after_row book.members situation.standing turn joined.row.event joined.row.letters).runs) joined.joined.turn ∙ did_runs book.members situation.standing who taken.cause made joined.row.event joined.row.letters
 
       was : (standing_behind table rows book).runs who ≡ true
-      was = runs_ahead seen may_leave honest table rows book situation who taken more member ahead
+      was = runs_ahead seen may_leave honest told_of table rows book situation who taken more member ahead
 
       running : (standing_behind table (rows ++ joined.row ∷ []) after).runs who ≡ (standing_behind table rows book).runs who
       running =

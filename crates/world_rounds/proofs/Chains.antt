@@ -1,7 +1,8 @@
 -- Turns after turns.
-use Rattle.std.proofs.Common.{◌≡◌, ℕ, List, [], ◌∷◌, ◌++◌, refl, sym, ◌∙◌, subst, append_assoc}
+use Rattle.std.proofs.Common.{◌≡◌, ℕ, List, [], ◌∷◌, ◌++◌, refl, sym, ◌∙◌, subst, append_assoc, Option}
 use Rattle.std.proofs.Common.{append-nil as append_nil}
 use Rattle.disk_model.specs.Images.{Image}
+use Rattle.disk_model.specs.Told.{Told}
 use Rattle.due_set.specs.Table.{Table}
 use Rattle.book_law.specs.Book.{Row}
 use Rattle.script_law.specs.Situation.{AreTurnsFor, Situation, Task, after_turn, after_turns}
@@ -21,23 +22,23 @@ turns_append n situation [] others (row ∷ rows) more one two = absurd cc
 turns_append n situation (task ∷ tasks) others [] more one two = absurd cc
 turns_append n situation (task ∷ tasks) others (row ∷ rows) more one two = (one.0, turns_append n (after_turn n situation row) tasks others rows more one.1 two)
 
-module _ {D : Type 0} (seen : D → Image) (may_leave : D → Image → Type 0) (honest : D → Type 0) (table : Table) where
+module _ {D : Type 0} (seen : D → Image) (may_leave : D → Image → Type 0) (honest : D → Type 0) (told_of : D → Option Told) (table : Table) where
   -- no turn at all
-  pub taken_none : (rows : List Row) (situation : Situation) (left : ℕ → List Taken) (world : World D) → IsWorldAhead seen may_leave honest table rows world situation left
-      → HasTaken seen may_leave honest table (book_of world).members rows situation [] left world
+  pub taken_none : (rows : List Row) (situation : Situation) (left : ℕ → List Taken) (world : World D) → IsWorldAhead seen may_leave honest told_of table rows world situation left
+      → HasTaken seen may_leave honest told_of table (book_of world).members rows situation [] left world
   taken_none rows situation left world ahead = record {
     members_are = refl;
     more = [];
     turns = refl;
-    ahead = subst (λ rows. IsWorldAhead seen may_leave honest table rows world situation left) (sym (append_nil rows)) ahead;
+    ahead = subst (λ rows. IsWorldAhead seen may_leave honest told_of table rows world situation left) (sym (append_nil rows)) ahead;
   }
 
   -- some turns and then others
   pub taken_then : (n : ℕ) (rows : List Row) (situation : Situation) (tasks others : List Task) (left later : ℕ → List Taken) (middle world : World D)
-      → HasTaken seen may_leave honest table n rows situation tasks left middle
-      → ((rows : List Row) (situation : Situation) → IsWorldAhead seen may_leave honest table rows middle situation left
-      → HasTaken seen may_leave honest table (book_of middle).members rows situation others later world)
-      → HasTaken seen may_leave honest table n rows situation (tasks ++ others) later world
+      → HasTaken seen may_leave honest told_of table n rows situation tasks left middle
+      → ((rows : List Row) (situation : Situation) → IsWorldAhead seen may_leave honest told_of table rows middle situation left
+      → HasTaken seen may_leave honest told_of table (book_of middle).members rows situation others later world)
+      → HasTaken seen may_leave honest told_of table n rows situation (tasks ++ others) later world
   taken_then n rows situation tasks others left later middle world one two =
       let next = two (rows ++ one.more) (after_turns n situation one.more) one.ahead in
       record {
@@ -47,8 +48,8 @@ module _ {D : Type 0} (seen : D → Image) (may_leave : D → Image → Type 0) 
             turns_append n situation tasks others one.more next.more one.turns
             (subst (λ members. AreTurnsFor members (after_turns n situation one.more) others next.more) one.members_are next.turns);
         ahead =
-            subst (λ situation. IsWorldAhead seen may_leave honest table (rows ++ (one.more ++ next.more)) world situation later) (sym (after_append n situation one.more next.more))
-            (subst (λ rows. IsWorldAhead seen may_leave honest table rows world (after_turns n (after_turns n situation one.more) next.more) later) (append_assoc rows one.more next.more)
-            (subst (λ members. IsWorldAhead seen may_leave honest table ((rows ++ one.more) ++ next.more) world (after_turns members (after_turns n situation one.more) next.more) later)
+            subst (λ situation. IsWorldAhead seen may_leave honest told_of table (rows ++ (one.more ++ next.more)) world situation later) (sym (after_append n situation one.more next.more))
+            (subst (λ rows. IsWorldAhead seen may_leave honest told_of table rows world (after_turns n (after_turns n situation one.more) next.more) later) (append_assoc rows one.more next.more)
+            (subst (λ members. IsWorldAhead seen may_leave honest told_of table ((rows ++ one.more) ++ next.more) world (after_turns members (after_turns n situation one.more) next.more) later)
             one.members_are next.ahead));
       }

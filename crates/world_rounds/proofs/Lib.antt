@@ -1,6 +1,7 @@
 pub mod Foreseen
 pub mod StepLemmas
 pub mod HearLemmas
+pub mod MemoryLemmas
 pub mod Calls
 pub mod Joined
 pub mod AfterTurn
@@ -22,3 +23,4 @@ pub mod QuietLemmas
 pub mod CalmLemmas
 pub mod DrainLemmas
 pub mod WalkLemmas
+pub mod LoopLemmas

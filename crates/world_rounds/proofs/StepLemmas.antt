@@ -3,6 +3,7 @@ use Rattle.std.proofs.Common.{◌≡◌, ℕ, ◌+◌, ◌<◌, ◌≤◌, ◌^�
 use Rattle.std.proofs.lemmas.List.{length-map}
 use Rattle.cluster_sched.specs.declared.row.SchedRow.{SchedRow}
 use Rattle.disk_model.specs.Images.{Image}
+use Rattle.disk_model.specs.Told.{Told}
 use Rattle.due_set.specs.Table.{Table}
 use Rattle.step_law.specs.Step.{IsLaunchTable}
 use Rattle.book_law.specs.Book.{Row}
@@ -14,6 +15,7 @@ use Rattle.replica_core.specs.Step.{Steps}
 use Rattle.replica_core.specs.declared.input.Input.{Input}
 use Rattle.replica_core.specs.declared.out.StepOut.{StepOut}
 use Rattle.replica_node.specs.Node.{IsNodeAtRest, disk_of, replica_of}
+use Rattle.replica_node.specs.Reliable.{IsReliable}
 use Rattle.replica_node.specs.declared.node.Node.{Node}
 use Rattle.world_law.specs.Book.{BookState, standing_behind}
 use Rattle.world_law.specs.declared.letter.LetterRow.{LetterRow}
@@ -33,10 +35,10 @@ took_next table letters waits who [] taken old middle new took step = (new, subs
 took_next table letters waits who (first ∷ more) taken old middle new took step =
     (took.0, took.1, took_next table letters None who more taken took.0 middle new took.2 (subst (λ w. TookStep table letters w who taken middle new) (sym (none_behind more)) step))
 
-module _ {D : Type 0} (seen : D → Image) (may_leave : D → Image → Type 0) (honest : D → Type 0) where
+module _ {D : Type 0} (seen : D → Image) (may_leave : D → Image → Type 0) (honest : D → Type 0) (told_of : D → Option Told) where
   -- a node ahead of a book is small
   pub ahead_small : (table : Table) (rows : List Row) (book : BookState) (who : ℕ) (steps : List Taken) (node : Node D)
-      → IsBeside seen may_leave honest table rows book who steps node → length book.turns < 2 ^ 31 → length steps < 2 ^ 31
+      → IsBeside seen may_leave honest told_of table rows book who steps node → length book.turns < 2 ^ 31 → length steps < 2 ^ 31
       → IsSmall (replica_of node).state (replica_of node).machine.rows
   ahead_small table rows book who steps node beside turns more =
       record { tried = small.tried; seen = small.seen; prefix = small.prefix; counts = small.counts (replica_of node).machine.rows launches }
@@ -83,9 +85,9 @@ module _ {D : Type 0} (seen : D → Image) (may_leave : D → Image → Type 0) 
 
   -- and is one step more ahead of it after the next
   pub beside_next : (table : Table) (rows : List Row) (book : BookState) (who : ℕ) (steps : List Taken) (old new : Node D) (cause : Cause) (input : Input) (out : StepOut)
-      → WasToldOf seen may_leave honest table rows book who steps old cause input → IsNodeAtRest seen may_leave honest table new → honest (disk_of new)
-      → Steps table input (replica_of old) (replica_of new) out → IsBeside seen may_leave honest table rows book who (steps ++ record { cause = cause; out = out } ∷ []) new
-  beside_next table rows book who steps old new cause input out told rest trusted stepped = record {
+      → WasToldOf seen may_leave honest told_of table rows book who steps old cause input → IsNodeAtRest seen may_leave honest table new → honest (disk_of new) → IsReliable (told_of (disk_of new))
+      → Steps table input (replica_of old) (replica_of new) out → IsBeside seen may_leave honest told_of table rows book who (steps ++ record { cause = cause; out = out } ∷ []) new
+  beside_next table rows book who steps old new cause input out told rest trusted reliable stepped = record {
     sound = told.beside.sound;
     behind = told.beside.behind;
     rest = told.beside.rest;
@@ -93,6 +95,7 @@ module _ {D : Type 0} (seen : D → Image) (may_leave : D → Image → Type 0) 
     ahead = record {
       at_rest = rest;
       trusted = trusted;
+      reliable = reliable;
       first = told.beside.ahead.first;
       stands = told.beside.ahead.stands;
       me = told.beside.ahead.me;

@@ -1,6 +1,7 @@
 -- A turn that is no step, and that joins a book; and a replica that starts again.
-use Rattle.std.specs.Prelude.{◌≡◌, ℕ, true, List, [], ◌∷◌, ◌++◌, None}
+use Rattle.std.specs.Prelude.{◌≡◌, ℕ, true, List, [], ◌∷◌, ◌++◌, None, Option}
 use Rattle.disk_model.specs.Images.{Image}
+use Rattle.disk_model.specs.Told.{Told}
 use Rattle.due_set.specs.Table.{Table}
 use Rattle.step_law.specs.State.{started}
 use Rattle.agree_law.specs.Transition.{identity_of}
@@ -9,6 +10,7 @@ use Rattle.book_law.specs.Legal.{MayFollow}
 use Rattle.book_law.specs.declared.turn.Turn.{Turn}
 use Rattle.world_law.specs.Book.{BookState, IsRowOf, StandsBehind, call_of, standing_behind}
 use Rattle.replica_node.specs.Node.{IsNodeAtRest, disk_of, replica_of}
+use Rattle.replica_node.specs.Reliable.{IsReliable}
 use Rattle.world_law.specs.Replicas.{change_alone}
 use Rattle.world_rounds.specs.declared.member.Member.{Member}
 
@@ -28,9 +30,10 @@ pub record HasJoinedAlone (table : Table) (rows : List Row) (old new : BookState
   pub letters : new.letters ≡ old.letters
 
 -- A replica of so many runs again, from what it kept while it was stopped; what is on its way to it and set for it stays.
-pub record HasStartedAgain {D : Type 0} (seen : D → Image) (may_leave : D → Image → Type 0) (honest : D → Type 0) (table : Table) (members who : ℕ) (old new : Member D) : Type 0 where
+pub record HasStartedAgain {D : Type 0} (seen : D → Image) (may_leave : D → Image → Type 0) (honest : D → Type 0) (told_of : D → Option Told) (table : Table) (members who : ℕ) (old new : Member D) : Type 0 where
   pub at_rest : IsNodeAtRest seen may_leave honest table new.node
   pub trusted : honest (disk_of new.node)
+  pub reliable : IsReliable (told_of (disk_of new.node))
   pub identity : (replica_of new.node).identity ≡ identity_of members who
   pub state : (replica_of new.node).state ≡ started who (replica_of old.node).state.kept
   pub runs : new.mail.runs ≡ true

@@ -1,9 +1,9 @@
 pub mod Alone
+pub mod Bounds
 pub mod Calm
 pub mod Campaigns
 pub mod Commands
 pub mod Drains
-pub mod Faults
 pub mod Mails
 pub mod Start
 pub mod Steps

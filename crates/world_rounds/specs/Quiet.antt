@@ -1,12 +1,11 @@
 -- What a world in which all run tells of who has nothing left to do.
-use Rattle.std.specs.Prelude.{◌≡◌, ◌↔◌, ℕ, true, List, ℤ, IsTrue, Bool, None, Some, ⊤, slice_get}
+use Rattle.std.specs.Prelude.{◌≡◌, ◌↔◌, ℕ, true, List, IsTrue, Bool, Some, ⊤, slice_get, Option}
 use Rattle.disk_model.specs.Images.{Image}
+use Rattle.disk_model.specs.Told.{Told}
 use Rattle.due_set.specs.Table.{Table}
 use Rattle.term_core.specs.declared.term.Term.{Term}
 use Rattle.term_core.specs.declared.term.Term.TheVariants.{Follower}
-use Rattle.step_law.specs.State.{prefix_of}
 use Rattle.book_law.specs.Book.{Row}
-use Rattle.script_law.specs.Settling.{AsksNothing, IsFreeTerm}
 use Rattle.script_law.specs.Situation.{Situation}
 use Rattle.world_rounds.specs.World.{IsWorldAt}
 use Rattle.world_rounds.specs.declared.member.Member.{Member}
@@ -17,21 +16,15 @@ abbrev pub AllRun : {D : Type 0} → World D → Type 0
 AllRun {D = D} world = (who : ℕ) (member : Member D) → slice_get world.members.items who ≡ Some member → member.mail.runs ≡ true
 
 -- **The answer is true just where this holds of the situation**, whichever the world is in.
-abbrev pub Tells : {D : Type 0} → (seen : D → Image) → (may_leave : D → Image → Type 0) → (honest : D → Type 0) → Table → (holds : Situation → Type 0) → World D → Bool → Type 0
-Tells seen may_leave honest table holds world answer =
-    (rows : List Row) (situation : Situation) → IsWorldAt seen may_leave honest table rows world situation → IsTrue answer ↔ holds situation
+abbrev pub Tells : {D : Type 0} → (seen : D → Image) → (may_leave : D → Image → Type 0) → (honest : D → Type 0) → (told_of : D → Option Told) → Table → (holds : Situation → Type 0) → World D → Bool → Type 0
+Tells seen may_leave honest told_of table holds world answer =
+    (rows : List Row) (situation : Situation) → IsWorldAt seen may_leave honest told_of table rows world situation → IsTrue answer ↔ holds situation
 
 -- the term is a follower's
 abbrev pub IsFollower : Term → Type 0
 IsFollower (Follower ended) = ⊤
 IsFollower term = ⊥
 
--- The replica is at rest at an instant: it leads and has nothing left to do, and no answer waits for it.
-pub record IsAtRest (table : Table) (who : ℕ) (at : ℤ) (situation : Situation) : Type 0 where
-  pub free : IsFreeTerm (prefix_of (situation.standing.replicas who)) (situation.standing.replicas who).term
-  pub answered : situation.standing.waits who ≡ None
-  pub rests : AsksNothing table at (situation.standing.replicas who)
-
 -- the world is in this situation, whatever rows stand behind its book
-abbrev pub IsIn : {D : Type 0} → (seen : D → Image) → (may_leave : D → Image → Type 0) → (honest : D → Type 0) → Table → World D → Situation → Type 0
-IsIn seen may_leave honest table world situation = (rows : List Row) × IsWorldAt seen may_leave honest table rows world situation
+abbrev pub IsIn : {D : Type 0} → (seen : D → Image) → (may_leave : D → Image → Type 0) → (honest : D → Type 0) → (told_of : D → Option Told) → Table → World D → Situation → Type 0
+IsIn seen may_leave honest told_of table world situation = (rows : List Row) × IsWorldAt seen may_leave honest told_of table rows world situation

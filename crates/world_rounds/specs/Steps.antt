@@ -2,6 +2,7 @@
 use Rattle.std.specs.Prelude.{◌≡◌, ℕ, ◌≤◌, List, [], ◌∷◌, Option, None, Some, Contains, map, slice_get}
 use Rattle.cluster_sched.specs.declared.row.SchedRow.{SchedRow}
 use Rattle.disk_model.specs.Images.{Image}
+use Rattle.disk_model.specs.Told.{Told}
 use Rattle.due_set.specs.Table.{IsSound, Table}
 use Rattle.book_law.specs.Book.{Row}
 use Rattle.book_law.specs.declared.turn.Cause.{Cause}
@@ -11,6 +12,7 @@ use Rattle.replica_core.specs.Step.{IsInputInside, Steps}
 use Rattle.replica_core.specs.declared.input.Input.{Input}
 use Rattle.replica_core.specs.declared.input.Input.TheVariants as told
 use Rattle.replica_node.specs.Node.{IsNodeAtRest, disk_of, replica_of}
+use Rattle.replica_node.specs.Reliable.{IsReliable}
 use Rattle.replica_node.specs.declared.node.Node.{Node}
 use Rattle.world_law.specs.Book.{BookState, StandsBehind, standing_behind}
 use Rattle.world_law.specs.Replicas.{IsLetterInput, StandsAt}
@@ -65,36 +67,37 @@ waits_in table rows book who = (standing_behind table rows book).waits who
 
 -- A node that runs, and is as many steps ahead of the book behind which these rows stand: its replica stood where the book has it, and
 -- has taken the steps since.
-pub record IsNodeAhead {D : Type 0} (seen : D → Image) (may_leave : D → Image → Type 0) (honest : D → Type 0) (table : Table) (rows : List Row) (book : BookState) (who : ℕ) (steps : List Taken) (node : Node D) : Type 0 where
+pub record IsNodeAhead {D : Type 0} (seen : D → Image) (may_leave : D → Image → Type 0) (honest : D → Type 0) (told_of : D → Option Told) (table : Table) (rows : List Row) (book : BookState) (who : ℕ) (steps : List Taken) (node : Node D) : Type 0 where
   pub at_rest : IsNodeAtRest seen may_leave honest table node
   pub trusted : honest (disk_of node)
+  pub reliable : IsReliable (told_of (disk_of node))
   pub first : ReplicaState
   pub stands : StandsAt table rows book first
   pub me : first.identity.me ≡ who
   pub took : TookSteps table book.letters (waits_in table rows book who) who steps first (replica_of node)
 
 -- the node is so many steps ahead of a book at rest, behind which these rows stand
-pub record IsBeside {D : Type 0} (seen : D → Image) (may_leave : D → Image → Type 0) (honest : D → Type 0) (table : Table) (rows : List Row) (book : BookState) (who : ℕ) (steps : List Taken) (node : Node D) : Type 0 where
+pub record IsBeside {D : Type 0} (seen : D → Image) (may_leave : D → Image → Type 0) (honest : D → Type 0) (told_of : D → Option Told) (table : Table) (rows : List Row) (book : BookState) (who : ℕ) (steps : List Taken) (node : Node D) : Type 0 where
   pub sound : IsSound table
   pub behind : StandsBehind table rows book
   pub rest : book.pending ≡ None
   pub few : book.members ≤ 7
-  pub ahead : IsNodeAhead seen may_leave honest table rows book who steps node
+  pub ahead : IsNodeAhead seen may_leave honest told_of table rows book who steps node
 
 -- and is told of a cause
-pub record WasToldOf {D : Type 0} (seen : D → Image) (may_leave : D → Image → Type 0) (honest : D → Type 0) (table : Table) (rows : List Row) (book : BookState) (who : ℕ) (steps : List Taken) (node : Node D) (cause : Cause) (input : Input) : Type 0 where
-  pub beside : IsBeside seen may_leave honest table rows book who steps node
+pub record WasToldOf {D : Type 0} (seen : D → Image) (may_leave : D → Image → Type 0) (honest : D → Type 0) (told_of : D → Option Told) (table : Table) (rows : List Row) (book : BookState) (who : ℕ) (steps : List Taken) (node : Node D) (cause : Cause) (input : Input) : Type 0 where
+  pub beside : IsBeside seen may_leave honest told_of table rows book who steps node
   pub is_told : IsToldOf book.letters (waits_behind steps (waits_in table rows book who)) who cause input
   pub inside : IsInputInside table input
 
 -- it takes the answer that waits for it, where one does
-pub record MayTakeAnswer {D : Type 0} (seen : D → Image) (may_leave : D → Image → Type 0) (honest : D → Type 0) (table : Table) (rows : List Row) (book : BookState) (who : ℕ) (waits : Option SchedRow) (node : Node D) : Type 0 where
-  pub beside : IsBeside seen may_leave honest table rows book who [] node
+pub record MayTakeAnswer {D : Type 0} (seen : D → Image) (may_leave : D → Image → Type 0) (honest : D → Type 0) (told_of : D → Option Told) (table : Table) (rows : List Row) (book : BookState) (who : ℕ) (waits : Option SchedRow) (node : Node D) : Type 0 where
+  pub beside : IsBeside seen may_leave honest told_of table rows book who [] node
   pub waiting : waits ≡ waits_in table rows book who
 
 -- it hears letters that go to it
-pub record MayHear {D : Type 0} (seen : D → Image) (may_leave : D → Image → Type 0) (honest : D → Type 0) (table : Table) (rows : List Row) (book : BookState) (who : ℕ) (steps : List Taken) (node : Node D) (letters : List ℕ) : Type 0 where
-  pub beside : IsBeside seen may_leave honest table rows book who steps node
+pub record MayHear {D : Type 0} (seen : D → Image) (may_leave : D → Image → Type 0) (honest : D → Type 0) (told_of : D → Option Told) (table : Table) (rows : List Row) (book : BookState) (who : ℕ) (steps : List Taken) (node : Node D) (letters : List ℕ) : Type 0 where
+  pub beside : IsBeside seen may_leave honest told_of table rows book who steps node
   pub sent : (number : ℕ) → Contains letters number → IsSentTo book.letters who number
 
 -- ---- what steps were taken for

@@ -4,6 +4,7 @@ use Rattle.std.specs.List.{flat_map}
 use Rattle.cluster_sched.specs.declared.fate.Fate.{Fate}
 use Rattle.cluster_sched.specs.declared.fate.Fate.TheVariants as becomes
 use Rattle.disk_model.specs.Images.{Image}
+use Rattle.disk_model.specs.Told.{Told}
 use Rattle.due_set.specs.Table.{IsSound, Table}
 use Rattle.step_law.specs.State.{started}
 use Rattle.agree_law.specs.Transition.{identity_of}
@@ -12,6 +13,7 @@ use Rattle.book_law.specs.declared.turn.CallRow.{CallRow}
 use Rattle.book_law.specs.declared.turn.Cause.{Cause}
 use Rattle.book_law.specs.declared.turn.Cause.TheVariants.{Hear}
 use Rattle.replica_node.specs.Node.{IsNodeAtRest, disk_of, replica_of}
+use Rattle.replica_node.specs.Reliable.{IsReliable}
 use Rattle.replica_node.specs.declared.node.Node.{Node}
 use Rattle.script_text.specs.Command.{IsSkew}
 use Rattle.script_law.specs.Situation.{Situation, is_cut}
@@ -54,25 +56,26 @@ pub record IsMailOf (letters : List LetterRow) (situation : Situation) (who : �
   pub sent : (number : ℕ) → Contains mail.letters.items number → IsSentTo letters who number
 
 -- the node of a replica that is stopped: it keeps what the replica does, and has taken no step
-pub record IsNodeStopped {D : Type 0} (seen : D → Image) (may_leave : D → Image → Type 0) (honest : D → Type 0) (table : Table) (members : ℕ) (standing : Standing) (who : ℕ) (steps : List Taken) (node : Node D) : Type 0 where
+pub record IsNodeStopped {D : Type 0} (seen : D → Image) (may_leave : D → Image → Type 0) (honest : D → Type 0) (told_of : D → Option Told) (table : Table) (members : ℕ) (standing : Standing) (who : ℕ) (steps : List Taken) (node : Node D) : Type 0 where
   pub at_rest : IsNodeAtRest seen may_leave honest table node
   pub trusted : honest (disk_of node)
+  pub reliable : IsReliable (told_of (disk_of node))
   pub identity : (replica_of node).identity ≡ identity_of members who
   pub none : steps ≡ []
   pub kept : standing.replicas who ≡ started who (replica_of node).state.kept
 
 -- a replica of the world, which may be some steps ahead of the book
-pub record IsMemberAhead {D : Type 0} (seen : D → Image) (may_leave : D → Image → Type 0) (honest : D → Type 0) (table : Table) (rows : List Row) (book : BookState) (situation : Situation) (who : ℕ) (steps : List Taken) (member : Member D) : Type 0 where
+pub record IsMemberAhead {D : Type 0} (seen : D → Image) (may_leave : D → Image → Type 0) (honest : D → Type 0) (told_of : D → Option Told) (table : Table) (rows : List Row) (book : BookState) (situation : Situation) (who : ℕ) (steps : List Taken) (member : Member D) : Type 0 where
   pub mail : IsMailOf book.letters situation who steps member.mail
-  pub running : (standing_behind table rows book).runs who ≡ true → IsNodeAhead seen may_leave honest table rows book who steps member.node
-  pub stopped : (standing_behind table rows book).runs who ≡ false → IsNodeStopped seen may_leave honest table book.members (standing_behind table rows book) who steps member.node
+  pub running : (standing_behind table rows book).runs who ≡ true → IsNodeAhead seen may_leave honest told_of table rows book who steps member.node
+  pub stopped : (standing_behind table rows book).runs who ≡ false → IsNodeStopped seen may_leave honest told_of table book.members (standing_behind table rows book) who steps member.node
 
 -- The world is in this situation, and behind its book stand these rows; of each replica there may be steps that aren't turns yet.
-pub record IsWorldAhead {D : Type 0} (seen : D → Image) (may_leave : D → Image → Type 0) (honest : D → Type 0) (table : Table) (rows : List Row) (world : World D) (situation : Situation) (steps : ℕ → List Taken) : Type 0 where
+pub record IsWorldAhead {D : Type 0} (seen : D → Image) (may_leave : D → Image → Type 0) (honest : D → Type 0) (told_of : D → Option Told) (table : Table) (rows : List Row) (world : World D) (situation : Situation) (steps : ℕ → List Taken) : Type 0 where
   pub at : IsBookAt table rows world.book situation
   pub count : length world.members.items ≡ world.book.members
   pub each : (who : ℕ) (member : Member D) → slice_get world.members.items who ≡ Some member
-      → IsMemberAhead seen may_leave honest table rows world.book situation who (steps who) member
+      → IsMemberAhead seen may_leave honest told_of table rows world.book situation who (steps who) member
   pub cuts : (from to : ℕ) → is_cut from to world.cuts.items ≡ is_cut from to situation.cuts
   pub latest : world.latest.0 ≡ situation.latest
 
@@ -94,18 +97,18 @@ abbrev pub none_taken : ℕ → List Taken
 none_taken who = []
 
 -- **The world is in this situation**, and behind its book stand these rows.
-pub record IsWorldAt {D : Type 0} (seen : D → Image) (may_leave : D → Image → Type 0) (honest : D → Type 0) (table : Table) (rows : List Row) (world : World D) (situation : Situation) : Type 0 where
-  pub ahead : IsWorldAhead seen may_leave honest table rows world situation none_taken
+pub record IsWorldAt {D : Type 0} (seen : D → Image) (may_leave : D → Image → Type 0) (honest : D → Type 0) (told_of : D → Option Told) (table : Table) (rows : List Row) (world : World D) (situation : Situation) : Type 0 where
+  pub ahead : IsWorldAhead seen may_leave honest told_of table rows world situation none_taken
   pub idle : (who : ℕ) (member : Member D) → slice_get world.members.items who ≡ Some member → member.steps.items ≡ []
 
 -- so it is, for some rows and in some situation
-pub record IsWorld {D : Type 0} (seen : D → Image) (may_leave : D → Image → Type 0) (honest : D → Type 0) (table : Table) (world : World D) : Type 0 where
+pub record IsWorld {D : Type 0} (seen : D → Image) (may_leave : D → Image → Type 0) (honest : D → Type 0) (told_of : D → Option Told) (table : Table) (world : World D) : Type 0 where
   pub rows : List Row
   pub situation : Situation
-  pub is : IsWorldAt seen may_leave honest table rows world situation
+  pub is : IsWorldAt seen may_leave honest told_of table rows world situation
 
 -- **The world goes on by a part**: from whichever situation it was in, some turns are added that are such a part.
-abbrev pub GoesOnBy : {D : Type 0} → (seen : D → Image) → (may_leave : D → Image → Type 0) → (honest : D → Type 0) → Table → (part : Situation → List Row → Situation → Type 0) → (old new : World D) → Type 0
-GoesOnBy seen may_leave honest table part old new =
-    (rows : List Row) (situation : Situation) → IsWorldAt seen may_leave honest table rows old situation
-    → (more : List Row) × (after : Situation) × part situation more after × IsWorldAt seen may_leave honest table (rows ++ more) new after
+abbrev pub GoesOnBy : {D : Type 0} → (seen : D → Image) → (may_leave : D → Image → Type 0) → (honest : D → Type 0) → (told_of : D → Option Told) → Table → (part : Situation → List Row → Situation → Type 0) → (old new : World D) → Type 0
+GoesOnBy seen may_leave honest told_of table part old new =
+    (rows : List Row) (situation : Situation) → IsWorldAt seen may_leave honest told_of table rows old situation
+    → (more : List Row) × (after : Situation) × part situation more after × IsWorldAt seen may_leave honest told_of table (rows ++ more) new after

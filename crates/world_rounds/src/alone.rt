@@ -2,6 +2,7 @@
 ghost use Rattle.std.specs.Prelude.{◌≡◌, ◌<◌, ◌≤◌, IfOk, ◌&&◌, ℕ, List, OnOk, OnErr, length, nat_lt, not};
 ghost use Rattle.book_law.specs.Book.{Row};
 ghost use Rattle.replica_node.specs.Node.{IsNodeAtRest, disk_of};
+ghost use Rattle.replica_node.specs.Reliable.{IsReliable};
 ghost use Rattle.script_law.specs.Commands.{has_number};
 ghost use Rattle.script_law.specs.Script.{IsPartOf};
 ghost use Rattle.script_text.specs.declared.command.Command.TheVariants as command;
@@ -9,10 +10,11 @@ ghost use Rattle.world_law.specs.Book.{IsLegalBook};
 ghost use Rattle.world_rounds.specs.Alone.{HasJoinedAlone, HasStartedAgain, IsAlone};
 ghost use Rattle.world_rounds.specs.World.{GoesOnBy, IsWorld, book_of};
 
-use crate::fault::WorldFault;
+use crate::fault::memory_of;
 use crate::member::Member;
 use crate::world::World;
 use book_law::Turn;
+use cron_io::OutOfMemory;
 use disk_model::Disk;
 use due_set::JobTable;
 use replica_core::{LearntList, StepOut};
@@ -27,7 +29,7 @@ fn commit_alone(
     book: &mut Book,
     table: &JobTable,
     turn: Turn,
-) -> Result<(), WorldFault>
+) -> Result<(), OutOfMemory>
     requires alone { (rows : List Row) × (row : Row) × IsAlone table.now rows book.old turn row }
     ensures joins { OnOk result ((rows : List Row) (row : Row) → IsAlone table.now rows book.old turn row → HasJoinedAlone table.now rows book.old book.new row) }
     ensures legal { OnErr result (IsLegalBook table.now book.new) }
@@ -61,12 +63,13 @@ fn start_again<D: Disk>(
     who: u8,
     members: u8,
     stopped: Member<D>,
-) -> Result<Member<D>, WorldFault>
+) -> Result<Member<D>, OutOfMemory>
     requires me { who < members }
     requires few { members ≤ 7 }
     requires at_rest { IsNodeAtRest D.seen D.may_leave D.honest table.now stopped.node }
     requires trusted { D.honest (disk_of stopped.node) }
-    ensures { IfOk result (λ started. HasStartedAgain D.seen D.may_leave D.honest table.now members who stopped started) }
+    requires reliable { IsReliable (D.told (disk_of stopped.node)) }
+    ensures { IfOk result (λ started. HasStartedAgain D.seen D.may_leave D.honest D.told table.now members who stopped started) }
 {
     let Member {
         node,
@@ -78,16 +81,16 @@ fn start_again<D: Disk>(
             mail.runs = true;
             Ok(Member { node, mail, steps })
         }
-        Err((_disk, fault)) => Err(WorldFault::from(fault)),
+        Err((_disk, fault)) => Err(memory_of(fault)),
     }
 }
 
 impl<D: Disk> World<D> {
     // A replica stops, if it runs: it loses its mail and the answer that waits for it.
-    pub(crate) fn stop(&mut self, table: &JobTable, who: u8) -> Result<(), WorldFault>
-        requires world { IsWorld D.seen D.may_leave D.honest table.now self.old }
+    pub(crate) fn stop(&mut self, table: &JobTable, who: u8) -> Result<(), OutOfMemory>
+        requires world { IsWorld D.seen D.may_leave D.honest D.told table.now self.old }
         requires member { who < length self.old.members.items }
-        ensures goes { OnOk result (GoesOnBy D.seen D.may_leave D.honest table.now (IsPartOf (book_of self.old).members table.now (command.Stop who)) self.old self.new) }
+        ensures goes { OnOk result (GoesOnBy D.seen D.may_leave D.honest D.told table.now (IsPartOf (book_of self.old).members table.now (command.Stop who)) self.old self.new) }
         ensures members { OnOk result ((book_of self.new).members ≡ (book_of self.old).members) }
         ensures legal { OnErr result (IsLegalBook table.now (book_of self.new)) }
     {
@@ -108,10 +111,10 @@ impl<D: Disk> World<D> {
     }
 
     // A replica that is stopped starts again with what its disk keeps.
-    pub(crate) fn restart(&mut self, table: &JobTable, who: u8) -> Result<(), WorldFault>
-        requires world { IsWorld D.seen D.may_leave D.honest table.now self.old }
+    pub(crate) fn restart(&mut self, table: &JobTable, who: u8) -> Result<(), OutOfMemory>
+        requires world { IsWorld D.seen D.may_leave D.honest D.told table.now self.old }
         requires member { who < length self.old.members.items }
-        ensures goes { OnOk result (GoesOnBy D.seen D.may_leave D.honest table.now (IsPartOf (book_of self.old).members table.now (command.Restart who)) self.old self.new) }
+        ensures goes { OnOk result (GoesOnBy D.seen D.may_leave D.honest D.told table.now (IsPartOf (book_of self.old).members table.now (command.Restart who)) self.old self.new) }
         ensures members { OnOk result ((book_of self.new).members ≡ (book_of self.old).members) }
         ensures legal { OnErr result (IsLegalBook table.now (book_of self.new)) }
     {
@@ -126,9 +129,9 @@ impl<D: Disk> World<D> {
     }
 
     // A late call arrives, if there is one of this number that has not.
-    pub(crate) fn arrive(&mut self, table: &JobTable, late: u32) -> Result<(), WorldFault>
-        requires world { IsWorld D.seen D.may_leave D.honest table.now self.old }
-        ensures goes { OnOk result (GoesOnBy D.seen D.may_leave D.honest table.now (IsPartOf (book_of self.old).members table.now (command.Arrive late)) self.old self.new) }
+    pub(crate) fn arrive(&mut self, table: &JobTable, late: u32) -> Result<(), OutOfMemory>
+        requires world { IsWorld D.seen D.may_leave D.honest D.told table.now self.old }
+        ensures goes { OnOk result (GoesOnBy D.seen D.may_leave D.honest D.told table.now (IsPartOf (book_of self.old).members table.now (command.Arrive late)) self.old self.new) }
         ensures members { OnOk result ((book_of self.new).members ≡ (book_of self.old).members) }
         ensures legal { OnErr result (IsLegalBook table.now (book_of self.new)) }
     {

@@ -12,10 +12,10 @@ ghost use Rattle.world_rounds.specs.Quiet.{AllRun, IsIn};
 ghost use Rattle.world_rounds.specs.World.{GoesOnBy, IsWorld, book_of};
 ghost use Rattle.world_rounds.specs.declared.member.Member.{Member as Seat};
 
-use crate::fault::WorldFault;
 use crate::member::Member;
 use crate::world::World;
 use cluster_sched::Fate;
+use cron_io::OutOfMemory;
 use disk_model::Disk;
 use due_set::JobTable;
 
@@ -61,9 +61,9 @@ fn furthest<D: Disk>(members: &[Member<D>]) -> u8
 
 impl<D: Disk> World<D> {
     // All that are stopped start again.
-    fn restart_all(&mut self, table: &JobTable) -> Result<(), WorldFault>
-        requires world { IsWorld D.seen D.may_leave D.honest table.now self.old }
-        ensures goes { OnOk result (GoesOnBy D.seen D.may_leave D.honest table.now (RestartsAll (book_of self.old).members) self.old self.new) }
+    fn restart_all(&mut self, table: &JobTable) -> Result<(), OutOfMemory>
+        requires world { IsWorld D.seen D.may_leave D.honest D.told table.now self.old }
+        ensures goes { OnOk result (GoesOnBy D.seen D.may_leave D.honest D.told table.now (RestartsAll (book_of self.old).members) self.old self.new) }
         ensures members { OnOk result ((book_of self.new).members ≡ (book_of self.old).members) }
         ensures legal { OnErr result (IsLegalBook table.now (book_of self.new)) }
     {
@@ -76,7 +76,7 @@ impl<D: Disk> World<D> {
 
     // No letter waits or is lost, each clock is right, and each call is answered.
     fn calm(&mut self)
-        ensures sets { Changes D.seen D.may_leave D.honest calmed self.old self.new }
+        ensures sets { Changes D.seen D.may_leave D.honest D.told calmed self.old self.new }
         ensures book { book_of self.new ≡ book_of self.old }
     {
         self.cuts.clear();
@@ -84,9 +84,9 @@ impl<D: Disk> World<D> {
     }
 
     // All start that are stopped, and faults end.
-    pub(crate) fn start_over(&mut self, table: &JobTable) -> Result<(), WorldFault>
-        requires world { IsWorld D.seen D.may_leave D.honest table.now self.old }
-        ensures goes { OnOk result (GoesOnBy D.seen D.may_leave D.honest table.now
+    pub(crate) fn start_over(&mut self, table: &JobTable) -> Result<(), OutOfMemory>
+        requires world { IsWorld D.seen D.may_leave D.honest D.told table.now self.old }
+        ensures goes { OnOk result (GoesOnBy D.seen D.may_leave D.honest D.told table.now
             (Plain (book_of self.old).members (restart_tasks (book_of self.old).members) calmed) self.old self.new) }
         ensures run { OnOk result (AllRun self.new) }
         ensures members { OnOk result ((book_of self.new).members ≡ (book_of self.old).members) }
@@ -99,10 +99,10 @@ impl<D: Disk> World<D> {
 
     // The replica that is to lead.
     pub(crate) fn coordinator(&self, table: &JobTable) -> u8
-        requires world { IsWorld D.seen D.may_leave D.honest table.now self.now }
+        requires world { IsWorld D.seen D.may_leave D.honest D.told table.now self.now }
         requires run { AllRun self.now }
         requires some { 0 < (book_of self.now).members }
-        ensures is { (situation : Situation) → IsIn D.seen D.may_leave D.honest table.now self.now situation → result ≡ coordinator (book_of self.now).members situation }
+        ensures is { (situation : Situation) → IsIn D.seen D.may_leave D.honest D.told table.now self.now situation → result ≡ coordinator (book_of self.now).members situation }
         ensures member { result < length self.now.members.items }
     {
         furthest(&self.members)

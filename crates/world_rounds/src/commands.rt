@@ -10,9 +10,9 @@ ghost use Rattle.world_rounds.specs.Mails.{Changes};
 ghost use Rattle.script_text.specs.Command.{IsSkew};
 ghost use Rattle.world_rounds.specs.World.{GoesOnBy, IsWorld, book_of};
 
-use crate::fault::WorldFault;
 use crate::world::World;
 use cluster_sched::Fate;
+use cron_io::OutOfMemory;
 use disk_model::Disk;
 use due_set::JobTable;
 use script_text::{Command, FateWord};
@@ -31,8 +31,8 @@ fn fate_of(word: FateWord) -> Fate
 
 impl<D: Disk> World<D> {
     // Letters from the one replica to the other are lost from now on.
-    fn cut(&mut self, from: u8, to: u8) -> Result<(), WorldFault>
-        ensures sets { OnOk result (Changes D.seen D.may_leave D.honest (set_by (command.Cut from to)) self.old self.new) }
+    fn cut(&mut self, from: u8, to: u8) -> Result<(), OutOfMemory>
+        ensures sets { OnOk result (Changes D.seen D.may_leave D.honest D.told (set_by (command.Cut from to)) self.old self.new) }
         ensures book { book_of self.new ≡ book_of self.old }
     {
         self.cuts.push((from, to))?;
@@ -41,7 +41,7 @@ impl<D: Disk> World<D> {
 
     // No letter is lost from now on.
     fn heal(&mut self)
-        ensures sets { Changes D.seen D.may_leave D.honest (set_by command.Heal) self.old self.new }
+        ensures sets { Changes D.seen D.may_leave D.honest D.told (set_by command.Heal) self.old self.new }
         ensures book { book_of self.new ≡ book_of self.old }
     {
         self.cuts.clear();
@@ -51,7 +51,7 @@ impl<D: Disk> World<D> {
     fn skew(&mut self, who: u8, minutes: i64)
         requires member { who < length self.old.members.items }
         requires small { IsSkew minutes }
-        ensures sets { Changes D.seen D.may_leave D.honest (set_by (command.Skew who minutes)) self.old self.new }
+        ensures sets { Changes D.seen D.may_leave D.honest D.told (set_by (command.Skew who minutes)) self.old self.new }
         ensures book { book_of self.new ≡ book_of self.old }
     {
         self.members[who as usize].mail.skew = minutes;
@@ -60,17 +60,17 @@ impl<D: Disk> World<D> {
     // What becomes of a replica's next call.
     fn set_fate(&mut self, who: u8, word: FateWord)
         requires member { who < length self.old.members.items }
-        ensures sets { Changes D.seen D.may_leave D.honest (set_by (command.Fate who word)) self.old self.new }
+        ensures sets { Changes D.seen D.may_leave D.honest D.told (set_by (command.Fate who word)) self.old self.new }
         ensures book { book_of self.new ≡ book_of self.old }
     {
         self.members[who as usize].mail.fate = fate_of(word);
     }
 
     // A replica stands for leader, if it runs.
-    pub(crate) fn campaign(&mut self, table: &JobTable, who: u8) -> Result<(), WorldFault>
-        requires world { IsWorld D.seen D.may_leave D.honest table.now self.old }
+    pub(crate) fn campaign(&mut self, table: &JobTable, who: u8) -> Result<(), OutOfMemory>
+        requires world { IsWorld D.seen D.may_leave D.honest D.told table.now self.old }
         requires member { who < length self.old.members.items }
-        ensures goes { OnOk result (GoesOnBy D.seen D.may_leave D.honest table.now (IsPartOf (book_of self.old).members table.now (command.Campaign who)) self.old self.new) }
+        ensures goes { OnOk result (GoesOnBy D.seen D.may_leave D.honest D.told table.now (IsPartOf (book_of self.old).members table.now (command.Campaign who)) self.old self.new) }
         ensures members { OnOk result ((book_of self.new).members ≡ (book_of self.old).members) }
         ensures legal { OnErr result (IsLegalBook table.now (book_of self.new)) }
     {
@@ -88,11 +88,11 @@ impl<D: Disk> World<D> {
     ///
     /// # Errors
     ///
-    /// A fault of a disk, and want of memory. The world takes no more calls then, and its book is legal.
-    pub fn command(&mut self, table: &JobTable, command: &Command) -> Result<(), WorldFault>
-        requires world { IsWorld D.seen D.may_leave D.honest table.now self.old }
+    /// Want of memory. The world takes no more calls then, and its book is legal.
+    pub fn command(&mut self, table: &JobTable, command: &Command) -> Result<(), OutOfMemory>
+        requires world { IsWorld D.seen D.may_leave D.honest D.told table.now self.old }
         requires taken { IsTaken table.now.window (book_of self.old).members command.now }
-        ensures goes { OnOk result (GoesOnBy D.seen D.may_leave D.honest table.now (IsPartOf (book_of self.old).members table.now command.now) self.old self.new) }
+        ensures goes { OnOk result (GoesOnBy D.seen D.may_leave D.honest D.told table.now (IsPartOf (book_of self.old).members table.now command.now) self.old self.new) }
         ensures members { OnOk result ((book_of self.new).members ≡ (book_of self.old).members) }
         ensures legal { OnErr result (IsLegalBook table.now (book_of self.new)) }
     {

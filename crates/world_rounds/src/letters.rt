@@ -7,9 +7,9 @@ ghost use Rattle.world_law.specs.Book.{posted_as};
 ghost use Rattle.world_rounds.specs.Mails.{Changes};
 ghost use Rattle.world_rounds.specs.World.{IsWorld, book_of};
 
-use crate::fault::WorldFault;
 use crate::steps::letter_at;
 use crate::world::World;
+use cron_io::OutOfMemory;
 use disk_model::Disk;
 use std::alloc::Global;
 use world_law::Book;
@@ -39,7 +39,7 @@ fn is_another_from(book: &Book, who: u8, found: &[u64], number: u64) -> bool
 }
 
 // The letters of a mail that are from a replica, each once.
-fn once_from(alloc: Global, book: &Book, who: u8, mail: &[u64]) -> Result<Vec<u64>, WorldFault>
+fn once_from(alloc: Global, book: &Book, who: u8, mail: &[u64]) -> Result<Vec<u64>, OutOfMemory>
     ensures { IfOk result (λ found. found.items ≡ each_once (from_one (map posted_as book.now.letters) who mail.now)) }
 {
     let mut found: Vec<u64> = Vec::new(alloc);
@@ -56,7 +56,7 @@ impl<D: Disk> World<D> {
     // The letters from the one replica leave the other's mail.
     pub(crate) fn drop_letters(&mut self, from: u8, to: u8)
         requires member { to < length self.old.members.items }
-        ensures sets { Changes D.seen D.may_leave D.honest (set_by (command.Drop from to)) self.old self.new }
+        ensures sets { Changes D.seen D.may_leave D.honest D.told (set_by (command.Drop from to)) self.old self.new }
         ensures book { book_of self.new ≡ book_of self.old }
     {
         drop_from(
@@ -67,9 +67,9 @@ impl<D: Disk> World<D> {
     }
 
     // Each letter from the one replica in the other's mail joins that mail once more.
-    pub(crate) fn repeat_letters(&mut self, from: u8, to: u8) -> Result<(), WorldFault>
+    pub(crate) fn repeat_letters(&mut self, from: u8, to: u8) -> Result<(), OutOfMemory>
         requires member { to < length self.old.members.items }
-        ensures sets { OnOk result (Changes D.seen D.may_leave D.honest (set_by (command.Repeat from to)) self.old self.new) }
+        ensures sets { OnOk result (Changes D.seen D.may_leave D.honest D.told (set_by (command.Repeat from to)) self.old self.new) }
         ensures book { book_of self.new ≡ book_of self.old }
     {
         let mail = &mut self.members[to as usize].mail.letters;
@@ -81,16 +81,16 @@ impl<D: Disk> World<D> {
     // A replica's mail is in the opposite order.
     pub(crate) fn reverse_letters(&mut self, who: u8)
         requires member { who < length self.old.members.items }
-        ensures sets { Changes D.seen D.may_leave D.honest (set_by (command.Reverse who)) self.old self.new }
+        ensures sets { Changes D.seen D.may_leave D.honest D.told (set_by (command.Reverse who)) self.old self.new }
         ensures book { book_of self.new ≡ book_of self.old }
     {
         self.members[who as usize].mail.letters.reverse();
     }
 
     // A letter joins its addressee's mail once more, where there is such a letter and its addressee runs.
-    pub(crate) fn send_again(&mut self, number: u32) -> Result<(), WorldFault>
-        requires world { (table : Table) × IsWorld D.seen D.may_leave D.honest table self.old }
-        ensures sets { OnOk result (Changes D.seen D.may_leave D.honest (set_by (command.Again number)) self.old self.new) }
+    pub(crate) fn send_again(&mut self, number: u32) -> Result<(), OutOfMemory>
+        requires world { (table : Table) × IsWorld D.seen D.may_leave D.honest D.told table self.old }
+        ensures sets { OnOk result (Changes D.seen D.may_leave D.honest D.told (set_by (command.Again number)) self.old self.new) }
         ensures book { book_of self.new ≡ book_of self.old }
     {
         if number as usize >= self.book.letters().len() {

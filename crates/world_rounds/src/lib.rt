@@ -2,9 +2,11 @@
 #![tactic(auto)]
 
 mod alone;
+mod bounds;
 mod calm;
 mod commands;
 mod fault;
+mod laws;
 mod letters;
 mod mails;
 mod member;
@@ -17,6 +19,6 @@ mod turns;
 mod walking;
 mod world;
 
-pub use fault::WorldFault;
+pub use laws::a_new_disk_in_memory_is_fresh;
 pub use steps::Taken;
 pub use world::World;

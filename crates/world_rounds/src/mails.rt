@@ -5,9 +5,9 @@ ghost use Rattle.script_law.specs.Situation.{delivered, is_cut};
 ghost use Rattle.world_rounds.specs.Mails.{Changes, arrived};
 ghost use Rattle.world_rounds.specs.World.{IsWorld, book_of};
 
-use crate::fault::WorldFault;
 use crate::steps::letter_at;
 use crate::world::World;
+use cron_io::OutOfMemory;
 use disk_model::Disk;
 
 // Whether letters from the one to the other are lost.
@@ -24,10 +24,10 @@ fn is_cut(cuts: &[(u8, u8)], from: u8, to: u8) -> bool
 
 impl<D: Disk> World<D> {
     // The letter of a number joins the mail of its addressee, where that runs and the letter isn't lost.
-    fn deliver_one(&mut self, number: u64) -> Result<(), WorldFault>
-        requires world { (table : Table) × IsWorld D.seen D.may_leave D.honest table self.old }
+    fn deliver_one(&mut self, number: u64) -> Result<(), OutOfMemory>
+        requires world { (table : Table) × IsWorld D.seen D.may_leave D.honest D.told table self.old }
         requires there { number < length (book_of self.old).letters }
-        ensures arrives { OnOk result (Changes D.seen D.may_leave D.honest (arrived number) self.old self.new) }
+        ensures arrives { OnOk result (Changes D.seen D.may_leave D.honest D.told (arrived number) self.old self.new) }
         ensures book { book_of self.new ≡ book_of self.old }
     {
         let letter = letter_at(&self.book, number);
@@ -43,9 +43,9 @@ impl<D: Disk> World<D> {
     }
 
     // The letters from a number on join the mails.
-    pub(crate) fn deliver(&mut self, first: u64) -> Result<(), WorldFault>
-        requires world { (table : Table) × IsWorld D.seen D.may_leave D.honest table self.old }
-        ensures delivers { OnOk result (Changes D.seen D.may_leave D.honest (delivered first) self.old self.new) }
+    pub(crate) fn deliver(&mut self, first: u64) -> Result<(), OutOfMemory>
+        requires world { (table : Table) × IsWorld D.seen D.may_leave D.honest D.told table self.old }
+        ensures delivers { OnOk result (Changes D.seen D.may_leave D.honest D.told (delivered first) self.old self.new) }
         ensures book { book_of self.new ≡ book_of self.old }
     {
         'numbers: for number in first..self.book.letters().len() as u64 {

@@ -8,10 +8,10 @@ ghost use Rattle.world_rounds.specs.Campaigns.{TakesCampaign};
 ghost use Rattle.world_rounds.specs.Rounds.{MayTakeRound, TakesRound};
 ghost use Rattle.script_text.specs.Command.{IsSkew};
 
-use crate::fault::WorldFault;
 use crate::steps::{Taken, hear_letters, take_answer, take_step};
 use book_law::Cause;
 use cluster_sched::{Fate, SchedRow};
+use cron_io::OutOfMemory;
 use disk_model::Disk;
 use due_set::JobTable;
 use replica_core::Input;
@@ -62,10 +62,10 @@ impl<D: Disk> Member<D> {
     }
 
     // It stands for leader.
-    pub(crate) fn take_campaign(&mut self, table: &JobTable, book: &Book) -> Result<(), WorldFault>
+    pub(crate) fn take_campaign(&mut self, table: &JobTable, book: &Book) -> Result<(), OutOfMemory>
         requires runs { self.old.mail.runs ≡ true }
-        requires may { MayTakeRound D.seen D.may_leave D.honest table.now book.now self.old }
-        ensures takes { OnOk result (TakesCampaign D.seen D.may_leave D.honest table.now book.now self.old self.new) }
+        requires may { MayTakeRound D.seen D.may_leave D.honest D.told table.now book.now self.old }
+        ensures takes { OnOk result (TakesCampaign D.seen D.may_leave D.honest D.told table.now book.now self.old self.new) }
     {
         take_step(
             &mut self.node,
@@ -84,10 +84,10 @@ impl<D: Disk> Member<D> {
         table: &JobTable,
         book: &Book,
         at: Minute,
-    ) -> Result<(), WorldFault>
+    ) -> Result<(), OutOfMemory>
         requires inside { IsInWindow table.now.window at.0 }
-        requires may { MayTakeRound D.seen D.may_leave D.honest table.now book.now self.old }
-        ensures takes { OnOk result (TakesRound D.seen D.may_leave D.honest table.now book.now at.0 self.old self.new) }
+        requires may { MayTakeRound D.seen D.may_leave D.honest D.told table.now book.now self.old }
+        ensures takes { OnOk result (TakesRound D.seen D.may_leave D.honest D.told table.now book.now at.0 self.old self.new) }
     {
         if !self.mail.runs {
             return Ok(());

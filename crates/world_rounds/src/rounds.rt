@@ -8,9 +8,9 @@ ghost use Rattle.world_rounds.specs.Taking.{MayCommitOwn};
 ghost use Rattle.world_rounds.specs.World.{GoesOnBy, IsWorld, book_of};
 ghost use Rattle.world_rounds.specs.declared.member.Member.{Member as Seat};
 
-use crate::fault::WorldFault;
 use crate::member::Member;
 use crate::world::World;
+use cron_io::OutOfMemory;
 use disk_model::Disk;
 use due_set::JobTable;
 use world_law::Book;
@@ -22,10 +22,10 @@ fn take_rounds<D: Disk>(
     table: &JobTable,
     book: &Book,
     at: Minute,
-) -> Result<(), WorldFault>
+) -> Result<(), OutOfMemory>
     requires inside { IsInWindow table.now.window at.0 }
-    requires may { (who : ℕ) (member : Seat D) → slice_get members.old who ≡ Some member → MayTakeRound D.seen D.may_leave D.honest table.now book.now member }
-    ensures takes { OnOk result (AllTakeRounds D.seen D.may_leave D.honest table.now book.now at.0 members.old members.new) }
+    requires may { (who : ℕ) (member : Seat D) → slice_get members.old who ≡ Some member → MayTakeRound D.seen D.may_leave D.honest D.told table.now book.now member }
+    ensures takes { OnOk result (AllTakeRounds D.seen D.may_leave D.honest D.told table.now book.now at.0 members.old members.new) }
 {
     'members: for member in members {
         member.take_round(table, book, at)?;
@@ -35,9 +35,9 @@ fn take_rounds<D: Disk>(
 
 impl<D: Disk> World<D> {
     // The turns of the steps that the replicas have taken join the book, in the order of their numbers.
-    fn commit_all(&mut self, table: &JobTable) -> Result<(), WorldFault>
-        requires may { MayCommitOwn D.seen D.may_leave D.honest table.now self.old }
-        ensures commits { OnOk result (CommitsAll D.seen D.may_leave D.honest table.now self.old self.new) }
+    fn commit_all(&mut self, table: &JobTable) -> Result<(), OutOfMemory>
+        requires may { MayCommitOwn D.seen D.may_leave D.honest D.told table.now self.old }
+        ensures commits { OnOk result (CommitsAll D.seen D.may_leave D.honest D.told table.now self.old self.new) }
         ensures legal { OnErr result (IsLegalBook table.now (book_of self.new)) }
     {
         let members = self.members.len() as u8;
@@ -48,10 +48,10 @@ impl<D: Disk> World<D> {
     }
 
     // A round at an instant.
-    pub(crate) fn round_once(&mut self, table: &JobTable, at: Minute) -> Result<(), WorldFault>
-        requires world { IsWorld D.seen D.may_leave D.honest table.now self.old }
+    pub(crate) fn round_once(&mut self, table: &JobTable, at: Minute) -> Result<(), OutOfMemory>
+        requires world { IsWorld D.seen D.may_leave D.honest D.told table.now self.old }
         requires inside { IsInWindow table.now.window at.0 }
-        ensures goes { OnOk result (GoesOnBy D.seen D.may_leave D.honest table.now (IsRound (book_of self.old).members table.now.window at.0) self.old self.new) }
+        ensures goes { OnOk result (GoesOnBy D.seen D.may_leave D.honest D.told table.now (IsRound (book_of self.old).members table.now.window at.0) self.old self.new) }
         ensures members { OnOk result ((book_of self.new).members ≡ (book_of self.old).members) }
         ensures legal { OnErr result (IsLegalBook table.now (book_of self.new)) }
     {
@@ -63,10 +63,10 @@ impl<D: Disk> World<D> {
     }
 
     /// So many rounds at an instant.
-    pub fn round(&mut self, table: &JobTable, at: Minute, rounds: u32) -> Result<(), WorldFault>
-        requires world { IsWorld D.seen D.may_leave D.honest table.now self.old }
+    pub fn round(&mut self, table: &JobTable, at: Minute, rounds: u32) -> Result<(), OutOfMemory>
+        requires world { IsWorld D.seen D.may_leave D.honest D.told table.now self.old }
         requires inside { IsInWindow table.now.window at.0 }
-        ensures goes { OnOk result (GoesOnBy D.seen D.may_leave D.honest table.now (AreRounds (book_of self.old).members table.now.window at.0 rounds) self.old self.new) }
+        ensures goes { OnOk result (GoesOnBy D.seen D.may_leave D.honest D.told table.now (AreRounds (book_of self.old).members table.now.window at.0 rounds) self.old self.new) }
         ensures members { OnOk result ((book_of self.new).members ≡ (book_of self.old).members) }
         ensures legal { OnErr result (IsLegalBook table.now (book_of self.new)) }
     {

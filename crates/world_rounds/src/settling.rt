@@ -5,26 +5,27 @@ ghost use Rattle.book_law.specs.declared.turn.Cause.TheVariants.{Campaign};
 ghost use Rattle.script_law.specs.Parts.{Plays};
 ghost use Rattle.script_law.specs.Situation.{Do, Situation};
 ghost use Rattle.script_law.specs.Settling.{Drains, IsDrainRound, Settles, coordinator};
+ghost use Rattle.settle_law.specs.Settles.{HasRestedFor, LeadsNow, LeadsSoon};
 ghost use Rattle.world_law.specs.Book.{IsLegalBook};
+ghost use Rattle.world_rounds.specs.Bounds.{IsBounded, IsGiven};
+ghost use Rattle.world_rounds.specs.Drains.{DrainsOn};
 ghost use Rattle.world_rounds.specs.Quiet.{AllRun, IsIn};
 ghost use Rattle.world_rounds.specs.World.{GoesOnBy, IsWorld, book_of};
 
-use crate::fault::WorldFault;
+use crate::bounds::check_bounds;
 use crate::world::World;
+use cron_io::OutOfMemory;
 use disk_model::Disk;
 use due_set::JobTable;
 use zone_minutes::Minute;
 
-// The rounds of a drain at most: each has a turn, and a book has 2^31 turns at most.
-const MOST_ROUNDS: u32 = 1 << 31;
-
 impl<D: Disk> World<D> {
     // The replica stands for leader.
-    fn lead(&mut self, table: &JobTable, who: u8) -> Result<(), WorldFault>
-        requires world { IsWorld D.seen D.may_leave D.honest table.now self.old }
+    fn lead(&mut self, table: &JobTable, who: u8) -> Result<(), OutOfMemory>
+        requires world { IsWorld D.seen D.may_leave D.honest D.told table.now self.old }
         requires run { AllRun self.old }
         requires member { who < length self.old.members.items }
-        ensures goes { OnOk result (GoesOnBy D.seen D.may_leave D.honest table.now (Plays (book_of self.old).members (λ situation. Do who Campaign ∷ [])) self.old self.new) }
+        ensures goes { OnOk result (GoesOnBy D.seen D.may_leave D.honest D.told table.now (Plays (book_of self.old).members (λ situation. Do who Campaign ∷ [])) self.old self.new) }
         ensures run { OnOk result (AllRun self.new) }
         ensures members { OnOk result ((book_of self.new).members ≡ (book_of self.old).members) }
         ensures legal { OnErr result (IsLegalBook table.now (book_of self.new)) }
@@ -33,12 +34,12 @@ impl<D: Disk> World<D> {
     }
 
     // The replica stands for leader where it follows, and a round comes after that.
-    fn lead_round(&mut self, table: &JobTable, who: u8, at: Minute) -> Result<(), WorldFault>
-        requires world { IsWorld D.seen D.may_leave D.honest table.now self.old }
+    fn lead_round(&mut self, table: &JobTable, who: u8, at: Minute) -> Result<(), OutOfMemory>
+        requires world { IsWorld D.seen D.may_leave D.honest D.told table.now self.old }
         requires run { AllRun self.old }
         requires member { who < length self.old.members.items }
         requires inside { IsInWindow table.now.window at.0 }
-        ensures goes { OnOk result (GoesOnBy D.seen D.may_leave D.honest table.now (IsDrainRound (book_of self.old).members table.now who at.0) self.old self.new) }
+        ensures goes { OnOk result (GoesOnBy D.seen D.may_leave D.honest D.told table.now (IsDrainRound (book_of self.old).members table.now who at.0) self.old self.new) }
         ensures members { OnOk result ((book_of self.new).members ≡ (book_of self.old).members) }
         ensures legal { OnErr result (IsLegalBook table.now (book_of self.new)) }
     {
@@ -48,34 +49,114 @@ impl<D: Disk> World<D> {
         self.round_once(table, at)
     }
 
-    // Rounds of a drain until it is quiet.
-    pub(crate) fn drain(&mut self, table: &JobTable, who: u8, at: Minute) -> Result<(), WorldFault>
-        requires world { IsWorld D.seen D.may_leave D.honest table.now self.old }
+    // A round of a drain, within the bounds in which letters are heard whole.
+    fn drain_round(&mut self, table: &JobTable, who: u8, at: Minute) -> Result<(), OutOfMemory>
+        requires world { IsWorld D.seen D.may_leave D.honest D.told table.now self.old }
+        requires bounded { IsBounded (book_of self.old) }
         requires run { AllRun self.old }
         requires member { who < length self.old.members.items }
         requires inside { IsInWindow table.now.window at.0 }
-        ensures goes { OnOk result (GoesOnBy D.seen D.may_leave D.honest table.now (Drains (book_of self.old).members table.now who at.0) self.old self.new) }
+        ensures goes { OnOk result (GoesOnBy D.seen D.may_leave D.honest D.told table.now (IsDrainRound (book_of self.old).members table.now who at.0) self.old self.new) }
+        ensures bounded { OnOk result (IsBounded (book_of self.new)) }
         ensures run { OnOk result (AllRun self.new) }
         ensures members { OnOk result ((book_of self.new).members ≡ (book_of self.old).members) }
         ensures legal { OnErr result (IsLegalBook table.now (book_of self.new)) }
     {
-        'rounds: for _round in 0..MOST_ROUNDS {
+        let first = self.book.letters().len();
+        self.lead_round(table, who, at)?;
+        check_bounds(&self.book, first)
+    }
+
+    // Rounds of a drain until one leads, four at most.
+    fn drain_until_led(&mut self, table: &JobTable, who: u8, at: Minute) -> Result<(), OutOfMemory>
+        requires given { IsGiven D.seen D.may_leave D.honest D.told table.now (λ members situation. LeadsSoon 4 members table.now who situation) self.old }
+        requires run { AllRun self.old }
+        requires member { who < length self.old.members.items }
+        requires inside { IsInWindow table.now.window at.0 }
+        ensures goes { OnOk result (GoesOnBy D.seen D.may_leave D.honest D.told table.now (DrainsOn (book_of self.old).members table.now who at.0) self.old self.new) }
+        ensures given { OnOk result (IsGiven D.seen D.may_leave D.honest D.told table.now (λ members situation. LeadsNow members table.now who situation) self.new) }
+        ensures run { OnOk result (AllRun self.new) }
+        ensures members { OnOk result ((book_of self.new).members ≡ (book_of self.old).members) }
+        ensures legal { OnErr result (IsLegalBook table.now (book_of self.new)) }
+    {
+        'rounds: for _round in 0..4u8 {
             if self.is_quiet(table, who, at) {
                 return Ok(());
             }
-            self.lead_round(table, who, at)?;
+            self.drain_round(table, who, at)?;
         }
-        Err(WorldFault::OutOfMemory)
+        Ok(())
+    }
+
+    // Rounds of a drain until the one that leads is at rest.
+    fn drain_until_rest(&mut self, table: &JobTable, who: u8, at: Minute) -> Result<(), OutOfMemory>
+        requires given { IsGiven D.seen D.may_leave D.honest D.told table.now (λ members situation. LeadsNow members table.now who situation) self.old }
+        requires run { AllRun self.old }
+        requires member { who < length self.old.members.items }
+        requires inside { IsInWindow table.now.window at.0 }
+        ensures goes { OnOk result (GoesOnBy D.seen D.may_leave D.honest D.told table.now (DrainsOn (book_of self.old).members table.now who at.0) self.old self.new) }
+        ensures given { OnOk result (IsGiven D.seen D.may_leave D.honest D.told table.now (λ members situation. HasRestedFor 0 members table.now who at.0 situation) self.new) }
+        ensures run { OnOk result (AllRun self.new) }
+        ensures members { OnOk result ((book_of self.new).members ≡ (book_of self.old).members) }
+        ensures legal { OnErr result (IsLegalBook table.now (book_of self.new)) }
+    {
+        'rounds: while !self.rests(table, who, at) {
+            self.drain_round(table, who, at)?;
+        }
+        Ok(())
+    }
+
+    // Rounds of a drain until all are level with the one that leads and is at rest: five at most.
+    fn drain_until_level(
+        &mut self,
+        table: &JobTable,
+        who: u8,
+        at: Minute,
+    ) -> Result<(), OutOfMemory>
+        requires given { IsGiven D.seen D.may_leave D.honest D.told table.now (λ members situation. HasRestedFor 0 members table.now who at.0 situation) self.old }
+        requires run { AllRun self.old }
+        requires member { who < length self.old.members.items }
+        requires inside { IsInWindow table.now.window at.0 }
+        ensures goes { OnOk result (GoesOnBy D.seen D.may_leave D.honest D.told table.now (Drains (book_of self.old).members table.now who at.0) self.old self.new) }
+        ensures given { OnOk result (IsGiven D.seen D.may_leave D.honest D.told table.now (λ members situation. LeadsNow members table.now who situation) self.new) }
+        ensures run { OnOk result (AllRun self.new) }
+        ensures members { OnOk result ((book_of self.new).members ≡ (book_of self.old).members) }
+        ensures legal { OnErr result (IsLegalBook table.now (book_of self.new)) }
+    {
+        'rounds: for _round in 0..6u8 {
+            if self.is_quiet(table, who, at) {
+                return Ok(());
+            }
+            self.drain_round(table, who, at)?;
+        }
+        unreachable!()
+    }
+
+    // Rounds of a drain until it is quiet, where the replica leads.
+    pub(crate) fn drain(&mut self, table: &JobTable, who: u8, at: Minute) -> Result<(), OutOfMemory>
+        requires given { IsGiven D.seen D.may_leave D.honest D.told table.now (λ members situation. LeadsNow members table.now who situation) self.old }
+        requires run { AllRun self.old }
+        requires member { who < length self.old.members.items }
+        requires inside { IsInWindow table.now.window at.0 }
+        ensures goes { OnOk result (GoesOnBy D.seen D.may_leave D.honest D.told table.now (Drains (book_of self.old).members table.now who at.0) self.old self.new) }
+        ensures given { OnOk result (IsGiven D.seen D.may_leave D.honest D.told table.now (λ members situation. LeadsNow members table.now who situation) self.new) }
+        ensures run { OnOk result (AllRun self.new) }
+        ensures members { OnOk result ((book_of self.new).members ≡ (book_of self.old).members) }
+        ensures legal { OnErr result (IsLegalBook table.now (book_of self.new)) }
+    {
+        self.drain_until_rest(table, who, at)?;
+        self.drain_until_level(table, who, at)
     }
 
     // Settles, and tells which replica leads.
-    pub(crate) fn settle_led(&mut self, table: &JobTable, at: Minute) -> Result<u8, WorldFault>
-        requires world { IsWorld D.seen D.may_leave D.honest table.now self.old }
+    pub(crate) fn settle_led(&mut self, table: &JobTable, at: Minute) -> Result<u8, OutOfMemory>
+        requires world { IsWorld D.seen D.may_leave D.honest D.told table.now self.old }
         requires some { 0 < (book_of self.old).members }
         requires inside { IsInWindow table.now.window at.0 }
-        ensures goes { OnOk result (GoesOnBy D.seen D.may_leave D.honest table.now (Settles (book_of self.old).members table.now at.0) self.old self.new) }
-        ensures leads { IfOk result (λ who. (situation : Situation) → IsIn D.seen D.may_leave D.honest table.now self.old situation
+        ensures goes { OnOk result (GoesOnBy D.seen D.may_leave D.honest D.told table.now (Settles (book_of self.old).members table.now at.0) self.old self.new) }
+        ensures leads { IfOk result (λ who. (situation : Situation) → IsIn D.seen D.may_leave D.honest D.told table.now self.old situation
             → who ≡ coordinator (book_of self.old).members situation) }
+        ensures given { IfOk result (λ who. IsGiven D.seen D.may_leave D.honest D.told table.now (λ members situation. LeadsNow members table.now who situation) self.new) }
         ensures member { IfOk result (λ who. who < length self.new.members.items) }
         ensures run { OnOk result (AllRun self.new) }
         ensures members { OnOk result ((book_of self.new).members ≡ (book_of self.old).members) }
@@ -84,6 +165,8 @@ impl<D: Disk> World<D> {
         self.start_over(table)?;
         let who = self.coordinator(table);
         self.lead(table, who)?;
+        check_bounds(&self.book, 0)?;
+        self.drain_until_led(table, who, at)?;
         self.drain(table, who, at)?;
         Ok(who)
     }
@@ -93,13 +176,12 @@ impl<D: Disk> World<D> {
     ///
     /// # Errors
     ///
-    /// A fault of a disk, and want of memory, also where it isn't quiet after 2^31 rounds. The world takes no more calls then,
-    /// and its book is legal.
-    pub fn settle(&mut self, table: &JobTable, at: Minute) -> Result<(), WorldFault>
-        requires world { IsWorld D.seen D.may_leave D.honest table.now self.old }
+    /// Want of memory. The world takes no more calls then, and its book is legal.
+    pub fn settle(&mut self, table: &JobTable, at: Minute) -> Result<(), OutOfMemory>
+        requires world { IsWorld D.seen D.may_leave D.honest D.told table.now self.old }
         requires some { 0 < (book_of self.old).members }
         requires inside { IsInWindow table.now.window at.0 }
-        ensures goes { OnOk result (GoesOnBy D.seen D.may_leave D.honest table.now (Settles (book_of self.old).members table.now at.0) self.old self.new) }
+        ensures goes { OnOk result (GoesOnBy D.seen D.may_leave D.honest D.told table.now (Settles (book_of self.old).members table.now at.0) self.old self.new) }
         ensures members { OnOk result ((book_of self.new).members ≡ (book_of self.old).members) }
         ensures legal { OnErr result (IsLegalBook table.now (book_of self.new)) }
     {

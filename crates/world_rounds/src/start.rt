@@ -6,10 +6,11 @@ ghost use Rattle.world_law.specs.Book.{BookState};
 ghost use Rattle.world_rounds.specs.Start.{IsFreshMember, IsFreshDisk};
 ghost use Rattle.world_rounds.specs.World.{IsWorldAt, book_of};
 
-use crate::fault::WorldFault;
+use crate::fault::memory_of;
 use crate::member::{Mail, Member};
 use crate::world::World;
 use cluster_sched::Fate;
+use cron_io::OutOfMemory;
 use disk_model::Disk;
 use due_set::JobTable;
 use replica_node::Node;
@@ -23,11 +24,11 @@ fn start_member<D: Disk>(
     me: u8,
     members: u8,
     disk: D,
-) -> Result<Member<D>, WorldFault>
+) -> Result<Member<D>, OutOfMemory>
     requires me { me < members }
     requires few { members ≤ 7 }
-    requires fresh { IsFreshDisk D.may_leave D.honest disk }
-    ensures { IfOk result (λ member. IsFreshMember D.seen D.may_leave D.honest table.now members me member) }
+    requires fresh { IsFreshDisk D.may_leave D.honest D.told disk }
+    ensures { IfOk result (λ member. IsFreshMember D.seen D.may_leave D.honest D.told table.now members me member) }
 {
     match Node::recover(alloc, me, members, table, disk) {
         Ok(node) => Ok(Member {
@@ -41,26 +42,27 @@ fn start_member<D: Disk>(
             },
             steps: Vec::new(alloc),
         }),
-        Err((_disk, fault)) => Err(WorldFault::from(fault)),
+        Err((_disk, fault)) => Err(memory_of(fault)),
     }
 }
 
 impl<D: Disk> World<D> {
-    /// A world of so many replicas, each on one of these disks, before any turn.
+    /// A world of so many replicas, each on one of these disks, before any turn. Each disk is honest, empty, neither armed nor
+    /// stopped, and one that can't fail.
     ///
     /// # Errors
     ///
-    /// A fault of a disk, and want of memory.
+    /// Want of memory.
     pub fn new(
         alloc: Global,
         table: &JobTable,
         members: u8,
         disks: Vec<D>,
-    ) -> Result<World<D>, WorldFault>
+    ) -> Result<World<D>, OutOfMemory>
         requires few { members ≤ 7 }
         requires count { length disks.items ≡ members }
-        requires fresh { (disk : D) → Contains disks.items disk → IsFreshDisk D.may_leave D.honest disk }
-        ensures starts { IfOk result (λ world. IsWorldAt D.seen D.may_leave D.honest table.now [] world (first_situation members table.now)) }
+        requires fresh { (disk : D) → Contains disks.items disk → IsFreshDisk D.may_leave D.honest D.told disk }
+        ensures starts { IfOk result (λ world. IsWorldAt D.seen D.may_leave D.honest D.told table.now [] world (first_situation members table.now)) }
         ensures members { IfOk result (λ world. (book_of world).members ≡ members) }
     {
         let mut started: Vec<Member<D>> = Vec::new(alloc);

@@ -5,9 +5,10 @@ ghost use Rattle.book_law.specs.declared.turn.Cause.TheVariants as cause;
 ghost use Rattle.replica_core.specs.declared.out.StepOut.{StepOut as Out};
 ghost use Rattle.world_rounds.specs.Steps.{IsBeside, MayHear, MayTakeAnswer, WasToldOf, answer_causes, causes_of, hear_causes};
 
-use crate::fault::WorldFault;
+use crate::fault::memory_of;
 use book_law::Cause;
 use cluster_sched::SchedRow;
+use cron_io::OutOfMemory;
 use disk_model::Disk;
 use due_set::JobTable;
 use replica_core::{Input, StepOut};
@@ -32,16 +33,19 @@ pub(crate) fn take_step<D: Disk>(
     book: &Book,
     cause: Cause,
     input: Input<'_>,
-) -> Result<(), WorldFault>
-    requires told { (rows : List Row) × (who : ℕ) × WasToldOf D.seen D.may_leave D.honest table.now rows book.now who steps.old.items node.old cause input }
+) -> Result<(), OutOfMemory>
+    requires told { (rows : List Row) × (who : ℕ) × WasToldOf D.seen D.may_leave D.honest D.told table.now rows book.now who steps.old.items node.old cause input }
     ensures causes { OnOk result (causes_of steps.new.items ≡ causes_of steps.old.items ++ cause ∷ []) }
-    ensures beside { (rows : List Row) (who : ℕ) → WasToldOf D.seen D.may_leave D.honest table.now rows book.now who steps.old.items node.old cause input.entry
-        → OnOk result (IsBeside D.seen D.may_leave D.honest table.now rows book.now who steps.new.items node.new) }
+    ensures beside { (rows : List Row) (who : ℕ) → WasToldOf D.seen D.may_leave D.honest D.told table.now rows book.now who steps.old.items node.old cause input.entry
+        → OnOk result (IsBeside D.seen D.may_leave D.honest D.told table.now rows book.now who steps.new.items node.new) }
 {
     if book.turns().len() >= MOST_TURNS || steps.len() >= MOST_TURNS {
-        return Err(WorldFault::OutOfMemory);
+        return Err(OutOfMemory);
     }
-    let out = node.handle(table, input)?;
+    let out = match node.handle(table, input) {
+        Ok(out) => out,
+        Err(fault) => return Err(memory_of(fault)),
+    };
     steps.push(Taken { cause, out })?;
     Ok(())
 }
@@ -53,12 +57,12 @@ pub(crate) fn take_answer<D: Disk>(
     table: &JobTable,
     book: &Book,
     waits: Option<SchedRow>,
-) -> Result<(), WorldFault>
+) -> Result<(), OutOfMemory>
     requires none { steps.old.items ≡ [] }
-    requires may { (rows : List Row) × (who : ℕ) × MayTakeAnswer D.seen D.may_leave D.honest table.now rows book.now who waits node.old }
+    requires may { (rows : List Row) × (who : ℕ) × MayTakeAnswer D.seen D.may_leave D.honest D.told table.now rows book.now who waits node.old }
     ensures causes { OnOk result (causes_of steps.new.items ≡ answer_causes waits) }
-    ensures beside { (rows : List Row) (who : ℕ) → MayTakeAnswer D.seen D.may_leave D.honest table.now rows book.now who waits node.old
-        → OnOk result (IsBeside D.seen D.may_leave D.honest table.now rows book.now who steps.new.items node.new) }
+    ensures beside { (rows : List Row) (who : ℕ) → MayTakeAnswer D.seen D.may_leave D.honest D.told table.now rows book.now who waits node.old
+        → OnOk result (IsBeside D.seen D.may_leave D.honest D.told table.now rows book.now who steps.new.items node.new) }
 {
     let Some(row) = waits else {
         return Ok(());
@@ -89,11 +93,11 @@ pub(crate) fn hear_letters<D: Disk>(
     table: &JobTable,
     book: &Book,
     letters: &[u64],
-) -> Result<(), WorldFault>
-    requires may { (rows : List Row) × (who : ℕ) × MayHear D.seen D.may_leave D.honest table.now rows book.now who steps.old.items node.old letters.now }
+) -> Result<(), OutOfMemory>
+    requires may { (rows : List Row) × (who : ℕ) × MayHear D.seen D.may_leave D.honest D.told table.now rows book.now who steps.old.items node.old letters.now }
     ensures causes { OnOk result (causes_of steps.new.items ≡ causes_of steps.old.items ++ hear_causes letters.now) }
-    ensures beside { (rows : List Row) (who : ℕ) → MayHear D.seen D.may_leave D.honest table.now rows book.now who steps.old.items node.old letters.now
-        → OnOk result (IsBeside D.seen D.may_leave D.honest table.now rows book.now who steps.new.items node.new) }
+    ensures beside { (rows : List Row) (who : ℕ) → MayHear D.seen D.may_leave D.honest D.told table.now rows book.now who steps.old.items node.old letters.now
+        → OnOk result (IsBeside D.seen D.may_leave D.honest D.told table.now rows book.now who steps.new.items node.new) }
 {
     'letters: for letter in letters {
         let letter = *letter;

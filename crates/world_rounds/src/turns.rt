@@ -11,7 +11,6 @@ ghost use Rattle.world_rounds.specs.Taking.{Commits, CommitsOwn, KeepsSteps, May
 ghost use Rattle.world_rounds.specs.World.{book_of, noted};
 ghost use Rattle.world_rounds.specs.declared.steps.Taken.{Taken as Step};
 
-use crate::fault::WorldFault;
 use crate::member::Mail;
 use crate::steps::Taken;
 use crate::world::World;
@@ -55,7 +54,7 @@ pub(crate) fn commit_step(
     who: u8,
     taken: Taken,
     fate: Fate,
-) -> Result<Option<CallRow>, WorldFault>
+) -> Result<Option<CallRow>, OutOfMemory>
     requires may { MayJoin table.now book.old who taken }
     ensures joined { IfOk result (λ made. (rows : List Row) (old new : ReplicaState) → IsNextStep table.now rows book.old who taken old new
         → HasJoinedAt table.now rows book.old book.new who taken fate made new) }
@@ -95,9 +94,9 @@ fn reading_with(cause: Cause, latest: Minute) -> Minute
 
 impl<D: Disk> World<D> {
     // The turn of a replica's step joins the book.
-    fn commit_taken(&mut self, table: &JobTable, who: u8, taken: Taken) -> Result<(), WorldFault>
-        requires may { (more : List Step) × MayCommit D.seen D.may_leave D.honest table.now self.old who (taken ∷ more) }
-        ensures did { OnOk result ((more : List Step) → Commits D.seen D.may_leave D.honest table.now who (taken ∷ []) more self.old self.new) }
+    fn commit_taken(&mut self, table: &JobTable, who: u8, taken: Taken) -> Result<(), OutOfMemory>
+        requires may { (more : List Step) × MayCommit D.seen D.may_leave D.honest D.told table.now self.old who (taken ∷ more) }
+        ensures did { OnOk result ((more : List Step) → Commits D.seen D.may_leave D.honest D.told table.now who (taken ∷ []) more self.old self.new) }
         ensures steps { OnOk result (KeepsSteps self.old self.new) }
         ensures legal { OnErr result (IsLegalBook table.now (book_of self.new)) }
     {
@@ -115,9 +114,9 @@ impl<D: Disk> World<D> {
         table: &JobTable,
         who: u8,
         steps: Vec<Taken>,
-    ) -> Result<(), WorldFault>
-        requires may { MayCommit D.seen D.may_leave D.honest table.now self.old who steps.items }
-        ensures did { OnOk result (Commits D.seen D.may_leave D.honest table.now who steps.items [] self.old self.new) }
+    ) -> Result<(), OutOfMemory>
+        requires may { MayCommit D.seen D.may_leave D.honest D.told table.now self.old who steps.items }
+        ensures did { OnOk result (Commits D.seen D.may_leave D.honest D.told table.now who steps.items [] self.old self.new) }
         ensures steps { OnOk result (KeepsSteps self.old self.new) }
         ensures legal { OnErr result (IsLegalBook table.now (book_of self.new)) }
     {
@@ -128,10 +127,10 @@ impl<D: Disk> World<D> {
     }
 
     // The turns of the steps that a replica has taken join the book.
-    pub(crate) fn commit_steps(&mut self, table: &JobTable, who: u8) -> Result<(), WorldFault>
-        requires may { MayCommitOwn D.seen D.may_leave D.honest table.now self.old }
+    pub(crate) fn commit_steps(&mut self, table: &JobTable, who: u8) -> Result<(), OutOfMemory>
+        requires may { MayCommitOwn D.seen D.may_leave D.honest D.told table.now self.old }
         requires member { who < length self.old.members.items }
-        ensures did { OnOk result (CommitsOwn D.seen D.may_leave D.honest table.now who self.old self.new) }
+        ensures did { OnOk result (CommitsOwn D.seen D.may_leave D.honest D.told table.now who self.old self.new) }
         ensures puts { OnOk result (PutsDown who self.old self.new) }
         ensures legal { OnErr result (IsLegalBook table.now (book_of self.new)) }
     {

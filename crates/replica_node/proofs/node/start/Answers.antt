@@ -5,6 +5,11 @@ use Rattle.paxos_base.specs.Rows.{RowsStand}
 use Rattle.replica_node.proofs.AttachedLemmas.{fit_to_start}
 use Rattle.replica_node.proofs.FaultLemmas.{damaged_below}
 use Rattle.replica_node.proofs.KeptLemmas.{tells_attached}
+use Rattle.replica_node.proofs.ReliableLemmas.{ends_below, reliable_done, reliable_never}
+use Rattle.disk_model.specs.Images.{file_of}
+use Rattle.gate_file.proofs.GateLemmas.{some_list}
+use Rattle.replica_store.specs.Files.{selected}
+use Rattle.replica_store.specs.Made.{attach_calls}
 use Rattle.replica_node.proofs.node.start.Goals as goal
 
 -- ---- the store is not attached
@@ -61,3 +66,18 @@ returns-clause-clean g c tells =
     let found = c.in_ok-store.ensures.stand in
     tells_attached image (length found.bodies) (area_of c.in_ok-store.store) (c.in_ok-store.store, c.in_ok-store.kept) (g.D.Disk.told c.args.disk.now) (g.D.Disk.told c.attach.new.disk) tells c.in_ok-store.ensures.area
     (c.in_ok-store.ensures.told found.bodies found.has)
+
+-- ---- from a disk that is reliable
+
+pub returns-clause-reliable : goal.returns-clause-reliable
+returns-clause-reliable g c sure =
+    let image = g.D.Disk.seen c.args.disk.now in
+    let found = c.in_ok-store.ensures.stand in
+    reliable_done (attach_calls image (length found.bodies)) (c.in_ok-store.store, c.in_ok-store.kept) (g.D.Disk.told c.args.disk.now) (g.D.Disk.told c.attach.new.disk) sure (c.in_ok-store.ensures.told found.bodies found.has)
+
+pub returns-in_err-store-clause-unended : goal.returns-in_err-store-clause-unended
+returns-in_err-store-clause-unended g c sure ends =
+    let image = g.D.Disk.seen c.args.disk.now in
+    let found = some_list (file_of (selected image) image) in
+    reliable_never (attach_calls image (length found.0)) c.attach.result (g.D.Disk.told c.args.disk.now) (g.D.Disk.told c.attach.new.disk) sure (c.attach.ensures.told found.0 found.1)
+    (ends_below c.in_err-store.field-0.0 c.attach.result c.from_residual.result c.in_err-store.was c.from_residual.ensures.1 ends)

@@ -1,9 +1,10 @@
 use Rattle.std.proofs.Common.{length, refl, sym, ap, ◌∙◌, subst}
 use Rattle.replica_store.specs.Files.{IsRecoverable}
-use Rattle.replica_node.specs.Node.{replica_of}
-use Rattle.replica_node.specs.Node.{replica_of}
+use Rattle.replica_node.specs.Node.{fault_of, replica_of}
+use Rattle.replica_node.specs.Reliable.{IsReliable}
 use Rattle.replica_node.proofs.RestLemmas.{recoverable_at_rest}
 use Rattle.step_law.specs.State.{started}
+use Rattle.world_rounds.proofs.MemoryLemmas.{memory_alone}
 use Rattle.world_rounds.proofs.Starting.{either_way}
 use Rattle.world_rounds.proofs.alone.start_again.Goals as goal
 
@@ -17,6 +18,7 @@ returns-in-Ok g c =
     record {
       at_rest = c.in-Ok.ensures.at_rest;
       trusted = c.in-Ok.ensures.answer.honest_still.1 trusted;
+      reliable = c.in-Ok.ensures.reliable (subst (λ disk. IsReliable (g.D.Disk.told disk)) (sym c.into_disk.ensures) c.requires.reliable);
       identity = c.in-Ok.ensures.identity;
       state = c.in-Ok.ensures.started ∙ ap (started c.args.who) (either_way _ kept found);
       runs = refl;
@@ -26,3 +28,13 @@ returns-in-Ok g c =
       waits = refl;
       steps = refl;
     }
+
+pub memory_of-requires : goal.memory_of-requires
+memory_of-requires g c =
+    let kept = (replica_of c.args.stopped.node).state.kept in
+    let trusted : g.D.Disk.honest c.into_disk.result = subst g.D.Disk.honest (sym c.into_disk.ensures) c.requires.trusted in
+    let here = recoverable_at_rest g.D.Disk.seen g.D.Disk.may_leave g.D.Disk.honest c.args.table.now c.args.stopped.node c.requires.at_rest c.requires.trusted in
+    let recoverable = subst (λ disk. IsRecoverable (length c.args.table.now.jobs) kept kept (g.D.Disk.may_leave disk)) (sym c.into_disk.ensures) here in
+    memory_alone (fault_of c.recover.result) c.in-Err.fault (ap fault_of c.in-Err.is)
+    (c.recover.ensures.unended (subst (λ disk. IsReliable (g.D.Disk.told disk)) (sym c.into_disk.ensures) c.requires.reliable))
+    (λ gate. c.recover.ensures.sound kept kept gate trusted recoverable) c.recover.ensures.no_letter

@@ -3,6 +3,8 @@ use Rattle.launch_machine.specs.Clerk.{first_rows}
 use Rattle.step_law.specs.State.{started}
 use Rattle.agree_law.specs.World.{fresh}
 use Rattle.replica_store.proofs.FileLemmas.{empty_recoverable}
+use Rattle.replica_node.specs.Node.{fault_of}
+use Rattle.world_rounds.proofs.MemoryLemmas.{memory_alone}
 use Rattle.world_rounds.proofs.Starting.{either_way}
 use Rattle.world_rounds.proofs.start.start_member.Goals as goal
 
@@ -14,6 +16,7 @@ returns-in-Ok g c =
     record {
       at_rest = c.in-Ok.ensures.at_rest;
       trusted = c.in-Ok.ensures.answer.honest_still.1 c.requires.fresh.trusted;
+      reliable = c.in-Ok.ensures.reliable c.requires.fresh.reliable;
       identity = c.in-Ok.ensures.identity;
       state = c.in-Ok.ensures.started ∙ ap (started c.args.me) (either_way _ start found);
       runs = refl;
@@ -23,3 +26,10 @@ returns-in-Ok g c =
       waits = refl;
       none = c.new-in-Ok.ensures.items;
     }
+
+pub memory_of-requires : goal.memory_of-requires
+memory_of-requires g c =
+    let start = fresh (first_rows c.args.table.now) in
+    let empty = empty_recoverable (length c.args.table.now.jobs) (g.D.Disk.may_leave c.args.disk) c.requires.fresh.empty in
+    memory_alone (fault_of c.recover.result) c.in-Err.fault (ap fault_of c.in-Err.is) (c.recover.ensures.unended c.requires.fresh.reliable)
+    (λ gate. c.recover.ensures.sound start start gate c.requires.fresh.trusted empty) c.recover.ensures.no_letter

@@ -1,5 +1,6 @@
-use Rattle.std.proofs.Common.{length, ◌<◌, ◌^◌, arith, subst, sym, ap}
+use Rattle.std.proofs.Common.{length, ◌<◌, ◌^◌, arith, subst, sym, ap, ◌∙◌}
 use Rattle.world_rounds.specs.Steps.{IsBeside}
+use Rattle.world_rounds.proofs.MemoryLemmas.{cause_breaks_none, memory_alone, no_letter}
 use Rattle.world_rounds.proofs.StepLemmas.{ahead_small, beside_next}
 use Rattle.world_rounds.proofs.steps.take_step.Goals as goal
 
@@ -11,7 +12,7 @@ handle-requires g c =
     record {
       at_rest = told.beside.ahead.at_rest;
       small =
-          ahead_small g.D.Disk.seen g.D.Disk.may_leave g.D.Disk.honest c.args.table.now c.requires.told.0 c.args.book.now c.requires.told.1 c.args.steps.now.items c.args.node.now
+          ahead_small g.D.Disk.seen g.D.Disk.may_leave g.D.Disk.honest g.D.Disk.told c.args.table.now c.requires.told.0 c.args.book.now c.requires.told.1 c.args.steps.now.items c.args.node.now
           told.beside turns steps;
       inside = told.inside;
     }
@@ -19,6 +20,13 @@ handle-requires g c =
 pub returns-clause-beside : goal.returns-clause-beside
 returns-clause-beside g c =
     λ rows who told.
-    subst (λ steps. IsBeside g.D.Disk.seen g.D.Disk.may_leave g.D.Disk.honest c.args.table.now rows c.args.book.now who steps c.handle.new.self) (sym c.in_ok-push.ensures.items)
-    (beside_next g.D.Disk.seen g.D.Disk.may_leave g.D.Disk.honest c.args.table.now rows c.args.book.now who c.args.steps.now.items c.args.node.now c.handle.new.self c.args.cause
-    c.args.input c.in_ok-out.out told c.in_ok-out.ensures.at_rest (c.handle.ensures.answer.honest_still.1 told.beside.ahead.trusted) c.in_ok-out.ensures.steps)
+    subst (λ steps. IsBeside g.D.Disk.seen g.D.Disk.may_leave g.D.Disk.honest g.D.Disk.told c.args.table.now rows c.args.book.now who steps c.handle.new.self) (sym c.in_ok-push.ensures.items)
+    (beside_next g.D.Disk.seen g.D.Disk.may_leave g.D.Disk.honest g.D.Disk.told c.args.table.now rows c.args.book.now who c.args.steps.now.items c.args.node.now c.handle.new.self c.args.cause
+    c.args.input c.in-Ok.out told c.in-Ok.ensures.at_rest (c.handle.ensures.answer.honest_still.1 told.beside.ahead.trusted) (c.in-Ok.ensures.reliable told.beside.ahead.reliable) c.in-Ok.ensures.steps)
+
+pub memory_of-requires : goal.memory_of-requires
+memory_of-requires g c =
+    let told = c.requires.told.2 in
+    let none =
+    cause_breaks_none g.D.Disk.seen g.D.Disk.may_leave g.D.Disk.honest g.D.Disk.told c.args.table.now c.requires.told.0 c.args.book.now c.requires.told.1 c.args.steps.now.items c.args.node.now c.args.cause c.args.input told in
+    memory_alone c.handle.result c.in-Err.fault c.in-Err.is (c.handle.ensures.unended told.beside.ahead.reliable) c.handle.ensures.undamaged (no_letter c.handle.result (c.handle.ensures.fault ∙ none))

@@ -1,4 +1,4 @@
-use Rattle.std.proofs.Common.{◌≡◌, Err, length, sym, ap, ◌∙◌, subst}
+use Rattle.std.proofs.Common.{◌≡◌, Err, length, sym, ap, ◌∙◌, subst, inl, inr}
 use Rattle.std.proofs.lemmas.Option.{same_Some}
 use Rattle.paxos_base.specs.declared.durable.Delta.{Delta}
 use Rattle.replica_node.specs.Kept.{LeavesByArm}
@@ -14,6 +14,7 @@ use Rattle.replica_store.proofs.FileLemmas.{bodies_stand_for_one}
 use Rattle.replica_store.proofs.SaveLemmas.{settled_recoverable}
 use Rattle.replica_node.specs.Faults.{of_disk}
 use Rattle.replica_node.proofs.KeptLemmas.{tells_by_arm, tells_saved}
+use Rattle.replica_node.proofs.ReliableLemmas.{reliable_done, reliable_never}
 use Rattle.replica_node.proofs.ToldLemmas.{told_done, told_stored}
 use Rattle.replica_node.proofs.node.Node.keep.Goals as goal
 
@@ -82,3 +83,26 @@ returns-in-Err-Stopped-clause-kept_by_arm g c change arm is stopped clean armed 
     (tells_by_arm g.D.Disk.seen g.D.Disk.may_leave g.D.Disk.honest node.disk node.store kept own.0 c.in-Some.delta.now c.requires.settled arm (g.D.Disk.told node.disk) (g.D.Disk.told c.save.new.disk)
     (g.met.D.Disk.done_is_seen node.disk) clean armed own.1 (c.requires.follows c.in-Some.delta.now here) c.in-Err-Stopped.field-0 c.in-Err-Stopped.field-0-is
     (c.in-Err-Stopped.ensures.told kept own.0 own.1) c.save.ensures.spelled (λ slot rows base. c.in-Err-Stopped.ensures.base_spelled kept own.0 slot rows own.1 base (ap Err c.in-Err-Stopped.field-0-is)))
+
+-- ---- on a disk that is reliable
+
+pub returns-in-Ok-clause-reliable : goal.returns-in-Ok-clause-reliable
+returns-in-Ok-clause-reliable g c sure =
+    let node = c.args.self.now in
+    let own = c.requires.keeps in
+    reliable_done (save_calls (area_of node.store) (length (records_of node.store)) node.replica.state.kept own.0 c.in-Some.delta.now) tt (g.D.Disk.told node.disk) (g.D.Disk.told c.save.new.disk) sure
+    (c.in-Ok.ensures.told node.replica.state.kept own.0 own.1)
+
+pub returns-in-Err-Stopped-clause-unended : goal.returns-in-Err-Stopped-clause-unended
+returns-in-Err-Stopped-clause-unended g c sure ends =
+    let node = c.args.self.now in
+    let own = c.requires.keeps in
+    reliable_never (save_calls (area_of node.store) (length (records_of node.store)) node.replica.state.kept own.0 c.in-Some.delta.now) c.save.result (g.D.Disk.told node.disk) (g.D.Disk.told c.save.new.disk) sure
+    (c.save.ensures.told node.replica.state.kept own.0 own.1) (inl (c.in-Err-Stopped.is ∙ ap Err c.in-Err-Stopped.field-0-is))
+
+pub returns-in-Err-DiskFault-clause-unended : goal.returns-in-Err-DiskFault-clause-unended
+returns-in-Err-DiskFault-clause-unended g c sure ends =
+    let node = c.args.self.now in
+    let own = c.requires.keeps in
+    reliable_never (save_calls (area_of node.store) (length (records_of node.store)) node.replica.state.kept own.0 c.in-Some.delta.now) c.save.result (g.D.Disk.told node.disk) (g.D.Disk.told c.save.new.disk) sure
+    (c.save.ensures.told node.replica.state.kept own.0 own.1) (inr (c.in-Err-DiskFault.is ∙ ap Err c.in-Err-DiskFault.field-0-is))

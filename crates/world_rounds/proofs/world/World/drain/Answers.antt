@@ -1,19 +1,22 @@
-use Rattle.std.proofs.Common.{subst}
-use Rattle.script_law.specs.Settling.{IsQuiet}
-use Rattle.world_rounds.specs.Quiet.{Tells}
-use Rattle.world_rounds.proofs.DrainLemmas.{drained_next, drained_none, drained_whole}
+use Rattle.std.proofs.Common.{◌≡◌, length, arith, ◌∙◌}
+use Rattle.settle_law.specs.Settles.{HasRestedFor, LeadsNow}
+use Rattle.world_rounds.proofs.DrainLemmas.{same_count}
+use Rattle.world_rounds.proofs.LoopLemmas.{drains_then, given_world}
+use Rattle.world_rounds.proofs.RoundsOfAll.{on_ok}
 use Rattle.world_rounds.proofs.world.World.drain.Goals as goal
 
-pub rounds-init : goal.rounds-init
-rounds-init g c = drained_none g.D.Disk.seen g.D.Disk.may_leave g.D.Disk.honest c.args.table.now c.args.who c.args.at.0 c.args.self.now c.requires.world c.requires.run
+pub drain_until_level-requires-clause-member : goal.drain_until_level-requires-clause-member
+drain_until_level-requires-clause-member g c =
+    let was = given_world g.D.Disk.seen g.D.Disk.may_leave g.D.Disk.honest g.D.Disk.told c.args.table.now (λ n s. LeadsNow n c.args.table.now c.args.who s) c.args.self.now c.requires.given in
+    let now = given_world g.D.Disk.seen g.D.Disk.may_leave g.D.Disk.honest g.D.Disk.told c.args.table.now (λ n s. HasRestedFor 0 n c.args.table.now c.args.who c.args.at.0 s) c.drain_until_rest.new.self c.in_ok-drain_until_rest.ensures.given in
+    let same : length c.drain_until_rest.new.self.members.items ≡ length c.args.self.now.members.items = same_count g.D.Disk.seen g.D.Disk.may_leave g.D.Disk.honest g.D.Disk.told c.args.table.now c.args.self.now c.drain_until_rest.new.self was now c.in_ok-drain_until_rest.ensures.members in
+    omega (arith, same, c.requires.member)
 
-pub rounds-preserved : goal.rounds-preserved
-rounds-preserved g c =
-    drained_next g.D.Disk.seen g.D.Disk.may_leave g.D.Disk.honest c.args.table.now c.args.who c.args.at.0 c.args.self.now c.rounds.self c.lead_round.new.self c.rounds.invariant
-    (subst (λ answer. Tells g.D.Disk.seen g.D.Disk.may_leave g.D.Disk.honest c.args.table.now (IsQuiet c.rounds.self.book.members c.args.table.now c.args.who c.args.at.0) c.rounds.self answer) c.if-is_quiet.false c.is_quiet.ensures)
-    c.in_ok-lead_round.ensures.goes c.in_ok-lead_round.ensures.members
+pub returns-clause-goes : goal.returns-clause-goes
+returns-clause-goes g c =
+    on_ok c.drain_until_level.result _ _
+    (drains_then g.D.Disk.seen g.D.Disk.may_leave g.D.Disk.honest g.D.Disk.told c.args.table.now c.args.who c.args.at.0 c.args.self.now c.drain_until_rest.new.self c.drain_until_level.new.self c.in_ok-drain_until_rest.ensures.goes c.in_ok-drain_until_rest.ensures.members)
+    c.drain_until_level.ensures.goes
 
-pub returns-then-is_quiet-clause-goes : goal.returns-then-is_quiet-clause-goes
-returns-then-is_quiet-clause-goes g c =
-    drained_whole g.D.Disk.seen g.D.Disk.may_leave g.D.Disk.honest c.args.table.now c.args.who c.args.at.0 c.args.self.now c.rounds.self c.rounds.invariant
-    (subst (λ answer. Tells g.D.Disk.seen g.D.Disk.may_leave g.D.Disk.honest c.args.table.now (IsQuiet c.rounds.self.book.members c.args.table.now c.args.who c.args.at.0) c.rounds.self answer) c.if-is_quiet.true c.is_quiet.ensures)
+pub returns-clause-members : goal.returns-clause-members
+returns-clause-members g c = on_ok c.drain_until_level.result _ _ (λ members. members ∙ c.in_ok-drain_until_rest.ensures.members) c.drain_until_level.ensures.members

@@ -1,0 +1,223 @@
+"""The jobs of a run file's tables, as docs/TABLES.md tells them: when each may start, and how its launches are named. Of a
+crontab's entry a launch is known by its instant, of an anacrontab's job by its date, as the number of days since the epoch."""
+import re
+from bisect import bisect_right
+
+from .instants import DAY, date_of, stamp_of
+
+MONTHS = "jan feb mar apr may jun jul aug sep oct nov dec".split()
+WEEK_DAYS = "sun mon tue wed thu fri sat".split()
+# The values of the five fields, and those of which a hash picks one.
+VALUES = [(0, 59), (0, 23), (1, 31), (1, 12), (0, 6)]
+PICKED = [(0, 59), (0, 23), (1, 28), (1, 12), (0, 6)]
+NICKNAMES = {
+    "@yearly": "0 0 1 1 *",
+    "@annually": "0 0 1 1 *",
+    "@monthly": "0 0 1 * *",
+    "@weekly": "0 0 * * 0",
+    "@daily": "0 0 * * *",
+    "@midnight": "0 0 * * *",
+    "@hourly": "0 * * * *",
+}
+# The periods of an anacrontab that are days, by their names.
+DAYS = {"@daily": 1, "@weekly": 7}
+
+
+def fnv(data):
+    """FNV-1a of 64 bits."""
+    value = 0xCBF29CE484222325
+    for byte in data:
+        value = (value ^ byte) * 0x100000001B3 % 2**64
+    return value
+
+
+def number_of(kind, text):
+    """A number, or the name of a month or of a weekday."""
+    names = {3: [""] + MONTHS, 4: WEEK_DAYS}.get(kind, [])
+    return names.index(text.lower()) if text.lower() in names else int(text)
+
+
+def field_of(kind, text, owner, command):
+    """The values of a field."""
+    if text == "?":
+        low, high = PICKED[kind]
+        return {low + fnv(f"{owner}\0{command}\0{kind}".encode()) % (high - low + 1)}
+    values = set()
+    for item in text.split(","):
+        base, _, step = item.partition("/")
+        first, _, last = base.partition("-")
+        low, high = VALUES[kind] if base == "*" else (number_of(kind, first), number_of(kind, last or first))
+        values |= set(range(low, high + 1, int(step or 1)))
+    return {value % 7 for value in values} if kind == 4 else values
+
+
+class Entry:
+    """An entry of five fields: its zone, and when it is due within a window."""
+
+    def __init__(self, name, zone, texts, owner, command):
+        self.name = name
+        self.zone = zone
+        self.values = [field_of(kind, text, owner, command) for kind, text in enumerate(texts)]
+        self.stars = [text.startswith("*") for text in texts]
+        self.times = {60 * hour + minute for hour in self.values[1] for minute in self.values[0]}
+        self.days = {}
+        self.dues = []
+
+    def is_day(self, day):
+        if day not in self.days:
+            date = date_of(day)
+            _, _, days, months, week_days = self.values
+            either = [date.day in days, date.isoweekday() % 7 in week_days]
+            agrees = all(either) if self.stars[2] or self.stars[4] else any(either)
+            self.days[day] = agrees and date.month in months
+        return self.days[day]
+
+    def matches(self, local):
+        day, time = divmod(local, DAY)
+        return time in self.times and self.is_day(day)
+
+    def is_due(self, minute):
+        shown, before = self.zone.local(minute), self.zone.local(minute - 1)
+        if self.stars[0] or self.stars[1]:
+            return self.matches(shown)
+        if self.matches(shown) and all(self.zone.local(minute - back) != shown for back in range(1, 180)):
+            return True
+        return shown - before - 1 < 180 and any(map(self.matches, range(before + 1, shown)))
+
+    def prepare(self, first, end):
+        """Works out the instants of a window at which it is due."""
+        self.dues = [minute for minute in range(first, end) if self.is_due(minute)]
+
+    def start_at(self, row, now):
+        """The launch that may start at a clock reading, by the job's row of the launch table; none where none may."""
+        place = 0 if row.cursor is None else bisect_right(self.dues, row.cursor)
+        return self.dues[place] if place < len(self.dues) and self.dues[place] <= now else None
+
+    def has_come(self, at, now):
+        return at <= now
+
+    def is_in_time(self, at, now, grace):
+        return now <= at + grace
+
+    def title(self, at):
+        """The name of a launch."""
+        return f"{self.name}@{stamp_of(at).replace('-', '').replace(':', '')}"
+
+    def listed(self):
+        """The lines of a due list that are of it."""
+        lines = [f"due {self.title(minute)} {stamp_of(self.zone.local(minute))[:-1]}" for minute in self.dues]
+        return [f"job {self.name} version 0 count {len(self.dues)}", *lines]
+
+
+class Never:
+    """A job that is never launched."""
+
+    def __init__(self, name):
+        self.name = name
+
+    def prepare(self, first, end):
+        pass
+
+    def start_at(self, row, now):
+        return None
+
+    def listed(self):
+        return [f"job {self.name} version 0 count 0"]
+
+
+class Periodic:
+    """A job of an anacrontab: its zone, its period, and the minutes of the day from which on and before which it starts."""
+
+    def __init__(self, name, zone, period, first, last):
+        self.name = name
+        self.zone = zone
+        self.period = period
+        self.first = first
+        self.last = last
+
+    def prepare(self, first, end):
+        pass
+
+    def is_over(self, last, day):
+        """Whether its period is over on a date, by the date of its last launch."""
+        before, date = date_of(last), date_of(day)
+        if self.period == "@monthly":
+            return (before.year, before.month) < (date.year, date.month)
+        if self.period in ("@yearly", "@annually"):
+            return before.year < date.year
+        return day - last >= (DAYS.get(self.period) or int(self.period))
+
+    def start_at(self, row, now):
+        day, time = divmod(self.zone.local(now), DAY)
+        later = row.cursor is None or row.cursor < day
+        allowed = later and self.first <= time < self.last
+        return day if allowed and (row.last is None or self.is_over(row.last, day)) else None
+
+    def has_come(self, at, now):
+        return at <= self.zone.local(now) // DAY
+
+    def is_in_time(self, at, now, grace):
+        return at == self.zone.local(now) // DAY
+
+    def title(self, at):
+        return f"{self.name}@{date_of(at)}"
+
+    def listed(self):
+        return [f"anacron {self.name} version 0"]
+
+
+def entry_of(name, zone, line, kind, owner):
+    """The entry of a line."""
+    if line.startswith("@"):
+        nickname, rest = re.split(r"[ \t]+", line, maxsplit=1)
+        texts = NICKNAMES.get(nickname, "").split()
+    else:
+        *texts, rest = re.split(r"[ \t]+", line, maxsplit=5)
+    if kind == "system":
+        owner, rest = re.split(r"[ \t]+", rest, maxsplit=1)
+    return Entry(name, zone, texts, owner, rest) if texts else Never(name)
+
+
+def parts_of(lines):
+    """What each line of a table is that says something: a variable with its value, or a job."""
+    for line in (line.lstrip(" \t") for line in lines):
+        variable = re.fullmatch(r"([A-Za-z_]\w*)[ \t]*=[ \t]*(.*?)[ \t]*", line)
+        if variable:
+            yield variable[1], re.sub(r"""^(["'])(.*)\1$""", r"\2", variable[2])
+        elif line and not line.startswith("#"):
+            yield None, line
+
+
+def entries_of(zones, kind, label, zone, lines):
+    """The jobs of a crontab."""
+    count = 0
+    for variable, text in parts_of(lines):
+        if variable == "CRON_TZ":
+            zone = text
+        if variable is None:
+            count += 1
+            yield entry_of(f"{label}:{count}", zones[zone], text, kind, label)
+
+
+def periodic_jobs_of(zone, label, lines):
+    """The jobs of an anacrontab."""
+    # A backslash at a line's end joins the next line to it; at the end of the last line it is a blank.
+    text = "\n".join(lines).replace("\\\n", "  ")
+    text = text[:-1] + " " if text.endswith("\\") else text
+    most_added, hours = 0, (0, 24)
+    for variable, text in parts_of(text.split("\n")):
+        if variable == "RANDOM_DELAY":
+            most_added = int(text)
+        if variable == "START_HOURS_RANGE":
+            hours = tuple(map(int, text.split("-")))
+        if variable is None:
+            period, delay, identifier, _ = re.split(r"[ \t]+", text, maxsplit=3)
+            added = fnv(identifier.encode()) % (most_added + 1)
+            yield Periodic(f"{label}/{identifier}", zone, period, 60 * hours[0] + int(delay) + added, 60 * hours[1])
+
+
+def jobs_of(zones, kind, label, zone, lines):
+    """The jobs of a table, in order."""
+    if kind == "anacrontab":
+        return list(periodic_jobs_of(zones[zone], label, lines))
+    return list(entries_of(zones, kind, label, zone, lines))

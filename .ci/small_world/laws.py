@@ -1,0 +1,206 @@
+"""A world that is watched: after each turn what replicas know agrees with what was chosen, each launch that is held was started
+in the log before it was called, and each drain ends within its bounds."""
+from collections import Counter, defaultdict
+
+from .jobs import Entry, Periodic
+from .launches import LAUNCH, End, Start, apply, fresh_rows, takes_effect
+from .replica import MOST_ENTRIES, Accept, Accepted, Follower, Known, Lead, Nack, Prepare, Promise, Snap
+from .world import World
+
+# A drain's rounds until the coordinator leads alone, and then, once it has nothing to do, until all have learned as much.
+MOST_TO_LEAD = 4
+MOST_TO_LEVEL = 5
+# How often the coordinator stands for leader while it settles.
+MOST_CAMPAIGNS = 2
+WITH_BALLOT = (Prepare, Promise, Accept, Accepted, Nack, Lead)
+
+
+class Broken(Exception):
+    """A law that didn't hold."""
+
+
+def claim(holds, law):
+    if not holds:
+        raise Broken(law)
+
+
+class WatchedWorld(World):
+    def __init__(self, run):
+        super().__init__(run)
+        self.seen = Counter()
+        self.voters = defaultdict(set)
+        self.chosen = {}
+        # The launch tables after each entry of the log, and the launches that the log started and ended.
+        self.tables = [tuple(fresh_rows(run.jobs))]
+        self.started = [[] for _ in run.jobs]
+        self.ended = {}
+        self.campaigns = 0
+        self.checked = {}
+
+    # What is chosen, and what agrees with it.
+
+    def add(self, turn, step=None):
+        super().add(turn, step)
+        self.seen[turn.word] += 1
+        self.seen["snapshot heard"] += turn.word == "hear" and self.hears_snapshot(turn)
+        if step:
+            self.count_votes(turn.who, step.votes())
+            for slot, entry in step.learned:
+                claim(self.chosen.get(slot, entry) == entry and slot in self.chosen, "what is learned is chosen")
+        if turn.call:
+            self.seen[turn.fate] += 1
+            claim(turn.call.at in self.started[turn.call.job], "a launch is called once its start is chosen")
+        if turn.who is not None and self.runs[turn.who]:
+            self.check_replica(self.replicas[turn.who])
+
+    def hears_snapshot(self, turn):
+        return any(isinstance(packet, Snap) for packet in self.letters[turn.operand].packets)
+
+    def count_votes(self, who, votes):
+        for slot, ballot, entry in votes:
+            voters = self.voters[slot, ballot, entry]
+            voters.add(who)
+            if len(voters) > self.run.members // 2:
+                claim(self.chosen.setdefault(slot, entry) == entry, "one entry is chosen at a slot")
+        while len(self.tables) - 1 in self.chosen:
+            self.extend(self.chosen[len(self.tables) - 1])
+
+    def extend(self, entry):
+        """The log gains an entry."""
+        rows = list(self.tables[-1])
+        if takes_effect(self.run.jobs, rows, entry):
+            if isinstance(entry, Start):
+                self.started[entry.job].append(entry.at)
+            else:
+                self.check_end(entry)
+        apply(self.run.jobs, rows, entry)
+        self.tables.append(tuple(rows))
+
+    def check_end(self, end):
+        held = self.ledger.held.get((end.job, end.at))
+        claim(held and held.kind == end.kind, "a launch ends as the scheduler holds it")
+        self.ended[end.job, end.at] = end.kind
+
+    def check_replica(self, replica):
+        known = replica.prefix, replica.base
+        if self.checked.get(replica.me) == known and self.turns[-1].word != "restart":
+            return
+        self.checked[replica.me] = known
+        claim(replica.prefix < len(self.tables), "what is learned is in the log")
+        claim(tuple(replica.launches) == self.tables[replica.prefix], "a launch table is that of the log up to the prefix")
+        claim(tuple(replica.rows) == self.tables[replica.base], "what is kept of it is that up to the base")
+
+    # Draining.
+
+    def settle(self, at):
+        self.campaigns = 0
+        who = super().settle(at)
+        self.seen["second campaign"] += self.campaigns == MOST_CAMPAIGNS
+        return who
+
+    def campaign(self, who):
+        self.campaigns += 1
+        super().campaign(who)
+
+    def leads_alone(self, who):
+        """Whether nobody can outbid the leader, and nobody knows an entry or is told one that it doesn't know."""
+        leader = self.replicas[who]
+        if not leader.leads():
+            return False
+        others = [self.replicas[other] for other in leader.others]
+        follow = all(isinstance(other.term, Follower) and other.prefix <= leader.prefix for other in others)
+        promised = all(replica.promised <= leader.term.ballot for replica in self.replicas)
+        packets = (packet for mail in self.mails for number in mail for packet in self.letters[number].packets)
+        return follow and promised and all(is_tame(packet, leader) for packet in packets)
+
+    def drain(self, who, at):
+        measured = DrainMeasure(self, who, at)
+        while not self.is_quiet(who, at):
+            if isinstance(self.replicas[who].term, Follower):
+                self.campaign(who)
+            self.round(at)
+            measured.take()
+        claim(self.campaigns <= MOST_CAMPAIGNS, "the coordinator stands for leader twice at most, and not again as it walks on")
+        self.seen["drain"] += 1
+
+    def work(self, who):
+        """What the leader has left to do at most, in rounds: seven for each vote that binds it and for each step of a job's
+        cursor, and those until what it does now is chosen."""
+        leader = self.replicas[who]
+        bound = sum(max(0, slot + 1 - leader.prefix) for slot in leader.term.best)
+        work = bound + sum(left_in(row, self.run.end) for row in leader.launches)
+        due = len(leader.learned) >= MOST_ENTRIES
+        if leader.term.flight:
+            return 7 * work + 3 - leader.term.flight.waited + due
+        return 7 * work + (4 if self.waits[who] else 5 + due)
+
+    # The end.
+
+    def play(self):
+        for words in self.run.script:
+            self.command(*words)
+        by_script = self.run.first - 1 if self.latest is None else self.latest
+        self.parts.append(len(self.turns))
+        self.walk(self.run.end - 1)
+        self.check_ends(by_script)
+        return self
+
+    def check_ends(self, by_script):
+        """Each due instant is closed, as a launch where it is later than each clock reading of the script."""
+        claim({name: call.kind for name, call in self.ledger.held.items()} == self.ended, "all that is held has ended in the log")
+        for number, job in enumerate(self.run.jobs):
+            if isinstance(job, Entry):
+                claim(self.started[number] == job.dues, "each due instant is started once, in order")
+                launched = [at for at in job.dues if self.ended[number, at] == LAUNCH]
+                claim(all(at in launched for at in job.dues if at > by_script), "each later due instant is launched")
+            if isinstance(job, Periodic):
+                claim(self.started[number] == sorted(set(self.started[number])), "dates rise")
+                dates = [at for at in self.started[number] if self.ended.get((number, at)) == LAUNCH]
+                claim(all(job.is_over(*pair) for pair in zip(dates, dates[1:])), "launches are a period apart")
+
+
+def left_in(row, end):
+    """What a job has left at most: a start and an end for each minute behind its cursor, and the end of what is open."""
+    cursor = -1 if row.cursor is None else row.cursor
+    return 2 * (end - cursor) + (row.open_now is not None)
+
+
+def is_tame(packet, leader):
+    """Whether a packet names no ballot above the leader's and no entry that the leader doesn't know."""
+    if isinstance(packet, WITH_BALLOT):
+        return packet.ballot <= leader.term.ballot
+    if isinstance(packet, Known):
+        return packet.slot < leader.prefix
+    return not isinstance(packet, Snap) or packet.slot <= leader.prefix
+
+
+class DrainMeasure:
+    """The rounds of a drain, and what is claimed after each."""
+
+    def __init__(self, world, who, at):
+        self.world = world
+        self.who = who
+        self.at = at
+        self.rounds = 0
+        self.led = world.leads_alone(who)
+        self.measure = world.work(who) if self.led else None
+        self.rested = None
+
+    def rests(self):
+        leader = self.world.replicas[self.who]
+        return leader.is_free() and self.world.waits[self.who] is None and leader.wants(self.at) is None
+
+    def take(self):
+        self.rounds += 1
+        alone = self.world.leads_alone(self.who)
+        claim(alone or not self.led, "who leads alone leads on")
+        claim(alone or self.rounds < MOST_TO_LEAD, "it leads alone after four rounds")
+        self.led = alone
+        if alone and not self.rests():
+            claim(self.rested is None, "who has nothing to do goes on so")
+            work = self.world.work(self.who)
+            claim(self.measure is None or work < self.measure, "what is left to do gets less")
+            self.measure = work
+        elif alone:
+            self.rested = self.rounds if self.rested is None else self.rested
+            claim(self.rounds - self.rested <= MOST_TO_LEVEL, "all have learned as much five rounds later")

@@ -1,0 +1,104 @@
+"""Run files made from seeds: tables with few jobs, and scripts in which replicas stop and start, letters are lost, doubled and
+reordered, clocks are off, and calls fail or come late."""
+import random
+
+from .instants import minute_of, stamp_of
+
+FIRST = minute_of("2024-03-31T00:00Z")
+OFTEN = ["* * * * *", "*/2 * * * *", "*/5 * * * *", "*/15 * * * *"]
+SELDOM = ["0,20,40 * * * *", "7 * * * *", "30 1-3 * * *", "15 0 * * *", "0 */2 31 3 *"]
+PERIODS = ["1 5", "2 30", "7 25", "@monthly 45", "@weekly 0", "@yearly 600"]
+FATES = ["done", "done", "lost-before", "lost-after", "late", "late"]
+MEMBERS = [1, 2, 3, 3, 3, 4, 5, 5, 6, 7]
+
+
+class Script:
+    """A script in the making: the clock that its rounds go by mostly rises."""
+
+    def __init__(self, chance, members, minutes):
+        self.chance = chance
+        self.members = members
+        self.minutes = minutes
+        self.now = 0
+        self.leader = 0
+        self.lines = []
+
+    def stamp(self):
+        """An instant of the window, somewhat later than the one before, and seldom any."""
+        self.now = min(self.minutes - 1, self.now + self.chance.choice([0, 1, 2, 5, self.minutes // 10]))
+        seldom = self.chance.randrange(self.minutes)
+        return stamp_of(FIRST + (seldom if self.chance.random() < 0.05 else self.now))
+
+    def who(self):
+        """A replica: often the one that stood for leader last."""
+        return self.leader if self.chance.random() < 0.4 else self.chance.randrange(self.members)
+
+    def candidate(self):
+        self.leader = self.chance.randrange(self.members)
+        return self.leader
+
+    def pair(self):
+        return f"{self.who()} {self.who()}"
+
+    def fate(self):
+        return f"{self.leader} {self.chance.choice(FATES)}"
+
+    def skew(self):
+        return self.chance.choice([-10000, -61, -2, 0, 0, 1, 5, 60, 10000])
+
+    def leave_behind(self):
+        """Has a replica miss so many entries that it needs a snapshot, where there are as many."""
+        leader, missed = self.candidate(), self.members - 1
+        last = stamp_of(FIRST + self.minutes - 1)
+        self.lines += [f"campaign {leader}", f"round {last} 5", f"stop {missed}", f"round {last} 160"]
+        self.lines += [f"restart {missed}", f"round {last} 6"]
+
+    def add(self):
+        """Adds a command, rounds more often than any other."""
+        makers = {
+            "round": lambda: f"{self.stamp()} {self.chance.choice([1, 1, 2, 3, 5, 5, 8, 12, 25, 60])}",
+            "campaign": self.candidate,
+            "stop": self.who,
+            "restart": self.who,
+            "cut": self.pair,
+            "heal": lambda: "",
+            "drop": self.pair,
+            "repeat": self.pair,
+            "reverse": self.who,
+            "again": lambda: self.chance.randrange(200),
+            "skew": lambda: f"{self.who()} {self.skew()}",
+            "fate": self.fate,
+            "arrive": lambda: self.chance.randrange(3),
+            "settle": self.stamp,
+            "walk": self.stamp,
+        }
+        weights = [16, 4, 3, 4, 2, 2, 2, 2, 2, 2, 1, 6, 3, 0.3, 0.3]
+        word = self.chance.choices(list(makers), weights)[0]
+        self.lines.append(f"{word} {makers[word]()}".rstrip())
+
+
+def tables_of(chance, with_dates):
+    """The lines of a crontab, and of an anacrontab beside it where there are dates."""
+    instants = SELDOM if with_dates else OFTEN + SELDOM
+    entries = [f"{chance.choice(instants)} job" for _ in range(chance.randint(1, 4))]
+    lines = [f"crontab alice UTC {len(entries)}", *entries]
+    if with_dates:
+        periods = [f"{chance.choice(PERIODS)} job.{number} x" for number in range(chance.randint(1, 3))]
+        lines += [f"anacrontab etc UTC {len(periods)}", *periods]
+    return lines
+
+
+def script_run(seed):
+    """The run file of a seed."""
+    chance = random.Random(seed)
+    members = chance.choice(MEMBERS)
+    with_dates = chance.random() < 0.25
+    minutes = chance.choice([1440, 2880, 5000] if with_dates else [15, 20, 30, 60])
+    window = f"window {stamp_of(FIRST)} {stamp_of(FIRST + minutes)}"
+    script = Script(chance, members, minutes)
+    for _ in range(chance.choice([1, 5, 10, 20, 30, 45])):
+        script.add()
+    if chance.random() < 0.12:
+        script.leave_behind()
+    head = ["cronrun 1", f"replicas {members}", window, f"grace {chance.choice([0, 1, 5, 60, minutes])}"]
+    return "\n".join([*head, *tables_of(chance, with_dates), "script", *script.lines, "end", ""])

@@ -1,0 +1,363 @@
+-- Worlds that drain until one leads, until it rests, and until all are level.
+use Rattle.std.proofs.Common.{◌≡◌, ℕ, suc, ◌+◌, ◌*◌, ◌^◌, ◌<◌, ◌≤◌, true, false, List, [], ◌∷◌, ◌++◌, length, drop, map, ℤ, Some, refl, sym, ap, ◌∙◌, subst, inl, inr, arith, append_assoc, add-one, Option}
+use Rattle.std.proofs.Common.{append-nil as append_nil}
+use Rattle.std.specs.List.{Contains, slice_get}
+use Rattle.std.proofs.lemmas.Bool.{cases_lt}
+use Rattle.std.proofs.lemmas.List.{length-append, length-map}
+use Rattle.disk_model.specs.Images.{Image}
+use Rattle.disk_model.specs.Told.{Told}
+use Rattle.zone_minutes.specs.Window.{IsInWindow}
+use Rattle.due_set.specs.Table.{Table}
+use Rattle.step_law.proofs.Lists.{in_first, in_rest, cons_cases}
+use Rattle.step_law.specs.Step.{Event, IsLaunchTable}
+use Rattle.step_law.specs.declared.out.OutLetter.{OutLetter}
+use Rattle.replica_node.specs.Node.{replica_of}
+use Rattle.book_law.specs.Book.{PostedLetter, Row, Standing, after_row, post}
+use Rattle.book_law.specs.Legal.{IsLegal}
+use Rattle.book_law.specs.declared.turn.Cause.TheVariants.{Campaign}
+use Rattle.book_law.specs.declared.turn.Turn.{Turn}
+use Rattle.book_law.specs.declared.turn.Turn.TheVariants.{Did, Stopped, Restarted, Arrived}
+use Rattle.script_law.proofs.ListLemmas.{from_map}
+use Rattle.script_law.specs.Commands.{Plain}
+use Rattle.script_law.specs.Parts.{Plays}
+use Rattle.script_law.specs.Round.{round_tasks}
+use Rattle.script_law.specs.Settling.{Drains, IsDrainRound, IsQuiet, calmed, campaign_tasks, coordinator, restart_tasks}
+use Rattle.script_law.specs.Situation.{Do, Performs, Situation, Task, after_turn, after_turns}
+use Rattle.round_law.specs.Leads.{GoesDrainRound}
+use Rattle.round_law.specs.Rounds.{GoesOnBy as BookGoesOnBy, IsFaultless}
+use Rattle.campaign_law.specs.Campaigns.{GoesCampaign}
+use Rattle.drain_law.specs.Rest.{IsAtRest, left_of}
+use Rattle.settle_law.specs.Settles.{HasRestedFor, LeadsNow, LeadsSoon}
+use Rattle.settle_law.proofs.LeadLemmas.{campaign_faultless, first_leads, leads_nearer, leads_on, soon_faultless, soon_last, soon_nearer, soon_quiet}
+use Rattle.settle_law.proofs.RestLemmas.{rested_leads, rested_quiet}
+use Rattle.world_law.specs.Book.{posted_as}
+use Rattle.world_law.specs.declared.letter.LetterRow.{LetterRow}
+use Rattle.world_rounds.proofs.DrainLemmas.{HasDrained, runs_in, same_count}
+use Rattle.world_rounds.proofs.QuietLemmas.{found_at, node_state, node_table, node_waits, tells_no_quiet}
+use Rattle.world_rounds.proofs.Waiting.{posted_are}
+use Rattle.world_rounds.specs.Bounds.{AreShort, IsBounded, IsGiven, left_in, left_to}
+use Rattle.world_rounds.specs.Drains.{DrainsOn}
+use Rattle.world_rounds.specs.Quiet.{AllRun, IsIn, Tells}
+use Rattle.world_rounds.specs.World.{GoesOnBy, IsWorld, IsWorldAt}
+use Rattle.world_rounds.specs.declared.member.Member.{Member}
+use Rattle.world_rounds.specs.declared.world.World.{World}
+
+-- ---- letters
+
+-- what was posted stays, and more comes behind it
+posted_one : (n : ℕ) (standing : Standing) (turn : Turn) (event : Event) (letters : List OutLetter)
+    → (more : List PostedLetter) × ((after_row n standing turn event letters).posted ≡ standing.posted ++ more)
+unfolding after_row
+posted_one n standing (Did who cause made) event letters = (post who letters, refl)
+posted_one n standing (Stopped who cause kept) event letters = ([], sym (append_nil standing.posted))
+posted_one n standing (Restarted who) event letters = ([], sym (append_nil standing.posted))
+posted_one n standing (Arrived number) event letters = ([], sym (append_nil standing.posted))
+
+posted_more : (n : ℕ) (situation : Situation) (rows : List Row) → (more : List PostedLetter) × ((after_turns n situation rows).standing.posted ≡ situation.standing.posted ++ more)
+posted_more n situation [] = ([], sym (append_nil situation.standing.posted))
+posted_more n situation (row ∷ rows) =
+    let one = posted_one n situation.standing row.turn row.event row.letters in
+    let rest = posted_more n (after_turn n situation row) rows in
+    (one.0 ++ rest.0, rest.1 ∙ ap (λ posted. posted ++ rest.0) one.1 ∙ append_assoc situation.standing.posted one.0 rest.0)
+
+performed_more : (n : ℕ) (tasks : List Task) (situation after : Situation) (rows : List Row) → Performs n tasks situation rows after
+    → (more : List PostedLetter) × (after.standing.posted ≡ situation.standing.posted ++ more)
+performed_more n tasks situation after rows performs =
+    let more = posted_more n situation rows in
+    (more.0, ap (λ (s : Situation). s.standing.posted) performs.is ∙ more.1)
+
+drained_more : (n : ℕ) (table : Table) (who : ℕ) (at : ℤ) (situation after : Situation) (rows : List Row) → IsDrainRound n table who at situation rows after
+    → (more : List PostedLetter) × (after.standing.posted ≡ situation.standing.posted ++ more)
+drained_more n table who at situation after rows parts =
+    let one = performed_more n (campaign_tasks who (situation.standing.replicas who).term) situation parts.middle parts.front parts.one in
+    let two = performed_more n (round_tasks n table.window at parts.middle) parts.middle after parts.back parts.two in
+    (one.0 ++ two.0, two.1 ∙ ap (λ posted. posted ++ two.0) one.1 ∙ append_assoc situation.standing.posted one.0 two.0)
+
+-- old letters stay, and new ones come behind them
+kept_or_new : (old new : List LetterRow) (more : List PostedLetter) → map posted_as new ≡ map posted_as old ++ more → AreShort old → AreShort (drop (length old) new) → AreShort new
+kept_or_new [] new more is short rest = rest
+kept_or_new (first ∷ old) [] more is short rest = absurd cc
+kept_or_new (first ∷ old) (letter ∷ new) more is short rest = λ one has. elim (cons_cases letter new one has) [
+  | inl same ↦
+      let head : posted_as letter ≡ posted_as first = cc in
+      let bytes : letter.bytes ≡ first.bytes = ap (λ (l : PostedLetter). l.bytes) head in
+      subst (λ (l : LetterRow). length l.bytes < 56 * 2 ^ 31) same (subst (λ bytes. length bytes < 56 * 2 ^ 31) (sym bytes) (short first (in_first first old)))
+  | inr other ↦
+      let tail : map posted_as new ≡ map posted_as old ++ more = cc in
+      kept_or_new old new more tail (λ l among. short l (in_rest first old l among)) rest one other
+]
+
+module _ {D : Type 0} (seen : D → Image) (may_leave : D → Image → Type 0) (honest : D → Type 0) (told_of : D → Option Told) (table : Table) where
+  -- ---- parts of a legal book
+
+  part_bounded : (part : Situation → List Row → Situation → Type 0) (old new : World D) → IsWorld seen may_leave honest told_of table old
+      → ((situation : Situation) (rows : List Row) (after : Situation) → part situation rows after → (more : List PostedLetter) × (after.standing.posted ≡ situation.standing.posted ++ more))
+      → GoesOnBy seen may_leave honest told_of table part old new
+      → IsBounded old.book → length new.book.turns < 2 ^ 59 → AreShort (drop (length old.book.letters) new.book.letters) → IsBounded new.book
+  part_bounded part old new world posts goes bounded turns short = record {
+    turns = turns;
+    letters =
+        let gone = goes world.rows world.situation world.is in
+        let more = posts world.situation gone.0 gone.1 gone.2 in
+        kept_or_new old.book.letters new.book.letters more.0
+        (sym (posted_are seen may_leave honest told_of table (world.rows ++ gone.0) new gone.1 gone.3) ∙ more.1
+        ∙ ap (λ posted. posted ++ more.0) (posted_are seen may_leave honest told_of table world.rows old world.situation world.is))
+        bounded.letters short;
+  }
+
+  pub round_bounded : (who : ℕ) (at : ℤ) (old new : World D) → IsWorld seen may_leave honest told_of table old → GoesOnBy seen may_leave honest told_of table (IsDrainRound old.book.members table who at) old new
+      → IsBounded old.book → length new.book.turns < 2 ^ 59 → AreShort (drop (length old.book.letters) new.book.letters) → IsBounded new.book
+  round_bounded who at old new world goes bounded turns short =
+      part_bounded (IsDrainRound old.book.members table who at) old new world (λ situation rows after part. drained_more old.book.members table who at situation after rows part) goes bounded turns short
+
+  -- what a world does is what its book does
+  goes_book : (part : Situation → List Row → Situation → Type 0) (at : ℤ) (old new : World D) (rows more : List Row) (situation after : Situation) → IsInWindow table.window at
+      → IsWorldAt seen may_leave honest told_of table rows old situation → IsFaultless old.book.members situation → part situation more after
+      → IsWorldAt seen may_leave honest told_of table (rows ++ more) new after → new.book.members ≡ old.book.members → IsBounded new.book
+      → BookGoesOnBy part old.book.members table at rows more situation after
+  goes_book part at old new rows more situation after inside is faultless goes now members bounded = record {
+    few = is.ahead.at.few;
+    sound = is.ahead.at.sound;
+    within = inside;
+    legal = subst (λ n. IsLegal n table (rows ++ more)) members now.ahead.at.behind.legal;
+    standing = is.ahead.at.standing;
+    faultless = faultless;
+    round = goes;
+    limits = record {
+      turns =
+          let many : length new.book.turns ≡ length (rows ++ more) = ap length now.ahead.at.behind.turns ∙ length-map (rows ++ more) (λ (row : Row). row.turn) in
+          subst (λ n. n < 2 ^ 59) many bounded.turns;
+      letters = λ letter has.
+          let from = from_map posted_as new.book.letters letter (subst (λ posted. Contains posted letter) (posted_are seen may_leave honest told_of table (rows ++ more) new after now) has) in
+          subst (λ (l : PostedLetter). length l.bytes < 56 * 2 ^ 31) from.is (bounded.letters from.origin from.among);
+    };
+  }
+
+  -- ---- what holds of a world after a round of a drain
+
+  pub given_next : (who : ℕ) (at : ℤ) (holds then_holds : ℕ → Situation → Type 0) (old new : World D)
+      → ((book rows : List Row) (situation after : Situation) → holds old.book.members situation → GoesDrainRound old.book.members table who at book rows situation after
+      → then_holds old.book.members after × IsFaultless old.book.members after)
+      → IsInWindow table.window at → IsGiven seen may_leave honest told_of table holds old → GoesOnBy seen may_leave honest told_of table (IsDrainRound old.book.members table who at) old new
+      → new.book.members ≡ old.book.members → IsBounded new.book → IsGiven seen may_leave honest told_of table then_holds new
+  given_next who at holds then_holds old new law inside have goes members bounded =
+      let gone = goes have.rows have.situation have.is in
+      let both = law have.rows gone.0 have.situation gone.1 have.given
+      (goes_book (IsDrainRound old.book.members table who at) at old new have.rows gone.0 have.situation gone.1 inside have.is have.faultless gone.2 gone.3 members bounded) in
+      record {
+        rows = have.rows ++ gone.0;
+        situation = gone.1;
+        is = gone.3;
+        faultless = subst (λ n. IsFaultless n gone.1) (sym members) both.1;
+        given = subst (λ n. then_holds n gone.1) (sym members) both.0;
+        bounded = bounded;
+      }
+
+  pub given_world : (holds : ℕ → Situation → Type 0) (world : World D) → IsGiven seen may_leave honest told_of table holds world → IsWorld seen may_leave honest told_of table world
+  given_world holds world have = record { rows = have.rows; situation = have.situation; is = have.is }
+
+  -- ---- until one leads
+
+  pub leads_soon_next : (who : ℕ) (at : ℤ) (rounds : ℕ) (old new : World D) → IsInWindow table.window at → IsGiven seen may_leave honest told_of table (λ n s. LeadsSoon (suc rounds) n table who s) old
+      → GoesOnBy seen may_leave honest told_of table (IsDrainRound old.book.members table who at) old new → new.book.members ≡ old.book.members → IsBounded new.book
+      → IsGiven seen may_leave honest told_of table (λ n s. LeadsSoon rounds n table who s) new
+  leads_soon_next who at rounds old new inside have goes members bounded =
+      given_next who at (λ n s. LeadsSoon (suc rounds) n table who s) (λ n s. LeadsSoon rounds n table who s) old new
+      (λ book rows situation after leads goes. (
+        soon_nearer rounds old.book.members table who at book rows situation after leads goes,
+        soon_faultless (suc rounds) old.book.members table who at book rows situation after leads goes,
+      ))
+      inside have goes members bounded
+
+  pub leads_by_quiet : (who : ℕ) (at : ℤ) (rounds : ℕ) (world : World D) → IsGiven seen may_leave honest told_of table (λ n s. LeadsSoon rounds n table who s) world
+      → Tells seen may_leave honest told_of table (IsQuiet world.book.members table who at) world true → IsGiven seen may_leave honest told_of table (λ n s. LeadsNow n table who s) world
+  leads_by_quiet who at rounds world have tells = record {
+    rows = have.rows;
+    situation = have.situation;
+    is = have.is;
+    faultless = have.faultless;
+    given = soon_quiet rounds world.book.members table who at have.situation have.given ((tells have.rows have.situation have.is).0 refl);
+    bounded = have.bounded;
+  }
+
+  pub leads_at_last : (who : ℕ) (world : World D) → IsGiven seen may_leave honest told_of table (λ n s. LeadsSoon 0 n table who s) world
+      → IsGiven seen may_leave honest told_of table (λ n s. LeadsNow n table who s) world
+  leads_at_last who world have = record {
+    rows = have.rows;
+    situation = have.situation;
+    is = have.is;
+    faultless = have.faultless;
+    given = soon_last world.book.members table who have.situation have.given;
+    bounded = have.bounded;
+  }
+
+  -- ---- until it rests
+
+  pub leads_next : (who : ℕ) (at : ℤ) (old new : World D) → IsInWindow table.window at → IsGiven seen may_leave honest told_of table (λ n s. LeadsNow n table who s) old
+      → GoesOnBy seen may_leave honest told_of table (IsDrainRound old.book.members table who at) old new → new.book.members ≡ old.book.members → IsBounded new.book
+      → IsGiven seen may_leave honest told_of table (λ n s. LeadsNow n table who s) new
+  leads_next who at old new inside have goes members bounded =
+      given_next who at (λ n s. LeadsNow n table who s) (λ n s. LeadsNow n table who s) old new
+      (λ book rows situation after leads goes. (
+        leads_on old.book.members table who at book rows situation after leads goes,
+        soon_faultless 0 old.book.members table who at book rows situation after (inl leads) goes,
+      ))
+      inside have goes members bounded
+
+  left_is : (rows : List Row) (world : World D) (situation : Situation) (who : ℕ) (member : Member D) → IsWorldAt seen may_leave honest told_of table rows world situation → AllRun world
+      → slice_get world.members.items who ≡ Some member
+      → left_of table.window.until.0 (replica_of member.node).machine.rows (situation.standing.waits who) (situation.standing.replicas who) ≡ left_in table who world
+  left_is rows world situation who member is run there =
+      ap (λ waits. left_of table.window.until.0 (replica_of member.node).machine.rows waits (situation.standing.replicas who)) (sym (node_waits seen may_leave honest told_of table rows world situation who member is there))
+      ∙ ap (λ state. left_of table.window.until.0 (replica_of member.node).machine.rows member.mail.waits state)
+      (sym (node_state seen may_leave honest told_of table rows world situation who member is there (run who member there)))
+      ∙ ap (left_to table) (sym there)
+
+  table_is : (rows : List Row) (world : World D) (situation : Situation) (who : ℕ) (member : Member D) → IsWorldAt seen may_leave honest told_of table rows world situation → AllRun world
+      → slice_get world.members.items who ≡ Some member → IsLaunchTable table (situation.standing.replicas who) (replica_of member.node).machine.rows
+  table_is rows world situation who member is run there =
+      subst (λ state. IsLaunchTable table state (replica_of member.node).machine.rows) (node_state seen may_leave honest told_of table rows world situation who member is there (run who member there))
+      (node_table seen may_leave honest told_of table rows world situation who member is there (run who member there)).rows
+
+  -- fewer rounds are left after a round before which it was not at rest
+  pub left_falls : (who : ℕ) (at : ℤ) (old new : World D) → IsInWindow table.window at → IsGiven seen may_leave honest told_of table (λ n s. LeadsNow n table who s) old
+      → Tells seen may_leave honest told_of table (IsAtRest table who at) old false → AllRun old → AllRun new → who < length old.members.items → who < length new.members.items
+      → GoesOnBy seen may_leave honest told_of table (IsDrainRound old.book.members table who at) old new → new.book.members ≡ old.book.members → IsBounded new.book
+      → left_in table who new < left_in table who old
+  left_falls who at old new inside have tells run run_new below below_new goes members bounded =
+      let gone = goes have.rows have.situation have.is in
+      let one = found_at old.members.items who below in
+      let two = found_at new.members.items who below_new in
+      let goes_round = goes_book (IsDrainRound old.book.members table who at) at old new have.rows gone.0 have.situation gone.1 inside have.is have.faultless gone.2 gone.3 members bounded in
+      elim (leads_nearer old.book.members table who at have.rows gone.0 have.situation gone.1 have.given goes_round) [
+        | inl rests ↦ absurd (let no : false ≡ true = (tells have.rows have.situation have.is).1 rests in cc)
+        | inr fewer ↦
+            let falls = fewer (replica_of one.0.node).machine.rows (replica_of two.0.node).machine.rows
+            (table_is have.rows old have.situation who one.0 have.is run one.1) (table_is (have.rows ++ gone.0) new gone.1 who two.0 gone.3 run_new two.1) in
+            subst (λ n. left_in table who new < n) (left_is have.rows old have.situation who one.0 have.is run one.1)
+            (subst (λ n. n < left_of table.window.until.0 (replica_of one.0.node).machine.rows (have.situation.standing.waits who) (have.situation.standing.replicas who))
+            (left_is (have.rows ++ gone.0) new gone.1 who two.0 gone.3 run_new two.1) falls)
+      ]
+
+  -- ---- until all are level
+
+  pub rests_now : (who : ℕ) (at : ℤ) (world : World D) → IsGiven seen may_leave honest told_of table (λ n s. LeadsNow n table who s) world
+      → Tells seen may_leave honest told_of table (IsAtRest table who at) world true → IsGiven seen may_leave honest told_of table (λ n s. HasRestedFor 0 n table who at s) world
+  rests_now who at world have tells = record {
+    rows = have.rows;
+    situation = have.situation;
+    is = have.is;
+    faultless = have.faultless;
+    given = (have.given, (tells have.rows have.situation have.is).0 refl);
+    bounded = have.bounded;
+  }
+
+  pub rests_next : (who : ℕ) (at : ℤ) (rounds : ℕ) (old new : World D) → IsInWindow table.window at → IsGiven seen may_leave honest told_of table (λ n s. HasRestedFor rounds n table who at s) old
+      → GoesOnBy seen may_leave honest told_of table (IsDrainRound old.book.members table who at) old new → new.book.members ≡ old.book.members → IsBounded new.book
+      → IsGiven seen may_leave honest told_of table (λ n s. HasRestedFor (suc rounds) n table who at s) new
+  rests_next who at rounds old new inside have goes members bounded =
+      given_next who at (λ n s. HasRestedFor rounds n table who at s) (λ n s. HasRestedFor (suc rounds) n table who at s) old new
+      (λ book rows situation after rests goes. (
+        (book, rows, situation, rests, goes),
+        soon_faultless 0 old.book.members table who at book rows situation after (inl (rested_leads rounds old.book.members table who at situation rests)) goes,
+      ))
+      inside have goes members bounded
+
+  pub rested_gives : (who : ℕ) (at : ℤ) (rounds : ℕ) (world : World D) → IsGiven seen may_leave honest told_of table (λ n s. HasRestedFor rounds n table who at s) world
+      → IsGiven seen may_leave honest told_of table (λ n s. LeadsNow n table who s) world
+  rested_gives who at rounds world have = record {
+    rows = have.rows;
+    situation = have.situation;
+    is = have.is;
+    faultless = have.faultless;
+    given = rested_leads rounds world.book.members table who at have.situation have.given;
+    bounded = have.bounded;
+  }
+
+  pub quiet_at_last : (who : ℕ) (at : ℤ) (world : World D) → IsGiven seen may_leave honest told_of table (λ n s. HasRestedFor 5 n table who at s) world
+      → Tells seen may_leave honest told_of table (IsQuiet world.book.members table who at) world false → ⊥
+  quiet_at_last who at world have tells =
+      let no : false ≡ true = (tells have.rows have.situation have.is).1 (rested_quiet world.book.members table who at have.situation have.given) in absurd cc
+
+  -- ---- the first campaign
+
+  pub lead_given : (who : ℕ) (at : ℤ) (old over led : World D) → IsInWindow table.window at → 1 ≤ old.book.members → IsWorld seen may_leave honest told_of table old
+      → GoesOnBy seen may_leave honest told_of table (Plain old.book.members (restart_tasks old.book.members) calmed) old over → AllRun over → over.book.members ≡ old.book.members
+      → ((situation : Situation) → IsIn seen may_leave honest told_of table over situation → who ≡ coordinator over.book.members situation)
+      → GoesOnBy seen may_leave honest told_of table (Plays over.book.members (λ here. Do who Campaign ∷ [])) over led → led.book.members ≡ over.book.members → IsBounded led.book
+      → IsGiven seen may_leave honest told_of table (λ n s. LeadsSoon 4 n table who s) led
+  lead_given who at old over led inside some world start run same leads campaign led_same bounded =
+      let one = start world.rows world.situation world.is in
+      let two = campaign (world.rows ++ one.0) one.1 one.3 in
+      let n = over.book.members in
+      let is : one.1 ≡ calmed one.2.middle = one.2.two.is in
+      let count : length over.members.items ≡ n = one.3.ahead.count in
+      let faultless : IsFaultless n one.1 = record {
+        runs = λ k below. runs_in seen may_leave honest told_of table (world.rows ++ one.0) over one.1 k one.3 run (omega (arith, below, count));
+        uncut = ap (λ (s : Situation). s.cuts) is;
+        right = λ k below. ap (λ (s : Situation). s.skews k) is;
+        done = λ k below. ap (λ (s : Situation). s.fates k) is;
+      } in
+      let is_lead : who ≡ coordinator n one.1 = leads one.1 (world.rows ++ one.0, one.3) in
+      let goes : GoesCampaign n table (coordinator n one.1) at (world.rows ++ one.0) two.0 one.1 two.1 =
+      subst (λ lead. GoesCampaign n table lead at (world.rows ++ one.0) two.0 one.1 two.1) is_lead
+      (goes_book (Plays n (λ here. Do who Campaign ∷ [])) at over led (world.rows ++ one.0) two.0 one.1 two.1 inside one.3 faultless two.2 two.3 led_same bounded) in
+      let enough : 1 ≤ n = subst (λ m. 1 ≤ m) (sym same) some in
+      record {
+        rows = (world.rows ++ one.0) ++ two.0;
+        situation = two.1;
+        is = two.3;
+        faultless = subst (λ m. IsFaultless m two.1) (sym led_same) (campaign_faultless n table at (world.rows ++ one.0) two.0 one.1 two.1 enough goes);
+        given =
+            subst (λ m. LeadsSoon 4 m table who two.1) (sym led_same) (subst (λ lead. LeadsSoon 4 n table lead two.1) (sym is_lead)
+            (first_leads n table at (world.rows ++ one.0) two.0 one.1 two.1 enough goes (λ k below. ap (λ (s : Situation). s.mails k) is)));
+        bounded = bounded;
+      }
+
+  -- some rounds of a drain, and the rest of it
+  pub drains_then : (who : ℕ) (at : ℤ) (old middle new : World D) → GoesOnBy seen may_leave honest told_of table (DrainsOn old.book.members table who at) old middle → middle.book.members ≡ old.book.members
+      → GoesOnBy seen may_leave honest told_of table (Drains middle.book.members table who at) middle new → GoesOnBy seen may_leave honest told_of table (Drains old.book.members table who at) old new
+  drains_then who at old middle new on members drains = λ rows situation is.
+      let one = on rows situation is in
+      let two = drains (rows ++ one.0) one.1 one.3 in (
+        one.0 ++ two.0,
+        two.1,
+        one.2 two.0 two.1 (subst (λ n. Drains n table who at one.1 two.0 two.1) members two.2),
+        subst (λ rows. IsWorldAt seen may_leave honest told_of table rows new two.1) (append_assoc rows one.0 two.0) two.3,
+      )
+
+  pub not_quiet : (who : ℕ) (at : ℤ) (world : World D) → Tells seen may_leave honest told_of table (IsAtRest table who at) world false
+      → Tells seen may_leave honest told_of table (IsQuiet world.book.members table who at) world false
+  not_quiet who at world tells = tells_no_quiet seen may_leave honest told_of table world who at tells
+
+  pub letters_grow : (who : ℕ) (at : ℤ) (old new : World D) → IsWorld seen may_leave honest told_of table old → GoesOnBy seen may_leave honest told_of table (IsDrainRound old.book.members table who at) old new
+      → length old.book.letters ≤ length new.book.letters
+  letters_grow who at old new world goes =
+      let gone = goes world.rows world.situation world.is in
+      let more = drained_more old.book.members table who at world.situation gone.1 gone.0 gone.2 in
+      let all : length new.book.letters ≡ length (world.situation.standing.posted ++ more.0) =
+      sym (length-map new.book.letters posted_as) ∙ ap length (sym (posted_are seen may_leave honest told_of table (world.rows ++ gone.0) new gone.1 gone.3) ∙ more.1) in
+      let long = length-append world.situation.standing.posted more.0 in
+      let was : length world.situation.standing.posted ≡ length old.book.letters =
+      ap length (posted_are seen may_leave honest told_of table world.rows old world.situation world.is) ∙ length-map old.book.letters posted_as in
+      omega (arith, all, long, was)
+
+  pub below_in : (who : ℕ) (at : ℤ) (old now : World D) → IsWorld seen may_leave honest told_of table old → HasDrained seen may_leave honest told_of table who at old now → who < length old.members.items
+      → who < length now.members.items
+  below_in who at old now was drained below =
+      let same = same_count seen may_leave honest told_of table old now was drained.world drained.members in
+      omega (arith, same, below)
+
+  pub level_next : (who : ℕ) (at : ℤ) (rounds : ℕ) (now new : World D) → IsInWindow table.window at → rounds ≤ 5 → IsGiven seen may_leave honest told_of table (λ n s. HasRestedFor rounds n table who at s) now
+      → Tells seen may_leave honest told_of table (IsQuiet now.book.members table who at) now false
+      → GoesOnBy seen may_leave honest told_of table (IsDrainRound now.book.members table who at) now new → new.book.members ≡ now.book.members → IsBounded new.book
+      → (rounds + 1 ≤ 5) × IsGiven seen may_leave honest told_of table (λ n s. HasRestedFor (rounds + 1) n table who at s) new
+  level_next who at rounds now new inside few have tells goes members bounded = elim (cases_lt rounds 5) [
+    | inl less ↦ (
+      omega arith,
+      subst (λ k. IsGiven seen may_leave honest told_of table (λ n s. HasRestedFor k n table who at s) new) (sym (add-one rounds)) (rests_next who at rounds now new inside have goes members bounded),
+    )
+    | inr last ↦
+        let five : rounds ≡ 5 = omega arith in
+        absurd (quiet_at_last who at now (subst (λ k. IsGiven seen may_leave honest told_of table (λ n s. HasRestedFor k n table who at s) now) five have) tells)
+  ]

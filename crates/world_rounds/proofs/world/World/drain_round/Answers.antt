@@ -1,0 +1,39 @@
+use Rattle.std.proofs.Common.{◌≤◌, drop, length, ap, sym, subst}
+use Rattle.script_law.specs.Settling.{IsDrainRound}
+use Rattle.world_rounds.specs.Bounds.{AreShort}
+use Rattle.world_rounds.proofs.DrainLemmas.{drained_calm, on_both, run_on, world_gone}
+use Rattle.world_rounds.proofs.LoopLemmas.{letters_grow, round_bounded}
+use Rattle.world_rounds.proofs.RoundsOfAll.{legal_world, on_any, on_err}
+use Rattle.world_rounds.proofs.world.World.drain_round.Goals as goal
+
+pub check_bounds-requires : goal.check_bounds-requires
+check_bounds-requires g c =
+    subst (λ n. n ≤ length c.lead_round.new.self.book.letters) (sym (ap length c.letters-first.ensures))
+    (letters_grow g.D.Disk.seen g.D.Disk.may_leave g.D.Disk.honest g.D.Disk.told c.args.table.now c.args.who c.args.at.0 c.args.self.now c.lead_round.new.self c.requires.world c.in_ok-lead_round.ensures.goes)
+
+pub returns-clause-goes : goal.returns-clause-goes
+returns-clause-goes g c = on_any c.check_bounds.result _ c.in_ok-lead_round.ensures.goes
+
+pub returns-clause-bounded : goal.returns-clause-bounded
+returns-clause-bounded g c =
+    on_both c.check_bounds.result _ _ _
+    (λ turns short.
+    round_bounded g.D.Disk.seen g.D.Disk.may_leave g.D.Disk.honest g.D.Disk.told c.args.table.now c.args.who c.args.at.0 c.args.self.now c.lead_round.new.self c.requires.world c.in_ok-lead_round.ensures.goes c.requires.bounded turns
+    (subst (λ n. AreShort (drop n c.lead_round.new.self.book.letters)) (ap length c.letters-first.ensures) short))
+    c.check_bounds.ensures.turns c.check_bounds.ensures.letters
+
+pub returns-clause-run : goal.returns-clause-run
+returns-clause-run g c =
+    on_any c.check_bounds.result _
+    (run_on g.D.Disk.seen g.D.Disk.may_leave g.D.Disk.honest g.D.Disk.told c.args.table.now (IsDrainRound c.args.self.now.book.members c.args.table.now c.args.who c.args.at.0) c.args.self.now c.lead_round.new.self
+    (λ situation rows after part. drained_calm c.args.self.now.book.members c.args.table.now c.args.who c.args.at.0 situation after rows part) c.requires.world c.requires.run
+    c.in_ok-lead_round.ensures.members c.in_ok-lead_round.ensures.goes)
+
+pub returns-clause-members : goal.returns-clause-members
+returns-clause-members g c = on_any c.check_bounds.result _ c.in_ok-lead_round.ensures.members
+
+pub returns-clause-legal : goal.returns-clause-legal
+returns-clause-legal g c =
+    on_err c.check_bounds.result _
+    (legal_world g.D.Disk.seen g.D.Disk.may_leave g.D.Disk.honest g.D.Disk.told c.args.table.now c.lead_round.new.self
+    (world_gone g.D.Disk.seen g.D.Disk.may_leave g.D.Disk.honest g.D.Disk.told c.args.table.now (IsDrainRound c.args.self.now.book.members c.args.table.now c.args.who c.args.at.0) c.args.self.now c.lead_round.new.self c.requires.world c.in_ok-lead_round.ensures.goes))
