@@ -1,7 +1,7 @@
 //! Worlds over disks in memory, and the commands that they take.
 ghost use Rattle.std.specs.Bool.{⊤};
 ghost use Rattle.std.specs.Prelude.{◌≡◌, ◌≤◌, Contains, IfOk, OnOk, length};
-ghost use Rattle.disk_model.specs.MemDisk.{left_by, seen_of};
+ghost use Rattle.disk_model.specs.MemDisk.{left_by, seen_of, told_of};
 ghost use Rattle.disk_model.specs.declared.mem_disk.MemDisk.{MemDisk as Disk};
 ghost use Rattle.world_rounds.specs.Commands.{IsTaken};
 ghost use Rattle.world_rounds.specs.Start.{IsFreshDisk};
@@ -16,7 +16,7 @@ use std::test::*;
 use world_rounds::World;
 
 fn empty_disk(alloc: Global) -> MemDisk
-    ensures { IsFreshDisk left_by (λ disk. ⊤) result }
+    ensures { IsFreshDisk left_by (λ disk. ⊤) told_of result }
 {
     let fails = Vec::new(alloc);
     MemDisk::new(alloc, fails)
@@ -24,7 +24,7 @@ fn empty_disk(alloc: Global) -> MemDisk
 
 fn disks(alloc: Global, count: u8) -> Result<Vec<MemDisk>, Fail>
     ensures count { IfOk result (λ disks. length disks.items ≡ count) }
-    ensures fresh { IfOk result (λ disks. (disk : Disk) → Contains disks.items disk → IsFreshDisk left_by (λ disk. ⊤) disk) }
+    ensures fresh { IfOk result (λ disks. (disk : Disk) → Contains disks.items disk → IsFreshDisk left_by (λ disk. ⊤) told_of disk) }
 {
     let mut disks = Vec::new(alloc);
     'disks: for _disk in 0..count {
@@ -36,7 +36,7 @@ fn disks(alloc: Global, count: u8) -> Result<Vec<MemDisk>, Fail>
 // A world before any turn.
 fn first_world(alloc: Global, table: &JobTable, count: u8) -> Result<World<MemDisk>, Fail>
     requires few { count ≤ 7 }
-    ensures world { IfOk result (IsWorld seen_of left_by (λ disk. ⊤) table.now) }
+    ensures world { IfOk result (IsWorld seen_of left_by (λ disk. ⊤) told_of table.now) }
     ensures members { IfOk result (λ world. (book_of world).members ≡ count) }
 {
     let disks = disks(alloc, count)?;
@@ -48,9 +48,9 @@ fn first_world(alloc: Global, table: &JobTable, count: u8) -> Result<World<MemDi
 
 // A command is taken.
 fn take(world: &mut World<MemDisk>, table: &JobTable, command: &Command) -> Result<(), Fail>
-    requires world { IsWorld seen_of left_by (λ disk. ⊤) table.now world.old }
+    requires world { IsWorld seen_of left_by (λ disk. ⊤) told_of table.now world.old }
     requires taken { IsTaken table.now.window (book_of world.old).members command.now }
-    ensures world { OnOk result (IsWorld seen_of left_by (λ disk. ⊤) table.now world.new) }
+    ensures world { OnOk result (IsWorld seen_of left_by (λ disk. ⊤) told_of table.now world.new) }
     ensures members { OnOk result ((book_of world.new).members ≡ (book_of world.old).members) }
 {
     match world.command(table, command) {
