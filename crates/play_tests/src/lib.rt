@@ -1,0 +1,7 @@
+//! Tests of worlds that play the scripts of run files.
+#![tactic(auto)]
+
+#[cfg(test)]
+mod scripts;
+#[cfg(test)]
+mod worlds;

@@ -1,0 +1,85 @@
+-- Worlds that take commands one after another.
+use Rattle.std.proofs.Common.{◌≡◌, ℕ, zero, suc, ◌+◌, List, [], ◌∷◌, ◌++◌, ◌<◌, length, Some, refl, sym, ap, ◌∙◌, subst, inl, inr, arith}
+use Rattle.std.specs.Bool.{⊤}
+use Rattle.std.proofs.lemmas.Int.{ints}
+use Rattle.std.specs.List.{Contains}
+use Rattle.std.specs.Prelude.{get_or, pos}
+use Rattle.std.proofs.lemmas.List.{length_push}
+use Rattle.std.proofs.lemmas.List.Elements.{Contains-push_cases}
+use Rattle.disk_model.specs.Calls.{is_listing}
+use Rattle.disk_model.specs.Images.{Image, file_of}
+use Rattle.disk_model.specs.MemDisk.{left_by, new_told, no_files, seen_of, told_of}
+use Rattle.disk_model.specs.declared.fault.FileNo.{FileNo}
+use Rattle.disk_model.specs.declared.fault.FileNo.TheVariants.{Chooser, AreaA, AreaB}
+use Rattle.disk_model.specs.declared.mem_disk.MemDisk.{MemDisk}
+use Rattle.due_set.specs.Table.{Table}
+use Rattle.zone_minutes.specs.declared.minute.Window.{Window}
+use Rattle.book_law.specs.Book.{Row}
+use Rattle.replica_node.specs.Reliable.{IsReliable}
+use Rattle.script_law.specs.Situation.{Situation}
+use Rattle.script_text.specs.declared.command.Command.{Command}
+use Rattle.step_law.proofs.Lists.{nothing_in}
+use Rattle.world_rounds.specs.Commands.{IsTaken}
+use Rattle.world_rounds.specs.Start.{IsFreshDisk}
+use Rattle.world_rounds.specs.World.{GoesOnBy, IsWorld}
+use Rattle.world_rounds.specs.declared.world.World.{World}
+use Rattle.zone_minutes.specs.Window.{IsInWindow}
+use Rattle.rounds_tests.specs.Plays.{AreTaken, IsHour}
+
+none_there : (file : FileNo) → file_of file no_files ≡ []
+none_there Chooser = refl
+none_there AreaA = refl
+none_there AreaB = refl
+
+pub new_is_fresh : (disk : MemDisk) (fails : List ℕ) → ((image : Image) → left_by disk image → image ≡ no_files) → told_of disk ≡ Some (new_told (is_listing fails)) → fails ≡ []
+    → IsFreshDisk left_by (λ disk. ⊤) told_of disk
+new_is_fresh disk fails images told none = record {
+  trusted = tt;
+  reliable = subst IsReliable (sym (told ∙ ap (λ fails. Some (new_told (is_listing fails))) none)) (record { runs = refl; unarmed = refl; unfailing = refl });
+  empty = λ image left file. ap (file_of file) (images image left) ∙ none_there file;
+}
+
+pub record AreFresh (count : ℕ) (disks : List MemDisk) : Type 0 where
+  pub count_is : length disks ≡ count
+  pub fresh : (disk : MemDisk) → Contains disks disk → IsFreshDisk left_by (λ disk. ⊤) told_of disk
+
+pub fresh_none : AreFresh 0 []
+fresh_none = record { count_is = refl; fresh = λ disk has. nothing_in has }
+
+pub fresh_next : (count : ℕ) (disks after : List MemDisk) (disk : MemDisk) → AreFresh count disks → IsFreshDisk left_by (λ disk. ⊤) told_of disk → after ≡ disks ++ disk ∷ []
+    → AreFresh (count + 1) after
+fresh_next count disks after disk so_far new is = record {
+  count_is = ap length is ∙ length_push disks disk ∙ ap (λ n. n + 1) so_far.count_is;
+  fresh = λ other has. elim (Contains-push_cases disks disk other (subst (λ disks. Contains disks other) is has)) [
+    | inl old ↦ so_far.fresh other old
+    | inr same ↦ subst (IsFreshDisk left_by (λ disk. ⊤) told_of) same new
+  ];
+}
+
+-- a world that has gone on by a part is a world
+pub is_world : (table : Table) (part : Situation → List Row → Situation → Type 0) (old new : World MemDisk) → IsWorld seen_of left_by (λ disk. ⊤) told_of table old
+    → GoesOnBy seen_of left_by (λ disk. ⊤) told_of table part old new → IsWorld seen_of left_by (λ disk. ⊤) told_of table new
+is_world table part old new is goes =
+    let gone = goes is.rows is.situation is.is in
+    record { rows = is.rows ++ gone.0; situation = gone.1; is = gone.3 }
+
+pub record HasPlayed (table : Table) (count : ℕ) (world : World MemDisk) : Type 0 where
+  pub world_is : IsWorld seen_of left_by (λ disk. ⊤) told_of table world
+  pub members : world.book.members ≡ count
+
+at_place : (window : Window) (members : ℕ) (commands : List Command) (index : ℕ) (default : Command) → index < length commands → AreTaken window members commands
+    → IsTaken window members (get_or commands index default)
+at_place window members [] index default below taken = absurd (omega arith)
+at_place window members (first ∷ rest) zero default below taken = taken.0
+at_place window members (first ∷ rest) (suc index) default below taken = at_place window members rest index default (omega arith) taken.1
+
+pub taken_at : (window : Window) (count members : ℕ) (commands : List Command) (index : ℕ) (default : Command) → index < length commands → members ≡ count
+    → AreTaken window count commands → IsTaken window members (get_or commands index default)
+taken_at window count members commands index default below is taken =
+    subst (λ members. IsTaken window members (get_or commands index default)) (sym is) (at_place window count commands index default below taken)
+
+pub first_in : (window : Window) → IsHour window → IsInWindow window (pos 28_530_720)
+first_in window is = let from = is.from in let until = is.until in record { since = omega (arith, ints, from); before = omega (arith, ints, until) }
+
+pub later_in : (window : Window) → IsHour window → IsInWindow window (pos 28_530_730)
+later_in window is = let from = is.from in let until = is.until in record { since = omega (arith, ints, from); before = omega (arith, ints, until) }

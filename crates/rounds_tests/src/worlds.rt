@@ -1,0 +1,77 @@
+//! Worlds over disks in memory, and the commands that they take.
+ghost use Rattle.std.specs.Bool.{⊤};
+ghost use Rattle.std.specs.Prelude.{◌≡◌, ◌≤◌, Contains, IfOk, OnOk, length};
+ghost use Rattle.disk_model.specs.MemDisk.{left_by, seen_of, told_of};
+ghost use Rattle.disk_model.specs.declared.mem_disk.MemDisk.{MemDisk as Disk};
+ghost use Rattle.world_rounds.specs.Commands.{IsTaken};
+ghost use Rattle.world_rounds.specs.Start.{IsFreshDisk};
+ghost use Rattle.world_rounds.specs.World.{IsWorld, book_of};
+ghost use Rattle.rounds_tests.specs.Plays.{AreTaken};
+
+use disk_model::MemDisk;
+use due_set::JobTable;
+use script_text::Command;
+use std::alloc::Global;
+use std::test::*;
+use world_rounds::World;
+
+fn empty_disk(alloc: Global) -> MemDisk
+    ensures { IsFreshDisk left_by (λ disk. ⊤) told_of result }
+{
+    let fails = Vec::new(alloc);
+    MemDisk::new(alloc, fails)
+}
+
+fn disks(alloc: Global, count: u8) -> Result<Vec<MemDisk>, Fail>
+    ensures count { IfOk result (λ disks. length disks.items ≡ count) }
+    ensures fresh { IfOk result (λ disks. (disk : Disk) → Contains disks.items disk → IsFreshDisk left_by (λ disk. ⊤) told_of disk) }
+{
+    let mut disks = Vec::new(alloc);
+    'disks: for _disk in 0..count {
+        disks.push(empty_disk(alloc))?;
+    }
+    Ok(disks)
+}
+
+// A world before any turn.
+fn first_world(alloc: Global, table: &JobTable, count: u8) -> Result<World<MemDisk>, Fail>
+    requires few { count ≤ 7 }
+    ensures world { IfOk result (IsWorld seen_of left_by (λ disk. ⊤) told_of table.now) }
+    ensures members { IfOk result (λ world. (book_of world).members ≡ count) }
+{
+    let disks = disks(alloc, count)?;
+    match World::new(alloc, table, count, disks) {
+        Ok(world) => Ok(world),
+        Err(_) => Err(Fail::from("no world")),
+    }
+}
+
+// A command is taken.
+fn take(world: &mut World<MemDisk>, table: &JobTable, command: &Command) -> Result<(), Fail>
+    requires world { IsWorld seen_of left_by (λ disk. ⊤) told_of table.now world.old }
+    requires taken { IsTaken table.now.window (book_of world.old).members command.now }
+    ensures world { OnOk result (IsWorld seen_of left_by (λ disk. ⊤) told_of table.now world.new) }
+    ensures members { OnOk result ((book_of world.new).members ≡ (book_of world.old).members) }
+{
+    match world.command(table, command) {
+        Ok(()) => Ok(()),
+        Err(_) => Err(Fail::from("a fault")),
+    }
+}
+
+/// A world of so many replicas, after some commands.
+pub fn world_after(
+    alloc: Global,
+    table: &JobTable,
+    count: u8,
+    commands: &[Command],
+) -> Result<World<MemDisk>, Fail>
+    requires few { count ≤ 7 }
+    requires taken { AreTaken table.now.window count commands.now }
+{
+    let mut world = first_world(alloc, table, count)?;
+    'commands: for command in commands {
+        take(&mut world, table, command)?;
+    }
+    Ok(world)
+}

@@ -1,0 +1,4 @@
+pub mod Commands
+pub mod Fresh
+pub mod Runs
+pub mod Taken

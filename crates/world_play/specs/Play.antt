@@ -1,0 +1,37 @@
+-- A world on disks in memory, and a script that it has played.
+use Rattle.std.specs.Prelude.{◌≡◌, ℕ, List, ⊤}
+use Rattle.disk_model.specs.MemDisk.{left_by, seen_of, told_of}
+use Rattle.disk_model.specs.declared.mem_disk.MemDisk.{MemDisk}
+use Rattle.due_set.specs.Table.{Table}
+use Rattle.script_text.specs.declared.command.Command.{Command}
+use Rattle.book_law.specs.Book.{Row}
+use Rattle.script_law.specs.Script.{ArePartsOf, Obeys}
+use Rattle.script_law.specs.Situation.{Situation, first_situation}
+use Rattle.world_rounds.specs.Start.{IsFreshDisk}
+use Rattle.world_rounds.specs.World.{IsWorldAt, book_of}
+use Rattle.world_rounds.specs.declared.world.World.{World}
+
+-- the disk's files are empty, whatever a stop leaves; a disk in memory is honest
+abbrev pub IsFreshMemDisk : MemDisk → Type 0
+IsFreshMemDisk disk = IsFreshDisk left_by (λ disk. ⊤) told_of disk
+
+-- the world on disks in memory is in this situation, and behind its book stand these rows
+abbrev pub IsMemWorldAt : Table → List Row → World MemDisk → Situation → Type 0
+IsMemWorldAt table rows world situation = IsWorldAt seen_of left_by (λ disk. ⊤) told_of table rows world situation
+
+-- The world of so many replicas has played the script, from before any turn on: behind its book stand the turns of the script's parts.
+pub record HasPlayed (table : Table) (members : ℕ) (script : List Command) (world : World MemDisk) : Type 0 where
+  pub rows : List Row
+  pub situation : Situation
+  pub parts : ArePartsOf members table script (first_situation members table) rows situation
+  pub is : IsMemWorldAt table rows world situation
+  pub count : (book_of world).members ≡ members
+
+-- The world of so many replicas has played the script, from before any turn on, and has then walked to the window's last minute: the
+-- turns that stand behind its book obey the script.
+pub record HasRun (table : Table) (members : ℕ) (script : List Command) (world : World MemDisk) : Type 0 where
+  pub rows : List Row
+  pub situation : Situation
+  pub obeys : Obeys members table script rows
+  pub is : IsMemWorldAt table rows world situation
+  pub count : (book_of world).members ≡ members

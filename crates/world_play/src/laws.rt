@@ -1,0 +1,32 @@
+//! Laws of scripts that worlds play. Each is the contract of a function that does nothing.
+ghost use Rattle.std.specs.Prelude.{◌≡◌, ◌≤◌, ℕ, List, None, All};
+ghost use Rattle.due_set.specs.Table.{Table};
+ghost use Rattle.run_text.specs.Run.{Run};
+ghost use Rattle.run_text.specs.Sound.{IsSoundRun};
+ghost use Rattle.run_text.specs.declared.rules.Player.TheVariants as player;
+ghost use Rattle.book_law.specs.Book.{Row};
+ghost use Rattle.book_law.specs.Legal.{IsLegal};
+ghost use Rattle.script_law.specs.Script.{Obeys};
+ghost use Rattle.script_text.specs.declared.command.Command.{Command};
+ghost use Rattle.disk_model.specs.declared.mem_disk.MemDisk.{MemDisk};
+ghost use Rattle.world_law.specs.Book.{IsLegalBook, StandsBehind};
+ghost use Rattle.world_play.specs.Play.{HasRun};
+ghost use Rattle.world_rounds.specs.Commands.{IsTaken};
+ghost use Rattle.world_rounds.specs.World.{book_of};
+ghost use Rattle.world_rounds.specs.declared.world.World.{World};
+
+/// A world takes each command of a run that is read for it.
+pub fn a_world_takes_each_command_that_is_read()
+    ensures { (next : ℕ) (run : Run) → IsSoundRun player.World next run → All (IsTaken run.window run.members) run.commands }
+{}
+
+/// The book of a world that has played a run is legal, and no call is pending in it; and whichever rows stand behind it obey the
+/// script.
+pub fn a_played_run_obeys_its_script()
+    ensures legal { (table : Table) (members : ℕ) (script : List Command) (world : World MemDisk) → HasRun table members script world
+        → IsLegalBook table (book_of world) }
+    ensures rest { (table : Table) (members : ℕ) (script : List Command) (world : World MemDisk) → HasRun table members script world
+        → (book_of world).pending ≡ None }
+    ensures obeys { (table : Table) (members : ℕ) (script : List Command) (world : World MemDisk) → HasRun table members script world
+        → (rows : List Row) × StandsBehind table rows (book_of world) × IsLegal members table rows × Obeys members table script rows }
+{}
