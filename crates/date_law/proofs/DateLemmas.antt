@@ -10,7 +10,9 @@ use Rattle.zone_minutes.specs.Civil.{day_number}
 use Rattle.zone_minutes.specs.Zone.{local_of}
 use Rattle.due_set.specs.Anacron.{IsJobOpen, IsOverSince}
 use Rattle.due_set.specs.Calls.{HasCome, IsOnTime}
-use Rattle.due_set.specs.Table.{IsAfter, IsJobIn, Table}
+use Rattle.due_set.specs.Table.{IsAfter, IsJobIn, Job, Table}
+use Rattle.due_set.proofs.OpenLemmas.{same_local}
+use Rattle.due_set.proofs.TableLemmas.{same_job}
 use Rattle.due_set.specs.declared.job.JobKind.{JobKind}
 use Rattle.paxos_base.specs.declared.entry.Entry.{Entry}
 use Rattle.paxos_base.specs.declared.entry.Entry.TheVariants.{End}
@@ -33,7 +35,7 @@ use Rattle.fits_law.specs.Fitting.{held_in}
 use Rattle.fits_law.proofs.Whole.{whole}
 use Rattle.walk_law.proofs.ReadLemmas.{front_legal, held_by, stays_held}
 use Rattle.walk_law.proofs.SettledLemmas.{Passes}
-use Rattle.date_law.specs.Barred.{IsBarred}
+use Rattle.date_law.specs.Barred.{IsBarred, ShowedLater}
 use Rattle.date_law.proofs.RowLemmas.{row_of, table_of}
 
 -- no launch that was called before is of the date or a later one
@@ -47,6 +49,13 @@ later_than_each table held job now date at then by called sooner = go by.last by
         let later : last <ℤ day_number (local_of opens.zone now) = opens.may.on.later in
         let is : date ≡ day_number (local_of opens.zone now) = opens.is_date in
         omega (arith, ints, low, later, is)
+
+not_both : (kind : Kind) → kind ≡ Void → kind ≡ Launch → ⊥
+not_both kind void launch = let both : Void ≡ Launch = sym void ∙ launch in cc
+
+after_day : (at day shown : ℤ) → at ≡ day → at ≤ℤ shown → (shown ≡ at → ⊥) → day <ℤ shown
+after_day at day shown is come off =
+    by_lt_z at shown (λ lt. omega (arith, ints, lt, is)) (λ ge. let same : shown ≡ at = omega (arith, ints, come, ge) in absurd (off same))
 
 module _ (n : ℕ) (table : Table) (book : List Row) (job : ℕ) (now date : ℤ) (few : n ≤ 7) (legal : IsLegal n table book) (by : OpensBy table (held_in n table book) job now date)
     (passes : Passes n table now book) (log : List Entry) (is_log : IsLog n (votes_in passes.front) log) where
@@ -109,8 +118,8 @@ module _ (n : ℕ) (table : Table) (book : List Row) (job : ℕ) (now date : ℤ
   abbrev Result : Type 0
   Result = IsCalledAt (held_in n table book) job date Launch now ⊎ IsBarred n table book job now date
 
-  barred : (day : ℤ) → HasStart table (take known_to log) job day → (date <ℤ day) ⊎ ((day ≡ date) × IsHeld (held_in n table passes.front) job date Void) → Result
-  barred day start bars = inr (record {
+  started_later : (day : ℤ) → HasStart table (take known_to log) job day → date <ℤ day → Result
+  started_later day start later = inr (inr (record {
     front = passes.front;
     back = passes.back;
     parts = passes.parts;
@@ -119,8 +128,40 @@ module _ (n : ℕ) (table : Table) (book : List Row) (job : ℕ) (now date : ℤ
     is_log = is_log;
     day = day;
     start = started day start;
-    bars = bars;
-  })
+    later = later;
+  }))
+
+  -- a void of the date or a later one was called at an instant at which the zone showed a later date still
+  void_later : (day : ℤ) → HasEnd table log job day Void → date ≤ℤ day → ShowedLater table job now date
+  void_later day end low =
+      let found : IsHeld (held_in n table passes.front) job day Void = fits.ended job day Void end in
+      let row = found.row in
+      let read : row.now.0 ≤ℤ now = held_by n table now passes.front row front_is passes.by found.among in
+      let backed : IsBacked table log row = All-contains (IsBacked table log) (held_in n table passes.front) row fits.backed found.among in
+      let is_in : IsJobIn table row.name.job opens.job opens.zone = subst (λ number. IsJobIn table number opens.job opens.zone) (sym found.of_job) opens.is_in in
+      let spec = same_job table row.name.job backed.spec opens.job backed.is_in.is_job is_in.is_job in
+      let come_there : row.name.at ≤ℤ day_number (local_of backed.zone row.now.0) =
+      subst (λ (k : JobKind). HasCome k backed.zone row.name.at row.now.0) (ap (λ (j : Job). j.kind) spec ∙ opens.kind) backed.come in
+      let come : row.name.at ≤ℤ day_number (local_of opens.zone row.now.0) =
+      subst (λ local. row.name.at ≤ℤ day_number local) (same_local table row.name.job backed.spec opens.job backed.zone opens.zone row.now.0 backed.is_in is_in) come_there in
+      let later : day <ℤ day_number (local_of opens.zone row.now.0) =
+      after_day row.name.at day (day_number (local_of opens.zone row.now.0)) found.due_at come
+      (λ same. not_both row.kind found.of_kind ((backed.kind opens.job opens.zone is_in).1
+      (subst (λ (k : JobKind). IsOnTime k opens.zone table.grace row.name.at row.now.0) (sym opens.kind) same))) in
+      let past : date <ℤ day_number (local_of opens.zone row.now.0) = omega (arith, ints, low, later) in
+      record {
+        spec = opens.job;
+        zone = opens.zone;
+        is_in = opens.is_in;
+        then = row.now.0;
+        sooner = by_lt_z row.now.0 now
+            (λ lt. lt)
+            (λ not_sooner.
+            let same : row.now.0 ≡ now = omega (arith, ints, read, not_sooner) in
+            let shown : day_number (local_of opens.zone row.now.0) ≡ date = ap (λ instant. day_number (local_of opens.zone instant)) same ∙ sym opens.is_date in
+            absurd (omega (arith, ints, past, shown)));
+        later = past;
+      }
 
   module _ (row : JobRow) (is_row : slice_get passes.asks.rows job ≡ Some row) where
     dated : IsDated table (take known_to log) job row.cursor row.open_now row.last
@@ -130,7 +171,7 @@ module _ (n : ℕ) (table : Table) (book : List Row) (job : ℕ) (now date : ℤ
     opened : (cursor since : ℤ) → row.cursor ≡ Some cursor → row.open_now ≡ Some since → Result
     opened cursor since cursor_is is_open =
         by_lt_z date cursor
-        (λ later. barred cursor (dated.begun cursor cursor_is) (inl later))
+        (λ later. started_later cursor (dated.begun cursor cursor_is) later)
         (λ come. absurd (passes.asks.rests.0 job cursor (record {
           row = row;
           is_row = is_row;
@@ -151,13 +192,7 @@ module _ (n : ℕ) (table : Table) (book : List Row) (job : ℕ) (now date : ℤ
           absurd (omega (arith, ints, low, later))
       | inr called ↦ inl called
     ]
-    ended_as cursor Void cursor_is low end =
-        by_lt_z date cursor
-        (λ later. barred cursor (dated.begun cursor cursor_is) (inl later))
-        (λ no_later.
-        let same : cursor ≡ date = omega (arith, ints, low, no_later) in
-        let held : IsHeld (held_in n table passes.front) job cursor Void = fits.ended job cursor Void end in
-        barred cursor (dated.begun cursor cursor_is) (inr (same, subst (λ day. IsHeld (held_in n table passes.front) job day Void) same held)))
+    ended_as cursor Void cursor_is low end = inr (inl (void_later cursor end low))
 
     -- where none was started on the date or later, the last launch was called at the instant: else the job could be started then
     not_started : row.open_now ≡ None → IsAfter row.cursor date → Result

@@ -14,8 +14,8 @@ ghost use Rattle.date_law.specs.Barred.{IsBarred};
 
 /// Where a legal book of one to seven replicas obeys a script, and a job may open on a date at an instant, by the launches that were
 /// called before, the job is launched on that date and called at that very instant, if no clock reading of the script's turns is
-/// later: but for a job that was barred from the date before any clock had passed the instant, by a void of the date, or by a start
-/// on a later one.
+/// later: but where a later date came before the instant, which its zone showed, or on which the job was started before any clock had
+/// passed the instant.
 pub fn a_date_is_launched_where_a_job_may_open()
     ensures { (members : ℕ) (table : Table) (script : List Command) (rows : List Row) (obeyed : Obeys members table script rows) (job : ℕ) (now date : ℤ)
         → members ≤ 7 → IsLegal members table rows → OpensBy table (held_in members table rows) job now date
@@ -25,8 +25,8 @@ pub fn a_date_is_launched_where_a_job_may_open()
 
 /// Where a legal book of one to seven replicas obeys a script without commands, each due instant of a crontab job is held as launched,
 /// and was called at that very instant; and nothing else is held of a job that doesn't run by its period. Where a job may open on a
-/// date at an instant, by the launches that were called before, it is launched on that date and called at that instant, unless it is
-/// barred.
+/// date at an instant, by the launches that were called before, it is launched on that date and called at that instant, unless a later
+/// date came before.
 pub fn a_walk_without_a_script_launches_each_due_instant()
     ensures each { (members : ℕ) (table : Table) (rows : List Row) (job : ℕ) (at : ℤ)
         → members ≤ 7 → IsLegal members table rows → Obeys members table [] rows → IsJobDue table job at
