@@ -2,6 +2,7 @@
 use crate::worlds::report_of;
 use std::alloc::Global;
 use std::test::*;
+use std::thread::Threads;
 
 // A run of so many replicas, with these minutes of grace, over a window, of a table, with a script; and its report's lines of jobs.
 struct Run {
@@ -122,18 +123,18 @@ const RUNS: &[Run] = &[
 ];
 
 // The report of a run.
-fn report_by(alloc: Global, run: &Run) -> Result<String, Fail> {
+fn report_by<R: Threads + Sync>(rt: &R, alloc: Global, run: &Run) -> Result<String, Fail> {
     let text = format!(in alloc;
         "cronrun 1\nreplicas {}\nwindow {}\ngrace {}\n{}script\n{}end\n",
         run.members, run.window, run.grace, run.table, run.commands
     )?;
-    report_of(alloc, &text)
+    report_of(rt, alloc, &text, 1)
 }
 
 #[test]
 fn runs_launch_and_give_up(rt: HostRuntime) -> Result<(), Fail> {
     for run in RUNS {
-        let report = report_by(rt.alloc(), run)?;
+        let report = report_by(&rt, rt.alloc(), run)?;
         assert!(rt; report.contains(run.jobs), "{} {report}", run.commands);
     }
     Ok(())
@@ -166,7 +167,9 @@ end
 
 #[test]
 fn a_whole_report(rt: HostRuntime) -> Result<(), Fail> {
-    let report = report_of(rt.alloc(), FIRST)?;
-    assert_eq!(rt; report.as_str(), FIRST_REPORT);
+    let plain = report_of(&rt, rt.alloc(), FIRST, 1)?;
+    assert_eq!(rt; plain.as_str(), FIRST_REPORT);
+    let shared = report_of(&rt, rt.alloc(), FIRST, 3)?;
+    assert_eq!(rt; shared.as_str(), FIRST_REPORT);
     Ok(())
 }

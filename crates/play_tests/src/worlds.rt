@@ -7,6 +7,7 @@ use report_text::write_book_report;
 use run_text::{Player, read_run};
 use std::alloc::Global;
 use std::test::Fail;
+use std::thread::Threads;
 use world_play::play_run;
 
 // The text, which is short enough to be read.
@@ -20,15 +21,29 @@ fn short(text: &str) -> Result<&str, Fail>
     }
 }
 
-/// The report of the world that has played the run of a file.
-pub fn report_of(alloc: Global, text: &str) -> Result<String, Fail> {
+/// The report of the world that has played the run of a file, rounds in so many lanes.
+pub fn report_of<R: Threads + Sync>(
+    rt: &R,
+    alloc: Global,
+    text: &str,
+    lanes: u8,
+) -> Result<String, Fail>
+    requires lanes { 0 < lanes }
+{
     let Ok(run) = read_run(alloc, short(text)?, Player::World) else {
         return Err(Fail::from("no run"));
     };
     let Ok(table) = build_table(alloc, &run) else {
         return Err(Fail::from("no table"));
     };
-    let Ok(world) = play_run(alloc, &table, run.members, run.commands.as_slice()) else {
+    let Ok(world) = play_run(
+        rt,
+        alloc,
+        &table,
+        run.members,
+        run.commands.as_slice(),
+        lanes,
+    ) else {
         return Err(Fail::from("no world"));
     };
     let mut sink = MemSink::new(alloc, 100_000, Vec::new(alloc))?;

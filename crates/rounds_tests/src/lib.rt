@@ -5,6 +5,8 @@
 #[cfg(test)]
 mod hour;
 #[cfg(test)]
+mod lanes;
+#[cfg(test)]
 mod rounds;
 #[cfg(test)]
 mod settles;

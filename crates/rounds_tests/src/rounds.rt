@@ -10,15 +10,21 @@ use script_text::{Command, FateWord};
 use std::alloc::Global;
 use std::process::Abort;
 use std::test::*;
+use std::thread::Threads;
 use zone_minutes::Minute;
 
 // The number of turns and of letters after some commands.
-fn counts(alloc: Global, count: u8, commands: &[Command]) -> Result<(usize, usize), Fail>
+fn counts<R: Threads + Sync>(
+    rt: &R,
+    alloc: Global,
+    count: u8,
+    commands: &[Command],
+) -> Result<(usize, usize), Fail>
     requires few { count ≤ 7 }
     requires taken { (window : Window) → IsHour window → AreTaken window count commands.now }
 {
     let table = empty_table(alloc)?;
-    let world = world_after(alloc, &table, count, commands)?;
+    let world = world_after(rt, alloc, &table, count, commands, 1)?;
     let book = world.book();
     Ok((book.turns().len(), book.letters().len()))
 }
@@ -32,7 +38,7 @@ fn one_replica_leads(rt: HostRuntime) -> Result<(), Fail> {
             rounds: 2,
         },
     ];
-    let found = counts(rt.alloc(), 1, &commands)?;
+    let found = counts(&rt, rt.alloc(), 1, &commands)?;
     assert!(rt; found == (3, 0), "{found:?}");
     Ok(())
 }
@@ -47,7 +53,7 @@ fn three_replicas_hear_a_campaign(rt: HostRuntime) -> Result<(), Fail> {
             rounds: 1,
         },
     ];
-    let found = counts(rt.alloc(), 3, &commands)?;
+    let found = counts(&rt, rt.alloc(), 3, &commands)?;
     assert!(rt; found == (6, 4), "{found:?}");
     Ok(())
 }
@@ -62,7 +68,7 @@ fn a_candidate_hears_promises(rt: HostRuntime) -> Result<(), Fail> {
             rounds: 2,
         },
     ];
-    let found = counts(rt.alloc(), 3, &commands)?;
+    let found = counts(&rt, rt.alloc(), 3, &commands)?;
     assert!(rt; found == (11, 6), "{found:?}");
     Ok(())
 }
@@ -79,7 +85,7 @@ fn a_cut_letter_is_not_heard(rt: HostRuntime) -> Result<(), Fail> {
             rounds: 1,
         },
     ];
-    let found = counts(rt.alloc(), 3, &commands)?;
+    let found = counts(&rt, rt.alloc(), 3, &commands)?;
     assert!(rt; found == (5, 3), "{found:?}");
     Ok(())
 }
@@ -102,7 +108,7 @@ fn a_clock_stays_within_the_window(rt: HostRuntime) -> Result<(), Fail> {
         },
     ];
     let table = empty_table(rt.alloc())?;
-    let world = world_after(rt.alloc(), &table, 2, &commands)?;
+    let world = world_after(&rt, rt.alloc(), &table, 2, &commands, 1)?;
     let turns = world.book().turns();
     let now = Minute(28_530_779);
     let wanted = Turn::Did {

@@ -13,7 +13,7 @@ use std::test::*;
 fn a_stopped_replica_starts_again(rt: HostRuntime) -> Result<(), Fail> {
     let commands = [Command::Stop { member: 2 }, Command::Settle { at: FROM }];
     let table = table_of_one(rt.alloc())?;
-    let world = world_after(rt.alloc(), &table, 3, &commands)?;
+    let world = world_after(&rt, rt.alloc(), &table, 3, &commands, 1)?;
     let book = world.book();
     let launch = SchedRow {
         name: Name { job: 0, at: FROM.0 },

@@ -1,6 +1,6 @@
 //! Worlds over disks in memory, and the commands that they take.
 ghost use Rattle.std.specs.Bool.{⊤};
-ghost use Rattle.std.specs.Prelude.{◌≡◌, ◌≤◌, Contains, IfOk, OnOk, length};
+ghost use Rattle.std.specs.Prelude.{◌≡◌, ◌<◌, ◌≤◌, Contains, IfOk, OnOk, length};
 ghost use Rattle.disk_model.specs.MemDisk.{left_by, seen_of, told_of};
 ghost use Rattle.disk_model.specs.declared.mem_disk.MemDisk.{MemDisk as Disk};
 ghost use Rattle.world_rounds.specs.Commands.{IsTaken};
@@ -13,6 +13,7 @@ use due_set::JobTable;
 use script_text::Command;
 use std::alloc::Global;
 use std::test::*;
+use std::thread::Threads;
 use world_rounds::World;
 
 fn empty_disk(alloc: Global) -> MemDisk
@@ -47,31 +48,41 @@ fn first_world(alloc: Global, table: &JobTable, count: u8) -> Result<World<MemDi
 }
 
 // A command is taken.
-fn take(world: &mut World<MemDisk>, table: &JobTable, command: &Command) -> Result<(), Fail>
+fn take<R: Threads + Sync>(
+    rt: &R,
+    world: &mut World<MemDisk>,
+    table: &JobTable,
+    command: &Command,
+    lanes: u8,
+) -> Result<(), Fail>
+    requires lanes { 0 < lanes }
     requires world { IsWorld seen_of left_by (λ disk. ⊤) told_of table.now world.old }
     requires taken { IsTaken table.now.window (book_of world.old).members command.now }
     ensures world { OnOk result (IsWorld seen_of left_by (λ disk. ⊤) told_of table.now world.new) }
     ensures members { OnOk result ((book_of world.new).members ≡ (book_of world.old).members) }
 {
-    match world.command(table, command) {
+    match world.command(rt, table, command, lanes) {
         Ok(()) => Ok(()),
         Err(_) => Err(Fail::from("a fault")),
     }
 }
 
-/// A world of so many replicas, after some commands.
-pub fn world_after(
+/// A world of so many replicas, after some commands, with rounds in so many lanes.
+pub fn world_after<R: Threads + Sync>(
+    rt: &R,
     alloc: Global,
     table: &JobTable,
     count: u8,
     commands: &[Command],
+    lanes: u8,
 ) -> Result<World<MemDisk>, Fail>
+    requires lanes { 0 < lanes }
     requires few { count ≤ 7 }
     requires taken { AreTaken table.now.window count commands.now }
 {
     let mut world = first_world(alloc, table, count)?;
     'commands: for command in commands {
-        take(&mut world, table, command)?;
+        take(rt, &mut world, table, command, lanes)?;
     }
     Ok(world)
 }

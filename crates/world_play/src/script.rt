@@ -12,19 +12,23 @@ use disk_model::{Disk, MemDisk};
 use due_set::JobTable;
 use script_text::Command;
 use std::alloc::Global;
+use std::thread::Threads;
 use world_rounds::World;
 use zone_minutes::Minute;
 
-/// Plays the commands in a world: the turns that they add are those of their parts, one after another.
+/// Plays the commands in a world, rounds in so many lanes: the turns that they add are those of their parts, one after another.
 ///
 /// # Errors
 ///
 /// Want of memory. The world takes no more calls then, and its book is legal.
-pub fn play<D: Disk>(
+pub fn play<D: Disk + Send, R: Threads + Sync>(
+    rt: &R,
     world: &mut World<D>,
     table: &JobTable,
     commands: &[Command],
+    lanes: u8,
 ) -> Result<(), OutOfMemory>
+    requires lanes { 0 < lanes }
     requires world { IsWorld D.seen D.may_leave D.honest D.told table.now world.old }
     requires taken { All (IsTaken table.now.window (book_of world.old).members) commands.now }
     ensures goes { OnOk result (GoesOnBy D.seen D.may_leave D.honest D.told table.now (ArePartsOf (book_of world.old).members table.now commands.now) world.old world.new) }
@@ -32,48 +36,54 @@ pub fn play<D: Disk>(
     ensures legal { OnErr result (IsLegalBook table.now (book_of world.new)) }
 {
     'commands: for command in commands {
-        world.command(table, command)?;
+        world.command(rt, table, command, lanes)?;
     }
     Ok(())
 }
 
-/// Plays a script in a world of so many replicas that begins with it.
+/// Plays a script in a world of so many replicas that begins with it, rounds in so many lanes.
 ///
 /// # Errors
 ///
 /// Want of memory.
-pub fn play_script(
+pub fn play_script<R: Threads + Sync>(
+    rt: &R,
     alloc: Global,
     table: &JobTable,
     members: u8,
     script: &[Command],
+    lanes: u8,
 ) -> Result<World<MemDisk>, OutOfMemory>
+    requires lanes { 0 < lanes }
     requires few { members ≤ 7 }
     requires taken { All (IsTaken table.now.window members) script.now }
     ensures played { IfOk result (HasPlayed table.now members script.now) }
 {
     let mut world = empty_world(alloc, table, members)?;
-    play(&mut world, table, script)?;
+    play(rt, &mut world, table, script, lanes)?;
     Ok(world)
 }
 
-/// Plays a run in a world of so many replicas that begins with it: the script, and then a walk to the window's last minute.
+/// Plays a run in a world of so many replicas that begins with it: the script, rounds in so many lanes, and then a walk to the window's last minute.
 ///
 /// # Errors
 ///
 /// Want of memory.
-pub fn play_run(
+pub fn play_run<R: Threads + Sync>(
+    rt: &R,
     alloc: Global,
     table: &JobTable,
     members: u8,
     script: &[Command],
+    lanes: u8,
 ) -> Result<World<MemDisk>, OutOfMemory>
+    requires lanes { 0 < lanes }
     requires some { 0 < members }
     requires few { members ≤ 7 }
     requires taken { All (IsTaken table.now.window members) script.now }
     ensures { IfOk result (HasRun table.now members script.now) }
 {
-    let mut world = play_script(alloc, table, members, script)?;
+    let mut world = play_script(rt, alloc, table, members, script, lanes)?;
     let window = table.window();
     world.walk(table, Minute(window.until.0 - 1))?;
     Ok(world)

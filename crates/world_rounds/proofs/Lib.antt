@@ -24,3 +24,4 @@ pub mod CalmLemmas
 pub mod DrainLemmas
 pub mod WalkLemmas
 pub mod LoopLemmas
+pub mod LaneLemmas

@@ -1,5 +1,5 @@
 -- What a replica takes in a round, before its turns join the book.
-use Rattle.std.specs.Prelude.{◌≡◌, ℕ, List, [], ℤ, length, Some, slice_get, Option}
+use Rattle.std.specs.Prelude.{◌≡◌, ℕ, List, [], ℤ, length, false, Some, slice_get, Option}
 use Rattle.std.specs.List.{flat_map, range_with_len}
 use Rattle.disk_model.specs.Images.{Image}
 use Rattle.disk_model.specs.Told.{Told}
@@ -37,6 +37,10 @@ abbrev pub TakesRound : {D : Type 0} → (seen : D → Image) → (may_leave : D
 TakesRound seen may_leave honest told_of table book at old new =
     (rows : List Row) (situation : Situation) (who : ℕ) → IsMemberIdle seen may_leave honest told_of table rows book situation who old
     → HasTakenRound seen may_leave honest told_of table rows book situation at who new
+
+-- so it does where memory was not wanting
+abbrev pub RunsRound : {D : Type 0} → (seen : D → Image) → (may_leave : D → Image → Type 0) → (honest : D → Type 0) → (told_of : D → Option Told) → Table → BookState → (at : ℤ) → (old new : Member D) → Type 0
+RunsRound seen may_leave honest told_of table book at old new = new.short ≡ false → TakesRound seen may_leave honest told_of table book at old new
 
 -- ---- all replicas
 

@@ -75,11 +75,17 @@ fn start_again<D: Disk>(
         node,
         mut mail,
         steps,
+        short,
     } = stopped;
     match Node::recover(alloc, who, members, table, node.into_disk()) {
         Ok(node) => {
             mail.runs = true;
-            Ok(Member { node, mail, steps })
+            Ok(Member {
+                node,
+                mail,
+                steps,
+                short,
+            })
         }
         Err((_disk, fault)) => Err(memory_of(fault)),
     }

@@ -16,6 +16,7 @@ use cron_io::OutOfMemory;
 use disk_model::Disk;
 use due_set::JobTable;
 use script_text::{Command, FateWord};
+use std::thread::Threads;
 
 // The fate that a word stands for.
 fn fate_of(word: FateWord) -> Fate
@@ -83,13 +84,22 @@ impl<D: Disk> World<D> {
         self.deliver(first)?;
         Ok(())
     }
+}
 
-    /// Does what a command says: the turns that it adds are those of its part.
+impl<D: Disk + Send> World<D> {
+    /// Does what a command says, rounds in so many lanes: the turns that it adds are those of its part.
     ///
     /// # Errors
     ///
     /// Want of memory. The world takes no more calls then, and its book is legal.
-    pub fn command(&mut self, table: &JobTable, command: &Command) -> Result<(), OutOfMemory>
+    pub fn command<R: Threads + Sync>(
+        &mut self,
+        rt: &R,
+        table: &JobTable,
+        command: &Command,
+        lanes: u8,
+    ) -> Result<(), OutOfMemory>
+        requires lanes { 0 < lanes }
         requires world { IsWorld D.seen D.may_leave D.honest D.told table.now self.old }
         requires taken { IsTaken table.now.window (book_of self.old).members command.now }
         ensures goes { OnOk result (GoesOnBy D.seen D.may_leave D.honest D.told table.now (IsPartOf (book_of self.old).members table.now command.now) self.old self.new) }
@@ -97,7 +107,7 @@ impl<D: Disk> World<D> {
         ensures legal { OnErr result (IsLegalBook table.now (book_of self.new)) }
     {
         match *command {
-            Command::Round { at, rounds } => self.round(table, at, rounds),
+            Command::Round { at, rounds } => self.round(rt, table, at, rounds, lanes),
             Command::Campaign { member } => self.campaign(table, member),
             Command::Stop { member } => self.stop(table, member),
             Command::Cut { from, to } => self.cut(from, to),

@@ -6,6 +6,7 @@ mod bounds;
 mod calm;
 mod commands;
 mod fault;
+mod lanes;
 mod laws;
 mod letters;
 mod mails;

@@ -5,7 +5,7 @@ ghost use Rattle.step_law.specs.State.{prefix_of};
 ghost use Rattle.replica_node.specs.Node.{replica_of};
 ghost use Rattle.zone_minutes.specs.Window.{IsInWindow, IsWithinLimits};
 ghost use Rattle.world_rounds.specs.Campaigns.{TakesCampaign};
-ghost use Rattle.world_rounds.specs.Rounds.{MayTakeRound, TakesRound};
+ghost use Rattle.world_rounds.specs.Rounds.{MayTakeRound, RunsRound, TakesRound};
 ghost use Rattle.script_text.specs.Command.{IsSkew};
 
 use crate::steps::{Taken, hear_letters, take_answer, take_step};
@@ -34,12 +34,14 @@ pub(crate) struct Mail {
     pub(crate) waits: Option<SchedRow>,
 }
 
-/// A replica: its node, also while it is stopped, its mail, and the steps that it has taken since its last turn.
+/// A replica: its node, also while it is stopped, its mail, the steps that it has taken since its last turn, and whether want
+/// of memory has ended its steps in lanes.
 #[derive(Debug, Drop)]
 pub(crate) struct Member<D> {
     pub(crate) node: Node<D>,
     pub(crate) mail: Mail,
     pub(crate) steps: Vec<Taken>,
+    pub(crate) short: bool,
 }
 
 // What a replica's clock reads at an instant, held within the window.
@@ -117,5 +119,17 @@ impl<D: Disk> Member<D> {
             Input::Tick { now },
         )?;
         Ok(())
+    }
+
+    // Takes its steps of a round, and notes whether want of memory ends them.
+    pub(crate) fn run_round(&mut self, table: &JobTable, book: &Book, at: Minute)
+        requires inside { IsInWindow table.now.window at.0 }
+        requires may { MayTakeRound D.seen D.may_leave D.honest D.told table.now book.now self.old }
+        ensures runs { RunsRound D.seen D.may_leave D.honest D.told table.now book.now at.0 self.old self.new }
+    {
+        match self.take_round(table, book, at) {
+            Ok(()) => self.short = false,
+            Err(_) => self.short = true,
+        }
     }
 }

@@ -1,5 +1,5 @@
 //! Rounds: each replica takes its steps on its own, and then their turns join the book in the order of the replicas' numbers.
-ghost use Rattle.std.specs.Prelude.{◌≡◌, ℕ, Some, OnOk, OnErr, slice_get};
+ghost use Rattle.std.specs.Prelude.{◌≡◌, ◌<◌, ℕ, Some, OnOk, OnErr, slice_get};
 ghost use Rattle.zone_minutes.specs.Window.{IsInWindow};
 ghost use Rattle.script_law.specs.Round.{AreRounds, IsRound};
 ghost use Rattle.world_law.specs.Book.{IsLegalBook};
@@ -8,11 +8,13 @@ ghost use Rattle.world_rounds.specs.Taking.{MayCommitOwn};
 ghost use Rattle.world_rounds.specs.World.{GoesOnBy, IsWorld, book_of};
 ghost use Rattle.world_rounds.specs.declared.member.Member.{Member as Seat};
 
+use crate::lanes::share_rounds;
 use crate::member::Member;
 use crate::world::World;
 use cron_io::OutOfMemory;
 use disk_model::Disk;
 use due_set::JobTable;
+use std::thread::Threads;
 use world_law::Book;
 use zone_minutes::Minute;
 
@@ -61,9 +63,42 @@ impl<D: Disk> World<D> {
         self.deliver(first)?;
         Ok(())
     }
+}
 
-    /// So many rounds at an instant.
-    pub fn round(&mut self, table: &JobTable, at: Minute, rounds: u32) -> Result<(), OutOfMemory>
+impl<D: Disk + Send> World<D> {
+    // A round at an instant, in so many lanes.
+    fn round_in_lanes<R: Threads + Sync>(
+        &mut self,
+        rt: &R,
+        table: &JobTable,
+        at: Minute,
+        lanes: u8,
+    ) -> Result<(), OutOfMemory>
+        requires lanes { 0 < lanes }
+        requires world { IsWorld D.seen D.may_leave D.honest D.told table.now self.old }
+        requires inside { IsInWindow table.now.window at.0 }
+        ensures goes { OnOk result (GoesOnBy D.seen D.may_leave D.honest D.told table.now (IsRound (book_of self.old).members table.now.window at.0) self.old self.new) }
+        ensures members { OnOk result ((book_of self.new).members ≡ (book_of self.old).members) }
+        ensures legal { OnErr result (IsLegalBook table.now (book_of self.new)) }
+    {
+        let posted = self.book.letters().len() as u64;
+        share_rounds(rt, &mut self.members, table, &self.book, at, lanes)?;
+        self.commit_all(table)?;
+        self.deliver(posted)?;
+        Ok(())
+    }
+
+    /// So many rounds at an instant, in so many lanes. One lane makes no thread, and more than there are replicas are as good as
+    /// one for each. The turns are the same for every number of lanes.
+    pub fn round<R: Threads + Sync>(
+        &mut self,
+        rt: &R,
+        table: &JobTable,
+        at: Minute,
+        rounds: u32,
+        lanes: u8,
+    ) -> Result<(), OutOfMemory>
+        requires lanes { 0 < lanes }
         requires world { IsWorld D.seen D.may_leave D.honest D.told table.now self.old }
         requires inside { IsInWindow table.now.window at.0 }
         ensures goes { OnOk result (GoesOnBy D.seen D.may_leave D.honest D.told table.now (AreRounds (book_of self.old).members table.now.window at.0 rounds) self.old self.new) }
@@ -71,7 +106,7 @@ impl<D: Disk> World<D> {
         ensures legal { OnErr result (IsLegalBook table.now (book_of self.new)) }
     {
         'rounds: for _round in 0..rounds {
-            self.round_once(table, at)?;
+            self.round_in_lanes(rt, table, at, lanes)?;
         }
         Ok(())
     }

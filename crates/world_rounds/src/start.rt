@@ -41,6 +41,7 @@ fn start_member<D: Disk>(
                 waits: None,
             },
             steps: Vec::new(alloc),
+            short: false,
         }),
         Err((_disk, fault)) => Err(memory_of(fault)),
     }

@@ -1,4 +1,4 @@
 use Rattle.rounds_tests.proofs.rounds.counts.Goals as goal
 
 pub world_after-requires-clause-taken : goal.world_after-requires-clause-taken
-world_after-requires-clause-taken c = c.requires.taken c.in_ok-table.table.window c.in_ok-table.ensures
+world_after-requires-clause-taken g c = λ lives borrowed. c.requires.taken c.in_ok-table.table.window c.in_ok-table.ensures

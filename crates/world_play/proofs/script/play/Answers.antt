@@ -16,10 +16,10 @@ pub commands-init : goal.commands-init
 commands-init g c = done_none g.D.Disk.seen g.D.Disk.may_leave g.D.Disk.honest g.D.Disk.told c.args.table.now c.args.world.now c.requires.world
 
 pub command-requires-clause-world : goal.command-requires-clause-world
-command-requires-clause-world g c = c.commands.invariant.world
+command-requires-clause-world g c = λ lives borrowed. c.commands.invariant.world
 
 pub command-requires-clause-taken : goal.command-requires-clause-taken
-command-requires-clause-taken g c =
+command-requires-clause-taken g c = λ lives borrowed.
     subst (λ n. IsTaken c.args.table.now.window n (get_or c.args.commands.now c.commands.command-index default_command)) (sym c.commands.invariant.members)
     (c.requires.taken c.commands.command-index default_command c.commands-test.true)
 

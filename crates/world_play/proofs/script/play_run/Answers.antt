@@ -5,17 +5,17 @@ use Rattle.world_play.proofs.Runs.{last_inside, last_minute, shown, walked}
 use Rattle.world_play.proofs.script.play_run.Goals as goal
 
 pub walk-requires-clause-world : goal.walk-requires-clause-world
-walk-requires-clause-world c = let played = c.in_ok-world.ensures.played in record { rows = played.rows; situation = played.situation; is = played.is }
+walk-requires-clause-world g c = let played = c.in_ok-world.ensures.played in record { rows = played.rows; situation = played.situation; is = played.is }
 
 pub walk-requires-clause-some : goal.walk-requires-clause-some
-walk-requires-clause-some c = subst (λ n. 0 < n) (sym c.in_ok-world.ensures.played.count) c.requires.some
+walk-requires-clause-some g c = subst (λ n. 0 < n) (sym c.in_ok-world.ensures.played.count) c.requires.some
 
 pub walk-requires-clause-inside : goal.walk-requires-clause-inside
-walk-requires-clause-inside c =
+walk-requires-clause-inside g c =
     subst (λ window. IsInWindow window (shown c.window-window.result)) c.window-window.ensures.window (last_inside c.window-window.result c.window-window.ensures.limits)
 
 pub returns : goal.returns
-returns c =
+returns g c =
     let table = c.args.table.now in
     let played = c.in_ok-world.ensures.played in
     let (more, after, walks, here) = c.in_ok-walk.ensures.goes played.rows played.situation played.is in

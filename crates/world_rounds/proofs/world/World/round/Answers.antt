@@ -7,13 +7,13 @@ use Rattle.world_rounds.proofs.world.World.round.Goals as goal
 pub rounds-init : goal.rounds-init
 rounds-init g c = gone_none g.D.Disk.seen g.D.Disk.may_leave g.D.Disk.honest g.D.Disk.told c.args.table.now c.args.at.0 c.args.self.now c.requires.world
 
-pub round_once-requires-clause-world : goal.round_once-requires-clause-world
-round_once-requires-clause-world g c = c.rounds.invariant.world
+pub round_in_lanes-requires-clause-world : goal.round_in_lanes-requires-clause-world
+round_in_lanes-requires-clause-world g c = λ lives borrowed. c.rounds.invariant.world
 
 pub rounds-preserved : goal.rounds-preserved
 rounds-preserved g c =
-    gone_next g.D.Disk.seen g.D.Disk.may_leave g.D.Disk.honest g.D.Disk.told c.args.table.now c.args.at.0 c.rounds._round c.args.self.now c.rounds.self c.round_once.new.self c.rounds.invariant
-    c.in_ok-round_once.ensures.goes c.in_ok-round_once.ensures.members
+    gone_next g.D.Disk.seen g.D.Disk.may_leave g.D.Disk.honest g.D.Disk.told c.args.table.now c.args.at.0 c.rounds._round c.args.self.now c.rounds.self c.round_in_lanes.new.self c.rounds.invariant
+    c.in_ok-round_in_lanes.ensures.goes c.in_ok-round_in_lanes.ensures.members
 
 pub returns-clause-goes : goal.returns-clause-goes
 returns-clause-goes g c =

@@ -1,0 +1,68 @@
+//! Lanes: the book is the same, whatever their number.
+ghost use Rattle.std.specs.Prelude.{◌<◌};
+ghost use Rattle.zone_minutes.specs.declared.minute.Window.{Window};
+ghost use Rattle.rounds_tests.specs.Plays.{AreTaken, IsHour};
+
+use crate::hour::{LATER, table_of_one};
+use crate::worlds::world_after;
+use script_text::Command;
+use std::alloc::Global;
+use std::process::Abort;
+use std::test::*;
+use std::thread::Threads;
+use world_law::{Book, LetterRow};
+
+fn is_same_letter(one: &LetterRow, other: &LetterRow) -> bool {
+    let way = one.from == other.from && one.to == other.to;
+    way && one.turn == other.turn && one.bytes.bytes() == other.bytes.bytes()
+}
+
+fn are_same_letters(one: &[LetterRow], other: &[LetterRow]) -> bool {
+    if one.len() != other.len() {
+        return false;
+    }
+    for (left, right) in one.iter().zip(other) {
+        if !is_same_letter(left, right) {
+            return false;
+        }
+    }
+    true
+}
+
+fn is_same_book(one: &Book, other: &Book) -> bool {
+    let rows = one.turns() == other.turns() && one.ledger().held() == other.ledger().held();
+    rows && are_same_letters(one.letters(), other.letters())
+}
+
+// Whether three replicas have the same book after some commands in one lane and in so many.
+fn is_same_in<R: Threads + Sync>(
+    rt: &R,
+    alloc: Global,
+    commands: &[Command],
+    lanes: u8,
+) -> Result<bool, Fail>
+    requires lanes { 0 < lanes }
+    requires taken { (window : Window) → IsHour window → AreTaken window 3 commands.now }
+{
+    let table = table_of_one(alloc)?;
+    let plain = world_after(rt, alloc, &table, 3, commands, 1)?;
+    let shared = world_after(rt, alloc, &table, 3, commands, lanes)?;
+    Ok(is_same_book(plain.book(), shared.book()))
+}
+
+// A replica for each lane, and more lanes than replicas.
+#[test]
+fn lanes_make_no_difference(rt: HostRuntime) -> Result<(), Fail> {
+    let commands = [
+        Command::Campaign { member: 0 },
+        Command::Round {
+            at: LATER,
+            rounds: 6,
+        },
+    ];
+    let three = is_same_in(&rt, rt.alloc(), &commands, 3)?;
+    assert!(rt; three);
+    let eight = is_same_in(&rt, rt.alloc(), &commands, 8)?;
+    assert!(rt; eight);
+    Ok(())
+}

@@ -1,0 +1,14 @@
+use Rattle.std.proofs.lemmas.Option.{slice_get-get_or}
+use Rattle.world_rounds.proofs.LaneLemmas.{all_run}
+use Rattle.world_rounds.proofs.RoundsOfAll.{on_ok}
+use Rattle.world_rounds.proofs.lanes.share_rounds.Goals as goal
+
+pub run_rounds-requires-clause-may : goal.run_rounds-requires-clause-may
+run_rounds-requires-clause-may g c = λ lives borrowed who none within. c.requires.may who _ (slice_get-get_or c.args.members.now who none within)
+
+pub returns : goal.returns
+returns g c = record {
+  takes = on_ok c.had_memory.result _ _
+      (all_run g.D.Disk.seen g.D.Disk.may_leave g.D.Disk.honest g.D.Disk.told c.args.table.now c.args.book.now c.args.at.0 c.args.members.now c.run_rounds.new.members
+      c.run_rounds.ensures.count c.run_rounds.ensures.runs) c.had_memory.ensures;
+}
