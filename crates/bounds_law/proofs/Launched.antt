@@ -13,6 +13,7 @@ use Rattle.zone_minutes.specs.Window.{IsInWindow, IsWithinLimits}
 use Rattle.zone_minutes.specs.Zone.{local_of, minute_nanos}
 use Rattle.zone_minutes.specs.declared.minute.Window.{Window}
 use Rattle.zone_minutes.proofs.RunLemmas.{local_of-ahead}
+use Rattle.zone_minutes.proofs.ZoneLemmas.{offset_small}
 use Rattle.paxos_base.specs.Rows.{fresh_row}
 use Rattle.paxos_base.specs.declared.entry.Entry.{Entry}
 use Rattle.paxos_base.specs.declared.entry.Entry.TheVariants.{Noop, Start, End}
@@ -23,7 +24,6 @@ use Rattle.cluster_sched.specs.Names.{IsDayNear, IsTimeNear, job_kind, kind_of}
 use Rattle.due_set.specs.Table.{IsAfter, IsSound, Table}
 use Rattle.due_set.specs.declared.job.JobKind.{JobKind}
 use Rattle.due_set.specs.declared.job.JobKind.TheVariants.{Anacron}
-use Rattle.launch_clerk.proofs.DayLemmas.{offset_small}
 use Rattle.launch_machine.specs.Clerk.{Applies, AppliesAll, MayStart, closed_row, first_rows, opened_row}
 use Rattle.launch_machine.proofs.MachineLemmas.{same_or_not, set_here, set_there}
 use Rattle.launch_machine.proofs.StartLemmas.{may_start_later}
@@ -33,7 +33,7 @@ use Rattle.bounds_law.proofs.Counts.{all_in}
 
 -- ---- when a job may start
 
-day_near : (window : Window) (zone : TimeZone) (now date : ℤ) → IsInWindow window now → date ≡ day_number (local_of zone now) → IsDayNear window date
+pub day_near : (window : Window) (zone : TimeZone) (now date : ℤ) → IsInWindow window now → date ≡ day_number (local_of zone now) → IsDayNear window date
 day_near window zone now date inside is =
     let small : IsOffsetSeconds (offset_at zone (minute_nanos now)) = offset_small zone (minute_nanos now) in
     let ahead : local_of zone now ≡ now +ℤ int_div_euclid (offset_at zone (minute_nanos now)) (pos 60) =

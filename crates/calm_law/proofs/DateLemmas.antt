@@ -6,9 +6,9 @@ use Rattle.jiff_core.proofs.SignedLemmas.{signed_arith}
 use Rattle.jiff_core.specs.Timestamp.{IsOffsetSeconds}
 use Rattle.zone_minutes.specs.Zone.{local_of, minute_nanos}
 use Rattle.zone_minutes.proofs.RunLemmas.{local_of-ahead}
+use Rattle.zone_minutes.proofs.ZoneLemmas.{offset_small}
 use Rattle.due_set.specs.Anacron.{IsJobOpen}
 use Rattle.due_set.specs.Table.{IsSound, Table}
-use Rattle.launch_clerk.proofs.DayLemmas.{offset_small}
 
 pub dates_inside : (table : Table) (job : ℕ) (last cursor : Option ℤ) (now date : ℤ) → IsSound table → IsJobOpen table job last cursor now date → (pos 0 ≤ℤ date) × (date <ℤ table.window.until.0)
 dates_inside table job last cursor now date sound opens =

@@ -10,8 +10,8 @@ use Rattle.zone_minutes.specs.Window.{IsInWindow}
 use Rattle.zone_minutes.specs.Zone.{local_of, minute_nanos}
 use Rattle.zone_minutes.specs.declared.minute.Window.{Window}
 use Rattle.zone_minutes.proofs.RunLemmas.{local_of-ahead}
+use Rattle.zone_minutes.proofs.ZoneLemmas.{offset_small}
 use Rattle.cluster_sched.specs.Names.{IsDayNear}
-use Rattle.launch_clerk.proofs.DayLemmas.{offset_small}
 
 pub day_near : (window : Window) (zone : TimeZone) (now date : ℤ) → IsInWindow window now → date ≡ day_number (local_of zone now) → IsDayNear window date
 day_near window zone now date inside is =

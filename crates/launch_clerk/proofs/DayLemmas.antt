@@ -1,30 +1,19 @@
 -- The instants and the dates of launches are from 0 on, and before the end of the window.
 use Rattle.std.proofs.Common.{◌≡◌, ℕ, inl, inr, ℤ, pos, ◌+ℤ◌, ◌<ℤ◌, ◌≤ℤ◌, refl, arith}
 use Rattle.std.specs.Int.{int_div_euclid}
-use Rattle.std.proofs.lemmas.Int.{ints}
-use Rattle.jiff.specs.Types.{TimeZone, UTC, Unknown, Fixed, Posix, Tzif}
+use Rattle.jiff.specs.Types.{TimeZone}
 use Rattle.jiff.specs.Words.{offset_at}
 use Rattle.jiff_core.proofs.SignedLemmas.{signed_arith}
 use Rattle.jiff_core.specs.Timestamp.{IsOffsetSeconds}
-use Rattle.jiff_tz.specs.PosixRule as Rule
-use Rattle.jiff_tz.specs.Tzif as TableWords
 use Rattle.zone_minutes.specs.Civil.{day_number}
 use Rattle.zone_minutes.specs.Window.{IsInWindow, IsWithinLimits}
 use Rattle.zone_minutes.specs.Zone.{local_of, minute_nanos}
 use Rattle.zone_minutes.specs.declared.minute.Window.{Window}
 use Rattle.zone_minutes.proofs.RunLemmas.{local_of-ahead}
+use Rattle.zone_minutes.proofs.ZoneLemmas.{offset_small}
 use Rattle.paxos_base.specs.declared.rows.JobRow.{JobRow}
 use Rattle.due_set.specs.Table.{Table}
 use Rattle.launch_machine.specs.Clerk.{MayStart}
-
--- each offset of `jiff` is less than 26 hours
-pub offset_small : (zone : TimeZone) (n : ℤ) → IsOffsetSeconds (offset_at zone n)
-unfolding offset_at
-offset_small UTC n = omega (arith, ints)
-offset_small Unknown n = omega (arith, ints)
-offset_small (Fixed offset) n = offset.in_range
-offset_small (Posix tz) n = (Rule.offset_at tz n).in_range
-offset_small (Tzif z) n = (TableWords.offset_at z.now n).in_range
 
 -- from 0 on, and before the end of the window
 pub record IsInReach (window : Window) (at : ℤ) : Type 0 where

@@ -1,11 +1,15 @@
--- Local time at a fixed offset, in UTC, and of one source.
+-- Local time at a fixed offset, in UTC, and of one source; how far it may be from the instant.
 use Rattle.std.proofs.Common.{◌≡◌, refl, sym, ◌∙◌, arith, ℤ, pos, ◌+ℤ◌, ◌*ℤ◌}
 use Rattle.std.specs.Int.{int_div_euclid}
+use Rattle.std.proofs.lemmas.Int.{ints}
 use Rattle.jiff.specs.Words.{fixed_zone}
-use Rattle.jiff.specs.Types.{TimeZone, UTC}
+use Rattle.jiff.specs.Types.{TimeZone, UTC, Unknown, Fixed, Posix, Tzif}
 use Rattle.jiff.proofs.ZoneFacts.{offset_at-fixed_zone, offset_at-UTC}
 use Rattle.jiff_core.proofs.SignedLemmas.{signed_arith}
+use Rattle.jiff_core.specs.Timestamp.{IsOffsetSeconds}
 use Rattle.jiff_core.specs.declared.offset.Offset.{Offset}
+use Rattle.jiff_tz.specs.PosixRule as Rule
+use Rattle.jiff_tz.specs.Tzif as TableWords
 use Rattle.jiff.specs.Words.{offset_at}
 use Rattle.zone_minutes.specs.Zone.{Source, FixedOffset, PosixRule, TzifFile, local_of, minute_nanos, IsFixedZone, IsOffsetMinutes, IsReadable, IsReadAs}
 use Rattle.zone_minutes.proofs.SameZone.{offset_at-rule, offset_at-table}
@@ -41,3 +45,12 @@ IsReadable-fixed minutes h =
     let offset : Offset = record { seconds = minutes *ℤ pos 60; in_range = (omega (arith, signed_arith), omega (arith, signed_arith)) } in
     let read : IsFixedZone minutes (fixed_zone offset) = record { offset = offset; is = refl; seconds = refl } in
     (fixed_zone offset, read)
+
+-- each offset of `jiff` is less than 26 hours
+pub offset_small : (zone : TimeZone) (n : ℤ) → IsOffsetSeconds (offset_at zone n)
+unfolding offset_at
+offset_small UTC n = omega (arith, ints)
+offset_small Unknown n = omega (arith, ints)
+offset_small (Fixed offset) n = offset.in_range
+offset_small (Posix tz) n = (Rule.offset_at tz n).in_range
+offset_small (Tzif z) n = (TableWords.offset_at z.now n).in_range
