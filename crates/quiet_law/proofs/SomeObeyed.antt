@@ -15,13 +15,13 @@ use Rattle.script_law.specs.Situation.{Situation}
 use Rattle.round_law.specs.Rounds.{IsWithinBounds}
 use Rattle.walk_law.specs.Readings.{script_turns}
 use Rattle.walk_law.proofs.PartLemmas.{settles_come}
-use Rattle.walk_law.proofs.SomeWalk.{short_walk}
+use Rattle.walk_law.proofs.SomeWalk.{some_walk}
 use Rattle.quiet_law.specs.Continues.{ContinuesBy}
 use Rattle.quiet_law.proofs.SpanLemmas.{came, front_of}
 use Rattle.quiet_law.proofs.ScriptLemmas.{last_inside, latest_since, walks_behind, walks_span}
 
 -- few turns, and no letter
-within_bounds : (rows : List Row) (posted : List PostedLetter) → length rows ≤ 100 → posted ≡ [] → IsWithinBounds rows posted
+pub within_bounds : (rows : List Row) (posted : List PostedLetter) → length rows ≤ 100 → posted ≡ [] → IsWithinBounds rows posted
 within_bounds rows posted few none = record {
   turns = omega (arith, few);
   letters = λ letter has. nothing_in (subst (λ list. Contains list letter) none has);
@@ -30,7 +30,7 @@ within_bounds rows posted few none = record {
 pub some_obeyed : (table : Table) × (script : List Command) × (rows : List Row) × (obeyed : Obeys 1 table script rows)
     × IsSound table × IsLegal 1 table rows × IsWithinBounds rows obeyed.after.standing.posted × (0 < length (script_turns obeyed))
 some_obeyed =
-    let (table, script, rows, obeyed, sound, legal, few, none, turns) = short_walk in
+    let (table, script, rows, obeyed, job, at, later, sound, legal, long, due, due_later, order, by, turns, few, none) = some_walk in
     (table, script, rows, obeyed, sound, legal, within_bounds rows obeyed.after.standing.posted few none, turns)
 
 pub some_walks : (table : Table) × (to : ℤ) × (book : List Row) × (rows : List Row) × (situation : Situation) × (after : Situation)

@@ -216,13 +216,6 @@ one_book =
 is_legal : IsLegal 1 brief some_rows
 is_legal = subst (λ rows. IsLegal 1 brief rows) one_book second.drained.has.legal
 
-pub some_walk : (table : Table) × (script : List Command) × (rows : List Row) × (obeyed : Obeys 1 table script rows) × (job : ℕ) × (at : ℤ) × (later : ℤ)
-    × IsSound table × IsLegal 1 table rows × IsGraceLong table × IsJobDue table job at × IsJobDue table job later × (at <ℤ later)
-    × AreTurnsBy at (script_turns obeyed) × (0 < length (script_turns obeyed))
-unfolding obeyed
-some_walk =
-    (brief, some_script, some_rows, obeyed, 0, minute 0, minute 1, sound, is_legal, omega (arith, ints), due 0 (lit< tt), due 1 (lit< tt), omega (arith, ints), calm.by, has_turns)
-
 -- ---- how long it is
 
 few_rows : length some_rows ≤ 100
@@ -238,8 +231,27 @@ few_rows =
     let e = second.drained.few in
     omega (arith, whole, walk, settling, campaign, a, b, c, d, e)
 
--- the same book: it has few turns, and posts no letter
-pub short_walk : (table : Table) × (script : List Command) × (rows : List Row) × (obeyed : Obeys 1 table script rows)
-    × IsSound table × IsLegal 1 table rows × (length rows ≤ 100) × (obeyed.after.standing.posted ≡ []) × (0 < length (script_turns obeyed))
+-- it has few turns, and posts no letter
+pub some_walk : (table : Table) × (script : List Command) × (rows : List Row) × (obeyed : Obeys 1 table script rows) × (job : ℕ) × (at : ℤ) × (later : ℤ)
+    × IsSound table × IsLegal 1 table rows × IsGraceLong table × IsJobDue table job at × IsJobDue table job later × (at <ℤ later)
+    × AreTurnsBy at (script_turns obeyed) × (0 < length (script_turns obeyed)) × (length rows ≤ 100) × (obeyed.after.standing.posted ≡ [])
 unfolding obeyed
-short_walk = (brief, some_script, some_rows, obeyed, sound, is_legal, few_rows, second.drained.has.posted_are, has_turns)
+some_walk = (
+  brief,
+  some_script,
+  some_rows,
+  obeyed,
+  0,
+  minute 0,
+  minute 1,
+  sound,
+  is_legal,
+  omega (arith, ints),
+  due 0 (lit< tt),
+  due 1 (lit< tt),
+  omega (arith, ints),
+  calm.by,
+  has_turns,
+  few_rows,
+  second.drained.has.posted_are,
+)
