@@ -5,7 +5,6 @@ use Rattle.std.proofs.lemmas.Int.{ints, by_lt_z}
 use Rattle.std.proofs.lemmas.Option.{slice_get_within}
 use Rattle.std.proofs.lemmas.List.{take-append-drop}
 use Rattle.std.proofs.lemmas.List.Elements.{All-contains}
-use Rattle.std.proofs.lemmas.List.Sums.{fold-append}
 use Rattle.zone_minutes.specs.Civil.{day_number}
 use Rattle.zone_minutes.specs.Zone.{local_of}
 use Rattle.due_set.specs.Anacron.{IsJobOpen, IsOverSince}
@@ -15,31 +14,34 @@ use Rattle.due_set.proofs.OpenLemmas.{same_local}
 use Rattle.due_set.proofs.TableLemmas.{same_job}
 use Rattle.due_set.specs.declared.job.JobKind.{JobKind}
 use Rattle.paxos_base.specs.declared.entry.Entry.{Entry}
-use Rattle.paxos_base.specs.declared.entry.Entry.TheVariants.{End}
+use Rattle.paxos_base.specs.declared.entry.Entry.TheVariants.{End, Start}
 use Rattle.paxos_base.specs.declared.entry.Kind.{Kind}
 use Rattle.paxos_base.specs.declared.entry.Kind.TheVariants.{Launch, Void}
 use Rattle.paxos_base.specs.declared.rows.JobRow.{JobRow}
 use Rattle.cluster_sched.specs.declared.row.SchedRow.{SchedRow}
 use Rattle.launch_machine.specs.Clerk.{IsClerkOf, first_rows}
-use Rattle.launch_law.specs.Fits.{Fits, HasEnd, HasStart, IsBacked, IsHeld}
+use Rattle.launch_machine.proofs.MachineLemmas.{may_start_on, opens_by_period}
+use Rattle.launch_law.specs.Fits.{Fits, HasEnd, HasStart, IsBacked, IsEffective, IsHeld}
 use Rattle.launch_law.specs.Launched.{IsCalledAt, IsLatest, OpensBy}
-use Rattle.launch_law.proofs.CoverLemmas.{HasStart-more, IsCovered, clerk_covers}
+use Rattle.launch_law.proofs.CoverLemmas.{IsCovered, clerk_covers}
 use Rattle.launch_law.proofs.EffectLemmas.{IsEffective-more}
 use Rattle.launch_law.proofs.PeriodLemmas.{IsDated, clerk_dates, opens_after_each}
 use Rattle.step_law.specs.State.{prefix_of}
 use Rattle.agree_law.specs.Log.{IsLog}
-use Rattle.book_law.specs.Book.{Row, Standing, after_row, first_standing, standing_after, votes_in}
+use Rattle.book_law.specs.Book.{Row, standing_after, votes_in}
 use Rattle.book_law.specs.Legal.{IsLegal}
 use Rattle.book_law.proofs.Agreement.{book_log}
 use Rattle.fits_law.specs.Fitting.{held_in}
 use Rattle.fits_law.proofs.Whole.{whole}
-use Rattle.walk_law.proofs.ReadLemmas.{front_legal, held_by, stays_held}
+use Rattle.walk_law.proofs.ReadLemmas.{front_legal, held_by}
 use Rattle.walk_law.proofs.SettledLemmas.{Passes}
-use Rattle.date_law.specs.Barred.{IsBarred, ShowedLater}
-use Rattle.date_law.proofs.RowLemmas.{row_of, table_of}
+use Rattle.tick_law.proofs.Whole.{not_ahead}
+use Rattle.date_law.specs.Barred.{IsBarred, IsVoidedSooner}
+use Rattle.date_law.proofs.FrontLemmas.{front_log, held_on, table_at}
+use Rattle.date_law.proofs.RowLemmas.{row_of}
 
 -- no launch that was called before is of the date or a later one
-later_than_each : (table : Table) (held : List SchedRow) (job : ℕ) (now date at then : ℤ) → OpensBy table held job now date → IsCalledAt held job at Launch then → then <ℤ now → at <ℤ date
+pub later_than_each : (table : Table) (held : List SchedRow) (job : ℕ) (now date at then : ℤ) → OpensBy table held job now date → IsCalledAt held job at Launch then → then <ℤ now → at <ℤ date
 later_than_each table held job now date at then by called sooner = go by.last by.latest by.opens
   where
     go : (last : Option ℤ) → IsLatest held job now last → IsJobOpen table job last last now date → at <ℤ date
@@ -50,10 +52,10 @@ later_than_each table held job now date at then by called sooner = go by.last by
         let is : date ≡ day_number (local_of opens.zone now) = opens.is_date in
         omega (arith, ints, low, later, is)
 
-not_both : (kind : Kind) → kind ≡ Void → kind ≡ Launch → ⊥
+pub not_both : (kind : Kind) → kind ≡ Void → kind ≡ Launch → ⊥
 not_both kind void launch = let both : Void ≡ Launch = sym void ∙ launch in cc
 
-after_day : (at day shown : ℤ) → at ≡ day → at ≤ℤ shown → (shown ≡ at → ⊥) → day <ℤ shown
+pub after_day : (at day shown : ℤ) → at ≡ day → at ≤ℤ shown → (shown ≡ at → ⊥) → day <ℤ shown
 after_day at day shown is come off =
     by_lt_z at shown (λ lt. omega (arith, ints, lt, is)) (λ ge. let same : shown ≡ at = omega (arith, ints, come, ge) in absurd (off same))
 
@@ -75,20 +77,13 @@ module _ (n : ℕ) (table : Table) (book : List Row) (job : ℕ) (now date : ℤ
   whole_log = take-append-drop known_to log
 
   clerk : IsClerkOf table (take known_to log) passes.asks.rows
-  clerk = table_of n table passes.front log passes.who now few front_is is_log passes.asks
-
-  started : (day : ℤ) → HasStart table (take known_to log) job day → HasStart table log job day
-  started day start = subst (λ some. HasStart table some job day) whole_log (HasStart-more table (take known_to log) (drop known_to log) job day start)
+  clerk = table_at n table passes.front log passes.who passes.asks.rows few front_is is_log passes.asks.rows_are
 
   ended : (day : ℤ) (kind : Kind) → HasEnd table (take known_to log) job day kind → HasEnd table log job day kind
   ended day kind end = subst (λ some. HasEnd table some job day kind) whole_log (IsEffective-more table (take known_to log) (drop known_to log) (End job day kind) end)
 
   still_held : (row : SchedRow) → Contains (held_in n table passes.front) row → Contains (held_in n table book) row
-  still_held row has =
-      subst (λ rows. Contains (held_in n table rows) row) (sym passes.parts)
-      (subst (λ (st : Standing). Contains st.held row)
-      (sym (fold-append (λ (st : Standing) (r : Row). after_row n st r.turn r.event r.letters) (first_standing n (first_rows table)) passes.front passes.back))
-      (stays_held n (standing_after n (first_rows table) passes.front) passes.back row has))
+  still_held row has = held_on n table book passes.front passes.back row passes.parts has
 
   -- a launch that has ended was called before the instant, or is the date's and was called then
   abbrev Called : ℤ → Type 0
@@ -119,20 +114,32 @@ module _ (n : ℕ) (table : Table) (book : List Row) (job : ℕ) (now date : ℤ
   Result = IsCalledAt (held_in n table book) job date Launch now ⊎ IsBarred n table book job now date
 
   started_later : (day : ℤ) → HasStart table (take known_to log) job day → date <ℤ day → Result
-  started_later day start later = inr (inr (record {
-    front = passes.front;
-    back = passes.back;
-    parts = passes.parts;
-    by = passes.by;
-    log = log;
-    is_log = is_log;
-    day = day;
-    start = started day start;
-    later = later;
-  }))
+  started_later day (then, early) later =
+      let start : IsEffective table log (Start job day then) = subst (λ some. IsEffective table some (Start job day then)) whole_log (IsEffective-more table (take known_to log) (drop known_to log) (Start job day then) early) in
+      let read : then ≤ℤ now = not_ahead n table passes.front log job day then now few front_is is_log start passes.by in
+      let by_period = opens_by_period table job by.last by.last now date opens in
+      let takes = start.takes.2 in
+      let began = may_start_on table job takes.row day then by_period takes.may in
+      let shown : day ≡ day_number (local_of opens.zone then) =
+      began.is_date ∙ ap day_number (same_local table job began.job opens.job began.zone opens.zone then began.is_in opens.is_in) in
+      let there = front_log n table book few legal passes.front passes.back log passes.parts is_log in
+      inr (inl (record {
+        log = there.whole;
+        is_log = there.is_whole;
+        day = day;
+        then = then;
+        start = subst (λ some. IsEffective table some (Start job day then)) (sym there.goes) (IsEffective-more table log there.more (Start job day then) start);
+        sooner = by_lt_z then now
+            (λ lt. lt)
+            (λ not_sooner.
+            let same : then ≡ now = omega (arith, ints, read, not_sooner) in
+            let here : day ≡ date = shown ∙ ap (λ instant. day_number (local_of opens.zone instant)) same ∙ sym opens.is_date in
+            absurd (omega (arith, ints, later, here)));
+        later = later;
+      }))
 
   -- a void of the date or a later one was called at an instant at which the zone showed a later date still
-  void_later : (day : ℤ) → HasEnd table log job day Void → date ≤ℤ day → ShowedLater table job now date
+  void_later : (day : ℤ) → HasEnd table log job day Void → date ≤ℤ day → IsVoidedSooner (held_in n table book) job now date
   void_later day end low =
       let found : IsHeld (held_in n table passes.front) job day Void = fits.ended job day Void end in
       let row = found.row in
@@ -150,17 +157,16 @@ module _ (n : ℕ) (table : Table) (book : List Row) (job : ℕ) (now date : ℤ
       (subst (λ (k : JobKind). IsOnTime k opens.zone table.grace row.name.at row.now.0) (sym opens.kind) same))) in
       let past : date <ℤ day_number (local_of opens.zone row.now.0) = omega (arith, ints, low, later) in
       record {
-        spec = opens.job;
-        zone = opens.zone;
-        is_in = opens.is_in;
+        day = day;
         then = row.now.0;
+        void = record { row = row; among = still_held row found.among; of_job = found.of_job; due_at = found.due_at; of_kind = found.of_kind; called = refl };
         sooner = by_lt_z row.now.0 now
             (λ lt. lt)
             (λ not_sooner.
             let same : row.now.0 ≡ now = omega (arith, ints, read, not_sooner) in
             let shown : day_number (local_of opens.zone row.now.0) ≡ date = ap (λ instant. day_number (local_of opens.zone instant)) same ∙ sym opens.is_date in
             absurd (omega (arith, ints, past, shown)));
-        later = past;
+        reached = low;
       }
 
   module _ (row : JobRow) (is_row : slice_get passes.asks.rows job ≡ Some row) where
@@ -192,7 +198,7 @@ module _ (n : ℕ) (table : Table) (book : List Row) (job : ℕ) (now date : ℤ
           absurd (omega (arith, ints, low, later))
       | inr called ↦ inl called
     ]
-    ended_as cursor Void cursor_is low end = inr (inl (void_later cursor end low))
+    ended_as cursor Void cursor_is low end = inr (inr (void_later cursor end low))
 
     -- where none was started on the date or later, the last launch was called at the instant: else the job could be started then
     not_started : row.open_now ≡ None → IsAfter row.cursor date → Result

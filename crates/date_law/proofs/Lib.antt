@@ -1,3 +1,11 @@
 pub mod RowLemmas
+pub mod FrontLemmas
 pub mod DateLemmas
+pub mod Passed
+pub mod Minutes
+pub mod Unscripted
+pub mod Dates
+pub mod SomeDaily
+pub mod SomeTurns
+pub mod SomeDate
 pub mod Whole

@@ -1,5 +1,5 @@
--- Each job of the table has a row in a launch table, and a replica's launch table is that of a front of the log.
-use Rattle.std.proofs.Common.{◌≡◌, ℕ, ◌<◌, ◌≤◌, inl, inr, List, [], ◌∷◌, length, take, get_or, Some, ℤ, sym, ap, ◌∙◌, subst}
+-- Each job of the table has a row in a launch table.
+use Rattle.std.proofs.Common.{◌≡◌, ℕ, ◌<◌, inl, inr, List, [], ◌∷◌, length, get_or, Some, sym, ap, ◌∙◌, subst}
 use Rattle.std.specs.Prelude.{slice_get}
 use Rattle.std.proofs.Math.ListN.{length-set}
 use Rattle.std.proofs.lemmas.List.FromFn.{length-map-range_with_len}
@@ -10,14 +10,6 @@ use Rattle.paxos_base.specs.Rows.{fresh_row}
 use Rattle.due_set.specs.Table.{Table}
 use Rattle.launch_machine.specs.Clerk.{Applies, AppliesAll, IsClerkOf, first_rows, opened_row, closed_row}
 use Rattle.launch_machine.proofs.MachineLemmas.{is_some_below}
-use Rattle.step_law.specs.State.{State, prefix_of}
-use Rattle.step_law.specs.Step.{IsLaunchTable}
-use Rattle.agree_law.specs.Log.{IsLog}
-use Rattle.agree_law.proofs.Tables.{follows}
-use Rattle.book_law.specs.Book.{Row, standing_after, votes_in}
-use Rattle.book_law.specs.Legal.{IsLegal}
-use Rattle.fits_law.proofs.Logs.{stands}
-use Rattle.script_law.specs.Settling.{AsksNothing}
 
 -- an entry leaves as many rows
 one_length : (table : Table) (old : List JobRow) (entry : Entry) (new : List JobRow) → Applies table old entry new → length new ≡ length old
@@ -39,13 +31,3 @@ row_of table log rows job clerk lt =
     let count : length rows ≡ length table.jobs =
     all_length table (first_rows table) log rows clerk ∙ length-map-range_with_len fresh_row 0 (length table.jobs) in
     is_some_below rows job (subst (λ (n : ℕ). job < n) (sym count) lt)
-
-pub table_of : (n : ℕ) (table : Table) (book : List Row) (log : List Entry) (who : ℕ) (at : ℤ) → n ≤ 7 → IsLegal n table book → IsLog n (votes_in book) log
-    → (asks : AsksNothing table at ((standing_after n (first_rows table) book).replicas who))
-    → IsClerkOf table (take (prefix_of ((standing_after n (first_rows table) book).replicas who)) log) asks.rows
-table_of n table book log who at few legal is_log asks =
-    let there = stands n table book few legal in
-    let same : there.w.replicas who ≡ (standing_after n (first_rows table) book).replicas who = there.matches.replicas who in
-    let is_table : IsLaunchTable table (there.w.replicas who) asks.rows = subst (λ s. IsLaunchTable table s asks.rows) (sym same) asks.rows_are in
-    subst (λ (s : State). IsClerkOf table (take (prefix_of s) log) asks.rows) same
-    (follows n table (first_rows table) there.w log who asks.rows there.followed.whole there.followed.tables (subst (λ cast. IsLog n cast log) (sym there.matches.cast) is_log) is_table).1

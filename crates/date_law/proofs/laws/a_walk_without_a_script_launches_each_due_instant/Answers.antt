@@ -1,4 +1,4 @@
-use Rattle.date_law.proofs.Whole.{date_unscripted, due_unscripted, other_unscripted}
+use Rattle.date_law.proofs.Whole.{all_unscripted, date_unscripted, due_unscripted, other_unscripted}
 use Rattle.date_law.proofs.laws.a_walk_without_a_script_launches_each_due_instant.Goals as goal
 
 pub returns-clause-each : goal.returns-clause-each
@@ -9,3 +9,6 @@ returns-clause-each_date c = date_unscripted
 
 pub returns-clause-no_other : goal.returns-clause-no_other
 returns-clause-no_other c = other_unscripted
+
+pub returns-clause-all : goal.returns-clause-all
+returns-clause-all c = all_unscripted

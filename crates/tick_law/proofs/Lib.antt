@@ -1,0 +1,4 @@
+pub mod Offers
+pub mod Asking
+pub mod Rises
+pub mod Whole
