@@ -25,3 +25,5 @@ pub mod DrainLemmas
 pub mod WalkLemmas
 pub mod LoopLemmas
 pub mod LaneLemmas
+pub mod Ended
+pub mod Limits

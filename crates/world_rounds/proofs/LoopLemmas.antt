@@ -1,7 +1,7 @@
 -- Worlds that drain until one leads, until it rests, and until all are level.
 use Rattle.std.proofs.Common.{◌≡◌, ℕ, suc, ◌+◌, ◌*◌, ◌^◌, ◌<◌, ◌≤◌, true, false, List, [], ◌∷◌, ◌++◌, length, drop, map, ℤ, Some, refl, sym, ap, ◌∙◌, subst, inl, inr, arith, append_assoc, add-one, Option}
 use Rattle.std.proofs.Common.{append-nil as append_nil}
-use Rattle.std.specs.List.{Contains, slice_get}
+use Rattle.std.specs.List.{slice_get}
 use Rattle.std.proofs.lemmas.Bool.{cases_lt}
 use Rattle.std.proofs.lemmas.List.{length-append, length-map}
 use Rattle.disk_model.specs.Images.{Image}
@@ -17,7 +17,6 @@ use Rattle.book_law.specs.Legal.{IsLegal}
 use Rattle.book_law.specs.declared.turn.Cause.TheVariants.{Campaign}
 use Rattle.book_law.specs.declared.turn.Turn.{Turn}
 use Rattle.book_law.specs.declared.turn.Turn.TheVariants.{Did, Stopped, Restarted, Arrived}
-use Rattle.script_law.proofs.ListLemmas.{from_map}
 use Rattle.script_law.specs.Commands.{Plain}
 use Rattle.script_law.specs.Parts.{Plays}
 use Rattle.script_law.specs.Round.{round_tasks}
@@ -34,6 +33,7 @@ use Rattle.world_law.specs.Book.{posted_as}
 use Rattle.world_law.specs.declared.letter.LetterRow.{LetterRow}
 use Rattle.world_rounds.proofs.DrainLemmas.{HasDrained, runs_in, same_count}
 use Rattle.world_rounds.proofs.QuietLemmas.{found_at, node_state, node_table, node_waits, tells_no_quiet}
+use Rattle.world_rounds.proofs.Limits.{within_bounds}
 use Rattle.world_rounds.proofs.Waiting.{posted_are}
 use Rattle.world_rounds.specs.Bounds.{AreShort, IsBounded, IsGiven, left_in, left_to}
 use Rattle.world_rounds.specs.Drains.{DrainsOn}
@@ -123,14 +123,7 @@ module _ {D : Type 0} (seen : D → Image) (may_leave : D → Image → Type 0) 
     standing = is.ahead.at.standing;
     faultless = faultless;
     round = goes;
-    limits = record {
-      turns =
-          let many : length new.book.turns ≡ length (rows ++ more) = ap length now.ahead.at.behind.turns ∙ length-map (rows ++ more) (λ (row : Row). row.turn) in
-          subst (λ n. n < 2 ^ 59) many bounded.turns;
-      letters = λ letter has.
-          let from = from_map posted_as new.book.letters letter (subst (λ posted. Contains posted letter) (posted_are seen may_leave honest told_of table (rows ++ more) new after now) has) in
-          subst (λ (l : PostedLetter). length l.bytes < 56 * 2 ^ 31) from.is (bounded.letters from.origin from.among);
-    };
+    limits = within_bounds seen may_leave honest told_of table (rows ++ more) new after now bounded;
   }
 
   -- ---- what holds of a world after a round of a drain

@@ -5,6 +5,7 @@ pub mod Campaigns
 pub mod Commands
 pub mod Drains
 pub mod Mails
+pub mod Nodes
 pub mod Start
 pub mod Steps
 pub mod Taking

@@ -11,6 +11,7 @@ mod laws;
 mod letters;
 mod mails;
 mod member;
+mod nodes;
 mod quiet;
 mod rounds;
 mod settling;

@@ -1,13 +1,16 @@
 //! A world before any turn.
-ghost use Rattle.std.specs.Prelude.{◌≡◌, ◌<◌, ◌≤◌, [], ℕ, IfOk, Contains, length};
+ghost use Rattle.std.specs.Prelude.{◌≡◌, ◌<◌, ◌≤◌, [], ℕ, List, IfOk, Contains, length};
 ghost use Rattle.book_law.specs.Book.{Row};
-ghost use Rattle.script_law.specs.Situation.{first_situation};
+ghost use Rattle.due_set.specs.Table.{Table};
+ghost use Rattle.script_law.specs.Situation.{Situation, first_situation};
 ghost use Rattle.world_law.specs.Book.{BookState};
+ghost use Rattle.world_rounds.specs.Nodes.{AreNodesOf};
 ghost use Rattle.world_rounds.specs.Start.{IsFreshMember, IsFreshDisk};
 ghost use Rattle.world_rounds.specs.World.{IsWorldAt, book_of};
 
 use crate::fault::memory_of;
 use crate::member::{Mail, Member};
+use crate::nodes::NodeRoom;
 use crate::world::World;
 use cluster_sched::Fate;
 use cron_io::OutOfMemory;
@@ -74,6 +77,7 @@ impl<D: Disk> World<D> {
         }
         let book = Book::new(alloc, members);
         let cuts = Vec::new(alloc);
+        let room = NodeRoom::new(alloc)?;
         let window = table.window();
         Ok(World {
             alloc,
@@ -81,6 +85,7 @@ impl<D: Disk> World<D> {
             members: started,
             cuts,
             latest: window.from,
+            room,
         })
     }
 
@@ -91,10 +96,19 @@ impl<D: Disk> World<D> {
         &self.book
     }
 
-    /// The book of its turns, when no more of it is wanted.
-    pub fn into_book(self) -> Book
-        ensures { result ≡ book_of self }
+    /// The book of its turns, and the nodes of its replicas in the order of their numbers, when no more of it is wanted. It
+    /// takes no memory.
+    pub fn into_book(self) -> (Book, Vec<Node<D>>)
+        ensures book { result.0 ≡ book_of self }
+        ensures nodes { (table : Table) (rows : List Row) (situation : Situation) → IsWorldAt D.seen D.may_leave D.honest D.told table rows self situation
+            → AreNodesOf D.seen D.may_leave D.honest D.told table rows (book_of self) result.1.items }
     {
-        self.book
+        let World {
+            book,
+            members,
+            room,
+            ..
+        } = self;
+        (book, room.filled(members))
     }
 }

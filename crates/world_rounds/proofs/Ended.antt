@@ -1,0 +1,96 @@
+-- The nodes of a world, when no more of it is wanted.
+use Rattle.std.proofs.Common.{◌≡◌, ℕ, zero, suc, ◌≤◌, Bool, true, false, List, [], ◌∷◌, length, Option, Some, refl, sym, ap, ◌∙◌, subst, arith}
+use Rattle.std.specs.List.{slice_get}
+use Rattle.std.proofs.lemmas.List.{length-map}
+use Rattle.std.proofs.lemmas.Option.{same_Some}
+use Rattle.disk_model.specs.Images.{Image, file_of}
+use Rattle.disk_model.specs.Told.{Told}
+use Rattle.due_set.specs.Table.{Table}
+use Rattle.paxos_base.specs.declared.durable.Durable.{Durable}
+use Rattle.gate_file.proofs.GateLemmas.{has_at_rest}
+use Rattle.step_law.specs.State.{State}
+use Rattle.agree_law.specs.Transition.{identity_of}
+use Rattle.book_law.specs.Book.{Row}
+use Rattle.replica_core.specs.Replica.{ReplicaState}
+use Rattle.replica_node.specs.Node.{IsNodeAtRest, disk_of, replica_of, store_of}
+use Rattle.replica_node.specs.declared.node.Node.{Node}
+use Rattle.replica_store.proofs.KeptLemmas.{stands_in}
+use Rattle.replica_store.specs.Files.{BodiesStand, FilesStand}
+use Rattle.replica_store.specs.Store.{area_of, records_of}
+use Rattle.script_law.specs.Situation.{Situation}
+use Rattle.world_law.specs.Book.{BookState, standing_behind}
+use Rattle.world_rounds.specs.Nodes.{AreNodesOf, IsNodeOf, nodes_of}
+use Rattle.world_rounds.specs.Steps.{IsNodeAhead}
+use Rattle.world_rounds.specs.World.{IsMemberAhead, IsNodeStopped, IsWorldAt}
+use Rattle.world_rounds.specs.declared.member.Member.{Member}
+use Rattle.world_rounds.specs.declared.world.World.{World}
+
+found_node : {D : Type 0} (members : List (Member D)) (who : ℕ) (node : Node D) → slice_get (nodes_of members) who ≡ Some node
+    → (member : Member D) × (slice_get members who ≡ Some member) × (member.node ≡ node)
+found_node [] who node is = absurd cc
+found_node (member ∷ members) zero node is = (member, refl, same_Some member.node node is)
+found_node (member ∷ members) (suc who) node is = found_node members who node is
+
+module _ {D : Type 0} (seen : D → Image) (may_leave : D → Image → Type 0) (honest : D → Type 0) (told_of : D → Option Told) (table : Table) where
+  -- the files of a node at rest stand for what its replica keeps
+  files_of : (node : Node D) (kept : Durable) → IsNodeAtRest seen may_leave honest table node → (replica_of node).state.kept ≡ kept → FilesStand (length table.jobs) kept (seen (disk_of node))
+  files_of node kept rest is =
+      stands_in (length table.jobs) kept (seen (disk_of node)) (area_of (store_of node)) (records_of (store_of node)) rest.settled.selects
+      (has_at_rest (file_of (area_of (store_of node)) (seen (disk_of node))) (records_of (store_of node)) rest.settled.gates.at_rest)
+      (subst (λ (kept : Durable). BodiesStand (length table.jobs) (records_of (store_of node)) kept) is
+      (subst (λ (jobs : ℕ). BodiesStand jobs (records_of (store_of node)) (replica_of node).state.kept) rest.jobs rest.keeps))
+
+  running_node : (rows : List Row) (book : BookState) (who : ℕ) (node : Node D) → IsNodeAhead seen may_leave honest told_of table rows book who [] node
+      → IsNodeOf seen may_leave honest told_of table rows book who node
+  running_node rows book who node ahead = record {
+    at_rest = ahead.at_rest;
+    trusted = ahead.trusted;
+    reliable = ahead.reliable;
+    identity = ap (λ (r : ReplicaState). r.identity) ahead.took ∙ ahead.stands.identity ∙ ap (identity_of book.members) ahead.me;
+    state = λ runs. state_is;
+    kept = kept_is;
+    stand = files_of node ((standing_behind table rows book).replicas who).kept ahead.at_rest kept_is;
+  }
+    where
+      state_is : (replica_of node).state ≡ (standing_behind table rows book).replicas who
+      state_is = ap (λ (r : ReplicaState). r.state) ahead.took ∙ ahead.stands.state ∙ ap (standing_behind table rows book).replicas ahead.me
+
+      kept_is : (replica_of node).state.kept ≡ ((standing_behind table rows book).replicas who).kept
+      kept_is = ap (λ (s : State). s.kept) state_is
+
+  stopped_node : (rows : List Row) (book : BookState) (who : ℕ) (node : Node D) → (standing_behind table rows book).runs who ≡ false
+      → IsNodeStopped seen may_leave honest told_of table book.members (standing_behind table rows book) who [] node
+      → IsNodeOf seen may_leave honest told_of table rows book who node
+  stopped_node rows book who node ended stopped = record {
+    at_rest = stopped.at_rest;
+    trusted = stopped.trusted;
+    reliable = stopped.reliable;
+    identity = stopped.identity;
+    state = λ runs. absurd (let both : true ≡ false = sym runs ∙ ended in cc);
+    kept = kept_is;
+    stand = files_of node ((standing_behind table rows book).replicas who).kept stopped.at_rest kept_is;
+  }
+    where
+      kept_is : (replica_of node).state.kept ≡ ((standing_behind table rows book).replicas who).kept
+      kept_is = sym (ap (λ (s : State). s.kept) stopped.kept)
+
+  node_of : (rows : List Row) (book : BookState) (situation : Situation) (who : ℕ) (member : Member D) (runs : Bool) → (standing_behind table rows book).runs who ≡ runs
+      → IsMemberAhead seen may_leave honest told_of table rows book situation who [] member → IsNodeOf seen may_leave honest told_of table rows book who member.node
+  node_of rows book situation who member true is ahead = running_node rows book who member.node (ahead.running is)
+  node_of rows book situation who member false is ahead = stopped_node rows book who member.node is (ahead.stopped is)
+
+  pub few_members : (rows : List Row) (world : World D) (situation : Situation) → IsWorldAt seen may_leave honest told_of table rows world situation → length world.members.items ≤ 7
+  few_members rows world situation is =
+      let few : world.book.members ≤ 7 = is.ahead.at.few in
+      let count : length world.members.items ≡ world.book.members = is.ahead.count in
+      omega (arith, few, count)
+
+  pub nodes_left : (rows : List Row) (world : World D) (situation : Situation) (nodes : List (Node D)) → IsWorldAt seen may_leave honest told_of table rows world situation
+      → nodes ≡ nodes_of world.members.items → AreNodesOf seen may_leave honest told_of table rows world.book nodes
+  nodes_left rows world situation nodes is same = record {
+    count = ap length same ∙ length-map world.members.items (λ member. member.node) ∙ is.ahead.count;
+    each = λ who node found.
+        let (member, there, node_is) = found_node world.members.items who node (subst (λ nodes. slice_get nodes who ≡ Some node) same found) in
+        subst (λ node. IsNodeOf seen may_leave honest told_of table rows world.book who node) node_is
+        (node_of rows world.book situation who member ((standing_behind table rows world.book).runs who) refl (is.ahead.each who member there));
+  }

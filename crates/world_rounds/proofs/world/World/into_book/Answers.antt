@@ -1,0 +1,7 @@
+use Rattle.world_rounds.proofs.Ended.{few_members, nodes_left}
+use Rattle.world_rounds.proofs.world.World.into_book.Goals as goal
+
+pub returns-clause-nodes : goal.returns-clause-nodes
+returns-clause-nodes g c table rows situation is =
+    nodes_left g.D.Disk.seen g.D.Disk.may_leave g.D.Disk.honest g.D.Disk.told table rows c.args.self situation c.filled.result.items is
+    (c.filled.ensures (few_members g.D.Disk.seen g.D.Disk.may_leave g.D.Disk.honest g.D.Disk.told table rows c.args.self situation is))
