@@ -11,5 +11,5 @@ fn main(rt: HostRuntime) -> ExitCode {
     let mut sink = StdSink::new(io::writer(&rt));
     let mut notes = StdSink::new(rt.stderr());
     let args = env::args(&rt);
-    ExitCode::from(run(rt.alloc(), args, &mut source, &mut sink, &mut notes))
+    ExitCode::from(run(&rt, rt.alloc(), args, &mut source, &mut sink, &mut notes))
 }

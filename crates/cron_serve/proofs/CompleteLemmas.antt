@@ -5,8 +5,9 @@ use Rattle.std.specs.Io.KnownBytes.{Consumes}
 use Rattle.cron_io.specs.Faults.{Rose}
 use Rattle.cron_io.specs.Reading.{IsReadToEnd}
 use Rattle.cron_io.specs.Views.{SourceView, SinkView}
-use Rattle.paxos_base.specs.declared.entry.Entry.{Entry}
-use Rattle.cluster_sched.specs.declared.row.SchedRow.{SchedRow}
+use Rattle.disk_model.specs.declared.mem_disk.MemDisk.{MemDisk}
+use Rattle.replica_node.specs.declared.node.Node.{Node}
+use Rattle.world_law.specs.Book.{BookState}
 use Rattle.cron_io.proofs.LawLemmas.{taken_all}
 use Rattle.cron_serve.specs.Complete.{Completes}
 use Rattle.run_text.specs.declared.refusal.Refusal.{Refusal}
@@ -84,10 +85,10 @@ completes_stopped output source source' sink stop end is given why = record {
 }
 
 -- an input of which a text was to be written suits it
-suits_text : (output : Output) (bytes : List ℕ) (log : List Entry) (held : List SchedRow) (text : List ℕ) → IsTextOf output bytes log held text → Suits output bytes
-suits_text Report bytes log held text is = (is.run.run, is.table, is.run.taken)
-suits_text DueList bytes log held text is = (is.1.run, is.1.table, is.1.taken)
-suits_text Check bytes log held text is = (is.1.run, is.1.frame)
+suits_text : (output : Output) (bytes : List ℕ) (book : BookState) (nodes : List (Node MemDisk)) (text : List ℕ) → IsTextOf output bytes book nodes text → Suits output bytes
+suits_text Report bytes book nodes text is = (is.run.run, is.table, is.run.taken)
+suits_text DueList bytes book nodes text is = (is.1.run, is.1.table, is.1.taken)
+suits_text Check bytes book nodes text is = (is.1.run, is.1.frame)
 
 -- the text was written of the bytes that the source told, or memory ran out
 suits_or_memory : (output : Output) (source source' : SourceView) (sink sink' : SinkView) (bytes read : List ℕ) (end : RunEnd)
@@ -95,7 +96,7 @@ suits_or_memory : (output : Output) (source source' : SourceView) (sink sink' : 
 suits_or_memory output source source' sink sink' bytes read end told to_end e =
     let same = read_whole source source' bytes read told to_end in
     let by : (end.status ≡ 0) ⊎ (end.status ≡ 4) → Suits output bytes ⊎ (end.status ≡ 5) =
-    λ is. let t = e.told is in inl (subst (λ (b : List ℕ). Suits output b) same (suits_text output read end.log end.ledger.held t.text t.is)) in
+    λ is. let t = e.told is in inl (subst (λ (b : List ℕ). Suits output b) same (suits_text output read end.book end.nodes.items t.text t.is)) in
     elim e.statuses [
       | inl none ↦ by (inl none)
       | inr (inl four) ↦ by (inr four)

@@ -1,5 +1,5 @@
 pub mod CompleteLemmas
-pub mod DateLemmas
+pub mod PlayLemmas
 pub mod ServeLemmas
 pub mod TextLemmas
 pub mod VariantLemmas

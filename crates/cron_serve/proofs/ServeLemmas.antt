@@ -1,23 +1,18 @@
 -- From what was written to what the program says of its end.
-use Rattle.std.proofs.Common.{◌≡◌, ◌≢◌, ◌⊎◌, inl, inr, ℕ, ℤ, ◌≤◌, ◌↔◌, List, [], length, Option, None, Some, Result, Ok, Err, refl, sym, ap, ◌∙◌, subst, arith}
-use Rattle.std.specs.Prelude.{All, IfErr, IsErrAnd, IsSome, IsSomeAnd}
+use Rattle.std.proofs.Common.{◌≡◌, ◌≢◌, ◌⊎◌, inl, inr, ℕ, ◌≤◌, ◌↔◌, List, [], ◌∷◌, length, map, Option, None, Some, Result, Ok, Err, refl, sym, ◌∙◌, subst, arith}
+use Rattle.std.specs.Prelude.{IfErr, IsErrAnd, IsSome, IsSomeAnd}
 use Rattle.std.proofs.lemmas.List.{append-nil}
-use Rattle.std.proofs.lemmas.List.Elements.{All-weaker}
-use Rattle.std.proofs.lemmas.Option.{slice_get_within}
 use Rattle.cron_io.specs.Faults.{Rose}
 use Rattle.cron_io.specs.Reading.{HasReadOn, IsReadToEnd}
 use Rattle.cron_io.specs.Views.{SourceView, SinkView}
 use Rattle.cron_io.specs.Writing.{HasGained, HasGainedPrefix}
-use Rattle.paxos_base.specs.declared.entry.Entry.{Entry}
-use Rattle.paxos_base.specs.declared.entry.Kind.TheVariants.{Launch}
-use Rattle.due_set.specs.Anacron.{IsJobOpen}
-use Rattle.due_set.specs.Table.{Table, IsJobDue}
-use Rattle.due_set.specs.declared.job.JobKind.{JobKind}
-use Rattle.due_set.specs.declared.job.JobKind.TheVariants.{Anacron, Crontab}
-use Rattle.cluster_sched.specs.Names.{IsNameIn, IsTimeNear, job_kind, kind_of}
-use Rattle.cluster_sched.specs.declared.row.SchedRow.{SchedRow}
-use Rattle.launch_law.specs.Launched.{IsWanted}
-use Rattle.report_text.specs.Report.{IsReport}
+use Rattle.disk_model.specs.declared.mem_disk.MemDisk.{MemDisk}
+use Rattle.due_set.specs.Table.{Table}
+use Rattle.replica_node.specs.declared.node.Node.{Node}
+use Rattle.book_law.specs.Some.{no_jobs}
+use Rattle.world_law.specs.Book.{BookState, posted_as}
+use Rattle.world_law.proofs.Called.{held_at_rest, late_at_rest}
+use Rattle.report_text.specs.Book.{IsBookReport}
 use Rattle.report_text.specs.Writes.{Writes}
 use Rattle.report_text.specs.declared.fault.ReportFault.{ReportFault}
 use Rattle.report_text.specs.declared.fault.ReportFault.TheVariants as report
@@ -28,14 +23,13 @@ use Rattle.cron_serve.specs.Ends.{Ends, EndsUnread}
 use Rattle.cron_serve.specs.Serve.{IsRefused, IsReportOf, IsRunOf, IsTextOf, LeavesNoRun}
 use Rattle.cron_serve.specs.Input.{IsRefusedBytes}
 use Rattle.cron_serve.specs.Stop.{StopsFor, refusal_of, status_of, stop_of_run}
-use Rattle.cron_serve.specs.Written.{EndsWriting, WritesAtStatus, status_of_listing}
+use Rattle.cron_serve.specs.Written.{EndsWriting, WritesAtStatus, WritesTextOf, status_of_listing}
 use Rattle.cron_serve.specs.declared.words.Output.{Output}
 use Rattle.cron_serve.specs.declared.words.Output.TheVariants.{Report}
 use Rattle.run_text.specs.Steps.{IfRefused}
 use Rattle.run_text.specs.declared.refusal.Refusal.{Refusal}
 use Rattle.run_text.specs.declared.refusal.RunFault.{RunFault}
 use Rattle.run_text.specs.declared.refusal.RunFault.TheVariants as run
-use Rattle.cron_serve.proofs.DateLemmas.{day_near}
 use Rattle.cron_serve.specs.declared.run_end.RunEnd.{RunEnd}
 use Rattle.cron_serve.specs.declared.stop.Stop.{Stop}
 use Rattle.cron_serve.specs.declared.stop.Stop.TheVariants.{Usage, Refused, ReadFault, OutOfMemory}
@@ -48,34 +42,6 @@ stops_for_input output source source' bytes fault (Ok value) is read short why =
 stops_for_input output source source' bytes (run.Refused refusal) (Err stop) is read short why =
     subst (StopsFor output source source') (sym is) (inr (record { bytes = bytes; read = read; short = short; refused = why }))
 stops_for_input output source source' bytes run.OutOfMemory (Err stop) is read short why = subst (StopsFor output source source') (sym is) tt
-
--- each row is a launch of a job of the table
-name_of_due : (table : Table) (row : SchedRow) → IsJobDue table row.name.job row.name.at → IsNameIn table row.name
-name_of_due table row due =
-    let kind : job_kind table row.name.job ≡ Crontab due.fields = ap kind_of due.is_in.is_job ∙ due.kind in
-    record {
-      job = slice_get_within table.jobs row.name.job due.job due.is_in.is_job;
-      inside = subst (λ (k : JobKind). IsTimeNear table.window k row.name.at) (sym kind) due.inside;
-    }
-
-name_of_date : (table : Table) (row : SchedRow) (last : Option ℤ) → IsJobOpen table row.name.job last last row.now.0 row.name.at → IsNameIn table row.name
-name_of_date table row last opens =
-    let kind : job_kind table row.name.job ≡ Anacron opens.period opens.first_minute opens.last_minute = ap kind_of opens.is_in.is_job ∙ opens.kind in
-    record {
-      job = slice_get_within table.jobs row.name.job opens.job opens.is_in.is_job;
-      inside = subst (λ (k : JobKind). IsTimeNear table.window k row.name.at) (sym kind)
-          (day_near table.window opens.zone row.now.0 row.name.at opens.inside opens.is_date);
-    }
-
-name_of_wanted : (table : Table) (held : List SchedRow) (row : SchedRow) → IsWanted table held row → IsNameIn table row.name
-name_of_wanted table held row (inl due) = name_of_due table row due
-name_of_wanted table held row (inr by) = name_of_date table row by.last by.opens
-
-pub names_of_run : (bytes : List ℕ) (table : Table) (log : List Entry) (held : List SchedRow)
-    → IsRunOf bytes table log held → All (λ (row : SchedRow). IsNameIn table row.name) held
-names_of_run bytes table log held run =
-    All-weaker (λ (row : SchedRow). IsWanted table held row × (row.kind ≡ Launch)) (λ (row : SchedRow). IsNameIn table row.name)
-    (λ row wanted. name_of_wanted table held row wanted.0) held run.whole.launched.no_other
 
 -- what was written whole is a front of itself
 prefix_of_whole : (old new : SinkView) (text : List ℕ) → HasGained old new text → HasGainedPrefix old new text
@@ -105,44 +71,46 @@ written_front old new result status text e is w = record {
   beyond = λ _ room tells_room. w.beyond room tells_room e;
 }
 
--- the report of the run that the end has
-report_of_run : (bytes : List ℕ) (table : Table) (log log' : List Entry) (held held' : List SchedRow) (text : List ℕ)
-    → IsRunOf bytes table log held → IsReport table 1 held text → log' ≡ log → held' ≡ held → IsReportOf bytes log' held' text
-report_of_run bytes table log log' held held' text run report logs rows =
-    subst (λ (l : List Entry). IsReportOf bytes l held' text) (sym logs)
-    (subst (λ (h : List SchedRow). IsReportOf bytes log h text) (sym rows) (record { table = table; run = run; report = report }))
+pub written_in_part : {T : Type 0} (old new : SinkView) (result : Result T ReportFault) (status : ℕ) (text : List ℕ)
+    → status ≡ 5 → Writes old new result text → WritesAtStatus old new status text
+written_in_part old new result status text e w = record {
+  whole = λ none. absurd (omega arith);
+  front = w.front;
+  later = w.later;
+  fault = λ four. absurd (omega arith);
+  taken = λ none room tells_room. absurd (omega arith);
+  beyond = λ four room tells_room. absurd (omega arith);
+}
 
 -- what the end of a run says that was read, whose report was written or begun
-pub record EndsReport (sink sink' : SinkView) (table : Table) (log : List Entry) (held : List SchedRow) (end : RunEnd) (text : List ℕ) : Type 0 where
-  pub report : IsReport table 1 held text
+pub record EndsReport (sink sink' : SinkView) (table : Table) (book : BookState) (nodes : List (Node MemDisk)) (end : RunEnd) (text : List ℕ) : Type 0 where
+  pub report : IsBookReport table book text
   pub written : WritesAtStatus sink sink' end.status text
-  pub logs : end.status ≢ 5 → end.log ≡ log
-  pub rows : end.status ≢ 5 → end.ledger.held ≡ held
-  pub no_run : end.status ≡ 5 → LeavesNoRun end.log end.ledger.held
+  pub same_book : end.book ≡ book
+  pub same_nodes : end.nodes.items ≡ nodes
   pub no_refusal : end.refusal ≡ None
   pub statuses : (end.status ≡ 0) ⊎ (end.status ≡ 4) ⊎ (end.status ≡ 5)
 
-pub ends_launches : (bytes : List ℕ) (sink sink' : SinkView) (table : Table) (log : List Entry) (held : List SchedRow) (end : RunEnd) (text : List ℕ)
-    → IsRunOf bytes table log held → EndsReport sink sink' table log held end text → EndsWriting Report bytes sink sink' end
-ends_launches bytes sink sink' table log held end text run e = record {
-  statuses = e.statuses;
-  no_refusal = e.no_refusal;
-  later = e.written.later;
-  told = λ is.
-      let left : end.status ≢ 5 = λ five. omega (arith, is) in
-      record {
-        text = text;
-        is = report_of_run bytes table log end.log held end.ledger.held text run e.report (e.logs left) (e.rows left);
-        written = e.written;
-      };
-  memory = λ five. inr (log, held, record { text = text; is = record { table = table; run = run; report = e.report }; written = e.written });
-  no_run = e.no_run;
-}
+pub ends_launches : (bytes : List ℕ) (sink sink' : SinkView) (table : Table) (book : BookState) (nodes : List (Node MemDisk)) (end : RunEnd) (text : List ℕ)
+    → IsRunOf bytes table book nodes → EndsReport sink sink' table book nodes end text → EndsWriting Report bytes sink sink' end
+ends_launches bytes sink sink' table book nodes end text run e =
+    let report : IsReportOf bytes book nodes text = record { table = table; run = run; report = e.report } in
+    let is : IsReportOf bytes end.book end.nodes.items text =
+    subst (λ (b : BookState). IsReportOf bytes b end.nodes.items text) (sym e.same_book)
+    (subst (λ (n : List (Node MemDisk)). IsReportOf bytes book n text) (sym e.same_nodes) report) in
+    let writes : WritesTextOf Report bytes sink sink' end.status end.book end.nodes.items = record { text = text; is = is; written = e.written } in
+    record {
+      statuses = e.statuses;
+      no_refusal = e.no_refusal;
+      later = e.written.later;
+      told = λ some. writes;
+      memory = λ five. inr writes;
+    }
 
 -- a list was written whole, or a front of it, or nothing
 pub ends_listing : (output : Output) (bytes : List ℕ) (sink sink' : SinkView) (result : Result (Unit {0}) ListFault) (Is : List ℕ → Type 0) (end : RunEnd)
-    → ((text : List ℕ) → Is text → IsTextOf output bytes end.log end.ledger.held text) → WritesListing sink sink' result Is
-    → end.status ≡ status_of_listing result → end.refusal ≡ None → LeavesNoRun end.log end.ledger.held → EndsWriting output bytes sink sink' end
+    → ((text : List ℕ) → Is text → IsTextOf output bytes end.book end.nodes.items text) → WritesListing sink sink' result Is
+    → end.status ≡ status_of_listing result → end.refusal ≡ None → LeavesNoRun end.book end.nodes.items → EndsWriting output bytes sink sink' end
 ends_listing output bytes sink sink' (Ok done) Is end of w status refusal no_run =
     let whole = w.written in
     record {
@@ -162,7 +130,6 @@ ends_listing output bytes sink sink' (Ok done) Is end of w status refusal no_run
         };
       };
       memory = λ five. absurd (omega arith);
-      no_run = λ five. no_run;
     }
 ends_listing output bytes sink sink' (Err listing.WriteFault) Is end of w status refusal no_run =
     let front = w.front refl in
@@ -183,15 +150,13 @@ ends_listing output bytes sink sink' (Err listing.WriteFault) Is end of w status
         };
       };
       memory = λ five. absurd (omega arith);
-      no_run = λ five. no_run;
     }
 ends_listing output bytes sink sink' (Err listing.OutOfMemory) Is end of w status refusal no_run = record {
   statuses = inr (inr status);
   no_refusal = refusal;
   later = w.later;
   told = λ is. absurd (omega (arith, is));
-  memory = λ five. inl (w.nothing refl);
-  no_run = λ five. no_run;
+  memory = λ five. inl (record { unwritten = w.nothing refl; no_run = no_run });
 }
 
 no_some : {T : Type 0} (o : Option T) → o ≡ None → IsSome o → ⊥
@@ -215,12 +180,11 @@ ends_text output source source' sink sink' bytes end read read_on e =
           let t = e.told (inr is) in
           (t.text, record { bytes = bytes; read = read; is = t.is }, t.written.front);
       memory = λ is. elim (e.memory is) [
-        | inl same ↦ inl same
-        | inr some ↦ inr (some.0, some.1, (some.2.text, record { bytes = bytes; read = read; is = some.2.is }, some.2.written.front))
+        | inl none ↦ inl none
+        | inr some ↦ inr (some.text, record { bytes = bytes; read = read; is = some.is }, some.written.front)
       ];
       statuses = omega (arith, statuses);
       nothing = λ least most. absurd (omega (arith, statuses));
-      no_run = λ whole cut. e.no_run (omega (arith, statuses));
       read_on = read_on;
       later = e.later;
       fits = λ is room tells.
@@ -262,7 +226,7 @@ stop_statuses OutOfMemory = (omega arith, omega arith, λ four. omega arith)
 pub record EndsStopped (stop : Stop) (end : RunEnd) : Type 0 where
   pub status : end.status ≡ status_of stop
   pub refusal : end.refusal ≡ refusal_of stop
-  pub no_run : LeavesNoRun end.log end.ledger.held
+  pub no_run : LeavesNoRun end.book end.nodes.items
 
 -- a stop leaves the sink as it was
 pub ends_stopped : (output : Output) (source source' : SourceView) (sink : SinkView) (stop : Stop) (end : RunEnd) → EndsStopped stop end
@@ -283,10 +247,9 @@ ends_stopped output source source' sink stop end e read_on why =
       read_fault = λ three. rose_by output source source' stop why (omega arith);
       write_fault = λ four. absurd (other (omega arith));
       front = λ four. absurd (other (omega arith));
-      memory = λ five. inl refl;
+      memory = λ five. inl (record { unwritten = refl; no_run = e.no_run });
       statuses = omega arith;
-      nothing = λ from until. refl;
-      no_run = λ whole cut. e.no_run;
+      nothing = λ from until. record { unwritten = refl; no_run = e.no_run };
       read_on = read_on;
       later = omega arith;
       fits = λ none. absurd (omega arith);
@@ -296,3 +259,14 @@ ends_stopped output source source' sink stop end e read_on why =
 -- faulty words: nothing was read
 pub ends_unread : (source : SourceView) (sink : SinkView) (end : RunEnd) → EndsStopped Usage end → EndsUnread source source sink sink end
 ends_unread source sink end e = record { unread = refl; unwritten = refl; no_refusal = e.refusal; no_run = e.no_run }
+
+none_mapped : {X Y : Type 0} (f : X → Y) (xs : List X) → map f xs ≡ [] → xs ≡ []
+none_mapped f [] none = refl
+none_mapped f (x ∷ xs) none = absurd (cc)
+
+-- where no run is left, nothing of one is
+pub is_empty : (book : BookState) (nodes : List (Node MemDisk)) → LeavesNoRun book nodes
+    → (book.turns ≡ []) × (book.letters ≡ []) × (book.ledger.held ≡ []) × (book.ledger.late ≡ []) × (nodes ≡ [])
+is_empty book nodes none =
+    let behind = none.no_turn no_jobs in
+    (behind.turns, none_mapped posted_as book.letters behind.letters, held_at_rest no_jobs [] book none.no_call behind, late_at_rest no_jobs [] book none.no_call behind, none.no_node)

@@ -4,9 +4,7 @@ use Rattle.crontab_text.specs.Lines.{lines_of}
 use Rattle.due_set.specs.Table.{Table}
 use Rattle.run_text.specs.declared.table.Tables.TheVariants.{Judged, Counted}
 use Rattle.run_text.specs.Reading.{IsRunText, IsRefusedText}
-use Rattle.run_text.specs.Rules.{rules_of}
 use Rattle.run_text.specs.Run.{Run}
-use Rattle.run_text.specs.declared.rules.Player.TheVariants.{Clerk}
 use Rattle.run_text.specs.declared.refusal.Refusal.{Refusal}
 use Rattle.run_text.proofs.UniqueLemmas as reading
 use Rattle.job_table.specs.Table.{IsTableOf, IsRefusedRun}
@@ -16,11 +14,11 @@ use Rattle.cron_serve.specs.declared.words.Output.TheVariants.{Report, DueList, 
 use Rattle.cron_serve.proofs.TextLemmas.{never_both, one_fault}
 use Rattle.job_table.proofs.UniqueLemmas.{one_table, one_refused_run, not_refused_run}
 
-same_run : (bytes : List ℕ) (a b : Run) → IsRunText Clerk bytes a → IsRunText Clerk bytes b → a ≡ b
-same_run bytes a b first second = reading.one_run_by (rules_of Judged Clerk) (lines_of bytes) a b first second
+same_run : (bytes : List ℕ) (a b : Run) → IsRunText bytes a → IsRunText bytes b → a ≡ b
+same_run bytes a b first second = reading.one_run_by Judged (lines_of bytes) a b first second
 
-no_reading : (bytes : List ℕ) (run : Run) (refusal : Refusal) → IsRunText Clerk bytes run → IsRefusedText Clerk bytes refusal → ⊥
-no_reading bytes run refusal says refused = reading.never_both_by (rules_of Judged Clerk) (lines_of bytes) run refusal says refused
+no_reading : (bytes : List ℕ) (run : Run) (refusal : Refusal) → IsRunText bytes run → IsRefusedText bytes refusal → ⊥
+no_reading bytes run refusal says refused = reading.never_both_by Judged (lines_of bytes) run refusal says refused
 
 -- an input is taken in one way
 pub one_taken : (bytes : List ℕ) (run other : Run) (table table' : Table) → IsTaken bytes run table → IsTaken bytes other table' → (run ≡ other) × (table ≡ table')
@@ -31,7 +29,7 @@ one_taken bytes run other table table' first second =
 one_run_file : (bytes : List ℕ) (a b : Refusal) → IsRefusedRunFile bytes a → IsRefusedRunFile bytes b → a ≡ b
 one_run_file bytes a b first second = elim first.why [
   | inl text ↦ elim second.why [
-    | inl other ↦ reading.one_refusal_by (rules_of Judged Clerk) (lines_of bytes) a b text other
+    | inl other ↦ reading.one_refusal_by Judged (lines_of bytes) a b text other
     | inr (run, says, refused) ↦ absurd (no_reading bytes run a says text)
   ]
   | inr (run, says, refused) ↦ elim second.why [
@@ -51,7 +49,7 @@ one_refused_frame : (bytes : List ℕ) (a b : Refusal) → IsRefusedAsFrame byte
 one_refused_frame bytes a b (inl first) (inl second) = one_fault bytes a b first second
 one_refused_frame bytes a b (inl first) (inr second) = absurd (never_both bytes a second.texts first)
 one_refused_frame bytes a b (inr first) (inl second) = absurd (never_both bytes b first.texts second)
-one_refused_frame bytes a b (inr first) (inr second) = reading.one_refusal_by (rules_of Counted Clerk) (lines_of bytes) a b first.why second.why
+one_refused_frame bytes a b (inr first) (inr second) = reading.one_refusal_by Counted (lines_of bytes) a b first.why second.why
 
 one_refused : (output : Output) (bytes : List ℕ) (a b : Refusal) → IsRefusedBytes output bytes a → IsRefusedBytes output bytes b → a ≡ b
 one_refused Report bytes a b first second = one_refused_run_file bytes a b first second
@@ -80,7 +78,7 @@ taken_or_refused bytes run table refusal taken (inr refused) = not_refused_file 
 -- a frame that is taken isn't refused
 frame_or_refused : (bytes : List ℕ) (run : Run) (refusal : Refusal) → IsTakenFrame bytes run → IsRefusedAsFrame bytes refusal → ⊥
 frame_or_refused bytes run refusal taken (inl fault) = never_both bytes refusal taken.texts fault
-frame_or_refused bytes run refusal taken (inr refused) = reading.never_both_by (rules_of Counted Clerk) (lines_of bytes) run refusal taken.says refused.why
+frame_or_refused bytes run refusal taken (inr refused) = reading.never_both_by Counted (lines_of bytes) run refusal taken.says refused.why
 
 suits_or_refused_bytes : (output : Output) (bytes : List ℕ) (refusal : Refusal) → Suits output bytes → IsRefusedBytes output bytes refusal → ⊥
 suits_or_refused_bytes Report bytes refusal suits refused = taken_or_refused bytes suits.0 suits.1 refusal suits.2 refused
@@ -99,4 +97,4 @@ suits_or_refused output bytes refusal suits (inr (short, why)) = suits_or_refuse
 
 -- an input is taken as one frame
 pub one_frame : (bytes : List ℕ) (run other : Run) → IsTakenFrame bytes run → IsTakenFrame bytes other → run ≡ other
-one_frame bytes run other first second = reading.one_run_by (rules_of Counted Clerk) (lines_of bytes) run other first.says second.says
+one_frame bytes run other first second = reading.one_run_by Counted (lines_of bytes) run other first.says second.says

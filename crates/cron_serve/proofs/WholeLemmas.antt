@@ -1,66 +1,110 @@
--- What a whole run has made.
-use Rattle.std.proofs.Common.{◌≡◌, ℕ, List, Some, sym, ◌∙◌, subst, arith, ℤ, pos, ◌-ℤ◌, ◌<ℤ◌, ◌≤ℤ◌}
-use Rattle.std.specs.Prelude.{Contains, slice_get}
-use Rattle.std.proofs.lemmas.Int.{ints}
+-- What the book of a run holds.
+use Rattle.std.proofs.Common.{◌≡◌, ◌≢◌, ◌⊎◌, ℕ, ◌≤◌, List, [], Some, sym, subst, ℤ, ◌<ℤ◌}
+use Rattle.std.specs.Prelude.{Contains, slice_get, take, length}
+use Rattle.std.proofs.Math.Seq.{take-length}
 use Rattle.std.proofs.lemmas.List.Elements.{All-contains}
+use Rattle.disk_model.specs.declared.mem_disk.MemDisk.{MemDisk}
 use Rattle.paxos_base.specs.declared.entry.Entry.{Entry}
-use Rattle.paxos_base.specs.declared.entry.Entry.TheVariants.{Start}
+use Rattle.paxos_base.specs.declared.entry.Entry.TheVariants.{Noop}
 use Rattle.paxos_base.specs.declared.entry.Kind.{Kind}
 use Rattle.paxos_base.specs.declared.entry.Kind.TheVariants.{Launch}
 use Rattle.due_set.specs.Anacron.{IsPeriodOver}
 use Rattle.due_set.specs.Due.{IsRising}
-use Rattle.due_set.specs.Table.{Job, Table, IsJobDue, IsRunByPeriod}
+use Rattle.due_set.specs.Table.{Job, Table, IsJobDue}
 use Rattle.due_set.specs.declared.job.JobKind.TheVariants.{Anacron}
 use Rattle.due_set.specs.declared.job.Period.{Period}
 use Rattle.cluster_sched.specs.declared.row.SchedRow.{SchedRow}
-use Rattle.launch_law.specs.Fits.{HasStart, HasEnd, IsEffective, IsHeld}
-use Rattle.launch_law.specs.Launched.{IsCalledAt, OpensBy}
-use Rattle.launch_law.proofs.EffectLemmas.{effective_each}
-use Rattle.launch_law.proofs.FitLemmas.{held_once, held_started, launched_wanted}
-use Rattle.launch_law.proofs.SettledLemmas.{settled_over}
+use Rattle.launch_law.specs.Fits.{Fits, HasStart, HasEnd, IsBacked, IsEffective, IsHeld}
+use Rattle.launch_law.specs.Launched.{IsCalledAt, IsWanted, LaunchesEachDue, OpensBy}
+use Rattle.due_list.proofs.ListLemmas.{cut_at}
+use Rattle.launch_law.proofs.FitLemmas.{held_once}
 use Rattle.launch_machine.specs.Starts.{StartsOf}
-use Rattle.cron_serve.specs.Serve.{IsWholeRun}
+use Rattle.replica_node.specs.declared.node.Node.{Node}
+use Rattle.script_text.specs.declared.command.Command.{Command}
+use Rattle.script_law.specs.Script.{Obeys}
+use Rattle.fits_law.specs.Fitting.{FitsItsLog, held_in}
+use Rattle.walk_law.specs.Readings.{AreTurnsBy, IsGraceLong, script_turns}
+use Rattle.world_law.specs.Book.{BookState}
+use Rattle.world_law.proofs.Called.{held_at_rest}
+use Rattle.date_law.specs.Barred.{IsBarred}
+use Rattle.date_law.proofs.Whole.{all_unscripted, date_unscripted, due_unscripted, each_date, other_unscripted}
+use Rattle.cron_serve.specs.Serve.{IsRunOf}
+use Rattle.cron_serve.proofs.PlayLemmas.{few_members}
 
-pub made_each : (table : Table) (log : List Entry) (held : List SchedRow) (job : ℕ) (at : ℤ) → IsWholeRun table log held → IsJobDue table job at
-    → HasStart table log job at × HasEnd table log job at Launch × IsHeld held job at Launch
-made_each table log held job at whole due =
-    let before = due.inside.before in
-    let come : at ≤ℤ (table.window.until.0 -ℤ pos 1) = omega (arith, ints) in
-    let over = settled_over table log (table.window.until.0 -ℤ pos 1) job at whole.settled due come in
-    let h = whole.fits.ended job at over.1 over.2 in
-    let is : over.1 ≡ Launch = sym h.of_kind ∙ (launched_wanted table held h.row whole.launched h.among).1 in
-    (over.0, subst (λ (kind : Kind). HasEnd table log job at kind) is over.2, subst (λ (kind : Kind). IsHeld held job at kind) is h)
+module _ (bytes : List ℕ) (table : Table) (book : BookState) (nodes : List (Node MemDisk)) (run : IsRunOf bytes table book nodes) where
+  -- the ledger holds what the rows hold
+  same : book.ledger.held ≡ held_in run.run.members table run.rows
+  same =
+      subst (λ members. book.ledger.held ≡ held_in members table run.rows) run.members (held_at_rest table run.rows book run.rest run.behind)
 
-pub made_once : (table : Table) (log : List Entry) (held : List SchedRow) (a b : SchedRow) → IsWholeRun table log held → Contains held a → Contains held b
-    → a.name.job ≡ b.name.job → a.name.at ≡ b.name.at → a ≡ b
-made_once table log held a b whole in_a in_b jobs ats = held_once table log held a b whole.fits in_a in_b jobs ats
+  fitting : Fits table run.whole.log book.ledger.held
+  fitting =
+      let at_end : take (length run.rows) run.rows ≡ run.rows = take-length run.rows in
+      let fits : FitsItsLog run.run.members table run.rows = subst (FitsItsLog run.run.members table) at_end (run.whole.fits (length run.rows)) in
+      subst (λ (held : List SchedRow). Fits table run.whole.log held) (sym same) (fits run.whole.log run.whole.is_log)
 
-pub made_in_time : (table : Table) (log : List Entry) (held : List SchedRow) (job : ℕ) (at now : ℤ) → IsWholeRun table log held
-    → (IsRunByPeriod table job → ⊥) → Contains log (Start job at now) → now ≡ at
-made_in_time table log held job at now whole other among = whole.in_time.starts job at now other among
+  pub once : (a b : SchedRow) → Contains book.ledger.held a → Contains book.ledger.held b → a.name.job ≡ b.name.job → a.name.at ≡ b.name.at → a ≡ b
+  once a b in_a in_b jobs instants = held_once table run.whole.log book.ledger.held a b fitting in_a in_b jobs instants
 
-pub called_in_time : (table : Table) (log : List Entry) (held : List SchedRow) (row : SchedRow) → IsWholeRun table log held → Contains held row
-    → Contains log (Start row.name.job row.name.at row.now.0)
-called_in_time table log held row whole among =
-    (All-contains (λ (r : SchedRow). Contains log (Start r.name.job r.name.at r.now.0) × (r.by ≡ 0)) held row whole.in_time.calls among).0
+  pub backed : (row : SchedRow) → Contains book.ledger.held row → IsBacked table run.whole.log row
+  backed row among = All-contains (IsBacked table run.whole.log) book.ledger.held row fitting.backed among
 
-pub made_date : (table : Table) (log : List Entry) (held : List SchedRow) (job : ℕ) (now date : ℤ) → IsWholeRun table log held
-    → OpensBy table held job now date → HasStart table log job date × IsCalledAt held job date Launch now
-made_date table log held job now date whole opens =
-    let called = whole.launched.each_date job now date opens in
-    let start = held_started table log held called.row whole.fits called.among in
-    (subst (λ (t : ℤ). HasStart table log job t) called.due_at (subst (λ (n : ℕ). HasStart table log n called.row.name.at) called.of_job start), called)
+  pub end_held : (job : ℕ) (at : ℤ) (kind : Kind) → HasEnd table run.whole.log job at kind → IsHeld book.ledger.held job at kind
+  end_held job at kind ended = fitting.ended job at kind ended
 
-pub dates_rise : (table : Table) (log : List Entry) (held : List SchedRow) (job : ℕ) → IsWholeRun table log held
-    → (dates : List ℤ) × StartsOf table log job dates × IsRising dates
-dates_rise table log held job whole = let order = whole.fits.in_order job in (order.instants, order.starts, order.rising)
+  pub effective : (entry : Entry) → Contains run.whole.log entry → entry ≢ Noop → IsEffective table run.whole.log entry
+  effective entry among other =
+      let (before, after, parts) = cut_at run.whole.log entry among in
+      record { before = before; after = after; parts = parts; takes = run.whole.effective before after entry parts other }
 
-pub made_apart : (table : Table) (log : List Entry) (held : List SchedRow) (a b : SchedRow) (job : Job) (period : Period) (first last : ℕ)
-    → IsWholeRun table log held → Contains held a → Contains held b → a.name.job ≡ b.name.job → a.name.at <ℤ b.name.at
-    → slice_get table.jobs a.name.job ≡ Some job → job.kind ≡ Anacron period first last → IsPeriodOver period a.name.at b.name.at
-made_apart table log held a b job period first last whole in_a in_b jobs sooner is_job kind =
-    whole.fits.apart a b in_a in_b jobs (launched_wanted table held a whole.launched in_a).1 (launched_wanted table held b whole.launched in_b).1 sooner job period first last is_job kind
+  pub each_ended : (job : ℕ) (at : ℤ) → IsJobDue table job at
+      → HasStart table run.whole.log job at × (kind : Kind) × HasEnd table run.whole.log job at kind × IsHeld book.ledger.held job at kind
+  each_ended job at due =
+      let (start, kind, ended) = run.whole.ended job at due in
+      (start, kind, ended, end_held job at kind ended)
 
-pub made_effective : (table : Table) (log : List Entry) (held : List SchedRow) (entry : Entry) → IsWholeRun table log held → Contains log entry
-    → IsEffective table log entry
-made_effective table log held entry whole among = effective_each table log entry whole.effective among
+  pub later : (job : ℕ) (at : ℤ) → IsJobDue table job at → AreTurnsBy at (script_turns run.whole.obeyed) → IsCalledAt book.ledger.held job at Launch at
+  later job at due by = subst (λ (held : List SchedRow). IsCalledAt held job at Launch at) (sym same) (run.whole.later job at due by)
+
+  pub each_within_grace : (job : ℕ) (at : ℤ) → IsGraceLong table → IsJobDue table job at → IsHeld book.ledger.held job at Launch
+  each_within_grace job at long due = subst (λ (held : List SchedRow). IsHeld held job at Launch) (sym same) (run.whole.all long job at due)
+
+  pub dates_rise : (job : ℕ) → (dates : List ℤ) × StartsOf table run.whole.log job dates × IsRising dates
+  dates_rise job = let order = fitting.in_order job in (order.instants, order.starts, order.rising)
+
+  pub dates_apart : (a b : SchedRow) (job : Job) (period : Period) (first last : ℕ)
+      → Contains book.ledger.held a → Contains book.ledger.held b → a.name.job ≡ b.name.job → a.kind ≡ Launch → b.kind ≡ Launch → a.name.at <ℤ b.name.at
+      → slice_get table.jobs a.name.job ≡ Some job → job.kind ≡ Anacron period first last → IsPeriodOver period a.name.at b.name.at
+  dates_apart a b job period first last in_a in_b jobs one other sooner is_job kind = fitting.apart a b in_a in_b jobs one other sooner job period first last is_job kind
+
+  pub each_opened : (job : ℕ) (now date : ℤ) → OpensBy table book.ledger.held job now date → AreTurnsBy now (script_turns run.whole.obeyed)
+      → IsCalledAt book.ledger.held job date Launch now ⊎ IsBarred run.run.members table run.rows job now date
+  each_opened job now date opens by =
+      subst (λ (held : List SchedRow). IsCalledAt held job date Launch now ⊎ IsBarred run.run.members table run.rows job now date) (sym same)
+      (each_date run.run.members table run.run.commands run.rows run.whole.obeyed job now date (few_members bytes run.run table run.taken) run.whole.legal
+      (subst (λ (held : List SchedRow). OpensBy table held job now date) same opens) by)
+
+  -- the script has no command
+  module _ (none : run.run.commands ≡ []) where
+    few : run.run.members ≤ 7
+    few = few_members bytes run.run table run.taken
+
+    walks : Obeys run.run.members table [] run.rows
+    walks = subst (λ (script : List Command). Obeys run.run.members table script run.rows) none run.whole.obeyed
+
+    pub each_called : (job : ℕ) (at : ℤ) → IsJobDue table job at → IsCalledAt book.ledger.held job at Launch at
+    each_called job at due =
+        subst (λ (held : List SchedRow). IsCalledAt held job at Launch at) (sym same) (due_unscripted run.run.members table run.rows job at few run.whole.legal walks due)
+
+    pub each_date_called : (job : ℕ) (now date : ℤ) → OpensBy table book.ledger.held job now date → IsCalledAt book.ledger.held job date Launch now
+    each_date_called job now date opens =
+        subst (λ (held : List SchedRow). IsCalledAt held job date Launch now) (sym same)
+        (date_unscripted run.run.members table run.rows job now date few run.whole.legal walks (subst (λ (held : List SchedRow). OpensBy table held job now date) same opens))
+
+    pub none_other : (row : SchedRow) → Contains book.ledger.held row → IsWanted table book.ledger.held row × (row.kind ≡ Launch)
+    none_other row among =
+        subst (λ (held : List SchedRow). IsWanted table held row × (row.kind ≡ Launch)) (sym same)
+        (other_unscripted run.run.members table run.rows row few run.whole.legal walks (subst (λ (held : List SchedRow). Contains held row) same among))
+
+    pub all_launched : LaunchesEachDue table book.ledger.held
+    all_launched = subst (LaunchesEachDue table) (sym same) (all_unscripted run.run.members table run.rows few run.whole.legal walks)

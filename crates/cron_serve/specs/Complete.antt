@@ -3,8 +3,9 @@ use Rattle.std.specs.Prelude.{◌≡◌, ◌⊎◌, ℕ, ◌<◌, List, length, 
 use Rattle.cron_io.specs.Faults.{Rose}
 use Rattle.cron_io.specs.Views.{SourceView, SinkView}
 use Rattle.cron_io.specs.Writing.{HasGained, HasGainedPrefix, HasTakenAll}
-use Rattle.paxos_base.specs.declared.entry.Entry.{Entry}
-use Rattle.cluster_sched.specs.declared.row.SchedRow.{SchedRow}
+use Rattle.disk_model.specs.declared.mem_disk.MemDisk.{MemDisk}
+use Rattle.replica_node.specs.declared.node.Node.{Node}
+use Rattle.world_law.specs.Book.{BookState}
 use Rattle.run_text.specs.declared.refusal.Refusal.{Refusal}
 use Rattle.cron_serve.specs.Input.{IsRefusedInput, Suits}
 use Rattle.cron_serve.specs.Serve.{IsTextOfInput}
@@ -31,15 +32,15 @@ pub record EndsUndisturbed (output : Output) (source source' : SourceView) (sink
   pub written : ¬ Rose sink.faults sink'.faults
 
 -- the text of the input was written, and found room in the sink
-pub record HasRoomForText (output : Output) (source source' : SourceView) (sink sink' : SinkView) (log : List Entry) (held : List SchedRow) (room : ℕ) : Type 0 where
+pub record HasRoomForText (output : Output) (source source' : SourceView) (sink sink' : SinkView) (book : BookState) (nodes : List (Node MemDisk)) (room : ℕ) : Type 0 where
   pub text : List ℕ
-  pub of_input : IsTextOfInput output source source' log held text
+  pub of_input : IsTextOfInput output source source' book nodes text
   pub gained : HasGained sink sink' text
   pub taken : HasTakenAll room sink sink' text
 
 -- the text of the input is longer than the sink's room, and a front of it was written
-pub record LacksRoomForText (output : Output) (source source' : SourceView) (sink sink' : SinkView) (log : List Entry) (held : List SchedRow) (room : ℕ) : Type 0 where
+pub record LacksRoomForText (output : Output) (source source' : SourceView) (sink sink' : SinkView) (book : BookState) (nodes : List (Node MemDisk)) (room : ℕ) : Type 0 where
   pub text : List ℕ
-  pub of_input : IsTextOfInput output source source' log held text
+  pub of_input : IsTextOfInput output source source' book nodes text
   pub front : HasGainedPrefix sink sink' text
   pub beyond : room < length text

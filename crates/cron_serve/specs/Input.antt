@@ -5,7 +5,6 @@ use Rattle.due_set.specs.Table.{Table}
 use Rattle.run_text.specs.Reading.{IsRunText, IsRefusedText, IsFrameText, IsRefusedFrame}
 use Rattle.run_text.specs.Run.{Run}
 use Rattle.run_text.specs.declared.refusal.Refusal.{Refusal}
-use Rattle.run_text.specs.declared.rules.Player.TheVariants.{Clerk}
 use Rattle.job_table.specs.Table.{IsTableOf, IsRefusedRun, whole_run}
 use Rattle.cron_serve.specs.Text.{AreTexts, IsNotText}
 use Rattle.cron_serve.specs.declared.words.Output.{Output}
@@ -16,14 +15,14 @@ use Rattle.cron_fields.specs.declared.cause.Cause.TheVariants.{TooLarge}
 pub record IsTaken (bytes : List ℕ) (run : Run) (table : Table) : Type 0 where
   pub short : length bytes ≤ 1_048_576
   pub texts : AreTexts (lines_of bytes)
-  pub says : IsRunText Clerk bytes run
+  pub says : IsRunText bytes run
   pub table_is : IsTableOf run table
 
 -- the input is the text of this run, whose tables may have lines that break a rule
 pub record IsTakenFrame (bytes : List ℕ) (run : Run) : Type 0 where
   pub short : length bytes ≤ 1_048_576
   pub texts : AreTexts (lines_of bytes)
-  pub says : IsFrameText Clerk bytes run
+  pub says : IsFrameText bytes run
 
 -- the input is one of which this can be written: of a run with a table, and the check of any run
 abbrev pub Suits : Output → List ℕ → Type 0
@@ -33,17 +32,17 @@ Suits Check bytes = (run : Run) × IsTakenFrame bytes run
 
 -- the text of a run is refused for the run's tables
 abbrev pub IsRefusedTable : List ℕ → Refusal → Type 0
-IsRefusedTable bytes refusal = (run : Run) × IsRunText Clerk bytes run × IsRefusedRun run refusal
+IsRefusedTable bytes refusal = (run : Run) × IsRunText bytes run × IsRefusedRun run refusal
 
 -- the bytes are text, and are refused as a run file, or else for the tables in it
 pub record IsRefusedRunFile (bytes : List ℕ) (refusal : Refusal) : Type 0 where
   pub texts : AreTexts (lines_of bytes)
-  pub why : IsRefusedText Clerk bytes refusal ⊎ IsRefusedTable bytes refusal
+  pub why : IsRefusedText bytes refusal ⊎ IsRefusedTable bytes refusal
 
 -- the bytes are text, and are refused as a run file, whatever the lines of its tables say
 pub record IsRefusedFrameFile (bytes : List ℕ) (refusal : Refusal) : Type 0 where
   pub texts : AreTexts (lines_of bytes)
-  pub why : IsRefusedFrame Clerk bytes refusal
+  pub why : IsRefusedFrame bytes refusal
 
 -- the bytes are refused for what they say: they are no text, or else no run that is taken
 abbrev pub IsRefusedAsRun : List ℕ → Refusal → Type 0

@@ -4,16 +4,16 @@ use Rattle.cron_io.specs.Faults.{Rose}
 use Rattle.cron_io.specs.Reading.{IsReadToEnd, HasTakenCount}
 use Rattle.cron_io.specs.Views.{SourceView, SinkView}
 use Rattle.cron_io.specs.Writing.{HasGained, HasGainedPrefix}
-use Rattle.paxos_base.specs.declared.entry.Entry.{Entry}
 use Rattle.due_set.specs.Table.{Table}
 use Rattle.due_list.specs.CheckText.{IsCheckText}
 use Rattle.due_list.specs.DueText.{IsDueText}
-use Rattle.cluster_sched.specs.declared.row.SchedRow.{SchedRow}
-use Rattle.launch_clerk.specs.Book.{AreInTheirMinutes}
-use Rattle.launch_law.specs.Fits.{Fits, AreAllEffective}
-use Rattle.launch_law.specs.Launched.{LaunchesEachDue}
-use Rattle.launch_law.specs.Settled.{IsSettled}
-use Rattle.report_text.specs.Report.{IsReport}
+use Rattle.disk_model.specs.declared.mem_disk.MemDisk.{MemDisk}
+use Rattle.replica_node.specs.declared.node.Node.{Node}
+use Rattle.book_law.specs.Book.{Row}
+use Rattle.world_law.specs.Book.{BookState, StandsBehind}
+use Rattle.report_text.specs.Book.{IsBookReport}
+use Rattle.whole_law.specs.Whole.{IsWholeRun}
+use Rattle.world_play.specs.Play.{AreMemNodesOf}
 use Rattle.run_text.specs.Run.{Run}
 use Rattle.run_text.specs.declared.refusal.Refusal.{Refusal}
 use Rattle.job_table.specs.Table.{whole_run}
@@ -38,30 +38,23 @@ pub record IsReadAndRefused (output : Output) (old new : SourceView) (refusal : 
 abbrev pub IsRefused : Output → (old new : SourceView) → Refusal → Type 0
 IsRefused output old new refusal = IsTooLarge old new refusal ⊎ IsReadAndRefused output old new refusal
 
--- The log and the rows that the ledger holds are those of a run of these jobs, up to the last minute of the window.
-pub record IsWholeRun (table : Table) (log : List Entry) (held : List SchedRow) : Type 0 where
-  -- no launch is held twice, each was started, the log's ends say what is held, and launches are a period apart
-  pub fits : Fits table log held
-  -- nothing in the log is ignored
-  pub effective : AreAllEffective table log
-  -- nothing is left to do
-  pub settled : IsSettled table log (table.window.until.0 -ℤ pos 1)
-  -- each due instant is launched, each date on which a job may open is, and nothing else
-  pub launched : LaunchesEachDue table held
-  -- each launch is called at the instant of its start: that at which it is due, or one of its date
-  pub in_time : AreInTheirMinutes table log held
-
--- the bytes are a run that is taken, of these jobs, with this log and these rows
-pub record IsRunOf (bytes : List ℕ) (table : Table) (log : List Entry) (held : List SchedRow) : Type 0 where
+-- **The bytes are a run that is taken**, of these jobs, and this book and these nodes are what it leaves: behind the book stand the turns of a
+-- whole run of its script, and each node keeps what its replica keeps.
+pub record IsRunOf (bytes : List ℕ) (table : Table) (book : BookState) (nodes : List (Node MemDisk)) : Type 0 where
   pub run : Run
   pub taken : IsTaken bytes run table
-  pub whole : IsWholeRun table log held
+  pub members : book.members ≡ run.members
+  pub rest : book.pending ≡ None
+  pub rows : List Row
+  pub behind : StandsBehind table rows book
+  pub whole : IsWholeRun run.members table run.commands rows
+  pub kept : AreMemNodesOf table rows book nodes
 
--- the bytes are such a run, and this is the report of its rows: there is one replica
-pub record IsReportOf (bytes : List ℕ) (log : List Entry) (held : List SchedRow) (text : List ℕ) : Type 0 where
+-- the bytes are such a run, and this is the report of its book
+pub record IsReportOf (bytes : List ℕ) (book : BookState) (nodes : List (Node MemDisk)) (text : List ℕ) : Type 0 where
   pub table : Table
-  pub run : IsRunOf bytes table log held
-  pub report : IsReport table 1 held text
+  pub run : IsRunOf bytes table book nodes
+  pub report : IsBookReport table book text
 
 -- the bytes are a run that is taken, and these are the due instants of its jobs
 pub record IsDueListOf (bytes text : List ℕ) : Type 0 where
@@ -76,37 +69,33 @@ pub record IsCheckOf (bytes text : List ℕ) : Type 0 where
   pub frame : IsTakenFrame bytes run
   pub check : IsCheckText run text
 
--- there is no log, and nothing is held
-pub record LeavesNoRun (log : List Entry) (held : List SchedRow) : Type 0 where
-  pub no_entry : log ≡ []
-  pub no_row : held ≡ []
+-- there is no run: the book has no turn, whatever the jobs, no call is pending in it, and there is no node
+pub record LeavesNoRun (book : BookState) (nodes : List (Node MemDisk)) : Type 0 where
+  pub no_turn : (table : Table) → StandsBehind table [] book
+  pub no_call : book.pending ≡ None
+  pub no_node : nodes ≡ []
 
--- This is to be written of the bytes, and this log and these rows are left: only the report is of a run that was made.
-abbrev pub IsTextOf : Output → List ℕ → List Entry → List SchedRow → (text : List ℕ) → Type 0
-IsTextOf Report bytes log held text = IsReportOf bytes log held text
-IsTextOf DueList bytes log held text = LeavesNoRun log held × IsDueListOf bytes text
-IsTextOf Check bytes log held text = LeavesNoRun log held × IsCheckOf bytes text
+-- This is to be written of the bytes, and this book and these nodes are left: only the report is of a run that was made.
+abbrev pub IsTextOf : Output → List ℕ → BookState → List (Node MemDisk) → (text : List ℕ) → Type 0
+IsTextOf Report bytes book nodes text = IsReportOf bytes book nodes text
+IsTextOf DueList bytes book nodes text = LeavesNoRun book nodes × IsDueListOf bytes text
+IsTextOf Check bytes book nodes text = LeavesNoRun book nodes × IsCheckOf bytes text
 
 -- the input was read to its end, and this is to be written of it
-pub record IsTextOfInput (output : Output) (old new : SourceView) (log : List Entry) (held : List SchedRow) (text : List ℕ) : Type 0 where
+pub record IsTextOfInput (output : Output) (old new : SourceView) (book : BookState) (nodes : List (Node MemDisk)) (text : List ℕ) : Type 0 where
   pub bytes : List ℕ
   pub read : IsReadToEnd old new bytes
-  pub is : IsTextOf output bytes log held text
+  pub is : IsTextOf output bytes book nodes text
 
 -- the text of the input was written
-abbrev pub WritesText : Output → (source source' : SourceView) (sink sink' : SinkView) → List Entry → List SchedRow → Type 0
-WritesText output source source' sink sink' log held =
-    (text : List ℕ) × IsTextOfInput output source source' log held text × HasGained sink sink' text
+abbrev pub WritesText : Output → (source source' : SourceView) (sink sink' : SinkView) → BookState → List (Node MemDisk) → Type 0
+WritesText output source source' sink sink' book nodes =
+    (text : List ℕ) × IsTextOfInput output source source' book nodes text × HasGained sink sink' text
 
 -- a front of the text of the input was written
-abbrev pub WritesSome : Output → (source source' : SourceView) (sink sink' : SinkView) → List Entry → List SchedRow → Type 0
-WritesSome output source source' sink sink' log held =
-    (text : List ℕ) × IsTextOfInput output source source' log held text × HasGainedPrefix sink sink' text
-
--- a front of the text of the input was written, of a run of which nothing may be left
-abbrev pub WritesSomeOfRun : Output → (source source' : SourceView) (sink sink' : SinkView) → Type 0
-WritesSomeOfRun output source source' sink sink' =
-    (log : List Entry) × (held : List SchedRow) × WritesSome output source source' sink sink' log held
+abbrev pub WritesSome : Output → (source source' : SourceView) (sink sink' : SinkView) → BookState → List (Node MemDisk) → Type 0
+WritesSome output source source' sink sink' book nodes =
+    (text : List ℕ) × IsTextOfInput output source source' book nodes text × HasGainedPrefix sink sink' text
 
 -- the note of a refusal
 abbrev pub refusal_note : Refusal → List ℕ

@@ -1,43 +1,75 @@
 -- The words of the command line: the options, how each is spelled, which may stand together, and what they ask for.
-use Rattle.std.specs.Prelude.{◌≡◌, ℕ, List, [], ◌∷◌, map, codes, AllPairs, String, string_bytes}
+use Rattle.std.specs.Prelude.{◌≡◌, ◌⊎◌, ◌≤◌, ℕ, List, [], ◌∷◌, ◌++◌, Option, None, Some, unwrap_or, map, codes, decimal, AllPairs, String, string_bytes}
 use Rattle.std.specs.declared.alloc.Global.{Global}
+use Rattle.cron_serve.specs.declared.words.Asked.{Asked}
 use Rattle.cron_serve.specs.declared.words.Choice.{Choice}
 use Rattle.cron_serve.specs.declared.words.Choice.TheVariants as choice
 use Rattle.cron_serve.specs.declared.words.Output.{Output}
 use Rattle.cron_serve.specs.declared.words.Output.TheVariants.{Report, DueList, Check}
+use Rattle.cron_serve.specs.declared.words.Wishes.{Wishes}
 
--- the word of an option
-abbrev pub spelling : Choice → List ℕ
-spelling choice.List = codes "--list"
-spelling choice.Check = codes "--check"
+-- the words are this name and this value: two words, or one with `=` between the two
+abbrev pub IsNameWithValue : (name value : List ℕ) → List (List ℕ) → Type 0
+IsNameWithValue name value words = (words ≡ name ∷ value ∷ []) ⊎ (words ≡ (name ++ codes "=" ++ value) ∷ [])
 
--- what an option asks the program to write
-abbrev pub output_of : Choice → Output
-output_of choice.List = DueList
-output_of choice.Check = Check
+-- the words spell the option
+abbrev pub IsSpelledBy : Choice → List (List ℕ) → Type 0
+IsSpelledBy choice.List words = words ≡ codes "--list" ∷ []
+IsSpelledBy choice.Check words = words ≡ codes "--check" ∷ []
+IsSpelledBy (choice.Lanes lanes) words = (1 ≤ lanes) × (lanes ≤ 8) × IsNameWithValue (codes "--lanes") (decimal lanes) words
+
+-- the words begin with a spelling of the option, and the others stand behind it
+abbrev pub BeginsWith : Choice → (words others : List (List ℕ)) → Type 0
+BeginsWith choice words others = (own : List (List ℕ)) × IsSpelledBy choice own × (words ≡ own ++ others)
+
+-- the words spell the options, one behind the other
+abbrev pub AreSpelledBy : List Choice → List (List ℕ) → Type 0
+AreSpelledBy [] words = words ≡ []
+AreSpelledBy (choice ∷ choices) words = (others : List (List ℕ)) × BeginsWith choice words others × AreSpelledBy choices others
 
 -- The two options may stand on one command line, in this order. Of those that ask for a text, one may stand.
 abbrev pub MayStandTogether : Choice → Choice → Type 0
-MayStandTogether choice.List other = ⊥
-MayStandTogether choice.Check other = ⊥
+MayStandTogether choice.List (choice.Lanes lanes) = Unit {0}
+MayStandTogether choice.Check (choice.Lanes lanes) = Unit {0}
+MayStandTogether (choice.Lanes lanes) choice.List = Unit {0}
+MayStandTogether (choice.Lanes lanes) choice.Check = Unit {0}
+MayStandTogether choice other = ⊥
 
 -- the words are those of the options, any two of which may stand together
 pub record AreWordsOf (choices : List Choice) (words : List (List ℕ)) : Type 0 where
-  pub spelled : words ≡ map spelling choices
+  pub spelled : AreSpelledBy choices words
   pub together : AllPairs MayStandTogether choices
 
--- what options ask the program to write: the report, unless one of them asks for another text
-abbrev pub wanted : List Choice → Output
-wanted [] = Report
-wanted (choice ∷ choices) = output_of choice
+-- what the first option that says so asks the program to write
+abbrev pub output_of : List Choice → Option Output
+output_of [] = None
+output_of (choice.List ∷ choices) = Some DueList
+output_of (choice.Check ∷ choices) = Some Check
+output_of (choice.Lanes lanes ∷ choices) = output_of choices
 
--- the words ask the program to write this
-abbrev pub Asks : List (List ℕ) → Output → Type 0
-Asks words output = (choices : List Choice) × AreWordsOf choices words × (output ≡ wanted choices)
+-- how many lanes the first option that says so asks for
+abbrev pub lanes_of : List Choice → Option ℕ
+lanes_of [] = None
+lanes_of (choice.Lanes lanes ∷ choices) = Some lanes
+lanes_of (choice ∷ choices) = lanes_of choices
+
+-- what options ask for: the report unless one of them asks for another text, on one lane unless one asks for more
+abbrev pub wanted : List Choice → Asked
+wanted choices = record { output = unwrap_or (output_of choices) Report; lanes = unwrap_or (lanes_of choices) 1 }
+
+-- the words ask for this
+abbrev pub Asks : List (List ℕ) → Asked → Type 0
+Asks words asked = (choices : List Choice) × AreWordsOf choices words × (asked ≡ wanted choices)
 
 -- the words are those of no options
 abbrev pub AsksNothing : List (List ℕ) → Type 0
 AsksNothing words = (choices : List Choice) → AreWordsOf choices words → ⊥
+
+-- the options may stand together, and ask for this
+pub record AreWishesOf (choices : List Choice) (wishes : Wishes) : Type 0 where
+  pub together : AllPairs MayStandTogether choices
+  pub output : wishes.output ≡ output_of choices
+  pub lanes : wishes.lanes ≡ lanes_of choices
 
 -- the texts of the program's arguments
 abbrev pub texts_of : List (String Global) → List (List ℕ)

@@ -3,8 +3,9 @@ use Rattle.std.specs.Prelude.{◌≡◌, ◌⊎◌, ℕ, ◌<◌, ◌≤◌, Lis
 use Rattle.cron_io.specs.Faults.{Rose}
 use Rattle.cron_io.specs.Views.{SinkView}
 use Rattle.cron_io.specs.Writing.{HasGained, HasGainedPrefix, HasTakenAll}
-use Rattle.paxos_base.specs.declared.entry.Entry.{Entry}
-use Rattle.cluster_sched.specs.declared.row.SchedRow.{SchedRow}
+use Rattle.disk_model.specs.declared.mem_disk.MemDisk.{MemDisk}
+use Rattle.replica_node.specs.declared.node.Node.{Node}
+use Rattle.world_law.specs.Book.{BookState}
 use Rattle.due_list.specs.declared.fault.ListFault.{ListFault}
 use Rattle.due_list.specs.declared.fault.ListFault.TheVariants.{WriteFault, OutOfMemory}
 use Rattle.cron_serve.specs.Serve.{IsTextOf, LeavesNoRun}
@@ -27,17 +28,23 @@ status_of_listing (Ok done) = 0
 status_of_listing (Err WriteFault) = 4
 status_of_listing (Err OutOfMemory) = 5
 
--- the text of the bytes was written, as this status tells, and this log and these rows are left
-pub record WritesTextOf (output : Output) (bytes : List ℕ) (sink sink' : SinkView) (status : ℕ) (log : List Entry) (held : List SchedRow) : Type 0 where
+-- the text of the bytes was written, as this status tells, and this book and these nodes are left
+pub record WritesTextOf (output : Output) (bytes : List ℕ) (sink sink' : SinkView) (status : ℕ) (book : BookState) (nodes : List (Node MemDisk)) : Type 0 where
   pub text : List ℕ
-  pub is : IsTextOf output bytes log held text
+  pub is : IsTextOf output bytes book nodes text
   pub written : WritesAtStatus sink sink' status text
 
--- The end of the program that wrote the text of the bytes: it is told at status 0 and 4. At status 5 memory ran out: no run is left.
+-- nothing was written, and no run is left
+pub record LeavesNothing (sink sink' : SinkView) (book : BookState) (nodes : List (Node MemDisk)) : Type 0 where
+  pub unwritten : sink' ≡ sink
+  pub no_run : LeavesNoRun book nodes
+
+-- The end of the program that wrote the text of the bytes: it is told at status 0 and 4, and at 5 where memory ran out within the text.
+-- Where it ran out before, nothing was written.
 pub record EndsWriting (output : Output) (bytes : List ℕ) (sink sink' : SinkView) (end : RunEnd) : Type 0 where
   pub statuses : (end.status ≡ 0) ⊎ (end.status ≡ 4) ⊎ (end.status ≡ 5)
   pub no_refusal : end.refusal ≡ None
   pub later : sink.faults ≤ sink'.faults
-  pub told : (end.status ≡ 0) ⊎ (end.status ≡ 4) → WritesTextOf output bytes sink sink' end.status end.log end.ledger.held
-  pub memory : end.status ≡ 5 → (sink' ≡ sink) ⊎ ((log : List Entry) × (held : List SchedRow) × WritesTextOf output bytes sink sink' end.status log held)
-  pub no_run : end.status ≡ 5 → LeavesNoRun end.log end.ledger.held
+  pub told : (end.status ≡ 0) ⊎ (end.status ≡ 4) → WritesTextOf output bytes sink sink' end.status end.book end.nodes.items
+  pub memory : end.status ≡ 5
+      → LeavesNothing sink sink' end.book end.nodes.items ⊎ WritesTextOf output bytes sink sink' end.status end.book end.nodes.items

@@ -1,32 +1,34 @@
 //! What is written of an input that was read.
-ghost use Rattle.std.specs.Prelude.{◌≡◌, ◌⊎◌, ◌≢◌, ◌≤◌, List, ℕ, length, None, IfOk, IfErr, All};
-ghost use Rattle.cluster_sched.specs.Names.{IsNameIn};
-ghost use Rattle.report_text.specs.Report.{IsReport};
+ghost use Rattle.std.specs.Prelude.{◌≡◌, ◌⊎◌, ◌<◌, ◌≤◌, List, ℕ, length, None, IfOk, IfErr};
+ghost use Rattle.report_text.specs.Book.{IsBookReport};
 ghost use Rattle.run_text.specs.Steps.{IfRefused};
+ghost use Rattle.world_law.specs.Book.{IsLegalBook};
 ghost use Rattle.cron_serve.specs.Input.{IsRefusedAsFrame, IsRefusedAsRun, IsRefusedBytes};
-ghost use Rattle.cron_serve.specs.Serve.{LeavesNoRun};
+ghost use Rattle.cron_serve.specs.Serve.{IsRunOf, LeavesNoRun};
 ghost use Rattle.cron_serve.specs.Written.{EndsWriting, WritesAtStatus, status_of_listing};
 
 use crate::input::{take_frame, take_table};
 use crate::run_end::RunEnd;
-use crate::stop::Stop;
-use crate::words::Output;
+use crate::words::{Asked, Output};
 use cron_io::Sink;
+use disk_model::MemDisk;
 use due_list::{ListFault, write_check, write_due};
 use due_set::JobTable;
-use launch_clerk::{LaunchBook, run_clerk};
-use report_text::{ReportFault, write_report};
+use replica_node::Node;
+use report_text::{ReportFault, write_book_report};
 use run_text::RunFault;
 use std::alloc::Global;
+use std::thread::Threads;
+use world_law::Book;
+use world_play::play_run;
 
-/// There is one replica so far.
-const REPLICAS: u8 = 1;
-
-// The table of the jobs of a run that was read, and the book that the clerk left.
-#[derive(Debug, Drop)]
-struct Walked {
+// A run that was played: the table of its jobs, its number of replicas, and the book and the nodes that it left.
+#[derive(Drop)]
+struct Played {
     table: JobTable,
-    book: LaunchBook,
+    members: u8,
+    book: Book,
+    nodes: Vec<Node<MemDisk>>,
 }
 
 /// Writes what is asked for of an input.
@@ -34,58 +36,93 @@ struct Walked {
 /// # Errors
 ///
 /// What the input is refused for, or want of memory; then nothing is written.
-pub fn write_output<K: Sink>(
+pub fn write_output<K: Sink, R: Threads + Sync>(
+    rt: &R,
     alloc: Global,
-    output: Output,
+    asked: Asked,
     bytes: &[u8],
     sink: &mut K,
 ) -> Result<RunEnd, RunFault>
-    requires { length bytes.now ≤ 1_048_576 }
-    ensures end { IfOk result (EndsWriting output bytes.now (K.seen sink.old) (K.seen sink.new)) }
-    ensures refused { IfErr result (λ fault. IfRefused fault (IsRefusedBytes output bytes.now)) }
+    requires short { length bytes.now ≤ 1_048_576 }
+    requires lanes { 0 < asked.lanes }
+    ensures end { IfOk result (EndsWriting asked.output bytes.now (K.seen sink.old) (K.seen sink.new)) }
+    ensures refused { IfErr result (λ fault. IfRefused fault (IsRefusedBytes asked.output bytes.now)) }
     ensures unwritten { IfErr result (λ _. K.seen sink.new ≡ K.seen sink.old) }
 {
-    match output {
-        Output::Report => launch(alloc, bytes, sink),
+    match asked.output {
+        Output::Report => launch(rt, alloc, asked.lanes, bytes, sink),
         Output::DueList => list(alloc, bytes, sink),
         Output::Check => check(alloc, bytes, sink),
     }
 }
 
-// Lets the clerk walk through the run, and writes its report.
-fn launch<K: Sink>(alloc: Global, bytes: &[u8], sink: &mut K) -> Result<RunEnd, RunFault>
-    requires { length bytes.now ≤ 1_048_576 }
+// Plays the run, and writes its report.
+fn launch<K: Sink, R: Threads + Sync>(
+    rt: &R,
+    alloc: Global,
+    lanes: u8,
+    bytes: &[u8],
+    sink: &mut K,
+) -> Result<RunEnd, RunFault>
+    requires short { length bytes.now ≤ 1_048_576 }
+    requires lanes { 0 < lanes }
     ensures end { IfOk result (EndsWriting Output.Report bytes.now (K.seen sink.old) (K.seen sink.new)) }
     ensures refused { IfErr result (λ fault. IfRefused fault (IsRefusedAsRun bytes.now)) }
     ensures unwritten { IfErr result (λ _. K.seen sink.new ≡ K.seen sink.old) }
 {
-    let table = take_table(alloc, bytes)?;
-    let book = run_clerk(alloc, &table)?;
-    Ok(report(alloc, sink, Walked { table, book }))
+    let played = play(rt, alloc, lanes, bytes)?;
+    Ok(report(alloc, sink, played))
+}
+
+// Plays the run in a world of its replicas.
+fn play<R: Threads + Sync>(
+    rt: &R,
+    alloc: Global,
+    lanes: u8,
+    bytes: &[u8],
+) -> Result<Played, RunFault>
+    requires short { length bytes.now ≤ 1_048_576 }
+    requires lanes { 0 < lanes }
+    ensures run { IfOk result (λ played. IsRunOf bytes.now played.table played.book played.nodes.items) }
+    ensures members { IfOk result (λ played. played.book.members ≡ played.members) }
+    ensures few { IfOk result (λ played. played.members ≤ 7) }
+    ensures refused { IfErr result (λ fault. IfRefused fault (IsRefusedAsRun bytes.now)) }
+{
+    let (run, table) = take_table(alloc, bytes)?;
+    let commands = run.commands.as_slice();
+    let world = play_run(rt, alloc, &table, run.members, commands, lanes)?;
+    let (book, nodes) = world.into_book();
+    Ok(Played {
+        table,
+        members: run.members,
+        book,
+        nodes,
+    })
 }
 
 // Writes the report of a run.
-fn report<K: Sink>(alloc: Global, sink: &mut K, walked: Walked) -> RunEnd
-    requires { All (λ row. IsNameIn walked.table row.name) walked.book.held }
-    ensures text { (text : List ℕ) × IsReport walked.table 1 walked.book.held text
+fn report<K: Sink>(alloc: Global, sink: &mut K, played: Played) -> RunEnd
+    requires few { played.members ≤ 7 }
+    requires members { played.book.members ≡ played.members }
+    requires legal { IsLegalBook played.table played.book }
+    requires rest { played.book.pending ≡ None }
+    ensures text { (text : List ℕ) × IsBookReport played.table played.book text
         × WritesAtStatus (K.seen sink.old) (K.seen sink.new) result.status text }
-    ensures log { result.status ≢ 5 → result.log ≡ walked.book.log }
-    ensures held { result.status ≢ 5 → result.ledger.held ≡ walked.book.held }
-    ensures no_run { result.status ≡ 5 → LeavesNoRun result.log result.ledger.held }
+    ensures book { result.book ≡ played.book }
+    ensures nodes { result.nodes.items ≡ played.nodes.items }
     ensures refusal { result.refusal ≡ None }
     ensures statuses { (result.status ≡ 0) ⊎ (result.status ≡ 4) ⊎ (result.status ≡ 5) }
 {
-    let status = match write_report(alloc, sink, &walked.table, REPLICAS, walked.book.held()) {
+    let status = match write_book_report(alloc, sink, &played.table, played.members, &played.book) {
         Ok(()) => 0,
         Err(ReportFault::WriteFault) => 4,
-        Err(ReportFault::OutOfMemory) => return RunEnd::stopped(alloc, Stop::OutOfMemory),
+        Err(ReportFault::OutOfMemory) => 5,
     };
-    let (log, ledger) = walked.book.into_parts();
     RunEnd {
         status,
         refusal: None,
-        log,
-        ledger,
+        book: played.book,
+        nodes: played.nodes,
     }
 }
 
@@ -96,7 +133,7 @@ fn list<K: Sink>(alloc: Global, bytes: &[u8], sink: &mut K) -> Result<RunEnd, Ru
     ensures refused { IfErr result (λ fault. IfRefused fault (IsRefusedAsRun bytes.now)) }
     ensures unwritten { IfErr result (λ _. K.seen sink.new ≡ K.seen sink.old) }
 {
-    let table = take_table(alloc, bytes)?;
+    let (_run, table) = take_table(alloc, bytes)?;
     Ok(end_of_listing(alloc, write_due(alloc, sink, &table)))
 }
 
@@ -115,7 +152,7 @@ fn check<K: Sink>(alloc: Global, bytes: &[u8], sink: &mut K) -> Result<RunEnd, R
 fn end_of_listing(alloc: Global, written: Result<(), ListFault>) -> RunEnd
     ensures status { result.status ≡ status_of_listing written }
     ensures refusal { result.refusal ≡ None }
-    ensures no_run { LeavesNoRun result.log result.ledger.held }
+    ensures no_run { LeavesNoRun result.book result.nodes.items }
 {
     let status = match written {
         Ok(()) => 0,

@@ -1,5 +1,5 @@
 ghost use Rattle.std.specs.Prelude.{◌≤◌, length, IfOk, IfErr};
-ghost use Rattle.run_text.specs.Run.{Run, run_of};
+ghost use Rattle.run_text.specs.Run.{run_of};
 ghost use Rattle.run_text.specs.Reading.{IsReadFrame};
 ghost use Rattle.run_text.specs.Steps.{IfRefused};
 ghost use Rattle.cron_serve.specs.Input.{IsTaken, IsTakenFrame, IsRefusedAsRun, IsRefusedAsFrame};
@@ -7,23 +7,24 @@ ghost use Rattle.cron_serve.specs.Input.{IsTaken, IsTakenFrame, IsRefusedAsRun, 
 use crate::text::as_text;
 use due_set::JobTable;
 use job_table::build_table;
-use run_text::{Player, RunFault, RunFile, read_frame, read_run};
+use run_text::{RunFault, RunFile, read_frame, read_run};
 use std::alloc::Global;
 
-/// The table of the jobs of an input that was read.
+/// The run of an input that was read, and the table of its jobs.
 ///
 /// # Errors
 ///
 /// What the input is refused for: a line that is no text, else what is at fault in the run file, else in its tables. Or want
 /// of memory.
-pub fn take_table(alloc: Global, bytes: &[u8]) -> Result<JobTable, RunFault>
+pub fn take_table(alloc: Global, bytes: &[u8]) -> Result<(RunFile<'_>, JobTable), RunFault>
     requires { length bytes.now ≤ 1_048_576 }
-    ensures table { IfOk result (λ table. (run : Run) × IsTaken bytes.now run table) }
+    ensures taken { IfOk result (λ both. IsTaken bytes.now (run_of both.0) both.1) }
     ensures refused { IfErr result (λ fault. IfRefused fault (IsRefusedAsRun bytes.now)) }
 {
     let text = as_text(bytes)?;
-    let run = read_run(alloc, text, Player::Clerk)?;
-    build_table(alloc, &run)
+    let run = read_run(alloc, text)?;
+    let table = build_table(alloc, &run)?;
+    Ok((run, table))
 }
 
 /// The run of an input that was read, whose tables may have lines that break a rule.
@@ -39,5 +40,5 @@ pub fn take_frame(alloc: Global, bytes: &[u8]) -> Result<RunFile<'_>, RunFault>
     ensures refused { IfErr result (λ fault. IfRefused fault (IsRefusedAsFrame bytes.now)) }
 {
     let text = as_text(bytes)?;
-    read_frame(alloc, text, Player::Clerk)
+    read_frame(alloc, text)
 }

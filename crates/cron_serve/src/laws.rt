@@ -1,41 +1,61 @@
 //! Laws of the program's ends. Each is the contract of a function that does nothing.
-ghost use Rattle.std.specs.Prelude.{◌≡◌, ◌≢◌, ◌⊎◌, ◌≤◌, [], ◌∷◌, ℕ, ℤ, ◌<ℤ◌, List, Some, IsSomeAnd, Contains, codes, slice_get};
+ghost use Rattle.std.specs.Prelude.{◌≡◌, ◌≢◌, ◌⊎◌, ◌≤◌, [], ◌∷◌, ◌++◌, ℕ, ℤ, ◌<ℤ◌, List, Some, IsSomeAnd, Contains, codes, decimal, slice_get};
 ghost use Rattle.cron_io.specs.Faults.{Rose};
 ghost use Rattle.cron_io.specs.Reading.{HasTaken};
 ghost use Rattle.cron_io.specs.Views.{SourceView, SinkView};
 ghost use Rattle.cron_io.specs.Writing.{HasGained, HasGainedPrefix};
+ghost use Rattle.disk_model.specs.declared.mem_disk.MemDisk.{MemDisk};
 ghost use Rattle.paxos_base.specs.declared.entry.Entry.{Entry};
-ghost use Rattle.paxos_base.specs.declared.entry.Entry.TheVariants.{Start};
+ghost use Rattle.paxos_base.specs.declared.entry.Entry.TheVariants.{Noop};
+ghost use Rattle.paxos_base.specs.declared.entry.Kind.{Kind};
 ghost use Rattle.paxos_base.specs.declared.entry.Kind.TheVariants.{Launch};
 ghost use Rattle.due_set.specs.Anacron.{IsPeriodOver};
 ghost use Rattle.due_set.specs.Due.{IsRising};
-ghost use Rattle.due_set.specs.Table.{Job, Table, IsJobDue, IsRunByPeriod};
+ghost use Rattle.due_set.specs.Table.{Job, Table, IsJobDue};
 ghost use Rattle.due_set.specs.declared.job.JobKind.TheVariants.{Anacron};
 ghost use Rattle.due_set.specs.declared.job.Period.{Period};
 ghost use Rattle.cluster_sched.specs.declared.row.SchedRow.{SchedRow};
-ghost use Rattle.launch_law.specs.Fits.{HasStart, HasEnd, IsEffective, IsHeld};
-ghost use Rattle.launch_law.specs.Launched.{IsCalledAt, OpensBy};
+ghost use Rattle.launch_law.specs.Fits.{HasStart, HasEnd, IsBacked, IsEffective, IsHeld};
+ghost use Rattle.launch_law.specs.Launched.{IsCalledAt, IsWanted, LaunchesEachDue, OpensBy};
 ghost use Rattle.launch_machine.specs.Starts.{StartsOf};
+ghost use Rattle.replica_node.specs.declared.node.Node.{Node};
+ghost use Rattle.walk_law.specs.Readings.{AreTurnsBy, IsGraceLong, script_turns};
+ghost use Rattle.date_law.specs.Barred.{IsBarred};
+ghost use Rattle.world_law.specs.Book.{BookState};
 ghost use Rattle.run_text.specs.Run.{Run};
 ghost use Rattle.run_text.specs.declared.refusal.Refusal.{Refusal};
 ghost use Rattle.cron_serve.specs.Complete.{EndsUndisturbed};
 ghost use Rattle.cron_serve.specs.Ends.{Ends};
 ghost use Rattle.cron_serve.specs.Input.{IsTaken, IsTakenFrame, IsRefusedInput, Suits};
-ghost use Rattle.cron_serve.specs.Serve.{IsNoted, IsRefused, IsTextOfInput, IsWholeRun};
-ghost use Rattle.cron_serve.specs.Words.{Asks, AsksNothing};
+ghost use Rattle.cron_serve.specs.Serve.{IsNoted, IsRefused, IsRunOf, IsTextOfInput, LeavesNoRun, WritesSome};
+ghost use Rattle.cron_serve.specs.Words.{Asks, AsksNothing, IsNameWithValue, IsSpelledBy, MayStandTogether};
+ghost use Rattle.cron_serve.specs.declared.words.Asked.{Asked};
+ghost use Rattle.cron_serve.specs.declared.words.Choice.{Choice};
 ghost use Rattle.cron_serve.specs.declared.words.Output.{Output};
 ghost use Rattle.cron_serve.specs.declared.run_end.RunEnd.{RunEnd};
 
-/// Words ask for one text at most: without a word for the report, by `--list` for the due instants, by `--check` for the check of the
-/// tables. Both together ask for nothing, nor does any other word.
+/// Words ask for one thing at most: without a word for the report, by `--list` for the due instants, by `--check` for the check of the
+/// tables, and by `--lanes` in front of these or behind them for a number of lanes. Options that may not stand together ask for nothing,
+/// nor does any other word.
 pub fn words_ask_for_one_text()
-    ensures one { (words : List (List ℕ)) (a b : Output) → Asks words a → Asks words b → a ≡ b }
-    ensures none { (words : List (List ℕ)) (output : Output) → Asks words output → AsksNothing words → ⊥ }
-    ensures report { Asks [] Output.Report }
-    ensures list { Asks (codes "--list" ∷ []) Output.DueList }
-    ensures check { Asks (codes "--check" ∷ []) Output.Check }
-    ensures alone { (word other : List ℕ) (words : List (List ℕ)) → AsksNothing (word ∷ other ∷ words) }
-    ensures others { (word : List ℕ) → word ≢ codes "--list" → word ≢ codes "--check" → AsksNothing (word ∷ []) }
+    ensures one { (words : List (List ℕ)) (a b : Asked) → Asks words a → Asks words b → a ≡ b }
+    ensures none { (words : List (List ℕ)) (asked : Asked) → Asks words asked → AsksNothing words → ⊥ }
+    ensures lanes { (words : List (List ℕ)) (asked : Asked) → Asks words asked → (1 ≤ asked.lanes) × (asked.lanes ≤ 8) }
+    ensures report { (asked : Asked) → asked.output ≡ Output.Report → asked.lanes ≡ 1 → Asks [] asked }
+    ensures list { (asked : Asked) → asked.output ≡ Output.DueList → asked.lanes ≡ 1 → Asks (codes "--list" ∷ []) asked }
+    ensures check { (asked : Asked) → asked.output ≡ Output.Check → asked.lanes ≡ 1 → Asks (codes "--check" ∷ []) asked }
+    ensures on_lanes { (asked : Asked) (own : List (List ℕ)) → 1 ≤ asked.lanes → asked.lanes ≤ 8
+        → IsNameWithValue (codes "--lanes") (decimal asked.lanes) own → asked.output ≡ Output.Report → Asks own asked }
+    ensures list_on_lanes { (asked : Asked) (own : List (List ℕ)) → 1 ≤ asked.lanes → asked.lanes ≤ 8
+        → IsNameWithValue (codes "--lanes") (decimal asked.lanes) own → asked.output ≡ Output.DueList
+        → Asks (codes "--list" ∷ own) asked × Asks (own ++ codes "--list" ∷ []) asked }
+    ensures check_on_lanes { (asked : Asked) (own : List (List ℕ)) → 1 ≤ asked.lanes → asked.lanes ≤ 8
+        → IsNameWithValue (codes "--lanes") (decimal asked.lanes) own → asked.output ≡ Output.Check
+        → Asks (codes "--check" ∷ own) asked × Asks (own ++ codes "--check" ∷ []) asked }
+    ensures apart { (first second : Choice) (own other behind : List (List ℕ)) → IsSpelledBy first own → IsSpelledBy second other
+        → (MayStandTogether first second → ⊥) → AsksNothing (own ++ (other ++ behind)) }
+    ensures others { (word : List ℕ) (words : List (List ℕ)) → word ≢ codes "--list" → word ≢ codes "--check" → word ≢ codes "--lanes"
+        → ((lanes : ℕ) → 1 ≤ lanes → lanes ≤ 8 → word ≢ codes "--lanes" ++ codes "=" ++ decimal lanes) → AsksNothing (word ∷ words) }
 {}
 
 /// An input is taken as one run with one table at most, and as one frame at most; it is refused for one thing at most; and it isn't
@@ -55,56 +75,89 @@ pub fn a_refusal_is_that_of_the_bytes()
         → old.left ≡ Some bytes → IsRefusedInput output bytes refusal }
 {}
 
-/// Of a whole run each due instant of each job was started, was ended as a launch, and is held as one; no launch is held twice;
-/// each was called at the instant of its start, which is its due instant; and each entry of the log takes effect.
-pub fn a_whole_run_makes_each_launch()
-    ensures made { (table : Table) (log : List Entry) (held : List SchedRow) (job : ℕ) (at : ℤ) → IsWholeRun table log held
-        → IsJobDue table job at → HasStart table log job at × HasEnd table log job at Launch × IsHeld held job at Launch }
-    ensures once { (table : Table) (log : List Entry) (held : List SchedRow) (a b : SchedRow) → IsWholeRun table log held
-        → Contains held a → Contains held b → a.name.job ≡ b.name.job → a.name.at ≡ b.name.at → a ≡ b }
-    ensures in_time { (table : Table) (log : List Entry) (held : List SchedRow) (job : ℕ) (at now : ℤ) → IsWholeRun table log held
-        → (IsRunByPeriod table job → ⊥) → Contains log (Start job at now) → now ≡ at }
-    ensures called { (table : Table) (log : List Entry) (held : List SchedRow) (row : SchedRow) → IsWholeRun table log held
-        → Contains held row → Contains log (Start row.name.job row.name.at row.now.0) }
-    ensures effective { (table : Table) (log : List Entry) (held : List SchedRow) (entry : Entry) → IsWholeRun table log held
-        → Contains log entry → IsEffective table log entry }
+/// Of what the book of a run holds: no launch is held twice; each was started in the log, its instant had come when it was called, and its
+/// kind goes by that clock; and what an end says that takes effect is held. Nothing in the log is ignored but the no-ops.
+pub fn a_run_holds_each_launch_once()
+    ensures once { (bytes : List ℕ) (table : Table) (book : BookState) (nodes : List (Node MemDisk)) (a b : SchedRow) → IsRunOf bytes table book nodes
+        → Contains book.ledger.held a → Contains book.ledger.held b → a.name.job ≡ b.name.job → a.name.at ≡ b.name.at → a ≡ b }
+    ensures started { (bytes : List ℕ) (table : Table) (book : BookState) (nodes : List (Node MemDisk)) (run : IsRunOf bytes table book nodes) (row : SchedRow)
+        → Contains book.ledger.held row → IsBacked table run.whole.log row }
+    ensures ended { (bytes : List ℕ) (table : Table) (book : BookState) (nodes : List (Node MemDisk)) (run : IsRunOf bytes table book nodes) (job : ℕ) (at : ℤ) (kind : Kind)
+        → HasEnd table run.whole.log job at kind → IsHeld book.ledger.held job at kind }
+    ensures effective { (bytes : List ℕ) (table : Table) (book : BookState) (nodes : List (Node MemDisk)) (run : IsRunOf bytes table book nodes) (entry : Entry)
+        → Contains run.whole.log entry → entry ≢ Noop → IsEffective table run.whole.log entry }
 {}
 
-/// Of a whole run each job of an anacrontab was started and launched at each instant at which it may open, by its launches
-/// before, on the date that its zone shows; its starts are of rising dates; and of two launches the later is a period after the
-/// earlier: so many days, or in a later month or year.
-pub fn a_whole_run_makes_each_date()
-    ensures made { (table : Table) (log : List Entry) (held : List SchedRow) (job : ℕ) (now date : ℤ) → IsWholeRun table log held
-        → OpensBy table held job now date → HasStart table log job date × IsCalledAt held job date Launch now }
-    ensures rise { (table : Table) (log : List Entry) (held : List SchedRow) (job : ℕ) → IsWholeRun table log held
-        → (dates : List ℤ) × StartsOf table log job dates × IsRising dates }
-    ensures apart { (table : Table) (log : List Entry) (held : List SchedRow) (a b : SchedRow) (job : Job) (period : Period) (first last : ℕ)
-        → IsWholeRun table log held → Contains held a → Contains held b → a.name.job ≡ b.name.job → a.name.at <ℤ b.name.at
+/// Of a run each due instant of each job was started and has ended, and is held as its end says. One that no clock reading of the script's
+/// turns has passed is held as launched, and was called at that very instant. Where grace lasts as long as the window, each is held as
+/// launched.
+pub fn a_run_ends_each_due_instant()
+    ensures ended { (bytes : List ℕ) (table : Table) (book : BookState) (nodes : List (Node MemDisk)) (run : IsRunOf bytes table book nodes) (job : ℕ) (at : ℤ)
+        → IsJobDue table job at → HasStart table run.whole.log job at × (kind : Kind) × HasEnd table run.whole.log job at kind × IsHeld book.ledger.held job at kind }
+    ensures later { (bytes : List ℕ) (table : Table) (book : BookState) (nodes : List (Node MemDisk)) (run : IsRunOf bytes table book nodes) (job : ℕ) (at : ℤ)
+        → IsJobDue table job at → AreTurnsBy at (script_turns run.whole.obeyed) → IsCalledAt book.ledger.held job at Launch at }
+    ensures all { (bytes : List ℕ) (table : Table) (book : BookState) (nodes : List (Node MemDisk)) (job : ℕ) (at : ℤ) → IsRunOf bytes table book nodes
+        → IsGraceLong table → IsJobDue table job at → IsHeld book.ledger.held job at Launch }
+{}
+
+/// Of a run whose script has no command each due instant of a crontab's job is held as launched, and was called at that very instant.
+/// Where a job of an anacrontab may open on a date at an instant, by the launches that were called before, it is launched on that date and
+/// called at that instant. And nothing else is held.
+pub fn a_run_without_commands_launches_each_due_instant()
+    ensures each { (bytes : List ℕ) (table : Table) (book : BookState) (nodes : List (Node MemDisk)) (run : IsRunOf bytes table book nodes) (job : ℕ) (at : ℤ)
+        → run.run.commands ≡ [] → IsJobDue table job at → IsCalledAt book.ledger.held job at Launch at }
+    ensures each_date { (bytes : List ℕ) (table : Table) (book : BookState) (nodes : List (Node MemDisk)) (run : IsRunOf bytes table book nodes) (job : ℕ) (now date : ℤ)
+        → run.run.commands ≡ [] → OpensBy table book.ledger.held job now date → IsCalledAt book.ledger.held job date Launch now }
+    ensures no_other { (bytes : List ℕ) (table : Table) (book : BookState) (nodes : List (Node MemDisk)) (run : IsRunOf bytes table book nodes) (row : SchedRow)
+        → run.run.commands ≡ [] → Contains book.ledger.held row → IsWanted table book.ledger.held row × (row.kind ≡ Launch) }
+    ensures all { (bytes : List ℕ) (table : Table) (book : BookState) (nodes : List (Node MemDisk)) (run : IsRunOf bytes table book nodes)
+        → run.run.commands ≡ [] → LaunchesEachDue table book.ledger.held }
+{}
+
+/// Of a run each job's starts are of rising instants, or dates; and of two launches of a job of an anacrontab the later is a period
+/// after the earlier: so many days, or in a later month or year. Where such a job may open on a date at an instant, by the launches that
+/// were called before, and no clock reading of the script's turns has passed it, the job is launched on that date and called at that
+/// instant, unless at an earlier instant it was started on a later date, or its launch on the date or a later one was called too late.
+pub fn a_run_keeps_dates_apart()
+    ensures opened { (bytes : List ℕ) (table : Table) (book : BookState) (nodes : List (Node MemDisk)) (run : IsRunOf bytes table book nodes) (job : ℕ) (now date : ℤ)
+        → OpensBy table book.ledger.held job now date → AreTurnsBy now (script_turns run.whole.obeyed)
+        → IsCalledAt book.ledger.held job date Launch now ⊎ IsBarred run.run.members table run.rows job now date }
+    ensures rise { (bytes : List ℕ) (table : Table) (book : BookState) (nodes : List (Node MemDisk)) (run : IsRunOf bytes table book nodes) (job : ℕ)
+        → (dates : List ℤ) × StartsOf table run.whole.log job dates × IsRising dates }
+    ensures apart { (bytes : List ℕ) (table : Table) (book : BookState) (nodes : List (Node MemDisk)) (a b : SchedRow) (job : Job) (period : Period) (first last : ℕ)
+        → IsRunOf bytes table book nodes → Contains book.ledger.held a → Contains book.ledger.held b → a.name.job ≡ b.name.job
+        → a.kind ≡ Launch → b.kind ≡ Launch → a.name.at <ℤ b.name.at
         → slice_get table.jobs a.name.job ≡ Some job → job.kind ≡ Anacron period first last
         → IsPeriodOver period a.name.at b.name.at }
 {}
 
-/// At status 1, 2 and 3 nothing is written, and no run is left. At 5 no run is left either.
+/// At status 1, 2 and 3 nothing is written, and no run is left. So it is at 5 too, or else memory ran out within the text, and the book
+/// and the nodes are those of the text.
 pub fn an_early_end_leaves_nothing()
     ensures nothing { (output : Output) (source source' : SourceView) (sink sink' : SinkView) (end : RunEnd)
         → Ends output source source' sink sink' end → (end.status ≡ 1) ⊎ (end.status ≡ 2) ⊎ (end.status ≡ 3) → sink' ≡ sink }
     ensures no_run { (output : Output) (source source' : SourceView) (sink sink' : SinkView) (end : RunEnd)
-        → Ends output source source' sink sink' end
-        → (end.status ≡ 1) ⊎ (end.status ≡ 2) ⊎ (end.status ≡ 3) ⊎ (end.status ≡ 5) → (end.log ≡ []) × (end.ledger.held ≡ []) }
+        → Ends output source source' sink sink' end → (end.status ≡ 1) ⊎ (end.status ≡ 2) ⊎ (end.status ≡ 3)
+        → LeavesNoRun end.book end.nodes.items }
+    ensures memory { (output : Output) (source source' : SourceView) (sink sink' : SinkView) (end : RunEnd)
+        → Ends output source source' sink sink' end → end.status ≡ 5
+        → ((sink' ≡ sink) × LeavesNoRun end.book end.nodes.items) ⊎ WritesSome output source source' sink sink' end.book end.nodes.items }
+    ensures empty { (book : BookState) (nodes : List (Node MemDisk)) → LeavesNoRun book nodes
+        → (book.turns ≡ []) × (book.letters ≡ []) × (book.ledger.held ≡ []) × (book.ledger.late ≡ []) × (nodes ≡ []) }
 {}
 
 /// At status 4 and 5 a front of the input's text was written at most, and nothing else.
 pub fn a_late_end_leaves_a_front()
     ensures { (output : Output) (source source' : SourceView) (sink sink' : SinkView) (end : RunEnd)
         → Ends output source source' sink sink' end
-        → (end.status ≡ 4) ⊎ (end.status ≡ 5) → (sink' ≡ sink) ⊎ ((log : List Entry) × (held : List SchedRow) × (text : List ℕ)
-        × IsTextOfInput output source source' log held text × HasGainedPrefix sink sink' text) }
+        → (end.status ≡ 4) ⊎ (end.status ≡ 5) → (sink' ≡ sink) ⊎ ((text : List ℕ)
+        × IsTextOfInput output source source' end.book end.nodes.items text × HasGainedPrefix sink sink' text) }
 {}
 
 /// Where a due list or a check is asked for, no run is made and none is left, whatever the end.
 pub fn a_listing_leaves_no_run()
     ensures { (output : Output) (source source' : SourceView) (sink sink' : SinkView) (end : RunEnd) → output ≢ Output.Report
-        → Ends output source source' sink sink' end → (end.log ≡ []) × (end.ledger.held ≡ []) }
+        → Ends output source source' sink sink' end → LeavesNoRun end.book end.nodes.items }
 {}
 
 /// At each end what is left of the source is a back part of what was, and no count of faults falls.

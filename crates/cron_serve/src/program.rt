@@ -6,7 +6,7 @@ ghost use Rattle.std.specs.Vec.Iter.{into_iter_items};
 ghost use Rattle.cron_serve.specs.Program.{EndsProgram, StopsProgram};
 ghost use Rattle.cron_serve.specs.Stop.{StopsAtOnce, status_of};
 ghost use Rattle.cron_serve.specs.Words.{Asks, AsksNothing, behind_name, texts_of};
-ghost use Rattle.cron_serve.specs.declared.words.Output.{Output};
+ghost use Rattle.cron_serve.specs.declared.words.Asked.{Asked};
 
 use crate::note::write_note;
 use crate::run_end::RunEnd;
@@ -16,10 +16,12 @@ use cron_io::{Sink, Source};
 use std::alloc::Global;
 use std::env::Args;
 use std::io::{self, ErrorKind};
+use std::thread::Threads;
 
 /// Runs the program, and tells its exit status. The first of the arguments is its name, and the others are its words. An argument
 /// that is not UTF-8 is a faulty word, and any other fault of the arguments is want of memory.
-pub fn run<S: Source, K: Sink, E: Sink>(
+pub fn run<S: Source, K: Sink, E: Sink, R: Threads + Sync>(
+    rt: &R,
     alloc: Global,
     args: io::Result<Args>,
     source: &mut S,
@@ -27,8 +29,8 @@ pub fn run<S: Source, K: Sink, E: Sink>(
     notes: &mut E,
 ) -> u8
     // The status, the text that the words behind the name ask for, and the note are those of one end.
-    ensures ends { IfOk args (λ args. (output : Output) → Asks (behind_name (texts_of (into_iter_items args))) output
-        → EndsProgram output (S.seen source.old) (S.seen source.new) (K.seen sink.old) (K.seen sink.new)
+    ensures ends { IfOk args (λ args. (asked : Asked) → Asks (behind_name (texts_of (into_iter_items args))) asked
+        → EndsProgram asked.output (S.seen source.old) (S.seen source.new) (K.seen sink.old) (K.seen sink.new)
         (E.seen notes.old) (E.seen notes.new) result) }
 
     // Status 1: the words behind the name ask for nothing, or one of them is no text. Then nothing is read or written.
@@ -43,28 +45,29 @@ pub fn run<S: Source, K: Sink, E: Sink>(
         (E.seen notes.old) (E.seen notes.new) result) }
 {
     match args {
-        Ok(args) => run_behind_name(alloc, args, source, sink, notes),
+        Ok(args) => run_behind_name(rt, alloc, args, source, sink, notes),
         Err(error) => stop_at_once(alloc, stop_of(&error), notes),
     }
 }
 
 // Runs the program on the words behind the first argument.
-fn run_behind_name<S: Source, K: Sink, E: Sink>(
+fn run_behind_name<S: Source, K: Sink, E: Sink, R: Threads + Sync>(
+    rt: &R,
     alloc: Global,
     mut args: Args,
     source: &mut S,
     sink: &mut K,
     notes: &mut E,
 ) -> u8
-    ensures ends { (output : Output) → Asks (behind_name (texts_of (into_iter_items args))) output
-        → EndsProgram output (S.seen source.old) (S.seen source.new) (K.seen sink.old) (K.seen sink.new)
+    ensures ends { (asked : Asked) → Asks (behind_name (texts_of (into_iter_items args))) asked
+        → EndsProgram asked.output (S.seen source.old) (S.seen source.new) (K.seen sink.old) (K.seen sink.new)
         (E.seen notes.old) (E.seen notes.new) result }
     ensures words { (result ≡ 1) ↔ AsksNothing (behind_name (texts_of (into_iter_items args))) }
     ensures usage { result ≡ 1 → StopsProgram (S.seen source.old) (S.seen source.new) (K.seen sink.old) (K.seen sink.new)
         (E.seen notes.old) (E.seen notes.new) result }
 {
     let _name = args.next();
-    cron_cluster(alloc, args, source, sink, notes).status
+    cron_cluster(rt, alloc, args, source, sink, notes).status
 }
 
 // Why arguments that can't be had stop the program.

@@ -3,23 +3,24 @@ ghost use Rattle.cron_serve.specs.Serve.{LeavesNoRun};
 ghost use Rattle.cron_serve.specs.Stop.{refusal_of, status_of};
 
 use crate::stop::Stop;
-use cluster_sched::Ledger;
-use paxos_base::EntryList;
+use disk_model::MemDisk;
+use replica_node::Node;
 use run_text::Refusal;
 use std::alloc::Global;
+use world_law::Book;
 
 /// How the program ended, and what it leaves.
-#[derive(Debug, Drop)]
+#[derive(Drop)]
 pub struct RunEnd {
     /// The exit status: 0 for a text that was written whole, 1 for a faulty command line, 2 for an input that was
     /// refused, 3 for a read fault, 4 for a write fault, 5 for want of memory.
     pub status: u8,
     /// Why the input was refused, at status 2.
     pub refusal: Option<Refusal>,
-    /// The launch starts and ends of the run, in order, at status 0 and 4 where its report was asked for. Otherwise there are none.
-    pub log: EntryList,
-    /// What the scheduler holds after the run, at status 0 and 4 where its report was asked for. Otherwise it is empty.
-    pub ledger: Ledger,
+    /// The book of the run, where its report was written or begun. Otherwise it is empty.
+    pub book: Book,
+    /// The nodes of the run's replicas after it, in order of number, where its report was written or begun. Otherwise there are none.
+    pub nodes: Vec<Node<MemDisk>>,
 }
 
 impl RunEnd {
@@ -27,7 +28,7 @@ impl RunEnd {
     pub fn stopped(alloc: Global, stop: Stop) -> RunEnd
         ensures status { result.status ≡ status_of stop }
         ensures refusal { result.refusal ≡ refusal_of stop }
-        ensures no_run { LeavesNoRun result.log result.ledger.held }
+        ensures no_run { LeavesNoRun result.book result.nodes.items }
     {
         let (status, refusal) = match stop {
             Stop::Usage => (1, None),
@@ -42,15 +43,13 @@ impl RunEnd {
     pub fn without_run(alloc: Global, status: u8, refusal: Option<Refusal>) -> RunEnd
         ensures status { result.status ≡ status }
         ensures refusal { result.refusal ≡ refusal }
-        ensures no_run { LeavesNoRun result.log result.ledger.held }
+        ensures no_run { LeavesNoRun result.book result.nodes.items }
     {
         RunEnd {
             status,
             refusal,
-            log: EntryList {
-                items: Vec::new(alloc),
-            },
-            ledger: Ledger::new(alloc),
+            book: Book::new(alloc, 0),
+            nodes: Vec::new(alloc),
         }
     }
 }

@@ -1,9 +1,13 @@
 //! The words of the command line.
-ghost use Rattle.std.specs.Prelude.{◌≡◌, ◌≢◌, IfSome, IfNone};
-ghost use Rattle.std.specs.Vec.Iter.{into_iter_items};
-ghost use Rattle.cron_serve.specs.Words.{Asks, AsksNothing, output_of, spelling, texts_of};
+ghost use Rattle.std.specs.Prelude.{◌≡◌, ◌≢◌, ◌≤◌, ◌∷◌, ◌++◌, [], ℕ, List, None, Some, IfSome, IfNone, IsSome, AllPairs, decimal, unwrap_or};
+ghost use Rattle.std.specs.Vec.Iter.{into_iter_items, into_iter_len};
+ghost use Rattle.cron_serve.specs.Words.{AreWishesOf, Asks, AsksNothing, BeginsWith, MayStandTogether, texts_of};
 
+use anacron_text::read_number;
 use std::env::Args;
+
+/// The most lanes that may be asked for.
+const MAX_LANES: u32 = 8;
 
 /// What the program writes.
 #[derive(Clone, Copy, Debug, PartialEq, Eq)]
@@ -16,6 +20,15 @@ pub enum Output {
     Check,
 }
 
+/// What the words of the command line ask for.
+#[derive(Clone, Copy, Debug, PartialEq, Eq)]
+pub struct Asked {
+    /// What is written.
+    pub output: Output,
+    /// How many lanes share out the work of a round, 1 to 8.
+    pub lanes: u8,
+}
+
 /// An option of the command line.
 #[derive(Clone, Copy, Debug, PartialEq, Eq)]
 pub enum Choice {
@@ -23,44 +36,114 @@ pub enum Choice {
     List,
     /// `--check`: the check of the tables is wanted.
     Check,
+    /// `--lanes N` or `--lanes=N`: so many lanes are wanted, 1 to 8.
+    Lanes(u8),
 }
 
 impl Choice {
-    // The option that is spelled so.
-    fn of(word: &str) -> Option<Choice>
-        ensures found { IfSome result (λ choice. word.now ≡ spelling choice) }
-        ensures none { IfNone result ((choice : Choice) → word.now ≢ spelling choice) }
+    // The option that begins with this word. Its value may be the next word, which is taken then.
+    fn read(word: &str, words: &mut Args) -> Option<Choice>
+        ensures found { IfSome result (λ choice. BeginsWith choice (word.now ∷ texts_of (into_iter_items words.old)) (texts_of (into_iter_items words.new))) }
+        ensures none { IfNone result ((choice : Choice) (others : List (List ℕ)) → BeginsWith choice (word.now ∷ texts_of (into_iter_items words.old)) others → ⊥) }
+        ensures fewer { into_iter_len words.new ≤ into_iter_len words.old }
     {
         match word {
             "--list" => Some(Choice::List),
             "--check" => Some(Choice::Check),
-            _ => None,
-        }
-    }
-
-    fn output(self) -> Output
-        ensures { result ≡ output_of self }
-    {
-        match self {
-            Choice::List => Output::DueList,
-            Choice::Check => Output::Check,
+            "--lanes" => {
+                let value = words.next()?;
+                Some(Choice::Lanes(read_lanes(&value)?))
+            }
+            _ => {
+                let value = word.strip_prefix("--lanes=")?;
+                Some(Choice::Lanes(read_lanes(value)?))
+            }
         }
     }
 }
 
-/// What the words ask the program to write. None where they are at fault: a word is no option, or stands beside one that it may not
-/// stand with.
-pub fn read_words(mut words: Args) -> Option<Output>
+// A number of lanes.
+fn read_lanes(text: &str) -> Option<u8>
+    ensures read { IfSome result (λ lanes. (1 ≤ lanes) × (lanes ≤ 8) × (text.now ≡ decimal lanes)) }
+    ensures none { IfNone result ((lanes : ℕ) → 1 ≤ lanes → lanes ≤ 8 → text.now ≢ decimal lanes) }
+{
+    match read_number(text, MAX_LANES)? {
+        0 => None,
+        lanes => Some(lanes as u8),
+    }
+}
+
+// What the options in front of a word ask for.
+#[derive(Clone, Copy)]
+struct Wishes {
+    output: Option<Output>,
+    lanes: Option<u8>,
+}
+
+impl Wishes {
+    // What one option more asks for. None where it may not stand beside the others.
+    fn with(self, choice: Choice) -> Option<Wishes>
+        ensures some { IfSome result (λ wishes. (before : List Choice) → AreWishesOf before self → AreWishesOf (before ++ choice ∷ []) wishes) }
+        ensures none { IfNone result ((before behind : List Choice) → AreWishesOf before self
+            → AllPairs MayStandTogether (before ++ choice ∷ behind) → ⊥) }
+    {
+        match choice {
+            Choice::List => self.with_output(Output::DueList),
+            Choice::Check => self.with_output(Output::Check),
+            Choice::Lanes(lanes) => self.with_lanes(lanes),
+        }
+    }
+
+    fn with_output(self, output: Output) -> Option<Wishes>
+        ensures some { IfSome result (λ wishes. (self.output ≡ None) × (wishes.output ≡ Some output) × (wishes.lanes ≡ self.lanes)) }
+        ensures none { IfNone result (IsSome self.output) }
+    {
+        match self.output {
+            Some(_) => None,
+            None => Some(Wishes {
+                output: Some(output),
+                lanes: self.lanes,
+            }),
+        }
+    }
+
+    fn with_lanes(self, lanes: u8) -> Option<Wishes>
+        ensures some { IfSome result (λ wishes. (self.lanes ≡ None) × (wishes.lanes ≡ Some lanes) × (wishes.output ≡ self.output)) }
+        ensures none { IfNone result (IsSome self.lanes) }
+    {
+        match self.lanes {
+            Some(_) => None,
+            None => Some(Wishes {
+                output: self.output,
+                lanes: Some(lanes),
+            }),
+        }
+    }
+
+    fn asked(self) -> Asked
+        ensures output { result.output ≡ unwrap_or self.output Output.Report }
+        ensures lanes { result.lanes ≡ unwrap_or self.lanes 1 }
+    {
+        Asked {
+            output: self.output.unwrap_or(Output::Report),
+            lanes: self.lanes.unwrap_or(1),
+        }
+    }
+}
+
+/// What the words ask for. None where they are at fault: a word is no option and no value of one, or two options stand there that
+/// may not stand together.
+pub fn read_words(mut words: Args) -> Option<Asked>
     ensures asks { IfSome result (Asks (texts_of (into_iter_items words))) }
     ensures none { IfNone result (AsksNothing (texts_of (into_iter_items words))) }
 {
-    let Some(word) = words.next() else {
-        return Some(Output::Report);
+    let mut wishes = Wishes {
+        output: None,
+        lanes: None,
     };
-    let choice = Choice::of(&word)?;
-    // No two options may stand together so far.
-    match words.next() {
-        Some(_) => None,
-        None => Some(choice.output()),
+    'words: while let Some(word) = words.next() {
+        let choice = Choice::read(&word, &mut words)?;
+        wishes = wishes.with(choice)?;
     }
+    Some(wishes.asked())
 }

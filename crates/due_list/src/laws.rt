@@ -3,7 +3,6 @@ ghost use Rattle.std.specs.Prelude.{◌≡◌, ℕ, ℤ, List, []};
 ghost use Rattle.due_set.specs.Table.{Table, IsJobDue, IsSound};
 ghost use Rattle.run_text.specs.Reading.{IsFrameText, IsRunText};
 ghost use Rattle.run_text.specs.Run.{Run};
-ghost use Rattle.run_text.specs.declared.rules.Player.{Player};
 ghost use Rattle.due_list.specs.CheckText.{AreFaultsIn, IsCheckText};
 ghost use Rattle.due_list.specs.DueText.{HasLine, IsDueText, due_line};
 
@@ -27,5 +26,5 @@ pub fn a_frame_has_one_check()
 
 /// A frame whose check tells no fault is a run.
 pub fn a_frame_without_a_fault_is_a_run()
-    ensures { (player : Player) (text : List ℕ) (run : Run) → IsFrameText player text run → AreFaultsIn run.sections [] → IsRunText player text run }
+    ensures { (text : List ℕ) (run : Run) → IsFrameText text run → AreFaultsIn run.sections [] → IsRunText text run }
 {}

@@ -84,7 +84,7 @@ at_most : (next bound : ℕ) (section : Section) → next ≤ bound → IsSoundS
 at_most next bound section le sound = record { said = sound.said; within = omega (arith, sound.within) }
 
 pub sections_sound : (run : RunFile) (read : IsReadRun run) → AllByRecursion (IsSoundSection (1 + length (lines_of read.text))) (map section_of run.sections.items)
-sections_sound run read = (sound_run read.player read.text (run_of run) read.says).sections
+sections_sound run read = (sound_run read.text (run_of run) read.says).sections
 
 -- each section of a run that was read
 pub sound_text : (run : RunFile) (items : List SectionText) (i : ℕ) (d : SectionText) → IsReadRun run → items ≡ run.sections.items → i < length items → SoundText (get_or items i d)

@@ -11,7 +11,6 @@ use Rattle.due_set.specs.Table.{Job, Table, AreNamesDistinct, AreZonesBelow, IsB
 use Rattle.run_text.specs.Reading.{IsRunText}
 use Rattle.run_text.specs.Run.{NamedZone, Run}
 use Rattle.run_text.specs.declared.refusal.Refusal.{Refusal}
-use Rattle.run_text.specs.declared.rules.Player.{Player}
 use Rattle.run_text.proofs.SoundLemmas.{sound_run}
 use Rattle.zone_minutes.specs.Zone.{IsReadable, zone_over}
 use Rattle.zone_minutes.specs.declared.minute.Window.{Window}
@@ -163,9 +162,9 @@ few_or_many n limit = by (nat_lt limit n) refl
     by true is = inr (grind (arith, nat_tests))
     by false is = inl (grind (arith, nat_tests))
 
-pub some_verdict : (player : Player) (text : List ℕ) (run : Run) → IsRunText player text run → AreDecided run.zones → ((table : Table) × IsTableOf run table) ⊎ ((refusal : Refusal) × IsRefusedRun run refusal)
-some_verdict player text run says decided =
-    let sound = sound_run player text run says in
+pub some_verdict : (text : List ℕ) (run : Run) → IsRunText text run → AreDecided run.zones → ((table : Table) × IsTableOf run table) ⊎ ((refusal : Refusal) × IsRefusedRun run refusal)
+some_verdict text run says decided =
+    let sound = sound_run text run says in
     let (marks, are) = marks_exist run.zones (1 + length (lines_of text)) run.sections sound.sections in
     elim (judge_zones run.zones decided) [
       | inr bad ↦ inr (bad.0, inl bad.1)

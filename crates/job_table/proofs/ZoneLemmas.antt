@@ -180,11 +180,11 @@ all_get P (zone ∷ zones) (suc i) d all lt = all_get P zones i d all.1 (omega a
 
 -- a run that was read has 32 zones at most
 pub few_zones : (run : RunFile) → IsReadRun run → length run.zones.items ≤ 32
-few_zones run read = let zones = (sound_run read.player read.text (run_of run) read.says).zones in omega (arith, zones.few, length-map run.zones.items zone_of)
+few_zones run read = let zones = (sound_run read.text (run_of run) read.says).zones in omega (arith, zones.few, length-map run.zones.items zone_of)
 
 -- the source of each zone of a run that was read
 pub sound_source : (run : RunFile) (items : List ZoneLine) (i : ℕ) (d : ZoneLine) → IsReadRun run → items ≡ run.zones.items → i < length items → IsSoundSource (zone_of (get_or items i d)).source
 sound_source run items i d read same lt =
-    let all = subst (λ l. AllByRecursion IsSoundZone (map zone_of l)) (sym same) (sound_run read.player read.text (run_of run) read.says).zones.each in
+    let all = subst (λ l. AllByRecursion IsSoundZone (map zone_of l)) (sym same) (sound_run read.text (run_of run) read.says).zones.each in
     subst (λ z. IsSoundSource z.source) (get_or-map zone_of items i d)
     (all_get IsSoundZone (map zone_of items) i (zone_of d) all (omega (arith, length-map items zone_of))).source

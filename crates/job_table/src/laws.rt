@@ -3,12 +3,11 @@ ghost use Rattle.due_set.specs.Table.{Table};
 ghost use Rattle.run_text.specs.Reading.{IsRunText};
 ghost use Rattle.run_text.specs.Run.{Run};
 ghost use Rattle.run_text.specs.declared.refusal.Refusal.{Refusal};
-ghost use Rattle.run_text.specs.declared.rules.Player.{Player};
 ghost use Rattle.job_table.specs.Table.{AreDecided, IsTableOf, IsRefusedRun};
 
 /// A law: the run of a text whose zones `jiff` reads or refuses has one table or one refusal, and never both.
 pub fn a_run_has_one_verdict()
-    ensures some { (player : Player) (text : List ℕ) (run : Run) → IsRunText player text run → AreDecided run.zones
+    ensures some { (text : List ℕ) (run : Run) → IsRunText text run → AreDecided run.zones
         → ((table : Table) × IsTableOf run table) ⊎ ((refusal : Refusal) × IsRefusedRun run refusal) }
     ensures one_table { (run : Run) (a b : Table) → IsTableOf run a → IsTableOf run b → a ≡ b }
     ensures one_refusal { (run : Run) (a b : Refusal) → IsRefusedRun run a → IsRefusedRun run b → a ≡ b }

@@ -1,6 +1,7 @@
 -- The instants and the dates of launches are from 0 on, and before the end of the window.
 use Rattle.std.proofs.Common.{◌≡◌, ℕ, inl, inr, ℤ, pos, ◌+ℤ◌, ◌<ℤ◌, ◌≤ℤ◌, refl, arith}
 use Rattle.std.specs.Int.{int_div_euclid}
+use Rattle.std.proofs.lemmas.Int.{ints}
 use Rattle.jiff.specs.Types.{TimeZone}
 use Rattle.jiff.specs.Words.{offset_at}
 use Rattle.jiff_core.proofs.SignedLemmas.{signed_arith}

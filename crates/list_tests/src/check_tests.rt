@@ -1,7 +1,7 @@
 //! The checks of run files.
 use crate::rows::{FAULTY, NARROW, Row, WHOLE, run_file, short};
 use due_list::{ListFault, write_check};
-use run_text::{Player, read_frame};
+use run_text::read_frame;
 use std::alloc::Global;
 use std::test::Fail;
 
@@ -85,7 +85,7 @@ const ROWS: &[Row] = &[
 
 fn is_checked(alloc: Global, row: &Row) -> Result<bool, Fail> {
     let text = run_file(alloc, row.window, row.parts)?;
-    let frame = read_frame(alloc, short(&text)?, Player::Clerk)?;
+    let frame = read_frame(alloc, short(&text)?)?;
     let mut sink = row.into.sink(alloc)?;
     let result = write_check(alloc, &mut sink, &frame);
     Ok(result == row.result && sink.bytes() == row.text.as_bytes())

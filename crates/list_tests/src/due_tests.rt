@@ -2,7 +2,7 @@
 use crate::rows::{FAULTY, NARROW, Row, WHOLE, run_file, short};
 use due_list::{ListFault, write_due};
 use job_table::build_table;
-use run_text::{Player, read_run};
+use run_text::read_run;
 use std::alloc::Global;
 use std::test::Fail;
 
@@ -95,7 +95,7 @@ const ROWS: &[Row] = &[
 
 fn is_listed(alloc: Global, row: &Row) -> Result<bool, Fail> {
     let text = run_file(alloc, row.window, row.parts)?;
-    let run = read_run(alloc, short(&text)?, Player::Clerk)?;
+    let run = read_run(alloc, short(&text)?)?;
     let table = build_table(alloc, &run)?;
     let mut sink = row.into.sink(alloc)?;
     let result = write_due(alloc, &mut sink, &table);

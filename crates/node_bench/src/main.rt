@@ -11,7 +11,7 @@ use crate::leader::Leader;
 use crate::seat::{Bare, OnDisk, Steps};
 use due_set::JobTable;
 use job_table::build_table;
-use run_text::{Player, read_run};
+use run_text::read_run;
 use std::time::{CpuClock, Duration};
 
 // A run of one job, which is due in each of 20,000 minutes.
@@ -20,7 +20,7 @@ const RUN: &str = "cronrun 1\nreplicas 1\nwindow 2024-01-01T00:00Z 2024-01-14T21
 
 fn main(rt: HostRuntime) -> Result<(), BenchFault> {
     let alloc = rt.alloc();
-    let Ok(run) = read_run(alloc, RUN, Player::Clerk) else {
+    let Ok(run) = read_run(alloc, RUN) else {
         return Err(BenchFault::NoTable);
     };
     let Ok(table) = build_table(alloc, &run) else {

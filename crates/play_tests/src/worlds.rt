@@ -4,7 +4,7 @@ ghost use Rattle.std.specs.Prelude.{◌<◌, ◌^◌, IfOk, length};
 use cron_io::MemSink;
 use job_table::build_table;
 use report_text::write_book_report;
-use run_text::{Player, read_run};
+use run_text::read_run;
 use std::alloc::Global;
 use std::test::Fail;
 use std::thread::Threads;
@@ -30,7 +30,7 @@ pub fn report_of<R: Threads + Sync>(
 ) -> Result<String, Fail>
     requires lanes { 0 < lanes }
 {
-    let Ok(run) = read_run(alloc, short(text)?, Player::World) else {
+    let Ok(run) = read_run(alloc, short(text)?) else {
         return Err(Fail::from("no run"));
     };
     let Ok(table) = build_table(alloc, &run) else {

@@ -2,7 +2,7 @@
 use crate::fault::BenchFault;
 use due_set::JobTable;
 use job_table::build_table;
-use run_text::{Player, read_run};
+use run_text::read_run;
 use std::alloc::{AllocError, Global};
 
 /// A run of one job, which is due in each of 10,000 minutes.
@@ -34,7 +34,7 @@ pub fn table_of(alloc: Global, text: &str) -> Result<JobTable, BenchFault> {
     if text.len() >= 1 << 32 {
         return Err(BenchFault::NoTable);
     }
-    let Ok(run) = read_run(alloc, text, Player::Clerk) else {
+    let Ok(run) = read_run(alloc, text) else {
         return Err(BenchFault::NoTable);
     };
     match build_table(alloc, &run) {

@@ -16,7 +16,7 @@ use Rattle.run_text.specs.declared.reader.Reader.{Reader}
 use Rattle.run_text.specs.declared.refusal.Refusal.{Refusal}
 use Rattle.run_text.specs.declared.run.Section.{Section as SectionText}
 use Rattle.run_text.specs.declared.run.ZoneLine.{ZoneLine}
-use Rattle.run_text.specs.declared.rules.Rules.{Rules}
+use Rattle.run_text.specs.declared.table.Tables.{Tables}
 use Rattle.run_text.proofs.StepLemmas.{stays, goes_on, one_line_at, wrong_line}
 
 same_parts : (run : Run) (a b : List NamedZone) (c d : List Section) → a ≡ b → c ≡ d → ◌≡◌ {A = Run} (record run { zones = a; sections = c }) (record run { zones = b; sections = d })
@@ -32,20 +32,20 @@ sections_with sections (ZonePart zone) = sections
 sections_with sections (SectionPart section) = sections ++ section_of section ∷ []
 
 -- what was read from the first place on, which no zone is named above
-pub record Reads (rules : Rules) (first now : Reader) (known : List (Bor (List ℕ))) (zones : List NamedZone) (sections : List Section) : Type 0 where
+pub record Reads (tables : Tables) (first now : Reader) (known : List (Bor (List ℕ))) (zones : List NamedZone) (sections : List Section) : Type 0 where
   pub room : HasRoom now
   pub short : length now.rest.now ≤ length first.rest.now
   pub names : HasNames known zones
-  pub leads : (run : Run) → run.zones ≡ [] → LeadsTo rules (place_of first (Sections run)) (place_of now (Sections (with_parts run zones sections)))
+  pub leads : (run : Run) → run.zones ≡ [] → LeadsTo tables (place_of first (Sections run)) (place_of now (Sections (with_parts run zones sections)))
 
 -- nothing is read at first
-pub reads_none : {rules : Rules} (reader : Reader) (names : List (Bor (List ℕ))) → names ≡ [] → HasRoom reader → Reads rules reader reader names [] []
-reads_none {rules = rules} reader names none room = record {
+pub reads_none : {tables : Tables} (reader : Reader) (names : List (Bor (List ℕ))) → names ≡ [] → HasRoom reader → Reads tables reader reader names [] []
+reads_none {tables = tables} reader names none room = record {
   room = room;
   short = omega arith;
   names = rw none refl;
   leads = λ run empty.
-      subst (λ r. LeadsTo rules (place_of reader (Sections run)) (place_of reader (Sections r)))
+      subst (λ r. LeadsTo tables (place_of reader (Sections run)) (place_of reader (Sections r)))
       (same_parts run run.zones (run.zones ++ []) run.sections (run.sections ++ []) (sym (append-nil run.zones)) (sym (append-nil run.sections)))
       (stays _ _ _ _ refl);
 }
@@ -66,27 +66,27 @@ run_next run zones sections (ZonePart zone) =
 run_next run zones sections (SectionPart section) =
     same_parts run (run.zones ++ zones) (run.zones ++ zones) ((run.sections ++ sections) ++ section_of section ∷ []) (run.sections ++ (sections ++ section_of section ∷ [])) refl (append_assoc run.sections sections (section_of section ∷ []))
 
-pub reads_next : {rules : Rules} (first now new : Reader) (before after : List (Bor (List ℕ))) (zones : List NamedZone) (sections : List Section) (part : Part)
-    → Reads rules first now before zones sections → PassesPart rules now new before after part → HasRoom new → length new.rest.now ≤ length now.rest.now
-    → Reads rules first new after (zones_with zones part) (sections_with sections part)
-reads_next {rules = rules} first now new before after zones sections part so_far passes room shorter = record {
+pub reads_next : {tables : Tables} (first now new : Reader) (before after : List (Bor (List ℕ))) (zones : List NamedZone) (sections : List Section) (part : Part)
+    → Reads tables first now before zones sections → PassesPart tables now new before after part → HasRoom new → length new.rest.now ≤ length now.rest.now
+    → Reads tables first new after (zones_with zones part) (sections_with sections part)
+reads_next {tables = tables} first now new before after zones sections part so_far passes room shorter = record {
   room = room;
   short = omega (arith, so_far.short, shorter);
   names = subst (λ n. HasNames n (zones_with zones part)) (sym passes.names) (names_next before zones part so_far.names);
   leads = λ run none.
-      subst (λ r. LeadsTo rules (place_of first (Sections run)) (place_of new (Sections r))) (run_next run zones sections part)
+      subst (λ r. LeadsTo tables (place_of first (Sections run)) (place_of new (Sections r))) (run_next run zones sections part)
       (goes_on _ _ _ (so_far.leads run none) (passes.leads (with_parts run zones sections) (run_names before zones sections run so_far.names none)));
 }
 
-pub reads_refused : {rules : Rules} (first now : Reader) (names : List (Bor (List ℕ))) (zones : List NamedZone) (sections : List Section) (refusal : Refusal) → Reads rules first now names zones sections
-    → ((run : Run) → HasNames names run.zones → RefusedFrom rules (place_of now (Sections run)) refusal)
-    → (run : Run) → run.zones ≡ [] → RefusedFrom rules (place_of first (Sections run)) refusal
+pub reads_refused : {tables : Tables} (first now : Reader) (names : List (Bor (List ℕ))) (zones : List NamedZone) (sections : List Section) (refusal : Refusal) → Reads tables first now names zones sections
+    → ((run : Run) → HasNames names run.zones → RefusedFrom tables (place_of now (Sections run)) refusal)
+    → (run : Run) → run.zones ≡ [] → RefusedFrom tables (place_of first (Sections run)) refusal
 reads_refused first now names zones sections refusal so_far refused run none =
     (so_far.leads run none).refuses refusal (refused (with_parts run zones sections) (run_names names zones sections run so_far.names none))
 
-pub reads_all : {rules : Rules} (first now new : Reader) (names : List (Bor (List ℕ))) (zones : List NamedZone) (sections : List Section) → Reads rules first now names zones sections
-    → ((run : Run) → LeadsTo rules (place_of now (Sections run)) (place_of new (Script run)))
-    → (run : Run) → run.zones ≡ [] → LeadsTo rules (place_of first (Sections run)) (place_of new (Script (with_parts run zones sections)))
+pub reads_all : {tables : Tables} (first now new : Reader) (names : List (Bor (List ℕ))) (zones : List NamedZone) (sections : List Section) → Reads tables first now names zones sections
+    → ((run : Run) → LeadsTo tables (place_of now (Sections run)) (place_of new (Script run)))
+    → (run : Run) → run.zones ≡ [] → LeadsTo tables (place_of first (Sections run)) (place_of new (Script (with_parts run zones sections)))
 reads_all first now new names zones sections so_far last run none = goes_on _ _ _ (so_far.leads run none) (last (with_parts run zones sections))
 
 -- the parts with one more
@@ -102,8 +102,8 @@ sections_pushed old new (SectionPart section) adds = ap (map section_of) adds.1 
 at_line : (run : Run) (zone : ZoneLine) (line : ℕ) → zone.line ≡ line → Sections (with_zone run (zone_of zone)) ≡ Sections (with_zone run (record { line = line; name = zone.name.now; source = source_of zone.source }))
 at_line run zone line is = rw is refl
 
-pub zone_passes : {rules : Rules} (old new : Reader) (before after : List (Bor (List ℕ))) (line : List ℕ) (zone : ZoneLine) → new.number ≡ old.number + 1 → lines_of old.rest.now ≡ line ∷ lines_of new.rest.now
-    → AddsZone (texts_of before) line zone.name.now (source_of zone.source) → zone.line ≡ new.number → after ≡ before ++ zone.name ∷ [] → PassesPart rules old new before after (ZonePart zone)
+pub zone_passes : {tables : Tables} (old new : Reader) (before after : List (Bor (List ℕ))) (line : List ℕ) (zone : ZoneLine) → new.number ≡ old.number + 1 → lines_of old.rest.now ≡ line ∷ lines_of new.rest.now
+    → AddsZone (texts_of before) line zone.name.now (source_of zone.source) → zone.line ≡ new.number → after ≡ before ++ zone.name ∷ [] → PassesPart tables old new before after (ZonePart zone)
 zone_passes old new before after line zone number lines adds zone_line names = record {
   leads = λ run is.
       one_line_at old new (Sections run) (Sections (with_zone run (zone_of zone))) line number lines
@@ -116,11 +116,11 @@ zone_passes old new before after line zone number lines adds zone_line names = r
   names = names;
 }
 
-pub part_refused : (rules : Rules) (old new : Reader) (before : List (Bor (List ℕ))) (line : List ℕ) (refusal : Refusal) → new.number ≡ old.number + 1 → lines_of old.rest.now ≡ line ∷ lines_of new.rest.now
+pub part_refused : (tables : Tables) (old new : Reader) (before : List (Bor (List ℕ))) (line : List ℕ) (refusal : Refusal) → new.number ≡ old.number + 1 → lines_of old.rest.now ≡ line ∷ lines_of new.rest.now
     → IsOfLine new.number refusal → RefusesBeforeScript (length (lines_of new.rest.now)) (texts_of before) line refusal.cause
-    → (run : Run) → HasNames before run.zones → RefusedFrom rules (place_of old (Sections run)) refusal
-part_refused rules old new before line refusal number lines line_is refuses run is =
-    wrong_line rules (old.number + 1) (Sections run) old.rest.now line new.rest.now refusal lines (rw is refuses, (line_is.0 ∙ number, line_is.1))
+    → (run : Run) → HasNames before run.zones → RefusedFrom tables (place_of old (Sections run)) refusal
+part_refused tables old new before line refusal number lines line_is refuses run is =
+    wrong_line tables (old.number + 1) (Sections run) old.rest.now line new.rest.now refusal lines (rw is refuses, (line_is.0 ∙ number, line_is.1))
 
 -- the name is none of these
 abbrev pub New : List ℕ → List (Bor (List ℕ)) → Type 0
@@ -145,9 +145,9 @@ pub free_new : (names : List (Bor (List ℕ))) (name : List ℕ) → IsFreeName 
 free_new names name free = new_names names name free.new
 
 -- what was read, with a part kept
-pub reads_pushed : {rules : Rules} (first now new : Reader) (before after : List (Bor (List ℕ))) (old more : Parts) (part : Part)
-    → Reads rules first now before (map zone_of old.zones.items) (map section_of old.sections.items) → PassesPart rules now new before after part → HasRoom new → length new.rest.now ≤ length now.rest.now
-    → AddsPart old more part → Reads rules first new after (map zone_of more.zones.items) (map section_of more.sections.items)
+pub reads_pushed : {tables : Tables} (first now new : Reader) (before after : List (Bor (List ℕ))) (old more : Parts) (part : Part)
+    → Reads tables first now before (map zone_of old.zones.items) (map section_of old.sections.items) → PassesPart tables now new before after part → HasRoom new → length new.rest.now ≤ length now.rest.now
+    → AddsPart old more part → Reads tables first new after (map zone_of more.zones.items) (map section_of more.sections.items)
 reads_pushed first now new before after old more part so_far passes room shorter adds =
     rw (zones_pushed old more part adds, sections_pushed old more part adds) (reads_next first now new before after _ _ part so_far passes room shorter)
 

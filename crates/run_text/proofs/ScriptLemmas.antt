@@ -14,24 +14,24 @@ use Rattle.run_text.specs.Steps.{place_of, LeadsTo, RefusedFrom, HasRoom, Begins
 use Rattle.run_text.specs.declared.head.Head.{Head}
 use Rattle.run_text.specs.declared.reader.Reader.{Reader}
 use Rattle.run_text.specs.declared.refusal.Refusal.{Refusal}
-use Rattle.run_text.specs.declared.rules.Rules.{Rules}
+use Rattle.run_text.specs.declared.table.Tables.{Tables}
 use Rattle.run_text.proofs.StepLemmas.{stays, goes_on, one_line_at}
 
 same_script : (run : Run) (a b : List Command) → a ≡ b → ◌≡◌ {A = Run} (record run { commands = a }) (record run { commands = b })
 same_script run a b is = rw is refl
 
 -- what was read from the first place on, which is the beginning of a script
-pub record ReadsCommands (rules : Rules) (head : Head) (first now : Reader) (left : Limits) (commands : List Command) : Type 0 where
+pub record ReadsCommands (head : Head) (first now : Reader) (left : Limits) (commands : List Command) : Type 0 where
   pub room : HasRoom now
-  pub leads : (run : Run) → BeginsScript head run → LeadsTo rules (place_of first (Script run)) (place_of now (Script (with_commands run commands)))
+  pub leads : (tables : Tables) (run : Run) → BeginsScript head run → LeadsTo tables (place_of first (Script run)) (place_of now (Script (with_commands run commands)))
   pub has : (run : Run) → BeginsScript head run → HasScript head (with_commands run commands) left
 
 -- nothing is read at first
-pub commands_none : {rules : Rules} (head : Head) (reader : Reader) (left : Limits) → IsLeftBy [] left → HasRoom reader → ReadsCommands rules head reader reader left []
-commands_none {rules = rules} head reader left whole room = record {
+pub commands_none : (head : Head) (reader : Reader) (left : Limits) → IsLeftBy [] left → HasRoom reader → ReadsCommands head reader reader left []
+commands_none head reader left whole room = record {
   room = room;
-  leads = λ run begins.
-      subst (λ r. LeadsTo rules (place_of reader (Script run)) (place_of reader (Script r)))
+  leads = λ tables run begins.
+      subst (λ r. LeadsTo tables (place_of reader (Script run)) (place_of reader (Script r)))
       (same_script run run.commands (run.commands ++ []) (sym (append-nil run.commands)))
       (stays _ _ _ _ refl);
   has = λ run begins. record {
@@ -46,37 +46,37 @@ script_next : (run : Run) (commands : List Command) (command : Command) → with
 script_next run commands command =
     same_script run ((run.commands ++ commands) ++ command ∷ []) (run.commands ++ (commands ++ command ∷ [])) (append_assoc run.commands commands (command ∷ []))
 
-pub commands_next : {rules : Rules} (head : Head) (first now new : Reader) (before after : Limits) (commands : List Command) (command : Command)
-    → ReadsCommands rules head first now before commands → PassesCommand rules head now new before after command → HasRoom new
-    → ReadsCommands rules head first new after (commands ++ command ∷ [])
-commands_next {rules = rules} head first now new before after commands command so_far passes room = record {
+pub commands_next : (head : Head) (first now new : Reader) (before after : Limits) (commands : List Command) (command : Command)
+    → ReadsCommands head first now before commands → PassesCommand head now new before after command → HasRoom new
+    → ReadsCommands head first new after (commands ++ command ∷ [])
+commands_next head first now new before after commands command so_far passes room = record {
   room = room;
-  leads = λ run begins.
-      subst (λ r. LeadsTo rules (place_of first (Script run)) (place_of new (Script r))) (script_next run commands command)
-      (goes_on _ _ _ (so_far.leads run begins) (passes.leads (with_commands run commands) (so_far.has run begins)));
+  leads = λ tables run begins.
+      subst (λ r. LeadsTo tables (place_of first (Script run)) (place_of new (Script r))) (script_next run commands command)
+      (goes_on _ _ _ (so_far.leads tables run begins) (passes.leads tables (with_commands run commands) (so_far.has run begins)));
   has = λ run begins. subst (λ r. HasScript head r after) (script_next run commands command) (passes.left_is (with_commands run commands) (so_far.has run begins));
 }
 
-pub commands_refused : {rules : Rules} (head : Head) (first now : Reader) (left : Limits) (commands : List Command) (refusal : Refusal) → ReadsCommands rules head first now left commands
-    → ((run : Run) → HasScript head run left → RefusedFrom rules (place_of now (Script run)) refusal)
-    → (run : Run) → BeginsScript head run → RefusedFrom rules (place_of first (Script run)) refusal
-commands_refused head first now left commands refusal so_far refused run begins =
-    (so_far.leads run begins).refuses refusal (refused (with_commands run commands) (so_far.has run begins))
+pub commands_refused : (head : Head) (first now : Reader) (left : Limits) (commands : List Command) (refusal : Refusal) → ReadsCommands head first now left commands
+    → ((tables : Tables) (run : Run) → HasScript head run left → RefusedFrom tables (place_of now (Script run)) refusal)
+    → (tables : Tables) (run : Run) → BeginsScript head run → RefusedFrom tables (place_of first (Script run)) refusal
+commands_refused head first now left commands refusal so_far refused tables run begins =
+    (so_far.leads tables run begins).refuses refusal (refused tables (with_commands run commands) (so_far.has run begins))
 
 -- the line that ends the script
-pub script_ends : {rules : Rules} (head : Head) (first now new : Reader) (left : Limits) (commands : List Command) → ReadsCommands rules head first now left commands
-    → ((run : Run) → LeadsTo rules (place_of now (Script run)) (place_of new (End run)))
-    → (run : Run) → BeginsScript head run → LeadsTo rules (place_of first (Script run)) (place_of new (End (with_commands run commands)))
-script_ends head first now new left commands so_far last run begins = goes_on _ _ _ (so_far.leads run begins) (last (with_commands run commands))
+pub script_ends : (head : Head) (first now new : Reader) (left : Limits) (commands : List Command) → ReadsCommands head first now left commands
+    → ((tables : Tables) (run : Run) → LeadsTo tables (place_of now (Script run)) (place_of new (End run)))
+    → (tables : Tables) (run : Run) → BeginsScript head run → LeadsTo tables (place_of first (Script run)) (place_of new (End (with_commands run commands)))
+script_ends head first now new left commands so_far last tables run begins = goes_on _ _ _ (so_far.leads tables run begins) (last tables (with_commands run commands))
 
 -- the reader passed a line that says a command
-pub command_passes : {rules : Rules} (head : Head) (old new : Reader) (before after : Limits) (line : List ℕ) (command : Command)
-    → new.number ≡ old.number + 1 → lines_of old.rest.now ≡ line ∷ lines_of new.rest.now → (HasUnplayedWord rules.player line → ⊥)
+pub command_passes : (head : Head) (old new : Reader) (before after : Limits) (line : List ℕ) (command : Command)
+    → new.number ≡ old.number + 1 → lines_of old.rest.now ≡ line ∷ lines_of new.rest.now → (HasUnplayedWord line → ⊥)
     → ((run : Run) → HasScript head run before → SaysCommand run line command)
     → ((run : Run) → HasScript head run before → HasScript head (with_command run command) after)
-    → PassesCommand rules head old new before after command
+    → PassesCommand head old new before after command
 command_passes head old new before after line command number lines played says left = record {
-  leads = λ run has.
+  leads = λ tables run has.
       one_line_at old new (Script run) (Script (with_command run command)) line number lines
       (inr (record { command = command; says = says run has; played = played; next_is = refl }));
   left_is = left;

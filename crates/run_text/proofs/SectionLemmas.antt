@@ -9,7 +9,7 @@ use Rattle.run_text.specs.declared.opening.Opening.{Opening}
 use Rattle.run_text.specs.declared.reader.Reader.{Reader}
 use Rattle.run_text.specs.declared.refusal.Refusal.{Refusal}
 use Rattle.run_text.specs.declared.run.SectionKind.{SectionKind}
-use Rattle.run_text.specs.declared.rules.Rules.{Rules}
+use Rattle.run_text.specs.declared.table.Tables.{Tables}
 use Rattle.run_text.proofs.PhraseLemmas.{one_opening, opening_word}
 use Rattle.run_text.proofs.StepLemmas.{one_line_at, wrong_line}
 
@@ -25,8 +25,8 @@ abbrev at_number : ℕ → Opening → Run → Above
 at_number number opening run = inside run (opened number opening.kind opening.label.now opening.zone.now) opening.count
 
 -- the line that opens a section whose lines are all there
-pub opening_leads : {rules : Rules} (old new : Reader) (opening : Opening) → PassesOpening old new opening → IsWhole new opening
-    → (run : Run) → LeadsTo rules (place_of old (Sections run)) (place_of new (at_table new opening run))
+pub opening_leads : {tables : Tables} (old new : Reader) (opening : Opening) → PassesOpening old new opening → IsWhole new opening
+    → (run : Run) → LeadsTo tables (place_of old (Sections run)) (place_of new (at_table new opening run))
 opening_leads old new opening passes is_whole run =
     one_line_at old new (Sections run) (at_table new opening run) passes.line passes.number passes.lines
     (inr (inr (record {
@@ -44,10 +44,10 @@ opens_none line kind label zone count behind is few k l z n opens =
     let same = one_opening line kind k label l zone z count n is opens.is in
     omega (arith, same.count, opens.whole)
 
-pub opening_refused : (rules : Rules) (old new : Reader) (opening : Opening) (refusal : Refusal) → PassesOpening old new opening → RefusesTable rules new opening refusal
-    → (run : Run) → RefusedFrom rules (place_of old (Sections run)) refusal
-opening_refused rules old new opening refusal passes (inl (few, cause, of_line)) run =
-    wrong_line rules (old.number + 1) (Sections run) old.rest.now passes.line new.rest.now refusal passes.lines (
+pub opening_refused : (tables : Tables) (old new : Reader) (opening : Opening) (refusal : Refusal) → PassesOpening old new opening → RefusesTable tables new opening refusal
+    → (run : Run) → RefusedFrom tables (place_of old (Sections run)) refusal
+opening_refused tables old new opening refusal passes (inl (few, cause, of_line)) run =
+    wrong_line tables (old.number + 1) (Sections run) old.rest.now passes.line new.rest.now refusal passes.lines (
       inl (
         opening_word passes.line opening.kind opening.label.now opening.zone.now opening.count passes.is,
         opens_none passes.line opening.kind opening.label.now opening.zone.now opening.count (length (lines_of new.rest.now)) passes.is few,
@@ -55,5 +55,5 @@ opening_refused rules old new opening refusal passes (inl (few, cause, of_line))
       ),
       (of_line.0 ∙ passes.number, of_line.1),
     )
-opening_refused rules old new opening refusal passes (inr (is_whole, refused)) run =
-    (opening_leads {rules = rules} old new opening passes is_whole run).refuses refusal (refused run)
+opening_refused tables old new opening refusal passes (inr (is_whole, refused)) run =
+    (opening_leads {tables = tables} old new opening passes is_whole run).refuses refusal (refused run)

@@ -14,15 +14,13 @@ use Rattle.crontab_text.specs.Lines.{lines_of}
 use Rattle.crontab_text.specs.declared.answer.Style.{Style}
 use Rattle.run_text.specs.Follow.{Above, Nothing, Version, Replicas, Times, Sections, Table, Script, End, inside, style_of, MayStandIn, MayStandBelow, AddsCommand}
 use Rattle.run_text.specs.Reading.{ReadsFrom, IsRunText}
-use Rattle.run_text.specs.Grammar.{first_word, IsCommandWord, round, campaign, stop, break, restart, cut, heal, drop, repeat, reverse, again, skew, fate, arrive, settle, walk, free}
-use Rattle.run_text.specs.Rules.{rules_of, PlaysCommand, HasUnplayedWord}
+use Rattle.run_text.specs.Grammar.{first_word}
+use Rattle.run_text.specs.Rules.{PlaysCommand, HasUnplayedWord}
 use Rattle.run_text.specs.Run.{NamedZone, Section, Run, run_with, opened, with_line, with_section, with_zone, with_command}
 use Rattle.run_text.specs.Sound.{IsSoundSection, IsSoundSource, IsSoundZone, AreDistinct, AreSoundZones, AreSoundReplicas, IsSoundRun}
 use Rattle.run_text.specs.Table.{Says, AreSaid}
 use Rattle.run_text.specs.Zones.{IsSourceText, fixed, posix, tzif, AddsZone, names_of}
 use Rattle.run_text.specs.declared.run.SectionKind.{SectionKind}
-use Rattle.run_text.specs.declared.rules.Player.{Player}
-use Rattle.run_text.specs.declared.rules.Player.TheVariants.{Clerk, World}
 use Rattle.run_text.specs.declared.table.Tables.TheVariants.{Judged}
 use Rattle.run_text.proofs.AnacrontabLemmas.{say_none}
 use Rattle.run_text.proofs.OffsetLemmas.{offset_in_range}
@@ -33,15 +31,15 @@ SoFar (Some style) label lines = AllByRecursion (Says style label) lines
 SoFar None label lines = ⊤
 
 -- what holds above the line of that number
-abbrev Good : Player → ℕ → Above → Type 0
-Good player number Nothing = ⊤
-Good player number Version = ⊤
-Good player number (Replicas members) = AreSoundReplicas player members
-Good player number (Times members window) = AreSoundReplicas player members × IsWithinLimits window
-Good player number (Sections run) = IsSoundRun player number run
-Good player number (Table run section left) = IsSoundRun player number run × SoFar (style_of section.kind) section.label section.lines × (section.line + length section.lines < number)
-Good player number (Script run) = IsSoundRun player number run
-Good player number (End run) = IsSoundRun player number run
+abbrev Good : ℕ → Above → Type 0
+Good number Nothing = ⊤
+Good number Version = ⊤
+Good number (Replicas members) = AreSoundReplicas members
+Good number (Times members window) = AreSoundReplicas members × IsWithinLimits window
+Good number (Sections run) = IsSoundRun number run
+Good number (Table run section left) = IsSoundRun number run × SoFar (style_of section.kind) section.label section.lines × (section.line + length section.lines < number)
+Good number (Script run) = IsSoundRun number run
+Good number (End run) = IsSoundRun number run
 
 pub all_next : (P Q : Section → Type 0) (xs : List Section) → ((x : Section) → P x → Q x) → AllByRecursion P xs → AllByRecursion Q xs
 all_next P Q [] f all = tt
@@ -54,8 +52,8 @@ all_push P (y ∷ ys) x all px = (all.0, all_push P ys x all.1 px)
 later_section : (number next : ℕ) → number ≤ next → (section : Section) → IsSoundSection number section → IsSoundSection next section
 later_section number next le section sound = record { said = sound.said; within = omega (arith, sound.within) }
 
-later_run : (player : Player) (number next : ℕ) (run : Run) → number ≤ next → IsSoundRun player number run → IsSoundRun player next run
-later_run player number next run le sound = record {
+later_run : (number next : ℕ) (run : Run) → number ≤ next → IsSoundRun number run → IsSoundRun next run
+later_run number next run le sound = record {
   replicas = sound.replicas;
   limits = sound.limits;
   grace = sound.grace;
@@ -64,8 +62,8 @@ later_run player number next run le sound = record {
   script = sound.script;
 }
 
-with_one_more : (player : Player) (number : ℕ) (run : Run) (section : Section) → IsSoundRun player number run → IsSoundSection number section → IsSoundRun player number (with_section run section)
-with_one_more player number run section sound part = record {
+with_one_more : (number : ℕ) (run : Run) (section : Section) → IsSoundRun number run → IsSoundSection number section → IsSoundRun number (with_section run section)
+with_one_more number run section sound part = record {
   replicas = sound.replicas;
   limits = sound.limits;
   grace = sound.grace;
@@ -101,9 +99,9 @@ sound_zones zones zone line sound adds = record {
   distinct = rw (map-append (λ (z : NamedZone). z.name) zones (zone ∷ [])) (distinct_push (names_of zones) zone.name sound.distinct adds.free.new);
 }
 
-with_zone_more : (player : Player) (next number : ℕ) (run : Run) (line name : List ℕ) (source : Source) → IsSoundRun player next run → AddsZone (names_of run.zones) line name source
-    → IsSoundRun player next (with_zone run (record { line = number; name = name; source = source }))
-with_zone_more player next number run line name source sound adds = record {
+with_zone_more : (next number : ℕ) (run : Run) (line name : List ℕ) (source : Source) → IsSoundRun next run → AddsZone (names_of run.zones) line name source
+    → IsSoundRun next (with_zone run (record { line = number; name = name; source = source }))
+with_zone_more next number run line name source sound adds = record {
   replicas = sound.replicas;
   limits = sound.limits;
   grace = sound.grace;
@@ -113,9 +111,9 @@ with_zone_more player next number run line name source sound adds = record {
 }
 
 -- a run without jobs and commands
-sound_head : (player : Player) (number members : ℕ) (window : Window) (grace : ℕ) → AreSoundReplicas player members → IsWithinLimits window → grace ≤ 525_600
-    → IsSoundRun player number (run_with members window grace)
-sound_head player number members window grace replicas limits short = record {
+sound_head : (number members : ℕ) (window : Window) (grace : ℕ) → AreSoundReplicas members → IsWithinLimits window → grace ≤ 525_600
+    → IsSoundRun number (run_with members window grace)
+sound_head number members window grace replicas limits short = record {
   replicas = replicas;
   limits = limits;
   grace = short;
@@ -124,54 +122,30 @@ sound_head player number members window grace replicas limits short = record {
   script = record { in_range = tt; played = tt; limits = record { commands = omega arith; rounds = omega arith; free_turns = omega arith } };
 }
 
--- the line of a command has a command's word
-has_word : (command : Command) → IsCommandWord (first_word (command_line command))
-has_word (command.Round at rounds) = round refl
-has_word (command.Campaign member) = campaign refl
-has_word (command.Stop member) = stop refl
-has_word (command.Break member pass image) = break refl
-has_word (command.Restart member) = restart refl
-has_word (command.Cut from to) = cut refl
-has_word command.Heal = heal refl
-has_word (command.Drop from to) = drop refl
-has_word (command.Repeat from to) = repeat refl
-has_word (command.Reverse member) = reverse refl
-has_word (command.Again letter) = again refl
-has_word (command.Skew member minutes) = skew refl
-has_word (command.Fate member word) = fate refl
-has_word (command.Arrive late) = arrive refl
-has_word (command.Settle at) = settle refl
-has_word (command.Walk to) = walk refl
-has_word (command.Free at turns) = free refl
-
 -- a command has a form where its line's word is that of one
-plays_in_rounds : (command : Command) → (HasUnplayedWord World (command_line command) → ⊥) → PlaysCommand World command
-plays_in_rounds (command.Round at rounds) none = tt
-plays_in_rounds (command.Campaign member) none = tt
-plays_in_rounds (command.Stop member) none = tt
-plays_in_rounds (command.Break member pass image) none = none (inl refl)
-plays_in_rounds (command.Restart member) none = tt
-plays_in_rounds (command.Cut from to) none = tt
-plays_in_rounds command.Heal none = tt
-plays_in_rounds (command.Drop from to) none = tt
-plays_in_rounds (command.Repeat from to) none = tt
-plays_in_rounds (command.Reverse member) none = tt
-plays_in_rounds (command.Again letter) none = tt
-plays_in_rounds (command.Skew member minutes) none = tt
-plays_in_rounds (command.Fate member word) none = tt
-plays_in_rounds (command.Arrive late) none = tt
-plays_in_rounds (command.Settle at) none = tt
-plays_in_rounds (command.Walk to) none = tt
-plays_in_rounds (command.Free at turns) none = none (inr refl)
-
-plays_command : (player : Player) (command : Command) → (HasUnplayedWord player (command_line command) → ⊥) → PlaysCommand player command
-plays_command Clerk command none = none (has_word command)
-plays_command World command none = plays_in_rounds command none
+plays_command : (command : Command) → (HasUnplayedWord (command_line command) → ⊥) → PlaysCommand command
+plays_command (command.Round at rounds) none = tt
+plays_command (command.Campaign member) none = tt
+plays_command (command.Stop member) none = tt
+plays_command (command.Break member pass image) none = none (inl refl)
+plays_command (command.Restart member) none = tt
+plays_command (command.Cut from to) none = tt
+plays_command command.Heal none = tt
+plays_command (command.Drop from to) none = tt
+plays_command (command.Repeat from to) none = tt
+plays_command (command.Reverse member) none = tt
+plays_command (command.Again letter) none = tt
+plays_command (command.Skew member minutes) none = tt
+plays_command (command.Fate member word) none = tt
+plays_command (command.Arrive late) none = tt
+plays_command (command.Settle at) none = tt
+plays_command (command.Walk to) none = tt
+plays_command (command.Free at turns) none = none (inr refl)
 
 -- one command more
-with_command_more : (player : Player) (number : ℕ) (run : Run) (line : List ℕ) (next : Above) → IsSoundRun player number run → (adds : AddsCommand player run line next)
-    → IsSoundRun player number (with_command run adds.command)
-with_command_more player number run line next sound adds = record {
+with_command_more : (number : ℕ) (run : Run) (line : List ℕ) (next : Above) → IsSoundRun number run → (adds : AddsCommand run line next)
+    → IsSoundRun number (with_command run adds.command)
+with_command_more number run line next sound adds = record {
   replicas = sound.replicas;
   limits = sound.limits;
   grace = sound.grace;
@@ -179,8 +153,8 @@ with_command_more player number run line next sound adds = record {
   sections = sound.sections;
   script = record {
     in_range = all_push (IsInRange run.members run.window) run.commands adds.command sound.script.in_range adds.says.is.in_range;
-    played = all_push (PlaysCommand player) run.commands adds.command sound.script.played
-        (plays_command player adds.command (λ word. adds.played (subst (HasUnplayedWord player) (sym adds.says.is.is) word)));
+    played = all_push PlaysCommand run.commands adds.command sound.script.played
+        (plays_command adds.command (λ word. adds.played (subst HasUnplayedWord (sym adds.says.is.is) word)));
     limits = adds.says.within;
   };
 }
@@ -194,10 +168,10 @@ far_none : (style : Option Style) (label : List ℕ) → SoFar style label []
 far_none (Some style) label = tt
 far_none None label = tt
 
-good_start : (player : Player) (number line : ℕ) (run : Run) (kind : SectionKind) (label zone : List ℕ) (count : ℕ) → line < number → IsSoundRun player number run → Good player number (inside run (opened line kind label zone) count)
-good_start player number line run kind label zone zero below sound =
-    with_one_more player number run (opened line kind label zone) sound (record { said = said_none (style_of kind) label; within = omega arith })
-good_start player number line run kind label zone (suc count) below sound = (sound, far_none (style_of kind) label, omega arith)
+good_start : (number line : ℕ) (run : Run) (kind : SectionKind) (label zone : List ℕ) (count : ℕ) → line < number → IsSoundRun number run → Good number (inside run (opened line kind label zone) count)
+good_start number line run kind label zone zero below sound =
+    with_one_more number run (opened line kind label zone) sound (record { said = said_none (style_of kind) label; within = omega arith })
+good_start number line run kind label zone (suc count) below sound = (sound, far_none (style_of kind) label, omega arith)
 
 -- one line more of a section, which is its last or isn't
 far_next : (style : Option Style) (section : Section) (left : ℕ) (line : List ℕ) → SoFar style section.label section.lines → MayStandIn Judged style section (suc left) line
@@ -210,43 +184,43 @@ said_last : (style : Option Style) (section : Section) (line : List ℕ) → SoF
 said_last (Some style) section line so_far may = all_push (Says style section.label) section.lines line so_far may
 said_last None section line so_far may = may
 
-good_line : (player : Player) (number : ℕ) (run : Run) (section : Section) (left : ℕ) (line : List ℕ) → IsSoundRun player number run → SoFar (style_of section.kind) section.label section.lines
-    → section.line + length section.lines + 1 < number → MayStandIn Judged (style_of section.kind) section left line → Good player number (inside run (with_line section line) left)
-good_line player number run section zero line sound so_far below may =
+good_line : (number : ℕ) (run : Run) (section : Section) (left : ℕ) (line : List ℕ) → IsSoundRun number run → SoFar (style_of section.kind) section.label section.lines
+    → section.line + length section.lines + 1 < number → MayStandIn Judged (style_of section.kind) section left line → Good number (inside run (with_line section line) left)
+good_line number run section zero line sound so_far below may =
     let longer : length (section.lines ++ line ∷ []) ≡ length section.lines + 1 = length-append section.lines (line ∷ []) in
-    with_one_more player number run (with_line section line) sound
+    with_one_more number run (with_line section line) sound
     (record { said = said_last (style_of section.kind) section line so_far may; within = omega arith })
-good_line player number run section (suc left) line sound so_far below may =
+good_line number run section (suc left) line sound so_far below may =
     let longer : length (section.lines ++ line ∷ []) ≡ length section.lines + 1 = length-append section.lines (line ∷ []) in
     (sound, far_next (style_of section.kind) section left line so_far may, omega arith)
 
-good_next : (player : Player) (number behind : ℕ) (above next : Above) (line : List ℕ) → Good player number above → MayStandBelow (rules_of Judged player) number behind above line next → Good player (number + 1) next
-good_next player number behind Nothing next line good may = subst (Good player (number + 1)) (sym may.1) tt
-good_next player number behind Version next line good (members, is, played, next_is) =
-    subst (Good player (number + 1)) (sym next_is) (record { some = is.some; few = is.few; played = played })
-good_next player number behind (Replicas members) next line good (window, is, next_is) = subst (Good player (number + 1)) (sym next_is) (good, is.limits)
-good_next player number behind (Times members window) next line good (grace, is, next_is) =
-    subst (Good player (number + 1)) (sym next_is) (sound_head player (number + 1) members window grace good.0 good.1 is.short)
-good_next player number behind (Sections run) next line good (inl may) = subst (Good player (number + 1)) (sym may.1) (later_run player number (number + 1) run (omega arith) good)
-good_next player number behind (Sections run) next line good (inr (inl names)) =
-    subst (Good player (number + 1)) (sym names.next_is) (with_zone_more player (number + 1) number run line names.name names.source (later_run player number (number + 1) run (omega arith) good) names.adds)
-good_next player number behind (Sections run) next line good (inr (inr start)) =
-    subst (Good player (number + 1)) (sym start.next_is)
-    (good_start player (number + 1) number run start.kind start.label start.zone start.count (omega arith) (later_run player number (number + 1) run (omega arith) good))
-good_next player number behind (Table run section left) next line good (may, next_is) =
-    subst (Good player (number + 1)) (sym next_is)
-    (good_line player (number + 1) run section left line (later_run player number (number + 1) run (omega arith) good.0) good.1 (omega (arith, good.2)) may)
-good_next player number behind (Script run) next line good (inl may) = subst (Good player (number + 1)) (sym may.1) (later_run player number (number + 1) run (omega arith) good)
-good_next player number behind (Script run) next line good (inr adds) =
-    subst (Good player (number + 1)) (sym adds.next_is) (later_run player number (number + 1) (with_command run adds.command) (omega arith) (with_command_more player number run line next good adds))
-good_next player number behind (End run) next line good may = absurd may
+good_next : (number behind : ℕ) (above next : Above) (line : List ℕ) → Good number above → MayStandBelow Judged number behind above line next → Good (number + 1) next
+good_next number behind Nothing next line good may = subst (Good (number + 1)) (sym may.1) tt
+good_next number behind Version next line good (members, is, next_is) =
+    subst (Good (number + 1)) (sym next_is) (record { some = is.some; few = is.few })
+good_next number behind (Replicas members) next line good (window, is, next_is) = subst (Good (number + 1)) (sym next_is) (good, is.limits)
+good_next number behind (Times members window) next line good (grace, is, next_is) =
+    subst (Good (number + 1)) (sym next_is) (sound_head (number + 1) members window grace good.0 good.1 is.short)
+good_next number behind (Sections run) next line good (inl may) = subst (Good (number + 1)) (sym may.1) (later_run number (number + 1) run (omega arith) good)
+good_next number behind (Sections run) next line good (inr (inl names)) =
+    subst (Good (number + 1)) (sym names.next_is) (with_zone_more (number + 1) number run line names.name names.source (later_run number (number + 1) run (omega arith) good) names.adds)
+good_next number behind (Sections run) next line good (inr (inr start)) =
+    subst (Good (number + 1)) (sym start.next_is)
+    (good_start (number + 1) number run start.kind start.label start.zone start.count (omega arith) (later_run number (number + 1) run (omega arith) good))
+good_next number behind (Table run section left) next line good (may, next_is) =
+    subst (Good (number + 1)) (sym next_is)
+    (good_line (number + 1) run section left line (later_run number (number + 1) run (omega arith) good.0) good.1 (omega (arith, good.2)) may)
+good_next number behind (Script run) next line good (inl may) = subst (Good (number + 1)) (sym may.1) (later_run number (number + 1) run (omega arith) good)
+good_next number behind (Script run) next line good (inr adds) =
+    subst (Good (number + 1)) (sym adds.next_is) (later_run number (number + 1) (with_command run adds.command) (omega arith) (with_command_more number run line next good adds))
+good_next number behind (End run) next line good may = absurd may
 
-good_end : (player : Player) (number : ℕ) (above : Above) (lines : List (List ℕ)) (run : Run) → Good player number above → ReadsFrom (rules_of Judged player) number above lines run → IsSoundRun player (number + length lines) run
-good_end player number above [] run good is = later_run player number (number + length {A = List ℕ} []) run (omega arith) (subst (Good player number) is good)
-good_end player number above (line ∷ lines) run good (next, may, reads) =
-    let far = good_end player (number + 1) next lines run (good_next player number (length lines) above next line good may) reads in
-    later_run player (number + 1 + length lines) (number + length (line ∷ lines)) run (omega arith) far
+good_end : (number : ℕ) (above : Above) (lines : List (List ℕ)) (run : Run) → Good number above → ReadsFrom Judged number above lines run → IsSoundRun (number + length lines) run
+good_end number above [] run good is = later_run number (number + length {A = List ℕ} []) run (omega arith) (subst (Good number) is good)
+good_end number above (line ∷ lines) run good (next, may, reads) =
+    let far = good_end (number + 1) next lines run (good_next number (length lines) above next line good may) reads in
+    later_run (number + 1 + length lines) (number + length (line ∷ lines)) run (omega arith) far
 
 -- each run that is read is sound
-pub sound_run : (player : Player) (text : List ℕ) (run : Run) → IsRunText player text run → IsSoundRun player (1 + length (lines_of text)) run
-sound_run player text run is = good_end player 1 Nothing (lines_of text) run tt is
+pub sound_run : (text : List ℕ) (run : Run) → IsRunText text run → IsSoundRun (1 + length (lines_of text)) run
+sound_run text run is = good_end 1 Nothing (lines_of text) run tt is

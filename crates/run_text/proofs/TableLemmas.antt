@@ -16,7 +16,6 @@ use Rattle.crontab_text.proofs.LineLemmas.{lines_of-none, lines_of-begins, lines
 use Rattle.run_text.specs.Anacrontab.{SayAll, IsFirstBreak}
 use Rattle.run_text.specs.Follow.{Sections, Table, inside, style_of, MayStandIn, RefusesInTable}
 use Rattle.run_text.specs.Reading.{ReadsFrom, RefusesFrom}
-use Rattle.run_text.specs.Rules.{rules_of}
 use Rattle.run_text.specs.Run.{Run, Section, section_of, opened, with_line, with_lines, with_section}
 use Rattle.run_text.specs.Steps.{Place, place_of, at_table, IsCut, LeadsTo, RefusedFrom, PassesTable, RefusesTable}
 use Rattle.run_text.specs.Table.{Says, AreSaid, IsFirstFault, IsTableFault}
@@ -25,8 +24,6 @@ use Rattle.run_text.specs.declared.reader.Reader.{Reader}
 use Rattle.run_text.specs.declared.refusal.Refusal.{Refusal}
 use Rattle.run_text.specs.declared.run.Section.{Section as SectionText}
 use Rattle.run_text.specs.declared.run.SectionKind.{SectionKind}
-use Rattle.run_text.specs.declared.rules.Player.{Player}
-use Rattle.run_text.specs.declared.rules.Rules.{Rules}
 use Rattle.run_text.specs.declared.table.Tables.{Tables}
 use Rattle.run_text.specs.declared.table.Tables.TheVariants.{Judged, Counted}
 use Rattle.run_text.proofs.AnacrontabLemmas.{say_none, none_breaks}
@@ -98,7 +95,7 @@ abbrev in_section : ℕ → Run → Section → ℕ → List ℕ → Place
 in_section number run section left rest = record { number = number; above = inside run section left; rest = rest }
 
 -- Whoever plays the run.
-module _ (player : Player) where
+module _ where
   -- the line stands in a crontab
   stands_in_crontab : (style : Style) (section : Section) (left : ℕ) (line : List ℕ) → style_of section.kind ≡ Some style → Says style section.label line → MayStandIn Judged (style_of section.kind) section left line
   stands_in_crontab style section left line is says = subst (λ s. MayStandIn Judged s section left line) (sym is) says
@@ -107,7 +104,7 @@ module _ (player : Player) where
   front_leads : (style : Style) (front : List (List ℕ)) (left total number last : ℕ) (run : Run) (section : Section) (text rest : List ℕ)
       → style_of section.kind ≡ Some style → total ≡ length front + left → last ≡ number + length front
       → lines_of text ≡ front ++ lines_of rest → AllByRecursion (Says style section.label) front
-      → LeadsTo (rules_of Judged player) (in_section number run section total text) (in_section last run (with_lines section front) left rest)
+      → LeadsTo Judged (in_section number run section total text) (in_section last run (with_lines section front) left rest)
   front_leads style [] left total number last run section text rest kind total_is last_is is all =
       let total_left : total ≡ left = omega (arith, total_is) in
       let last_number : last ≡ number = omega (arith, last_is) in
@@ -116,13 +113,13 @@ module _ (player : Player) where
   front_leads style (line ∷ lines) left total number last run section text rest kind total_is last_is is all =
       let (middle, behind) = lines_of-first text line (lines ++ lines_of rest) is in
       let total_next : total ≡ suc (length lines + left) = omega (arith, total_is) in
-      let first = one_line {rules = rules_of Judged player} number (Table run section (length lines + left)) (inside run (with_line section line) (length lines + left)) text line middle
+      let first = one_line {tables = Judged} number (Table run section (length lines + left)) (inside run (with_line section line) (length lines + left)) text line middle
       (is ∙ ap (λ l. line ∷ l) behind) (stands_in_crontab style section (length lines + left) line kind all.0, refl) in
       let others = front_leads style lines left (length lines + left) (number + 1) last run (with_line section line) middle rest kind refl (omega (arith, last_is)) (sym behind) all.1 in
       let joined : with_lines (with_line section line) lines ≡ with_lines section (line ∷ lines) =
       same_lines section ((section.lines ++ line ∷ []) ++ lines) (section.lines ++ line ∷ lines) (append_assoc section.lines (line ∷ []) lines) in
-      subst (λ t. LeadsTo (rules_of Judged player) (in_section number run section t text) (in_section last run (with_lines section (line ∷ lines)) left rest)) (sym total_next)
-      (subst (λ s. LeadsTo (rules_of Judged player) (in_section number run section (suc (length lines + left)) text) (in_section last run s left rest)) joined (goes_on _ _ _ first others))
+      subst (λ t. LeadsTo Judged (in_section number run section t text) (in_section last run (with_lines section (line ∷ lines)) left rest)) (sym total_next)
+      (subst (λ s. LeadsTo Judged (in_section number run section (suc (length lines + left)) text) (in_section last run s left rest)) joined (goes_on _ _ _ first others))
 
   -- a refused line of a crontab
   refused_in_crontab : (style : Style) (number : ℕ) (section : Section) (left : ℕ) (line : List ℕ) (fault : LineFault) (refusal : Refusal) → style_of section.kind ≡ Some style → IsLineFault style line fault.cause fault.place
@@ -134,7 +131,7 @@ module _ (player : Player) where
   crontab_refused : (style : Style) (lines : List (List ℕ)) (number : ℕ) (run : Run) (section : Section) (text rest : List ℕ) (fault : LineFault) (refusal : Refusal)
       → style_of section.kind ≡ Some style → lines_of text ≡ lines ++ lines_of rest → IsFirstFault style section.label lines fault
       → refusal.line ≡ number + fault.line → refusal.cause ≡ fault.cause → refusal.place ≡ fault.place
-      → RefusedFrom (rules_of Judged player) (in_section (number + 1) run section (length lines) text) refusal
+      → RefusedFrom Judged (in_section (number + 1) run section (length lines) text) refusal
   crontab_refused style lines number run section text rest fault refusal kind is first line_is cause_is place_is =
       let parts : lines_of text ≡ first.front ++ first.line ∷ (first.back ++ lines_of rest) =
       is ∙ ap (λ l. l ++ lines_of rest) first.parts ∙ append_assoc first.front (first.line ∷ first.back) (lines_of rest) in
@@ -142,7 +139,7 @@ module _ (player : Player) where
       let (after, more) = lines_of-first middle first.line (first.back ++ lines_of rest) (sym behind) in
       let count : length lines ≡ length first.front + suc (length first.back) = ap length first.parts ∙ length-append first.front (first.line ∷ first.back) in
       let way = front_leads style first.front (suc (length first.back)) (length lines) (number + 1) (number + 1 + length first.front) run section text middle kind count refl (parts ∙ ap (λ l. first.front ++ l) behind) first.before in
-      let here = wrong_line (rules_of Judged player) (number + 1 + length first.front) (Table run (with_lines section first.front) (length first.back)) middle first.line after refusal
+      let here = wrong_line Judged (number + 1 + length first.front) (Table run (with_lines section first.front) (length first.back)) middle first.line after refusal
       (sym behind ∙ ap (λ l. first.line ∷ l) more)
       (refused_in_crontab style (number + 1 + length first.front) (with_lines section first.front) (length first.back) first.line fault refusal kind first.here (line_is ∙ omega (arith, first.number)) cause_is place_is) in
       way.refuses refusal here
@@ -156,40 +153,40 @@ module _ (player : Player) where
   one_kept section line lines = sym (append_assoc section.lines (line ∷ []) lines)
 
   anacrontab_reads : (lines behind : List (List ℕ)) (number : ℕ) (run final : Run) (section : Section) → style_of section.kind ≡ None → SayAll no_settings (joined (section.lines ++ lines))
-      → ReadsFrom (rules_of Judged player) (number + length lines) (Sections (with_section run (with_lines section lines))) behind final → ReadsFrom (rules_of Judged player) number (inside run section (length lines)) (lines ++ behind) final
+      → ReadsFrom Judged (number + length lines) (Sections (with_section run (with_lines section lines))) behind final → ReadsFrom Judged number (inside run section (length lines)) (lines ++ behind) final
   anacrontab_reads [] behind number run final section kind all reads =
       let place : number + length {A = List ℕ} [] ≡ number = omega arith in
       let same : with_lines section [] ≡ section = same_lines section (section.lines ++ []) section.lines (append-nil section.lines) in
-      subst (λ s. ReadsFrom (rules_of Judged player) number (Sections (with_section run s)) behind final) same
-      (subst (λ n. ReadsFrom (rules_of Judged player) n (Sections (with_section run (with_lines section []))) behind final) place reads)
+      subst (λ s. ReadsFrom Judged number (Sections (with_section run s)) behind final) same
+      (subst (λ n. ReadsFrom Judged n (Sections (with_section run (with_lines section []))) behind final) place reads)
   anacrontab_reads (line ∷ []) behind number run final section kind all reads =
       (inside run (with_line section line) 0, (stands_in_anacrontab section 0 line kind all, refl), reads)
   anacrontab_reads (line ∷ next ∷ lines) behind number run final section kind all reads =
       let kept = one_kept section line (next ∷ lines) in
       let place : number + length (line ∷ next ∷ lines) ≡ (number + 1) + length (next ∷ lines) = omega arith in
       let section_is : with_lines section (line ∷ next ∷ lines) ≡ with_lines (with_line section line) (next ∷ lines) = same_lines section _ _ kept in
-      let later = subst (λ s. ReadsFrom (rules_of Judged player) (number + 1 + length (next ∷ lines)) (Sections (with_section run s)) behind final) section_is
-      (subst (λ n. ReadsFrom (rules_of Judged player) n (Sections (with_section run (with_lines section (line ∷ next ∷ lines)))) behind final) place reads) in (
+      let later = subst (λ s. ReadsFrom Judged (number + 1 + length (next ∷ lines)) (Sections (with_section run s)) behind final) section_is
+      (subst (λ n. ReadsFrom Judged n (Sections (with_section run (with_lines section (line ∷ next ∷ lines)))) behind final) place reads) in (
         inside run (with_line section line) (length (next ∷ lines)),
         (stands_in_anacrontab section (length (next ∷ lines)) line kind tt, refl),
         anacrontab_reads (next ∷ lines) behind (number + 1) run final (with_line section line) kind (subst (λ l. SayAll no_settings (joined l)) kept all) later,
       )
 
   anacrontab_passes : (lines behind : List (List ℕ)) (number : ℕ) (run : Run) (section : Section) (refusal : Refusal) → style_of section.kind ≡ None → SayAll no_settings (joined (section.lines ++ lines))
-      → RefusesFrom (rules_of Judged player) (number + length lines) (Sections (with_section run (with_lines section lines))) behind refusal → RefusesFrom (rules_of Judged player) number (inside run section (length lines)) (lines ++ behind) refusal
+      → RefusesFrom Judged (number + length lines) (Sections (with_section run (with_lines section lines))) behind refusal → RefusesFrom Judged number (inside run section (length lines)) (lines ++ behind) refusal
   anacrontab_passes [] behind number run section refusal kind all refuses =
       let place : number + length {A = List ℕ} [] ≡ number = omega arith in
       let same : with_lines section [] ≡ section = same_lines section (section.lines ++ []) section.lines (append-nil section.lines) in
-      subst (λ s. RefusesFrom (rules_of Judged player) number (Sections (with_section run s)) behind refusal) same
-      (subst (λ n. RefusesFrom (rules_of Judged player) n (Sections (with_section run (with_lines section []))) behind refusal) place refuses)
+      subst (λ s. RefusesFrom Judged number (Sections (with_section run s)) behind refusal) same
+      (subst (λ n. RefusesFrom Judged n (Sections (with_section run (with_lines section []))) behind refusal) place refuses)
   anacrontab_passes (line ∷ []) behind number run section refusal kind all refuses =
       inr (inside run (with_line section line) 0, (stands_in_anacrontab section 0 line kind all, refl), refuses)
   anacrontab_passes (line ∷ next ∷ lines) behind number run section refusal kind all refuses =
       let kept = one_kept section line (next ∷ lines) in
       let place : number + length (line ∷ next ∷ lines) ≡ (number + 1) + length (next ∷ lines) = omega arith in
       let section_is : with_lines section (line ∷ next ∷ lines) ≡ with_lines (with_line section line) (next ∷ lines) = same_lines section _ _ kept in
-      let later = subst (λ s. RefusesFrom (rules_of Judged player) (number + 1 + length (next ∷ lines)) (Sections (with_section run s)) behind refusal) section_is
-      (subst (λ n. RefusesFrom (rules_of Judged player) n (Sections (with_section run (with_lines section (line ∷ next ∷ lines)))) behind refusal) place refuses) in
+      let later = subst (λ s. RefusesFrom Judged (number + 1 + length (next ∷ lines)) (Sections (with_section run s)) behind refusal) section_is
+      (subst (λ n. RefusesFrom Judged n (Sections (with_section run (with_lines section (line ∷ next ∷ lines)))) behind refusal) place refuses) in
       inr (
         inside run (with_line section line) (length (next ∷ lines)),
         (stands_in_anacrontab section (length (next ∷ lines)) line kind tt, refl),
@@ -205,7 +202,7 @@ module _ (player : Player) where
 
   anacrontab_refuses : (lines behind : List (List ℕ)) (number first : ℕ) (run : Run) (section : Section) (refusal : Refusal) → style_of section.kind ≡ None → 0 < length lines
       → IsFirstBreak no_settings (joined (section.lines ++ lines)) first refusal.cause refusal.place → refusal.line ≡ section.line + first
-      → RefusesFrom (rules_of Judged player) number (inside run section (length lines)) (lines ++ behind) refusal
+      → RefusesFrom Judged number (inside run section (length lines)) (lines ++ behind) refusal
   anacrontab_refuses [] behind number first run section refusal kind some is line_is = absurd (omega arith)
   anacrontab_refuses (line ∷ []) behind number first run section refusal kind some is line_is =
       inl (subst (λ s. RefusesInTable Judged s number section 0 line refusal) (sym kind) (first, is, line_is))
@@ -219,25 +216,25 @@ module _ (player : Player) where
 
   -- lines that are only counted
   counted_lead : (lines : List (List ℕ)) (number last : ℕ) (run : Run) (section : Section) (text rest : List ℕ) → last ≡ number + length lines → lines_of text ≡ lines ++ lines_of rest
-      → LeadsTo (rules_of Counted player) (in_section number run section (length lines) text) (in_section last run (with_lines section lines) 0 rest)
+      → LeadsTo Counted (in_section number run section (length lines) text) (in_section last run (with_lines section lines) 0 rest)
   counted_lead [] number last run section text rest last_is is =
       let last_number : number ≡ last = omega (arith, last_is) in
       let section_same : section ≡ with_lines section [] = same_lines section section.lines (section.lines ++ []) (sym (append-nil section.lines)) in
-      subst (λ n. LeadsTo (rules_of Counted player) (in_section number run section 0 text) (in_section n run (with_lines section []) 0 rest)) last_number
-      (subst (λ s. LeadsTo (rules_of Counted player) (in_section number run section 0 text) (in_section number run s 0 rest)) section_same (stays number (inside run section 0) text rest is))
+      subst (λ n. LeadsTo Counted (in_section number run section 0 text) (in_section n run (with_lines section []) 0 rest)) last_number
+      (subst (λ s. LeadsTo Counted (in_section number run section 0 text) (in_section number run s 0 rest)) section_same (stays number (inside run section 0) text rest is))
   counted_lead (line ∷ lines) number last run section text rest last_is is =
       let (middle, behind) = lines_of-first text line (lines ++ lines_of rest) is in
-      let first = one_line {rules = rules_of Counted player} number (Table run section (length lines)) (inside run (with_line section line) (length lines)) text line middle
+      let first = one_line {tables = Counted} number (Table run section (length lines)) (inside run (with_line section line) (length lines)) text line middle
       (is ∙ ap (λ l. line ∷ l) behind) (tt, refl) in
       let others = counted_lead lines (number + 1) last run (with_line section line) middle rest (omega (arith, last_is)) (sym behind) in
       let joined : with_lines (with_line section line) lines ≡ with_lines section (line ∷ lines) =
       same_lines section ((section.lines ++ line ∷ []) ++ lines) (section.lines ++ line ∷ lines) (append_assoc section.lines (line ∷ []) lines) in
-      subst (λ s. LeadsTo (rules_of Counted player) (in_section number run section (suc (length lines)) text) (in_section last run s 0 rest)) joined (goes_on _ _ _ first others)
+      subst (λ s. LeadsTo Counted (in_section number run section (suc (length lines)) text) (in_section last run s 0 rest)) joined (goes_on _ _ _ first others)
 
   -- the lines of a section, which all say something where they are judged
   section_leads : (tables : Tables) (style : Option Style) (lines : List (List ℕ)) (line last : ℕ) (kind : SectionKind) (label zone : List ℕ) (run : Run) (text rest : List ℕ)
       → style_of kind ≡ style → (tables ≡ Judged → AreSaid style label lines) → last ≡ line + 1 + length lines → lines_of text ≡ lines ++ lines_of rest
-      → LeadsTo (rules_of tables player) (in_section (line + 1) run (opened line kind label zone) (length lines) text) (in_section last run (with_lines (opened line kind label zone) lines) 0 rest)
+      → LeadsTo tables (in_section (line + 1) run (opened line kind label zone) (length lines) text) (in_section last run (with_lines (opened line kind label zone) lines) 0 rest)
   section_leads Counted style lines line last kind label zone run text rest style_is all last_is is =
       counted_lead lines (line + 1) last run (opened line kind label zone) text rest last_is is
   section_leads Judged (Some style) lines line last kind label zone run text rest style_is all last_is is =
@@ -251,7 +248,7 @@ module _ (player : Player) where
   section_refused : (style : Option Style) (lines : List (List ℕ)) (line : ℕ) (kind : SectionKind) (label zone : List ℕ) (run : Run) (text rest : List ℕ) (fault : LineFault) (refusal : Refusal)
       → style_of kind ≡ style → IsTableFault style label lines fault → lines_of text ≡ lines ++ lines_of rest
       → refusal.line ≡ line + fault.line → refusal.cause ≡ fault.cause → refusal.place ≡ fault.place
-      → RefusedFrom (rules_of Judged player) (in_section (line + 1) run (opened line kind label zone) (length lines) text) refusal
+      → RefusedFrom Judged (in_section (line + 1) run (opened line kind label zone) (length lines) text) refusal
   section_refused (Some style) lines line kind label zone run text rest fault refusal style_is first is line_is cause_is place_is =
       crontab_refused style lines line run (opened line kind label zone) text rest fault refusal style_is is first line_is cause_is place_is
   section_refused None [] line kind label zone run text rest fault refusal style_is first is line_is cause_is place_is =
@@ -260,27 +257,27 @@ module _ (player : Player) where
       rw is (anacrontab_refuses (x ∷ xs) (lines_of rest) (line + 1) fault.line run (opened line kind label zone) refusal style_is (omega arith) (rw (cause_is, place_is) first) line_is)
 
 -- the lines of a section, as the reader passes them
-pub passed_table : (rules : Rules) (old new : Reader) (opening : Opening) (section : SectionText) (front : List ℕ)
-    → IsCut old.rest.now opening.count front new.rest.now → (rules.tables ≡ Judged → AreSaid (style_of opening.kind) opening.label.now (lines_of front)) → new.number ≡ old.number + opening.count
+pub passed_table : (tables : Tables) (old new : Reader) (opening : Opening) (section : SectionText) (front : List ℕ)
+    → IsCut old.rest.now opening.count front new.rest.now → (tables ≡ Judged → AreSaid (style_of opening.kind) opening.label.now (lines_of front)) → new.number ≡ old.number + opening.count
     → section_of section ≡ record { line = old.number; kind = opening.kind; label = opening.label.now; zone = opening.zone.now; lines = lines_of front }
-    → PassesTable rules old new opening section
-passed_table rules old new opening section front cut all number_is section_is = record {
+    → PassesTable tables old new opening section
+passed_table tables old new opening section front cut all number_is section_is = record {
   whole = cut_whole old.rest.now front new.rest.now opening.count cut;
   leads = λ run.
-      subst (λ s. LeadsTo rules (place_of old (at_table old opening run)) (place_of new (Sections (with_section run s)))) (sym section_is)
-      (subst (λ n. LeadsTo rules (in_section (old.number + 1) run (opened old.number opening.kind opening.label.now opening.zone.now) n old.rest.now) (place_of new (Sections (with_section run (record { line = old.number; kind = opening.kind; label = opening.label.now; zone = opening.zone.now; lines = lines_of front }))))) cut.count_is
-      (section_leads rules.player rules.tables (style_of opening.kind) (lines_of front) old.number (new.number + 1) opening.kind opening.label.now opening.zone.now run old.rest.now new.rest.now refl all (omega (arith, number_is, cut.count_is)) cut.lines));
+      subst (λ s. LeadsTo tables (place_of old (at_table old opening run)) (place_of new (Sections (with_section run s)))) (sym section_is)
+      (subst (λ n. LeadsTo tables (in_section (old.number + 1) run (opened old.number opening.kind opening.label.now opening.zone.now) n old.rest.now) (place_of new (Sections (with_section run (record { line = old.number; kind = opening.kind; label = opening.label.now; zone = opening.zone.now; lines = lines_of front }))))) cut.count_is
+      (section_leads tables (style_of opening.kind) (lines_of front) old.number (new.number + 1) opening.kind opening.label.now opening.zone.now run old.rest.now new.rest.now refl all (omega (arith, number_is, cut.count_is)) cut.lines));
 }
 
 -- a section with a line at fault, where lines are judged
-pub refused_table : (rules : Rules) (reader : Reader) (opening : Opening) (front rest : List ℕ) (fault : LineFault) (refusal : Refusal)
-    → rules.tables ≡ Judged → IsCut reader.rest.now opening.count front rest → IsTableFault (style_of opening.kind) opening.label.now (lines_of front) fault
-    → refusal.line ≡ reader.number + fault.line → refusal.cause ≡ fault.cause → refusal.place ≡ fault.place → RefusesTable rules reader opening refusal
-refused_table rules reader opening front rest fault refusal judged cut first line_is cause_is place_is =
-    subst (λ t. RefusesTable (rules_of t rules.player) reader opening refusal) (sym judged)
+pub refused_table : (tables : Tables) (reader : Reader) (opening : Opening) (front rest : List ℕ) (fault : LineFault) (refusal : Refusal)
+    → tables ≡ Judged → IsCut reader.rest.now opening.count front rest → IsTableFault (style_of opening.kind) opening.label.now (lines_of front) fault
+    → refusal.line ≡ reader.number + fault.line → refusal.cause ≡ fault.cause → refusal.place ≡ fault.place → RefusesTable tables reader opening refusal
+refused_table tables reader opening front rest fault refusal judged cut first line_is cause_is place_is =
+    subst (λ t. RefusesTable t reader opening refusal) (sym judged)
     (inr (
       cut_whole reader.rest.now front rest opening.count cut,
       λ run.
-          subst (λ n. RefusedFrom (rules_of Judged rules.player) (in_section (reader.number + 1) run (opened reader.number opening.kind opening.label.now opening.zone.now) n reader.rest.now) refusal) cut.count_is
-          (section_refused rules.player (style_of opening.kind) (lines_of front) reader.number opening.kind opening.label.now opening.zone.now run reader.rest.now rest fault refusal refl first cut.lines line_is cause_is place_is),
+          subst (λ n. RefusedFrom Judged (in_section (reader.number + 1) run (opened reader.number opening.kind opening.label.now opening.zone.now) n reader.rest.now) refusal) cut.count_is
+          (section_refused (style_of opening.kind) (lines_of front) reader.number opening.kind opening.label.now opening.zone.now run reader.rest.now rest fault refusal refl first cut.lines line_is cause_is place_is),
     ))

@@ -10,16 +10,13 @@ use Rattle.script_text.specs.Command.{command_line}
 use Rattle.script_text.specs.declared.command.Command.{Command}
 use Rattle.script_text.specs.declared.command.Command.TheVariants as command
 use Rattle.script_text.proofs.UniqueLemmas.{one_command}
-use Rattle.run_text.specs.Follow.{Above, Nothing, Version, Replicas, Times, Sections, Table, Script, End, inside, style_of, MayStandIn, MayStandBelow, NamesZone, StartsSection, IsOfLine, Refuses, RefusesReplicas, RefusesInTable, RefusesBeforeScript, RefusesInScript, AddsCommand, Misses}
-use Rattle.run_text.specs.Grammar.{first_word, IsReplicasLine, HasSectionWord, IsCommandWord, round, campaign, stop, break, restart, cut, heal, drop, repeat, reverse, again, skew, fate, arrive, settle, walk, free}
+use Rattle.run_text.specs.Follow.{Above, Nothing, Version, Replicas, Times, Sections, Table, Script, End, inside, style_of, MayStandIn, MayStandBelow, NamesZone, StartsSection, IsOfLine, Refuses, RefusesInTable, RefusesBeforeScript, RefusesInScript, AddsCommand, Misses}
+use Rattle.run_text.specs.Grammar.{first_word, IsReplicasLine, HasSectionWord}
 use Rattle.run_text.specs.Reading.{ReadsFrom, RefusesFrom}
-use Rattle.run_text.specs.Rules.{HasUnplayedWord, PlaysReplicas}
+use Rattle.run_text.specs.Rules.{HasUnplayedWord}
 use Rattle.run_text.specs.Run.{Run, Section, opened, with_line}
 use Rattle.run_text.specs.declared.refusal.Refusal.{Refusal}
 use Rattle.run_text.specs.declared.run.SectionKind.TheVariants.{User, System, Anacron}
-use Rattle.run_text.specs.declared.rules.Player.{Player}
-use Rattle.run_text.specs.declared.rules.Player.TheVariants.{Clerk, World}
-use Rattle.run_text.specs.declared.rules.Rules.{Rules}
 use Rattle.run_text.specs.declared.table.Tables.{Tables}
 use Rattle.run_text.specs.declared.table.Tables.TheVariants.{Judged, Counted}
 use Rattle.run_text.proofs.AnacrontabLemmas as anacrontab
@@ -46,29 +43,9 @@ section_no_zone line (User, is) other = at_differs 0 (sym is ∙ other) (λ e. o
 section_no_zone line (System, is) other = at_differs 0 (sym is ∙ other) (λ e. omega arith)
 section_no_zone line (Anacron, is) other = at_differs 0 (sym is ∙ other) (λ e. omega arith)
 
-end_no_command : IsCommandWord (first_word (codes "end")) → ⊥
-end_no_command (round is) = at_differs 0 is (λ e. omega arith)
-end_no_command (campaign is) = at_differs 0 is (λ e. omega arith)
-end_no_command (stop is) = at_differs 0 is (λ e. omega arith)
-end_no_command (break is) = at_differs 0 is (λ e. omega arith)
-end_no_command (restart is) = at_differs 0 is (λ e. omega arith)
-end_no_command (cut is) = at_differs 0 is (λ e. omega arith)
-end_no_command (heal is) = at_differs 0 is (λ e. omega arith)
-end_no_command (drop is) = at_differs 0 is (λ e. omega arith)
-end_no_command (repeat is) = at_differs 0 is (λ e. omega arith)
-end_no_command (reverse is) = at_differs 0 is (λ e. omega arith)
-end_no_command (again is) = at_differs 0 is (λ e. omega arith)
-end_no_command (skew is) = at_differs 0 is (λ e. omega arith)
-end_no_command (fate is) = at_differs 0 is (λ e. omega arith)
-end_no_command (arrive is) = at_differs 0 is (λ e. omega arith)
-end_no_command (settle is) = at_differs 0 is (λ e. omega arith)
-end_no_command (walk is) = at_differs 0 is (λ e. omega arith)
-end_no_command (free is) = at_differs 0 is (λ e. omega arith)
-
-end_no_word : (player : Player) → HasUnplayedWord player (codes "end") → ⊥
-end_no_word Clerk word = end_no_command word
-end_no_word World (inl is) = at_differs 0 is (λ e. omega arith)
-end_no_word World (inr is) = at_differs 0 is (λ e. omega arith)
+end_no_word : HasUnplayedWord (codes "end") → ⊥
+end_no_word (inl is) = at_differs 0 is (λ e. omega arith)
+end_no_word (inr is) = at_differs 0 is (λ e. omega arith)
 
 end_says_none : (command : Command) → codes "end" ≡ command_line command → ⊥
 end_says_none (command.Round at rounds) is = at_differs 0 is (λ e. omega arith)
@@ -104,19 +81,19 @@ few_inside : (run : Run) (section : Section) (left : ℕ) → run.members ≤ 7 
 few_inside run section zero few = few
 few_inside run section (suc left) few = few
 
-few_next : (rules : Rules) (number behind : ℕ) (above : Above) (line : List ℕ) (next : Above) → HasFew above → MayStandBelow rules number behind above line next → HasFew next
-few_next rules number behind Nothing line next few may = subst HasFew (sym may.1) tt
-few_next rules number behind Version line next few (members, is, played, next_is) = subst HasFew (sym next_is) is.few
-few_next rules number behind (Replicas members) line next few (window, is, next_is) = subst HasFew (sym next_is) few
-few_next rules number behind (Times members window) line next few (grace, is, next_is) = subst HasFew (sym next_is) few
-few_next rules number behind (Sections run) line next few (inl may) = subst HasFew (sym may.1) few
-few_next rules number behind (Sections run) line next few (inr (inl names)) = subst HasFew (sym names.next_is) few
-few_next rules number behind (Sections run) line next few (inr (inr start)) =
+few_next : (tables : Tables) (number behind : ℕ) (above : Above) (line : List ℕ) (next : Above) → HasFew above → MayStandBelow tables number behind above line next → HasFew next
+few_next tables number behind Nothing line next few may = subst HasFew (sym may.1) tt
+few_next tables number behind Version line next few (members, is, next_is) = subst HasFew (sym next_is) is.few
+few_next tables number behind (Replicas members) line next few (window, is, next_is) = subst HasFew (sym next_is) few
+few_next tables number behind (Times members window) line next few (grace, is, next_is) = subst HasFew (sym next_is) few
+few_next tables number behind (Sections run) line next few (inl may) = subst HasFew (sym may.1) few
+few_next tables number behind (Sections run) line next few (inr (inl names)) = subst HasFew (sym names.next_is) few
+few_next tables number behind (Sections run) line next few (inr (inr start)) =
     subst HasFew (sym start.next_is) (few_inside run (opened number start.kind start.label start.zone) start.count few)
-few_next rules number behind (Table run section left) line next few may = subst HasFew (sym may.1) (few_inside run (with_line section line) left few)
-few_next rules number behind (Script run) line next few (inl may) = subst HasFew (sym may.1) few
-few_next rules number behind (Script run) line next few (inr adds) = subst HasFew (sym adds.next_is) few
-few_next rules number behind (End run) line next few may = absurd may
+few_next tables number behind (Table run section left) line next few may = subst HasFew (sym may.1) (few_inside run (with_line section line) left few)
+few_next tables number behind (Script run) line next few (inl may) = subst HasFew (sym may.1) few
+few_next tables number behind (Script run) line next few (inr adds) = subst HasFew (sym adds.next_is) few
+few_next tables number behind (End run) line next few may = absurd may
 
 -- what stands above the next line
 next_of_start : (number behind : ℕ) (run : Run) (line : List ℕ) (x y : Above) → StartsSection number behind run line x → StartsSection number behind run line y → x ≡ y
@@ -125,11 +102,11 @@ next_of_start number behind run line x y first second =
     first.next_is ∙ rw (same.kind, same.label, same.zone, same.count) (sym second.next_is)
 
 -- the line that ends a script says no command, and another line says one
-end_adds_none : (player : Player) (run : Run) (line : List ℕ) (next : Above) → line ≡ codes "end" → AddsCommand player run line next → ⊥
-end_adds_none player run line next is adds = end_says_none adds.command (sym is ∙ adds.says.is.is)
+end_adds_none : (run : Run) (line : List ℕ) (next : Above) → line ≡ codes "end" → AddsCommand run line next → ⊥
+end_adds_none run line next is adds = end_says_none adds.command (sym is ∙ adds.says.is.is)
 
-next_of_command : (player : Player) (run : Run) (line : List ℕ) (x y : Above) → run.members ≤ 7 → AddsCommand player run line x → AddsCommand player run line y → x ≡ y
-next_of_command player run line x y few first second =
+next_of_command : (run : Run) (line : List ℕ) (x y : Above) → run.members ≤ 7 → AddsCommand run line x → AddsCommand run line y → x ≡ y
+next_of_command run line x y few first second =
     let same = one_command line run.members run.members run.window run.window (omega arith) (omega arith) first.command second.command first.says.is second.says.is in
     first.next_is ∙ rw same (sym second.next_is)
 
@@ -150,26 +127,26 @@ next_of_name number run line x y first second =
     let same = one_zone line first.name second.name first.source second.source first.adds.is second.adds.is in
     first.next_is ∙ rw (same.0, same.1) (sym second.next_is)
 
-one_next : (rules : Rules) (number behind : ℕ) (above : Above) (line : List ℕ) (x y : Above) → HasFew above → MayStandBelow rules number behind above line x → MayStandBelow rules number behind above line y → x ≡ y
-one_next rules number behind Nothing line x y few p q = p.1 ∙ sym q.1
-one_next rules number behind Version line x y few (a, is, played, next) (b, other, also, same) = next ∙ rw (one_members line a b is other) (sym same)
-one_next rules number behind (Replicas members) line x y few (a, is, next) (b, other, same) = next ∙ rw (one_window_line line a b is other) (sym same)
-one_next rules number behind (Times members window) line x y few (a, is, next) (b, other, same) = next ∙ rw (one_grace_line line a b is other) (sym same)
-one_next rules number behind (Sections run) line x y few (inl p) (inl q) = p.1 ∙ sym q.1
-one_next rules number behind (Sections run) line x y few (inl p) (inr (inl q)) = absurd (script_no_name number run line y p.0 q)
-one_next rules number behind (Sections run) line x y few (inl p) (inr (inr q)) = absurd (script_no_start number behind run line y p.0 q)
-one_next rules number behind (Sections run) line x y few (inr (inl p)) (inl q) = absurd (script_no_name number run line x q.0 p)
-one_next rules number behind (Sections run) line x y few (inr (inl p)) (inr (inl q)) = next_of_name number run line x y p q
-one_next rules number behind (Sections run) line x y few (inr (inl p)) (inr (inr q)) = absurd (name_no_start number behind run line x y p q)
-one_next rules number behind (Sections run) line x y few (inr (inr p)) (inl q) = absurd (script_no_start number behind run line x q.0 p)
-one_next rules number behind (Sections run) line x y few (inr (inr p)) (inr (inl q)) = absurd (name_no_start number behind run line y x q p)
-one_next rules number behind (Sections run) line x y few (inr (inr p)) (inr (inr q)) = next_of_start number behind run line x y p q
-one_next rules number behind (Table run section left) line x y few p q = p.1 ∙ sym q.1
-one_next rules number behind (Script run) line x y few (inl p) (inl q) = p.1 ∙ sym q.1
-one_next rules number behind (Script run) line x y few (inl p) (inr q) = absurd (end_adds_none rules.player run line y p.0 q)
-one_next rules number behind (Script run) line x y few (inr p) (inl q) = absurd (end_adds_none rules.player run line x q.0 p)
-one_next rules number behind (Script run) line x y few (inr p) (inr q) = next_of_command rules.player run line x y few p q
-one_next rules number behind (End run) line x y few p q = absurd p
+one_next : (tables : Tables) (number behind : ℕ) (above : Above) (line : List ℕ) (x y : Above) → HasFew above → MayStandBelow tables number behind above line x → MayStandBelow tables number behind above line y → x ≡ y
+one_next tables number behind Nothing line x y few p q = p.1 ∙ sym q.1
+one_next tables number behind Version line x y few (a, is, next) (b, other, same) = next ∙ rw (one_members line a b is other) (sym same)
+one_next tables number behind (Replicas members) line x y few (a, is, next) (b, other, same) = next ∙ rw (one_window_line line a b is other) (sym same)
+one_next tables number behind (Times members window) line x y few (a, is, next) (b, other, same) = next ∙ rw (one_grace_line line a b is other) (sym same)
+one_next tables number behind (Sections run) line x y few (inl p) (inl q) = p.1 ∙ sym q.1
+one_next tables number behind (Sections run) line x y few (inl p) (inr (inl q)) = absurd (script_no_name number run line y p.0 q)
+one_next tables number behind (Sections run) line x y few (inl p) (inr (inr q)) = absurd (script_no_start number behind run line y p.0 q)
+one_next tables number behind (Sections run) line x y few (inr (inl p)) (inl q) = absurd (script_no_name number run line x q.0 p)
+one_next tables number behind (Sections run) line x y few (inr (inl p)) (inr (inl q)) = next_of_name number run line x y p q
+one_next tables number behind (Sections run) line x y few (inr (inl p)) (inr (inr q)) = absurd (name_no_start number behind run line x y p q)
+one_next tables number behind (Sections run) line x y few (inr (inr p)) (inl q) = absurd (script_no_start number behind run line x q.0 p)
+one_next tables number behind (Sections run) line x y few (inr (inr p)) (inr (inl q)) = absurd (name_no_start number behind run line y x q p)
+one_next tables number behind (Sections run) line x y few (inr (inr p)) (inr (inr q)) = next_of_start number behind run line x y p q
+one_next tables number behind (Table run section left) line x y few p q = p.1 ∙ sym q.1
+one_next tables number behind (Script run) line x y few (inl p) (inl q) = p.1 ∙ sym q.1
+one_next tables number behind (Script run) line x y few (inl p) (inr q) = absurd (end_adds_none run line y p.0 q)
+one_next tables number behind (Script run) line x y few (inr p) (inl q) = absurd (end_adds_none run line x q.0 p)
+one_next tables number behind (Script run) line x y few (inr p) (inr q) = next_of_command run line x y few p q
+one_next tables number behind (End run) line x y few p q = absurd p
 
 -- a line of a table
 said_or_broken : (tables : Tables) (style : Option Style) (number : ℕ) (section : Section) (left : ℕ) (line : List ℕ) (refusal : Refusal) → MayStandIn tables style section left line → RefusesInTable tables style number section left line refusal → ⊥
@@ -215,41 +192,29 @@ script_not_refused behind known line fault is (inl refused) = script_no_section 
 script_not_refused behind known line fault is (inr (inl refused)) = script_no_zone (subst HasZoneWord is refused.0)
 script_not_refused behind known line fault is (inr (inr refused)) = refused.2 is
 
-not_refused_before_script : (rules : Rules) (number behind : ℕ) (run : Run) (line : List ℕ) (next : Above) (fault : ℕ) → MayStandBelow rules number behind (Sections run) line next → RefusesBeforeScript behind (names_of run.zones) line fault → ⊥
-not_refused_before_script rules number behind run line next fault (inl p) refused = script_not_refused behind (names_of run.zones) line fault p.0 refused
-not_refused_before_script rules number behind run line next fault (inr (inl p)) refused = name_not_refused number behind run line next fault p refused
-not_refused_before_script rules number behind run line next fault (inr (inr p)) refused = start_not_refused number behind (names_of run.zones) run line next fault p refused
+not_refused_before_script : (tables : Tables) (number behind : ℕ) (run : Run) (line : List ℕ) (next : Above) (fault : ℕ) → MayStandBelow tables number behind (Sections run) line next → RefusesBeforeScript behind (names_of run.zones) line fault → ⊥
+not_refused_before_script tables number behind run line next fault (inl p) refused = script_not_refused behind (names_of run.zones) line fault p.0 refused
+not_refused_before_script tables number behind run line next fault (inr (inl p)) refused = name_not_refused number behind run line next fault p refused
+not_refused_before_script tables number behind run line next fault (inr (inr p)) refused = start_not_refused number behind (names_of run.zones) run line next fault p refused
 
-not_refused_replicas : (player : Player) (line : List ℕ) (members fault : ℕ) → IsReplicasLine line members → PlaysReplicas player members → RefusesReplicas player line fault → ⊥
-not_refused_replicas player line members fault is played (inl refused) = refused.0 members is
-not_refused_replicas player line members fault is played (inr (other, also, none, refused)) =
-    none (subst (PlaysReplicas player) (one_members line members other is also) played)
+not_refused_in_script : (run : Run) (line : List ℕ) (next : Above) (fault : ℕ)
+    → ((line ≡ codes "end") × (next ≡ End run)) ⊎ AddsCommand run line next → RefusesInScript run line fault → ⊥
+not_refused_in_script run line next fault (inl ends) (inl refused) = end_no_word (subst HasUnplayedWord ends.0 refused.0)
+not_refused_in_script run line next fault (inl ends) (inr refused) = refused.1 ends.0
+not_refused_in_script run line next fault (inr adds) (inl refused) = adds.played refused.0
+not_refused_in_script run line next fault (inr adds) (inr refused) = refused.2 adds.command adds.says
 
-not_refused_in_script : (player : Player) (run : Run) (line : List ℕ) (next : Above) (fault : ℕ)
-    → ((line ≡ codes "end") × (next ≡ End run)) ⊎ AddsCommand player run line next → RefusesInScript player run line fault → ⊥
-not_refused_in_script player run line next fault (inl ends) (inl refused) = end_no_word player (subst (HasUnplayedWord player) ends.0 refused.0)
-not_refused_in_script player run line next fault (inl ends) (inr refused) = refused.1 ends.0
-not_refused_in_script player run line next fault (inr adds) (inl refused) = adds.played refused.0
-not_refused_in_script player run line next fault (inr adds) (inr refused) = refused.2 adds.command adds.says
-
-pub not_refused : (rules : Rules) (number behind : ℕ) (above : Above) (line : List ℕ) (next : Above) (refusal : Refusal) → MayStandBelow rules number behind above line next → Refuses rules number behind above line refusal → ⊥
-not_refused rules number behind Nothing line next refusal p refused = refused.0 p.0
-not_refused rules number behind Version line next refusal (members, is, played, next_is) refused =
-    not_refused_replicas rules.player line members refusal.cause is played refused.0
-not_refused rules number behind (Replicas members) line next refusal p refused = refused.0 p.0 p.1
-not_refused rules number behind (Times members window) line next refusal p refused = refused.0 p.0 p.1
-not_refused rules number behind (Sections run) line next refusal p refused = not_refused_before_script rules number behind run line next refusal.cause p refused.0
-not_refused rules number behind (Table run section left) line next refusal p refused = said_or_broken rules.tables (style_of section.kind) number section left line refusal p.0 refused
-not_refused rules number behind (Script run) line next refusal p refused = not_refused_in_script rules.player run line next refusal.cause p refused.0
-not_refused rules number behind (End run) line next refusal p refused = absurd p
+pub not_refused : (tables : Tables) (number behind : ℕ) (above : Above) (line : List ℕ) (next : Above) (refusal : Refusal) → MayStandBelow tables number behind above line next → Refuses tables number behind above line refusal → ⊥
+not_refused tables number behind Nothing line next refusal p refused = refused.0 p.0
+not_refused tables number behind Version line next refusal p refused = refused.0 p.0 p.1
+not_refused tables number behind (Replicas members) line next refusal p refused = refused.0 p.0 p.1
+not_refused tables number behind (Times members window) line next refusal p refused = refused.0 p.0 p.1
+not_refused tables number behind (Sections run) line next refusal p refused = not_refused_before_script tables number behind run line next refusal.cause p refused.0
+not_refused tables number behind (Table run section left) line next refusal p refused = said_or_broken tables (style_of section.kind) number section left line refusal p.0 refused
+not_refused tables number behind (Script run) line next refusal p refused = not_refused_in_script run line next refusal.cause p refused.0
+not_refused tables number behind (End run) line next refusal p refused = absurd p
 
 -- what a refused line is refused for
-one_replicas_fault : (player : Player) (line : List ℕ) (f g : ℕ) → RefusesReplicas player line f → RefusesReplicas player line g → f ≡ g
-one_replicas_fault player line f g (inl first) (inl second) = first.1 ∙ sym second.1
-one_replicas_fault player line f g (inl first) (inr (members, is, none, fault)) = absurd (first.0 members is)
-one_replicas_fault player line f g (inr (members, is, none, fault)) (inl second) = absurd (second.0 members is)
-one_replicas_fault player line f g (inr first) (inr second) = first.3 ∙ sym second.3
-
 one_fault_before_script : (behind : ℕ) (known : List (List ℕ)) (line : List ℕ) (f g : ℕ) → RefusesBeforeScript behind known line f → RefusesBeforeScript behind known line g → f ≡ g
 one_fault_before_script behind known line f g (inl p) (inl q) = p.2 ∙ sym q.2
 one_fault_before_script behind known line f g (inl p) (inr (inl q)) = absurd (section_no_zone line p.0 q.0)
@@ -261,25 +226,25 @@ one_fault_before_script behind known line f g (inr (inr p)) (inl q) = absurd (p.
 one_fault_before_script behind known line f g (inr (inr p)) (inr (inl q)) = absurd (p.1 q.0)
 one_fault_before_script behind known line f g (inr (inr p)) (inr (inr q)) = p.3 ∙ sym q.3
 
-one_fault_in_script : (player : Player) (run : Run) (line : List ℕ) (f g : ℕ) → RefusesInScript player run line f → RefusesInScript player run line g → f ≡ g
-one_fault_in_script player run line f g (inl p) (inl q) = p.1 ∙ sym q.1
-one_fault_in_script player run line f g (inl p) (inr q) = absurd (q.0 p.0)
-one_fault_in_script player run line f g (inr p) (inl q) = absurd (p.0 q.0)
-one_fault_in_script player run line f g (inr p) (inr q) = p.3 ∙ sym q.3
+one_fault_in_script : (run : Run) (line : List ℕ) (f g : ℕ) → RefusesInScript run line f → RefusesInScript run line g → f ≡ g
+one_fault_in_script run line f g (inl p) (inl q) = p.1 ∙ sym q.1
+one_fault_in_script run line f g (inl p) (inr q) = absurd (q.0 p.0)
+one_fault_in_script run line f g (inr p) (inl q) = absurd (p.0 q.0)
+one_fault_in_script run line f g (inr p) (inr q) = p.3 ∙ sym q.3
 
 -- a whole line is refused in one way for one cause
 one_of_line : (number : ℕ) (a b : Refusal) → a.cause ≡ b.cause → IsOfLine number a → IsOfLine number b → a ≡ b
 one_of_line number a b cause first second = same_refusal a b (first.0 ∙ sym second.0) cause (first.1 ∙ sym second.1)
 
-pub one_fault : (rules : Rules) (number behind : ℕ) (above : Above) (line : List ℕ) (a b : Refusal) → Refuses rules number behind above line a → Refuses rules number behind above line b → a ≡ b
-one_fault rules number behind Nothing line a b p q = one_of_line number a b (p.1 ∙ sym q.1) p.2 q.2
-one_fault rules number behind Version line a b p q = one_of_line number a b (one_replicas_fault rules.player line a.cause b.cause p.0 q.0) p.1 q.1
-one_fault rules number behind (Replicas members) line a b p q = one_of_line number a b (p.1 ∙ sym q.1) p.2 q.2
-one_fault rules number behind (Times members window) line a b p q = one_of_line number a b (p.1 ∙ sym q.1) p.2 q.2
-one_fault rules number behind (Sections run) line a b p q = one_of_line number a b (one_fault_before_script behind (names_of run.zones) line a.cause b.cause p.0 q.0) p.1 q.1
-one_fault rules number behind (Table run section left) line a b p q = one_break rules.tables (style_of section.kind) number section left line a b p q
-one_fault rules number behind (Script run) line a b p q = one_of_line number a b (one_fault_in_script rules.player run line a.cause b.cause p.0 q.0) p.1 q.1
-one_fault rules number behind (End run) line a b p q = one_of_line number a b (p.0 ∙ sym q.0) p.1 q.1
+pub one_fault : (tables : Tables) (number behind : ℕ) (above : Above) (line : List ℕ) (a b : Refusal) → Refuses tables number behind above line a → Refuses tables number behind above line b → a ≡ b
+one_fault tables number behind Nothing line a b p q = one_of_line number a b (p.1 ∙ sym q.1) p.2 q.2
+one_fault tables number behind Version line a b p q = one_of_line number a b (p.1 ∙ sym q.1) p.2 q.2
+one_fault tables number behind (Replicas members) line a b p q = one_of_line number a b (p.1 ∙ sym q.1) p.2 q.2
+one_fault tables number behind (Times members window) line a b p q = one_of_line number a b (p.1 ∙ sym q.1) p.2 q.2
+one_fault tables number behind (Sections run) line a b p q = one_of_line number a b (one_fault_before_script behind (names_of run.zones) line a.cause b.cause p.0 q.0) p.1 q.1
+one_fault tables number behind (Table run section left) line a b p q = one_break tables (style_of section.kind) number section left line a b p q
+one_fault tables number behind (Script run) line a b p q = one_of_line number a b (one_fault_in_script run line a.cause b.cause p.0 q.0) p.1 q.1
+one_fault tables number behind (End run) line a b p q = one_of_line number a b (p.0 ∙ sym q.0) p.1 q.1
 
 -- the cause of a line that is missing
 one_miss : (above : Above) (c d : ℕ) → Misses above c → Misses above d → c ≡ d
@@ -295,37 +260,37 @@ one_miss (End run) c d p q = absurd p
 end_no_miss : (above : Above) (run : Run) (cause : ℕ) → above ≡ End run → Misses above cause → ⊥
 end_no_miss above run cause is misses = subst (λ a. Misses a cause) is misses
 
--- Some lines say one run, or are refused for one reason, and never both, by whichever rules.
-module _ (rules : Rules) where
-  one_run_from : (number : ℕ) (above : Above) (lines : List (List ℕ)) (a b : Run) → HasFew above → ReadsFrom rules number above lines a → ReadsFrom rules number above lines b → a ≡ b
+-- Some lines say one run, or are refused for one reason, and never both, by whichever tables.
+module _ (tables : Tables) where
+  one_run_from : (number : ℕ) (above : Above) (lines : List (List ℕ)) (a b : Run) → HasFew above → ReadsFrom tables number above lines a → ReadsFrom tables number above lines b → a ≡ b
   one_run_from number above [] a b few p q = let same : End a ≡ End b = sym p ∙ q in cc
   one_run_from number above (line ∷ lines) a b few (x, may, reads) (y, other, more) =
-      one_run_from (number + 1) y lines a b (few_next rules number (length lines) above line y few other)
-      (subst (λ t. ReadsFrom rules (number + 1) t lines a) (one_next rules number (length lines) above line x y few may other) reads) more
+      one_run_from (number + 1) y lines a b (few_next tables number (length lines) above line y few other)
+      (subst (λ t. ReadsFrom tables (number + 1) t lines a) (one_next tables number (length lines) above line x y few may other) reads) more
 
-  never_both_from : (number : ℕ) (above : Above) (lines : List (List ℕ)) (run : Run) (refusal : Refusal) → HasFew above → ReadsFrom rules number above lines run → RefusesFrom rules number above lines refusal → ⊥
+  never_both_from : (number : ℕ) (above : Above) (lines : List (List ℕ)) (run : Run) (refusal : Refusal) → HasFew above → ReadsFrom tables number above lines run → RefusesFrom tables number above lines refusal → ⊥
   never_both_from number above [] run refusal few is refused = end_no_miss above run refusal.cause is refused.0
   never_both_from number above (line ∷ lines) run refusal few (x, may, reads) (inl refused) =
-      not_refused rules number (length lines) above line x refusal may refused
+      not_refused tables number (length lines) above line x refusal may refused
   never_both_from number above (line ∷ lines) run refusal few (x, may, reads) (inr (y, other, refused)) =
-      never_both_from (number + 1) y lines run refusal (few_next rules number (length lines) above line y few other)
-      (subst (λ t. ReadsFrom rules (number + 1) t lines run) (one_next rules number (length lines) above line x y few may other) reads) refused
+      never_both_from (number + 1) y lines run refusal (few_next tables number (length lines) above line y few other)
+      (subst (λ t. ReadsFrom tables (number + 1) t lines run) (one_next tables number (length lines) above line x y few may other) reads) refused
 
-  one_refusal_from : (number : ℕ) (above : Above) (lines : List (List ℕ)) (a b : Refusal) → HasFew above → RefusesFrom rules number above lines a → RefusesFrom rules number above lines b → a ≡ b
+  one_refusal_from : (number : ℕ) (above : Above) (lines : List (List ℕ)) (a b : Refusal) → HasFew above → RefusesFrom tables number above lines a → RefusesFrom tables number above lines b → a ≡ b
   one_refusal_from number above [] a b few p q = one_of_line number a b (one_miss above a.cause b.cause p.0 q.0) p.1 q.1
-  one_refusal_from number above (line ∷ lines) a b few (inl p) (inl q) = one_fault rules number (length lines) above line a b p q
-  one_refusal_from number above (line ∷ lines) a b few (inl p) (inr (y, may, q)) = absurd (not_refused rules number (length lines) above line y a may p)
-  one_refusal_from number above (line ∷ lines) a b few (inr (x, may, p)) (inl q) = absurd (not_refused rules number (length lines) above line x b may q)
+  one_refusal_from number above (line ∷ lines) a b few (inl p) (inl q) = one_fault tables number (length lines) above line a b p q
+  one_refusal_from number above (line ∷ lines) a b few (inl p) (inr (y, may, q)) = absurd (not_refused tables number (length lines) above line y a may p)
+  one_refusal_from number above (line ∷ lines) a b few (inr (x, may, p)) (inl q) = absurd (not_refused tables number (length lines) above line x b may q)
   one_refusal_from number above (line ∷ lines) a b few (inr (x, may, p)) (inr (y, other, q)) =
-      one_refusal_from (number + 1) y lines a b (few_next rules number (length lines) above line y few other)
-      (subst (λ t. RefusesFrom rules (number + 1) t lines a) (one_next rules number (length lines) above line x y few may other) p) q
+      one_refusal_from (number + 1) y lines a b (few_next tables number (length lines) above line y few other)
+      (subst (λ t. RefusesFrom tables (number + 1) t lines a) (one_next tables number (length lines) above line x y few may other) p) q
 
   -- so it is of a whole text
-  pub one_run_by : (lines : List (List ℕ)) (a b : Run) → ReadsFrom rules 1 Nothing lines a → ReadsFrom rules 1 Nothing lines b → a ≡ b
+  pub one_run_by : (lines : List (List ℕ)) (a b : Run) → ReadsFrom tables 1 Nothing lines a → ReadsFrom tables 1 Nothing lines b → a ≡ b
   one_run_by lines a b p q = one_run_from 1 Nothing lines a b tt p q
 
-  pub never_both_by : (lines : List (List ℕ)) (run : Run) (refusal : Refusal) → ReadsFrom rules 1 Nothing lines run → RefusesFrom rules 1 Nothing lines refusal → ⊥
+  pub never_both_by : (lines : List (List ℕ)) (run : Run) (refusal : Refusal) → ReadsFrom tables 1 Nothing lines run → RefusesFrom tables 1 Nothing lines refusal → ⊥
   never_both_by lines run refusal p q = never_both_from 1 Nothing lines run refusal tt p q
 
-  pub one_refusal_by : (lines : List (List ℕ)) (a b : Refusal) → RefusesFrom rules 1 Nothing lines a → RefusesFrom rules 1 Nothing lines b → a ≡ b
+  pub one_refusal_by : (lines : List (List ℕ)) (a b : Refusal) → RefusesFrom tables 1 Nothing lines a → RefusesFrom tables 1 Nothing lines b → a ≡ b
   one_refusal_by lines a b p q = one_refusal_from 1 Nothing lines a b tt p q

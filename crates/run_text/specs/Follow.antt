@@ -12,16 +12,14 @@ use Rattle.script_text.specs.Script.{IsScriptWithinLimits}
 use Rattle.script_text.specs.declared.command.Command.{Command}
 use Rattle.run_text.specs.Grammar.{IsReplicasLine, IsWindowLine, IsGraceLine, IsSectionLine, HasSectionWord}
 use Rattle.run_text.specs.Anacrontab.{SayAll, IsFirstBreak}
-use Rattle.run_text.specs.Rules.{PlaysReplicas, HasUnplayedWord}
+use Rattle.run_text.specs.Rules.{HasUnplayedWord}
 use Rattle.run_text.specs.Run.{Section, Run, run_with, opened, with_line, with_section, with_zone, with_command}
 use Rattle.run_text.specs.Table.{Says}
 use Rattle.run_text.specs.Zones.{AddsZone, AddsNone, HasZoneWord, names_of}
 use Rattle.run_text.specs.declared.refusal.Refusal.{Refusal}
-use Rattle.run_text.specs.declared.rules.Player.{Player}
-use Rattle.run_text.specs.declared.rules.Rules.{Rules}
+use Rattle.run_text.specs.declared.table.Tables.{Tables}
 use Rattle.run_text.specs.declared.run.SectionKind.{SectionKind}
 use Rattle.run_text.specs.declared.run.SectionKind.TheVariants.{User, System, Anacron}
-use Rattle.run_text.specs.declared.table.Tables.{Tables}
 use Rattle.run_text.specs.declared.table.Tables.TheVariants.{Judged, Counted}
 use Rattle.cron_fields.specs.Cause.{cause_number}
 use Rattle.cron_fields.specs.declared.cause.Cause.TheVariants.{BadHeader, BadReplicas, BadWindow, BadGrace, BadSection, BadScript, MissingLine, BadZoneLine, NoFormYet}
@@ -96,35 +94,29 @@ pub record SaysCommand (run : Run) (line : List ℕ) (command : Command) : Type 
   pub within : IsScriptWithinLimits (run.commands ++ command ∷ [])
 
 -- the line says a command more, which has a form, and what stands above the next line then
-pub record AddsCommand (player : Player) (run : Run) (line : List ℕ) (next : Above) : Type 0 where
+pub record AddsCommand (run : Run) (line : List ℕ) (next : Above) : Type 0 where
   pub command : Command
   pub says : SaysCommand run line command
-  pub played : HasUnplayedWord player line → ⊥
+  pub played : HasUnplayedWord line → ⊥
   pub next_is : next ≡ Script (with_command run command)
 
 -- The line of that number, with so many lines behind it, may stand below these, and what stands above the next one then.
-abbrev pub MayStandBelow : Rules → (number behind : ℕ) → Above → List ℕ → Above → Type 0
-MayStandBelow rules number behind Nothing line next = (line ≡ codes "cronrun 1") × (next ≡ Version)
-MayStandBelow rules number behind Version line next = (members : ℕ) × IsReplicasLine line members × PlaysReplicas rules.player members × (next ≡ Replicas members)
-MayStandBelow rules number behind (Replicas members) line next = (window : Window) × IsWindowLine line window × (next ≡ Times members window)
-MayStandBelow rules number behind (Times members window) line next =
+abbrev pub MayStandBelow : Tables → (number behind : ℕ) → Above → List ℕ → Above → Type 0
+MayStandBelow tables number behind Nothing line next = (line ≡ codes "cronrun 1") × (next ≡ Version)
+MayStandBelow tables number behind Version line next = (members : ℕ) × IsReplicasLine line members × (next ≡ Replicas members)
+MayStandBelow tables number behind (Replicas members) line next = (window : Window) × IsWindowLine line window × (next ≡ Times members window)
+MayStandBelow tables number behind (Times members window) line next =
     (grace : ℕ) × IsGraceLine line grace × (next ≡ Sections (run_with members window grace))
-MayStandBelow rules number behind (Sections run) line next =
+MayStandBelow tables number behind (Sections run) line next =
     ((line ≡ codes "script") × (next ≡ Script run)) ⊎ (NamesZone number run line next ⊎ StartsSection number behind run line next)
-MayStandBelow rules number behind (Table run section left) line next =
-    MayStandIn rules.tables (style_of section.kind) section left line × (next ≡ inside run (with_line section line) left)
-MayStandBelow rules number behind (Script run) line next = ((line ≡ codes "end") × (next ≡ End run)) ⊎ AddsCommand rules.player run line next
-MayStandBelow rules number behind (End run) line next = ⊥
+MayStandBelow tables number behind (Table run section left) line next =
+    MayStandIn tables (style_of section.kind) section left line × (next ≡ inside run (with_line section line) left)
+MayStandBelow tables number behind (Script run) line next = ((line ≡ codes "end") × (next ≡ End run)) ⊎ AddsCommand run line next
+MayStandBelow tables number behind (End run) line next = ⊥
 
 -- the line of that number is refused as a whole
 abbrev pub IsOfLine : (number : ℕ) → Refusal → Type 0
 IsOfLine number refusal = (refusal.line ≡ number) × (refusal.place ≡ 0)
-
--- the line doesn't say how many replicas there are, or says so many that the run has no form yet
-abbrev pub RefusesReplicas : Player → List ℕ → (cause : ℕ) → Type 0
-RefusesReplicas player line cause =
-    (((members : ℕ) → IsReplicasLine line members → ⊥) × (cause ≡ cause_number BadReplicas))
-    ⊎ ((members : ℕ) × IsReplicasLine line members × (PlaysReplicas player members → ⊥) × (cause ≡ cause_number NoFormYet))
 
 -- Before the script, below lines that gave these zones' names: the line opens no section, names no zone, or is none that may
 -- stand there at all.
@@ -135,10 +127,10 @@ RefusesBeforeScript behind known line cause =
     ⊎ ((HasSectionWord line → ⊥) × (HasZoneWord line → ⊥) × (line ≢ codes "script") × (cause ≡ cause_number MissingLine)))
 
 -- in the script: the line is that of a command without a form, or of none that may stand there
-abbrev pub RefusesInScript : Player → Run → List ℕ → (cause : ℕ) → Type 0
-RefusesInScript player run line cause =
-    (HasUnplayedWord player line × (cause ≡ cause_number NoFormYet))
-    ⊎ ((HasUnplayedWord player line → ⊥) × (line ≢ codes "end") × ((command : Command) → SaysCommand run line command → ⊥)
+abbrev pub RefusesInScript : Run → List ℕ → (cause : ℕ) → Type 0
+RefusesInScript run line cause =
+    (HasUnplayedWord line × (cause ≡ cause_number NoFormYet))
+    ⊎ ((HasUnplayedWord line → ⊥) × (line ≢ codes "end") × ((command : Command) → SaysCommand run line command → ⊥)
     × (cause ≡ cause_number BadScript))
 
 -- In a section, with so many lines of it left behind: the line breaks a rule of crontabs; or it is the last of an anacrontab,
@@ -153,17 +145,18 @@ RefusesInTable Judged None number section zero line refusal =
 RefusesInTable Judged None number section (suc left) line refusal = ⊥
 
 -- The line of that number, with so many lines behind it, may not stand below these, and is refused so.
-abbrev pub Refuses : Rules → (number behind : ℕ) → Above → List ℕ → Refusal → Type 0
-Refuses rules number behind Nothing line refusal = (line ≢ codes "cronrun 1") × (refusal.cause ≡ cause_number BadHeader) × IsOfLine number refusal
-Refuses rules number behind Version line refusal = RefusesReplicas rules.player line refusal.cause × IsOfLine number refusal
-Refuses rules number behind (Replicas members) line refusal =
+abbrev pub Refuses : Tables → (number behind : ℕ) → Above → List ℕ → Refusal → Type 0
+Refuses tables number behind Nothing line refusal = (line ≢ codes "cronrun 1") × (refusal.cause ≡ cause_number BadHeader) × IsOfLine number refusal
+Refuses tables number behind Version line refusal =
+    ((members : ℕ) → IsReplicasLine line members → ⊥) × (refusal.cause ≡ cause_number BadReplicas) × IsOfLine number refusal
+Refuses tables number behind (Replicas members) line refusal =
     ((window : Window) → IsWindowLine line window → ⊥) × (refusal.cause ≡ cause_number BadWindow) × IsOfLine number refusal
-Refuses rules number behind (Times members window) line refusal =
+Refuses tables number behind (Times members window) line refusal =
     ((grace : ℕ) → IsGraceLine line grace → ⊥) × (refusal.cause ≡ cause_number BadGrace) × IsOfLine number refusal
-Refuses rules number behind (Sections run) line refusal = RefusesBeforeScript behind (names_of run.zones) line refusal.cause × IsOfLine number refusal
-Refuses rules number behind (Table run section left) line refusal = RefusesInTable rules.tables (style_of section.kind) number section left line refusal
-Refuses rules number behind (Script run) line refusal = RefusesInScript rules.player run line refusal.cause × IsOfLine number refusal
-Refuses rules number behind (End run) line refusal = (refusal.cause ≡ cause_number BadScript) × IsOfLine number refusal
+Refuses tables number behind (Sections run) line refusal = RefusesBeforeScript behind (names_of run.zones) line refusal.cause × IsOfLine number refusal
+Refuses tables number behind (Table run section left) line refusal = RefusesInTable tables (style_of section.kind) number section left line refusal
+Refuses tables number behind (Script run) line refusal = RefusesInScript run line refusal.cause × IsOfLine number refusal
+Refuses tables number behind (End run) line refusal = (refusal.cause ≡ cause_number BadScript) × IsOfLine number refusal
 
 -- the file ends where a line is missing, and for this cause
 abbrev pub Misses : Above → ℕ → Type 0

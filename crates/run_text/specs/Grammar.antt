@@ -73,23 +73,3 @@ first_word (c ∷ cs) = if c == 32 then [] else c ∷ first_word cs
 -- the line's first word opens a section
 abbrev pub HasSectionWord : List ℕ → Type 0
 HasSectionWord line = (kind : SectionKind) × (first_word line ≡ section_word kind)
-
--- the word of a command of the script
-pub data IsCommandWord (word : List ℕ) : Type 0 where
-  round : word ≡ codes "round" → IsCommandWord word
-  campaign : word ≡ codes "campaign" → IsCommandWord word
-  stop : word ≡ codes "stop" → IsCommandWord word
-  break : word ≡ codes "break" → IsCommandWord word
-  restart : word ≡ codes "restart" → IsCommandWord word
-  cut : word ≡ codes "cut" → IsCommandWord word
-  heal : word ≡ codes "heal" → IsCommandWord word
-  drop : word ≡ codes "drop" → IsCommandWord word
-  repeat : word ≡ codes "repeat" → IsCommandWord word
-  reverse : word ≡ codes "reverse" → IsCommandWord word
-  again : word ≡ codes "again" → IsCommandWord word
-  skew : word ≡ codes "skew" → IsCommandWord word
-  fate : word ≡ codes "fate" → IsCommandWord word
-  arrive : word ≡ codes "arrive" → IsCommandWord word
-  settle : word ≡ codes "settle" → IsCommandWord word
-  walk : word ≡ codes "walk" → IsCommandWord word
-  free : word ≡ codes "free" → IsCommandWord word

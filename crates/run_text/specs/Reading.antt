@@ -3,55 +3,52 @@ use Rattle.std.specs.Prelude.{◌≡◌, ◌⊎◌, ℕ, ◌+◌, ◌<◌, ◌�
 use Rattle.hex.specs.Hex.{decode_of}
 use Rattle.crontab_text.specs.Lines.{lines_of}
 use Rattle.run_text.specs.Follow.{Above, Nothing, End, MayStandBelow, IsOfLine, Refuses, Misses}
-use Rattle.run_text.specs.Rules.{rules_of}
 use Rattle.run_text.specs.Run.{Run, run_of}
 use Rattle.run_text.specs.declared.refusal.Refusal.{Refusal}
-use Rattle.run_text.specs.declared.rules.Player.{Player}
-use Rattle.run_text.specs.declared.rules.Rules.{Rules}
+use Rattle.run_text.specs.declared.table.Tables.{Tables}
 use Rattle.run_text.specs.declared.run.RunFile.{RunFile}
 use Rattle.run_text.specs.declared.run.Section.{Section}
 use Rattle.run_text.specs.declared.run.ZoneLine.{ZoneLine}
 use Rattle.run_text.specs.declared.run.ZoneText.{ZoneText}
 use Rattle.run_text.specs.declared.run.ZoneText.TheVariants.{Fixed, Posix, Hex}
-use Rattle.run_text.specs.declared.rules.Rules.{Rules}
 use Rattle.run_text.specs.declared.table.Tables.TheVariants.{Judged, Counted}
 
 -- The lines, the first of which has that number, may stand below these, one after another up to the last, and say this run.
-abbrev pub ReadsFrom : Rules → ℕ → Above → List (List ℕ) → Run → Type 0
-ReadsFrom rules number above [] run = above ≡ End run
-ReadsFrom rules number above (line ∷ lines) run =
-    (next : Above) × MayStandBelow rules number (length lines) above line next × ReadsFrom rules (number + 1) next lines run
+abbrev pub ReadsFrom : Tables → ℕ → Above → List (List ℕ) → Run → Type 0
+ReadsFrom tables number above [] run = above ≡ End run
+ReadsFrom tables number above (line ∷ lines) run =
+    (next : Above) × MayStandBelow tables number (length lines) above line next × ReadsFrom tables (number + 1) next lines run
 
 -- The first of the lines that may not stand where it stands is refused so, or else the line that is missing.
-abbrev pub RefusesFrom : Rules → ℕ → Above → List (List ℕ) → Refusal → Type 0
-RefusesFrom rules number above [] refusal = Misses above refusal.cause × IsOfLine number refusal
-RefusesFrom rules number above (line ∷ lines) refusal =
-    Refuses rules number (length lines) above line refusal
-    ⊎ ((next : Above) × MayStandBelow rules number (length lines) above line next × RefusesFrom rules (number + 1) next lines refusal)
+abbrev pub RefusesFrom : Tables → ℕ → Above → List (List ℕ) → Refusal → Type 0
+RefusesFrom tables number above [] refusal = Misses above refusal.cause × IsOfLine number refusal
+RefusesFrom tables number above (line ∷ lines) refusal =
+    Refuses tables number (length lines) above line refusal
+    ⊎ ((next : Above) × MayStandBelow tables number (length lines) above line next × RefusesFrom tables (number + 1) next lines refusal)
 
--- the text is a run file of a form for that player, and says this run
-abbrev pub IsRunText : Player → List ℕ → Run → Type 0
-IsRunText player text run = ReadsFrom (rules_of Judged player) 1 Nothing (lines_of text) run
+-- the text is a run file, and says this run
+abbrev pub IsRunText : List ℕ → Run → Type 0
+IsRunText text run = ReadsFrom Judged 1 Nothing (lines_of text) run
 
--- the text is no run file, or of no form for that player, and this is what is at fault in it
-abbrev pub IsRefusedText : Player → List ℕ → Refusal → Type 0
-IsRefusedText player text refusal = RefusesFrom (rules_of Judged player) 1 Nothing (lines_of text) refusal
+-- the text is no run file, or has a command without a form, and this is what is at fault in it
+abbrev pub IsRefusedText : List ℕ → Refusal → Type 0
+IsRefusedText text refusal = RefusesFrom Judged 1 Nothing (lines_of text) refusal
 
 -- the text is a run file, or it is refused
-abbrev pub HasReading : Player → List ℕ → Type 0
-HasReading player text = ((run : Run) × IsRunText player text run) ⊎ ((refusal : Refusal) × IsRefusedText player text refusal)
+abbrev pub HasReading : List ℕ → Type 0
+HasReading text = ((run : Run) × IsRunText text run) ⊎ ((refusal : Refusal) × IsRefusedText text refusal)
 
 -- the text is a run file but for what the lines of its tables say, and this run is its frame
-abbrev pub IsFrameText : Player → List ℕ → Run → Type 0
-IsFrameText player text run = ReadsFrom (rules_of Counted player) 1 Nothing (lines_of text) run
+abbrev pub IsFrameText : List ℕ → Run → Type 0
+IsFrameText text run = ReadsFrom Counted 1 Nothing (lines_of text) run
 
 -- the text has no frame, and this is what is at fault in it
-abbrev pub IsRefusedFrame : Player → List ℕ → Refusal → Type 0
-IsRefusedFrame player text refusal = RefusesFrom (rules_of Counted player) 1 Nothing (lines_of text) refusal
+abbrev pub IsRefusedFrame : List ℕ → Refusal → Type 0
+IsRefusedFrame text refusal = RefusesFrom Counted 1 Nothing (lines_of text) refusal
 
 -- the text has a frame, or it is refused
-abbrev pub HasFrame : Player → List ℕ → Type 0
-HasFrame player text = ((run : Run) × IsFrameText player text run) ⊎ ((refusal : Refusal) × IsRefusedFrame player text refusal)
+abbrev pub HasFrame : List ℕ → Type 0
+HasFrame text = ((run : Run) × IsFrameText text run) ⊎ ((refusal : Refusal) × IsRefusedFrame text refusal)
 
 -- no section's text is longer than the file's
 abbrev pub ArePartsOf : ℕ → List Section → Type 0
@@ -70,8 +67,7 @@ HasDigits zone = AreDigits zone.source
 pub record IsReadRun (run : RunFile) : Type 0 where
   pub text : List ℕ
   pub short : length text < 2 ^ 32
-  pub player : Player
-  pub says : IsRunText player text (run_of run)
+  pub says : IsRunText text (run_of run)
   pub parts : ArePartsOf (length text) run.sections.items
   pub digits : All HasDigits run.zones.items
 
@@ -79,6 +75,5 @@ pub record IsReadRun (run : RunFile) : Type 0 where
 pub record IsReadFrame (run : RunFile) : Type 0 where
   pub text : List ℕ
   pub short : length text < 2 ^ 32
-  pub player : Player
-  pub says : IsFrameText player text (run_of run)
+  pub says : IsFrameText text (run_of run)
   pub parts : ArePartsOf (length text) run.sections.items

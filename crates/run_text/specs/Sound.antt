@@ -7,11 +7,10 @@ use Rattle.script_text.specs.Command.{IsInRange}
 use Rattle.script_text.specs.Script.{IsScriptWithinLimits}
 use Rattle.run_text.specs.Follow.{style_of}
 use Rattle.run_text.specs.Grammar.{IsZoneName}
-use Rattle.run_text.specs.Rules.{PlaysReplicas, PlaysCommand}
+use Rattle.run_text.specs.Rules.{PlaysCommand}
 use Rattle.run_text.specs.Run.{NamedZone, Section, Run}
 use Rattle.run_text.specs.Table.{AreSaid}
 use Rattle.run_text.specs.Zones.{names_of}
-use Rattle.run_text.specs.declared.rules.Player.{Player}
 
 -- each line of the section says something, and its last line has a number below this one
 pub record IsSoundSection (next : ℕ) (section : Section) : Type 0 where
@@ -42,22 +41,21 @@ pub record AreSoundZones (zones : List NamedZone) : Type 0 where
   pub distinct : AreDistinct (names_of zones)
 
 -- each command of the script names what the run has and has a form, and the script is within its limits
-pub record IsSoundScript (player : Player) (run : Run) : Type 0 where
+pub record IsSoundScript (run : Run) : Type 0 where
   pub in_range : AllByRecursion (IsInRange run.members run.window) run.commands
-  pub played : AllByRecursion (PlaysCommand player) run.commands
+  pub played : AllByRecursion PlaysCommand run.commands
   pub limits : IsScriptWithinLimits run.commands
 
--- there are 1 to 7 replicas, and runs of so many have a form
-pub record AreSoundReplicas (player : Player) (members : ℕ) : Type 0 where
+-- there are 1 to 7 replicas
+pub record AreSoundReplicas (members : ℕ) : Type 0 where
   pub some : 1 ≤ members
   pub few : members ≤ 7
-  pub played : PlaysReplicas player members
 
 -- the run's replicas, window and grace are within the limits, and so are its zones, its sections and its script
-pub record IsSoundRun (player : Player) (next : ℕ) (run : Run) : Type 0 where
-  pub replicas : AreSoundReplicas player run.members
+pub record IsSoundRun (next : ℕ) (run : Run) : Type 0 where
+  pub replicas : AreSoundReplicas run.members
   pub limits : IsWithinLimits run.window
   pub grace : run.grace ≤ 525_600
   pub zones : AreSoundZones run.zones
   pub sections : AllByRecursion (IsSoundSection next) run.sections
-  pub script : IsSoundScript player run
+  pub script : IsSoundScript run

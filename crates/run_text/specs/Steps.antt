@@ -19,7 +19,7 @@ use Rattle.run_text.specs.declared.refusal.Refusal.{Refusal}
 use Rattle.run_text.specs.declared.refusal.RunFault.{RunFault}
 use Rattle.run_text.specs.declared.refusal.RunFault.TheVariants.{Refused, OutOfMemory}
 use Rattle.run_text.specs.declared.run.Section.{Section as SectionText}
-use Rattle.run_text.specs.declared.rules.Rules.{Rules}
+use Rattle.run_text.specs.declared.table.Tables.{Tables}
 use Rattle.cron_fields.specs.Cause.{cause_number}
 use Rattle.cron_fields.specs.declared.cause.Cause.TheVariants.{BadSection}
 
@@ -38,13 +38,13 @@ abbrev pub place_of : Reader → Above → Place
 place_of reader above = record { number = reader.number + 1; above = above; rest = reader.rest.now }
 
 -- the text is refused from that place on
-abbrev pub RefusedFrom : Rules → Place → Refusal → Type 0
-RefusedFrom rules place refusal = RefusesFrom rules place.number place.above (lines_of place.rest) refusal
+abbrev pub RefusedFrom : Tables → Place → Refusal → Type 0
+RefusedFrom tables place refusal = RefusesFrom tables place.number place.above (lines_of place.rest) refusal
 
 -- what is read or refused from the later place on is so from the earlier one on
-pub record LeadsTo (rules : Rules) (from to : Place) : Type 0 where
-  pub reads : (run : Run) → ReadsFrom rules to.number to.above (lines_of to.rest) run → ReadsFrom rules from.number from.above (lines_of from.rest) run
-  pub refuses : (refusal : Refusal) → RefusedFrom rules to refusal → RefusedFrom rules from refusal
+pub record LeadsTo (tables : Tables) (from to : Place) : Type 0 where
+  pub reads : (run : Run) → ReadsFrom tables to.number to.above (lines_of to.rest) run → ReadsFrom tables from.number from.above (lines_of from.rest) run
+  pub refuses : (refusal : Refusal) → RefusedFrom tables to refusal → RefusedFrom tables from refusal
 
 -- the lines that are left can be counted
 abbrev pub HasRoom : Reader → Type 0
@@ -70,15 +70,15 @@ abbrev pub IsWhole : Reader → Opening → Type 0
 IsWhole reader opening = opening.count ≤ length (lines_of reader.rest.now)
 
 -- the reader passed the lines of a section
-pub record PassesTable (rules : Rules) (old new : Reader) (opening : Opening) (section : SectionText) : Type 0 where
+pub record PassesTable (tables : Tables) (old new : Reader) (opening : Opening) (section : SectionText) : Type 0 where
   pub whole : IsWhole old opening
-  pub leads : (run : Run) → LeadsTo rules (place_of old (at_table old opening run)) (place_of new (Sections (with_section run (section_of section))))
+  pub leads : (run : Run) → LeadsTo tables (place_of old (at_table old opening run)) (place_of new (Sections (with_section run (section_of section))))
 
 -- the reader found too few lines for a section, or a line that is none of a table
-abbrev pub RefusesTable : Rules → Reader → Opening → Refusal → Type 0
-RefusesTable rules reader opening refusal =
+abbrev pub RefusesTable : Tables → Reader → Opening → Refusal → Type 0
+RefusesTable tables reader opening refusal =
     ((length (lines_of reader.rest.now) < opening.count) × (refusal.cause ≡ cause_number BadSection) × IsOfLine reader.number refusal)
-    ⊎ (IsWhole reader opening × ((run : Run) → RefusedFrom rules (place_of reader (at_table reader opening run)) refusal))
+    ⊎ (IsWhole reader opening × ((run : Run) → RefusedFrom tables (place_of reader (at_table reader opening run)) refusal))
 
 -- the texts of some names
 abbrev pub texts_of : List (Bor (List ℕ)) → List (List ℕ)
@@ -99,8 +99,8 @@ names_with names (ZonePart zone) = names ++ zone.name ∷ []
 names_with names (SectionPart section) = names
 
 -- the reader passed a part, below zones of these names, and keeps the names
-pub record PassesPart (rules : Rules) (old new : Reader) (before after : List (Bor (List ℕ))) (part : Part) : Type 0 where
-  pub leads : (run : Run) → HasNames before run.zones → LeadsTo rules (place_of old (Sections run)) (place_of new (Sections (with_part run part)))
+pub record PassesPart (tables : Tables) (old new : Reader) (before after : List (Bor (List ℕ))) (part : Part) : Type 0 where
+  pub leads : (run : Run) → HasNames before run.zones → LeadsTo tables (place_of old (Sections run)) (place_of new (Sections (with_part run part)))
   pub names : after ≡ names_with before part
 
 -- the digits of a zone stand for some bytes, and the text of a section isn't longer than that
@@ -130,6 +130,6 @@ pub record HasScript (head : Head) (run : Run) (left : Limits) : Type 0 where
   pub left_is : IsLeftBy run.commands left
 
 -- the reader passed a command, before and behind which so much is left of the limits
-pub record PassesCommand (rules : Rules) (head : Head) (old new : Reader) (before after : Limits) (command : Command) : Type 0 where
-  pub leads : (run : Run) → HasScript head run before → LeadsTo rules (place_of old (Script run)) (place_of new (Script (with_command run command)))
+pub record PassesCommand (head : Head) (old new : Reader) (before after : Limits) (command : Command) : Type 0 where
+  pub leads : (tables : Tables) (run : Run) → HasScript head run before → LeadsTo tables (place_of old (Script run)) (place_of new (Script (with_command run command)))
   pub left_is : (run : Run) → HasScript head run before → HasScript head (with_command run command) after

@@ -5,11 +5,10 @@ ghost use Rattle.run_text.specs.Follow.{Version, Replicas, Times, Sections};
 ghost use Rattle.run_text.specs.Grammar.{IsReplicasLine, IsWindowLine, IsGraceLine};
 ghost use Rattle.run_text.specs.Run.{run_with};
 ghost use Rattle.run_text.specs.Steps.{place_of, start, LeadsTo, RefusedFrom, HasRoom};
-ghost use Rattle.run_text.specs.declared.rules.Rules.{Rules as Ruled};
+ghost use Rattle.run_text.specs.declared.table.Tables.{Tables};
 
 use crate::reader::Reader;
 use crate::refusal::Refusal;
-use crate::rules::Rules;
 use anacron_text::read_number;
 use cron_fields::Cause;
 use crontab_text::first_line;
@@ -31,15 +30,15 @@ pub struct Head {
 }
 
 /// Reads the head.
-pub fn read_head(text: &str, rules: Rules) -> Result<(Head, Reader<'_>), Refusal>
+pub fn read_head(text: &str) -> Result<(Head, Reader<'_>), Refusal>
     requires { length text.now < 2 ^ 32 }
-    ensures read { IfOk result (λ read. LeadsTo rules (start text.now) (place_of read.1 (Sections (run_with read.0.members read.0.window read.0.grace)))) }
-    ensures refused { IfErr result (λ refusal. RefusedFrom rules (start text.now) refusal) }
+    ensures read { IfOk result (λ read. (tables : Tables) → LeadsTo tables (start text.now) (place_of read.1 (Sections (run_with read.0.members read.0.window read.0.grace)))) }
+    ensures refused { IfErr result (λ refusal. (tables : Tables) → RefusedFrom tables (start text.now) refusal) }
     ensures room { IfOk result (λ read. HasRoom read.1) }
     ensures shorter { IfOk result (λ read. length read.1.rest.now ≤ length text.now) }
 {
     let mut reader = read_version(text)?;
-    let members = read_replicas(&mut reader, rules)?;
+    let members = read_replicas(&mut reader)?;
     let window = read_window(&mut reader)?;
     let grace = read_grace(&mut reader)?;
     let head = Head {
@@ -53,8 +52,8 @@ pub fn read_head(text: &str, rules: Rules) -> Result<(Head, Reader<'_>), Refusal
 // Reads the first line.
 fn read_version(text: &str) -> Result<Reader<'_>, Refusal>
     requires { length text.now < 2 ^ 32 }
-    ensures read { IfOk result (λ reader. (rules : Ruled) → LeadsTo rules (start text.now) (place_of reader Version)) }
-    ensures refused { IfErr result (λ refusal. (rules : Ruled) → RefusedFrom rules (start text.now) refusal) }
+    ensures read { IfOk result (λ reader. (tables : Tables) → LeadsTo tables (start text.now) (place_of reader Version)) }
+    ensures refused { IfErr result (λ refusal. (tables : Tables) → RefusedFrom tables (start text.now) refusal) }
     ensures room { IfOk result HasRoom }
     ensures shorter { IfOk result (λ reader. length reader.rest.now ≤ length text.now) }
 {
@@ -68,30 +67,27 @@ fn read_version(text: &str) -> Result<Reader<'_>, Refusal>
 }
 
 // Reads the number of replicas.
-fn read_replicas(reader: &mut Reader<'_>, rules: Rules) -> Result<u8, Refusal>
+fn read_replicas(reader: &mut Reader<'_>) -> Result<u8, Refusal>
     requires { HasRoom reader.old }
-    ensures read { IfOk result (λ members. LeadsTo rules (place_of reader.old Version) (place_of reader.new (Replicas members))) }
-    ensures refused { IfErr result (λ refusal. RefusedFrom rules (place_of reader.old Version) refusal) }
+    ensures read { IfOk result (λ members. (tables : Tables) → LeadsTo tables (place_of reader.old Version) (place_of reader.new (Replicas members))) }
+    ensures refused { IfErr result (λ refusal. (tables : Tables) → RefusedFrom tables (place_of reader.old Version) refusal) }
     ensures room { OnOk result (HasRoom reader.new) }
     ensures shorter { OnOk result (length reader.new.rest.now ≤ length reader.old.rest.now) }
 {
     let Some(line) = reader.next_line() else {
         return Err(Refusal::of_line(reader.number, Cause::BadReplicas));
     };
-    let Some(members) = members_of(line) else {
-        return Err(Refusal::of_line(reader.number, Cause::BadReplicas));
-    };
-    if !rules.player.plays_replicas(members) {
-        return Err(Refusal::of_line(reader.number, Cause::NoFormYet));
+    match members_of(line) {
+        Some(members) => Ok(members as u8),
+        None => Err(Refusal::of_line(reader.number, Cause::BadReplicas)),
     }
-    Ok(members as u8)
 }
 
 // Reads the window.
 fn read_window(reader: &mut Reader<'_>) -> Result<Window, Refusal>
     requires { HasRoom reader.old }
-    ensures read { IfOk result (λ window. (rules : Ruled) (members : ℕ) → LeadsTo rules (place_of reader.old (Replicas members)) (place_of reader.new (Times members window))) }
-    ensures refused { IfErr result (λ refusal. (rules : Ruled) (members : ℕ) → RefusedFrom rules (place_of reader.old (Replicas members)) refusal) }
+    ensures read { IfOk result (λ window. (tables : Tables) (members : ℕ) → LeadsTo tables (place_of reader.old (Replicas members)) (place_of reader.new (Times members window))) }
+    ensures refused { IfErr result (λ refusal. (tables : Tables) (members : ℕ) → RefusedFrom tables (place_of reader.old (Replicas members)) refusal) }
     ensures room { OnOk result (HasRoom reader.new) }
     ensures shorter { OnOk result (length reader.new.rest.now ≤ length reader.old.rest.now) }
 {
@@ -107,9 +103,9 @@ fn read_window(reader: &mut Reader<'_>) -> Result<Window, Refusal>
 // Reads the minutes of grace.
 fn read_grace(reader: &mut Reader<'_>) -> Result<u32, Refusal>
     requires { HasRoom reader.old }
-    ensures read { IfOk result (λ grace. (rules : Ruled) (members : ℕ) (window : Window)
-        → LeadsTo rules (place_of reader.old (Times members window)) (place_of reader.new (Sections (run_with members window grace)))) }
-    ensures refused { IfErr result (λ refusal. (rules : Ruled) (members : ℕ) (window : Window) → RefusedFrom rules (place_of reader.old (Times members window)) refusal) }
+    ensures read { IfOk result (λ grace. (tables : Tables) (members : ℕ) (window : Window)
+        → LeadsTo tables (place_of reader.old (Times members window)) (place_of reader.new (Sections (run_with members window grace)))) }
+    ensures refused { IfErr result (λ refusal. (tables : Tables) (members : ℕ) (window : Window) → RefusedFrom tables (place_of reader.old (Times members window)) refusal) }
     ensures room { OnOk result (HasRoom reader.new) }
     ensures shorter { OnOk result (length reader.new.rest.now ≤ length reader.old.rest.now) }
 {

@@ -7,69 +7,59 @@ ghost use Rattle.run_text.specs.Run.{Run};
 ghost use Rattle.run_text.specs.Sound.{IsSoundRun};
 ghost use Rattle.run_text.specs.Table.{AreSaid};
 ghost use Rattle.run_text.specs.declared.refusal.Refusal.{Refusal};
-ghost use Rattle.run_text.specs.declared.rules.Player.{Player};
 
 use crate::read::pass_file;
-use crate::rules::{Player, Rules};
 use crate::table::Tables;
 
 /// A law: a text is a run file in one way at most, or refused in one way at most, and never both.
 pub fn a_text_has_one_reading()
-    ensures one_run { (player : Player) (text : List ℕ) (a b : Run) → IsRunText player text a → IsRunText player text b → a ≡ b }
-    ensures one_refusal { (player : Player) (text : List ℕ) (a b : Refusal) → IsRefusedText player text a → IsRefusedText player text b → a ≡ b }
-    ensures not_both { (player : Player) (text : List ℕ) (run : Run) (refusal : Refusal) → IsRunText player text run → IsRefusedText player text refusal → ⊥ }
+    ensures one_run { (text : List ℕ) (a b : Run) → IsRunText text a → IsRunText text b → a ≡ b }
+    ensures one_refusal { (text : List ℕ) (a b : Refusal) → IsRefusedText text a → IsRefusedText text b → a ≡ b }
+    ensures not_both { (text : List ℕ) (run : Run) (refusal : Refusal) → IsRunText text run → IsRefusedText text refusal → ⊥ }
 {}
 
 /// A law: each text is a run file, or it is refused. What runs is the reader, which keeps nothing here and takes no memory.
-pub fn a_text_has_a_reading(text: &str, player: Player)
+pub fn a_text_has_a_reading(text: &str)
     requires { length text.now < 2 ^ 32 }
-    ensures { HasReading player text.now }
+    ensures { HasReading text.now }
 {
-    let rules = Rules {
-        tables: Tables::Judged,
-        player,
-    };
-    let _ = pass_file(text, rules);
+    let _ = pass_file(text, Tables::Judged);
 }
 
 /// A law: what holds of each run that is read. Its window and its grace are within the limits, each line of its tables says
 /// something, and the lines stand where the text has them; each command names what the run has, and the script is within its limits.
 pub fn each_run_is_sound()
-    ensures { (player : Player) (text : List ℕ) (run : Run) → IsRunText player text run → IsSoundRun player (1 + length (lines_of text)) run }
+    ensures { (text : List ℕ) (run : Run) → IsRunText text run → IsSoundRun (1 + length (lines_of text)) run }
 {}
 
 /// A law: a text has one frame at most, or is refused in one way at most, and never both.
 pub fn a_text_has_one_frame()
-    ensures one_frame { (player : Player) (text : List ℕ) (a b : Run) → IsFrameText player text a → IsFrameText player text b → a ≡ b }
-    ensures one_refusal { (player : Player) (text : List ℕ) (a b : Refusal) → IsRefusedFrame player text a → IsRefusedFrame player text b → a ≡ b }
-    ensures not_both { (player : Player) (text : List ℕ) (run : Run) (refusal : Refusal) → IsFrameText player text run → IsRefusedFrame player text refusal → ⊥ }
+    ensures one_frame { (text : List ℕ) (a b : Run) → IsFrameText text a → IsFrameText text b → a ≡ b }
+    ensures one_refusal { (text : List ℕ) (a b : Refusal) → IsRefusedFrame text a → IsRefusedFrame text b → a ≡ b }
+    ensures not_both { (text : List ℕ) (run : Run) (refusal : Refusal) → IsFrameText text run → IsRefusedFrame text refusal → ⊥ }
 {}
 
 /// A law: each text has a frame, or it is refused. What runs is the reader, which keeps nothing here and takes no memory.
-pub fn a_text_has_a_frame(text: &str, player: Player)
+pub fn a_text_has_a_frame(text: &str)
     requires { length text.now < 2 ^ 32 }
-    ensures { HasFrame player text.now }
+    ensures { HasFrame text.now }
 {
-    let rules = Rules {
-        tables: Tables::Counted,
-        player,
-    };
-    let _ = pass_file(text, rules);
+    let _ = pass_file(text, Tables::Counted);
 }
 
 /// A law: a text that is a run file has the run for its frame.
 pub fn each_run_is_its_frame()
-    ensures { (player : Player) (text : List ℕ) (run : Run) → IsRunText player text run → IsFrameText player text run }
+    ensures { (text : List ℕ) (run : Run) → IsRunText text run → IsFrameText text run }
 {}
 
 /// A law: each line of a frame's sections is a line of the text, by its number behind that of the line that opens the section.
 pub fn each_frame_has_its_lines()
-    ensures { (player : Player) (text : List ℕ) (run : Run) → IsFrameText player text run
+    ensures { (text : List ℕ) (run : Run) → IsFrameText text run
         → AllByRecursion (λ section. section.line + length section.lines < 1 + length (lines_of text)) run.sections }
 {}
 
 /// A law: a frame whose sections' lines each say something is a run.
 pub fn a_frame_without_faults_is_a_run()
-    ensures { (player : Player) (text : List ℕ) (run : Run) → IsFrameText player text run
-        → AllByRecursion (λ section. AreSaid (style_of section.kind) section.label section.lines) run.sections → IsRunText player text run }
+    ensures { (text : List ℕ) (run : Run) → IsFrameText text run
+        → AllByRecursion (λ section. AreSaid (style_of section.kind) section.label section.lines) run.sections → IsRunText text run }
 {}

@@ -9,7 +9,6 @@ mod parts;
 mod read;
 mod reader;
 mod refusal;
-mod rules;
 mod run;
 mod script;
 mod table;
@@ -23,6 +22,5 @@ pub use laws::{
 };
 pub use read::{read_frame, read_run};
 pub use refusal::{Refusal, RunFault};
-pub use rules::Player;
 pub use run::{RunFile, Section, SectionKind, ZoneLine, ZoneText};
 pub use script_text::{Command, FateWord};

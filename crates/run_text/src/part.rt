@@ -7,9 +7,8 @@ ghost use Rattle.run_text.specs.Steps.{place_of, LeadsTo, RefusedFrom, HasRoom, 
 use crate::opening::read_opening;
 use crate::reader::Reader;
 use crate::refusal::Refusal;
-use crate::rules::Rules;
 use crate::run::{Section, ZoneLine};
-use crate::table::read_table;
+use crate::table::{Tables, read_table};
 use crate::words::has_zone_word;
 use crate::zone::read_zone;
 use arrayvec::ArrayVec;
@@ -25,16 +24,16 @@ pub enum Part<'a> {
     Section(Section<'a>),
 }
 
-/// Reads the next zone or section, by these rules, or else the line that opens the script: None.
+/// Reads the next zone or section, its lines as `tables` says, or else the line that opens the script: None.
 pub fn read_part<'a>(
     reader: &mut Reader<'a>,
     names: &mut Names<'a>,
-    rules: Rules,
+    tables: Tables,
 ) -> Result<Option<Part<'a>>, Refusal>
     requires { HasRoom reader.old }
-    ensures part { IfOk result (λ read. IfSome read (PassesPart rules reader.old reader.new names.old.items names.new.items)) }
-    ensures script { IfOk result (λ read. IfNone read ((run : Run) → LeadsTo rules (place_of reader.old (Sections run)) (place_of reader.new (Script run)))) }
-    ensures refused { IfErr result (λ refusal. (run : Run) → HasNames names.old.items run.zones → RefusedFrom rules (place_of reader.old (Sections run)) refusal) }
+    ensures part { IfOk result (λ read. IfSome read (PassesPart tables reader.old reader.new names.old.items names.new.items)) }
+    ensures script { IfOk result (λ read. IfNone read ((run : Run) → LeadsTo tables (place_of reader.old (Sections run)) (place_of reader.new (Script run)))) }
+    ensures refused { IfErr result (λ refusal. (run : Run) → HasNames names.old.items run.zones → RefusedFrom tables (place_of reader.old (Sections run)) refusal) }
     ensures room { OnOk result (HasRoom reader.new) }
     ensures shorter { OnOk result (length reader.new.rest.now < length reader.old.rest.now) }
     ensures part_of { IfOk result (λ read. IfSome read (IsPartOf (length reader.old.rest.now))) }
@@ -50,6 +49,6 @@ pub fn read_part<'a>(
         return Ok(Some(Part::Zone(zone)));
     }
     let opening = read_opening(reader.number, line)?;
-    let section = read_table(reader, opening, rules)?;
+    let section = read_table(reader, opening, tables)?;
     Ok(Some(Part::Section(section)))
 }

@@ -8,8 +8,8 @@ ghost use Rattle.run_text.specs.Steps.{place_of, LeadsTo, RefusedFrom, HasRoom, 
 use crate::part::{Names, Part, read_part};
 use crate::reader::Reader;
 use crate::refusal::{Refusal, RunFault};
-use crate::rules::Rules;
 use crate::run::{Section, ZoneLine};
+use crate::table::Tables;
 use cron_io::OutOfMemory;
 use std::alloc::Global;
 
@@ -33,17 +33,17 @@ impl<'a> Parts<'a> {
     }
 }
 
-/// Reads the zones, the sections and the line that opens the script, by these rules.
+/// Reads the zones, the sections and the line that opens the script; `tables` says how lines of tables are read.
 pub fn read_parts<'a>(
     alloc: Global,
     reader: &mut Reader<'a>,
-    rules: Rules,
+    tables: Tables,
 ) -> Result<Parts<'a>, RunFault>
     requires { HasRoom reader.old }
     ensures read { IfOk result (λ parts. (run : Run) → run.zones ≡ []
-        → LeadsTo rules (place_of reader.old (Sections run)) (place_of reader.new (Script (with_all run parts)))) }
+        → LeadsTo tables (place_of reader.old (Sections run)) (place_of reader.new (Script (with_all run parts)))) }
     ensures refused { IfErr result (λ fault. IfRefused fault (λ refusal. (run : Run) → run.zones ≡ []
-        → RefusedFrom rules (place_of reader.old (Sections run)) refusal)) }
+        → RefusedFrom tables (place_of reader.old (Sections run)) refusal)) }
     ensures room { OnOk result (HasRoom reader.new) }
     ensures parts { IfOk result (λ parts. ArePartsOf (length reader.old.rest.now) parts.sections.items) }
     ensures digits { IfOk result (λ parts. All HasDigits parts.zones.items) }
@@ -53,21 +53,21 @@ pub fn read_parts<'a>(
         zones: Vec::new(alloc),
         sections: Vec::new(alloc),
     };
-    'parts: while let Some(part) = read_part(reader, &mut names, rules)? {
+    'parts: while let Some(part) = read_part(reader, &mut names, tables)? {
         parts.push(part)?;
     }
     Ok(parts)
 }
 
-/// Passes the zones, the sections and the line that opens the script, by these rules, and keeps none of them.
-pub fn pass_parts(reader: &mut Reader<'_>, rules: Rules) -> Result<(), Refusal>
+/// Passes the zones, the sections and the line that opens the script, lines of tables as `tables` says, and keeps none of them.
+pub fn pass_parts(reader: &mut Reader<'_>, tables: Tables) -> Result<(), Refusal>
     requires { HasRoom reader.old }
     ensures read { OnOk result ((zones : List NamedZone) × (sections : List SectionLines) × ((run : Run) → run.zones ≡ []
-        → LeadsTo rules (place_of reader.old (Sections run)) (place_of reader.new (Script (with_parts run zones sections))))) }
-    ensures refused { IfErr result (λ refusal. (run : Run) → run.zones ≡ [] → RefusedFrom rules (place_of reader.old (Sections run)) refusal) }
+        → LeadsTo tables (place_of reader.old (Sections run)) (place_of reader.new (Script (with_parts run zones sections))))) }
+    ensures refused { IfErr result (λ refusal. (run : Run) → run.zones ≡ [] → RefusedFrom tables (place_of reader.old (Sections run)) refusal) }
     ensures room { OnOk result (HasRoom reader.new) }
 {
     let mut names = Names::new();
-    'parts: while let Some(_part) = read_part(reader, &mut names, rules)? {}
+    'parts: while let Some(_part) = read_part(reader, &mut names, tables)? {}
     Ok(())
 }

@@ -8,30 +8,25 @@ ghost use Rattle.run_text.specs.Steps.{start, RefusedFrom, IfRefused};
 use crate::head::read_head;
 use crate::parts::{pass_parts, read_parts};
 use crate::refusal::{Refusal, RunFault};
-use crate::rules::{Player, Rules};
 use crate::run::RunFile;
 use crate::script::{pass_script, read_script};
 use crate::table::Tables;
 use std::alloc::Global;
 
-/// Reads a run file that this player is to play: a head of four lines, zones and tables of jobs, and a script. The texts of the run are
+/// Reads a run file: a head of four lines, zones and tables of jobs, and a script. The texts of the run are
 /// parts of the file's text.
 ///
 /// # Errors
 ///
 /// The first line that may not stand where it stands, or that is missing; or want of memory.
-pub fn read_run(alloc: Global, text: &str, player: Player) -> Result<RunFile<'_>, RunFault>
+pub fn read_run(alloc: Global, text: &str) -> Result<RunFile<'_>, RunFault>
     requires { length text.now < 2 ^ 32 }
-    ensures read { IfOk result (λ run. IsRunText player text.now (run_of run)) }
+    ensures read { IfOk result (λ run. IsRunText text.now (run_of run)) }
     ensures parts { IfOk result (λ run. ArePartsOf (length text.now) run.sections.items) }
     ensures digits { IfOk result (λ run. All HasDigits run.zones.items) }
-    ensures refused { IfErr result (λ fault. IfRefused fault (IsRefusedText player text.now)) }
+    ensures refused { IfErr result (λ fault. IfRefused fault (IsRefusedText text.now)) }
 {
-    let rules = Rules {
-        tables: Tables::Judged,
-        player,
-    };
-    read_file(alloc, text, rules)
+    read_file(alloc, text, Tables::Judged)
 }
 
 /// Reads the frame of a run file: as `read_run` does, but the lines of its tables are counted and not judged, whatever they say.
@@ -40,31 +35,27 @@ pub fn read_run(alloc: Global, text: &str, player: Player) -> Result<RunFile<'_>
 ///
 /// The first line that may not stand where it stands for another reason than what a table's line says, or that is missing; or
 /// want of memory.
-pub fn read_frame(alloc: Global, text: &str, player: Player) -> Result<RunFile<'_>, RunFault>
+pub fn read_frame(alloc: Global, text: &str) -> Result<RunFile<'_>, RunFault>
     requires { length text.now < 2 ^ 32 }
-    ensures read { IfOk result (λ run. IsFrameText player text.now (run_of run)) }
+    ensures read { IfOk result (λ run. IsFrameText text.now (run_of run)) }
     ensures parts { IfOk result (λ run. ArePartsOf (length text.now) run.sections.items) }
     ensures digits { IfOk result (λ run. All HasDigits run.zones.items) }
-    ensures refused { IfErr result (λ fault. IfRefused fault (IsRefusedFrame player text.now)) }
+    ensures refused { IfErr result (λ fault. IfRefused fault (IsRefusedFrame text.now)) }
 {
-    let rules = Rules {
-        tables: Tables::Counted,
-        player,
-    };
-    read_file(alloc, text, rules)
+    read_file(alloc, text, Tables::Counted)
 }
 
-// Reads a run file by these rules.
-fn read_file(alloc: Global, text: &str, rules: Rules) -> Result<RunFile<'_>, RunFault>
+// Reads a run file, lines of tables as `tables` says.
+fn read_file(alloc: Global, text: &str, tables: Tables) -> Result<RunFile<'_>, RunFault>
     requires { length text.now < 2 ^ 32 }
-    ensures read { IfOk result (λ run. ReadsFrom rules 1 Nothing (lines_of text.now) (run_of run)) }
+    ensures read { IfOk result (λ run. ReadsFrom tables 1 Nothing (lines_of text.now) (run_of run)) }
     ensures parts { IfOk result (λ run. ArePartsOf (length text.now) run.sections.items) }
     ensures digits { IfOk result (λ run. All HasDigits run.zones.items) }
-    ensures refused { IfErr result (λ fault. IfRefused fault (RefusedFrom rules (start text.now))) }
+    ensures refused { IfErr result (λ fault. IfRefused fault (RefusedFrom tables (start text.now))) }
 {
-    let (head, mut reader) = read_head(text, rules)?;
-    let parts = read_parts(alloc, &mut reader, rules)?;
-    let commands = read_script(alloc, &mut reader, head, rules)?;
+    let (head, mut reader) = read_head(text)?;
+    let parts = read_parts(alloc, &mut reader, tables)?;
+    let commands = read_script(alloc, &mut reader, head)?;
     Ok(RunFile {
         members: head.members,
         window: head.window,
@@ -75,13 +66,13 @@ fn read_file(alloc: Global, text: &str, rules: Rules) -> Result<RunFile<'_>, Run
     })
 }
 
-/// Reads a run file by these rules to its end, and keeps nothing of it.
-pub fn pass_file(text: &str, rules: Rules) -> Result<(), Refusal>
+/// Reads a run file to its end, lines of tables as `tables` says, and keeps nothing of it.
+pub fn pass_file(text: &str, tables: Tables) -> Result<(), Refusal>
     requires { length text.now < 2 ^ 32 }
-    ensures read { OnOk result ((run : Run) × ReadsFrom rules 1 Nothing (lines_of text.now) run) }
-    ensures refused { IfErr result (RefusedFrom rules (start text.now)) }
+    ensures read { OnOk result ((run : Run) × ReadsFrom tables 1 Nothing (lines_of text.now) run) }
+    ensures refused { IfErr result (RefusedFrom tables (start text.now)) }
 {
-    let (head, mut reader) = read_head(text, rules)?;
-    pass_parts(&mut reader, rules)?;
-    pass_script(&mut reader, head, rules)
+    let (head, mut reader) = read_head(text)?;
+    pass_parts(&mut reader, tables)?;
+    pass_script(&mut reader, head)
 }

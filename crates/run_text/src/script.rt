@@ -6,12 +6,12 @@ ghost use Rattle.run_text.specs.Follow.{Script, End, SaysCommand};
 ghost use Rattle.run_text.specs.Reading.{ReadsFrom};
 ghost use Rattle.run_text.specs.Run.{Run, with_command, with_commands};
 ghost use Rattle.run_text.specs.Steps.{place_of, LeadsTo, RefusedFrom, HasRoom, IfRefused, BeginsScript, HasScript, PassesCommand};
-ghost use Rattle.run_text.specs.declared.rules.Rules.{Rules as Ruled};
+ghost use Rattle.run_text.specs.declared.table.Tables.{Tables};
 
 use crate::head::Head;
 use crate::reader::Reader;
 use crate::refusal::{Refusal, RunFault};
-use crate::rules::Rules;
+use crate::words::has_unplayed_word;
 use cron_fields::Cause;
 use script_text::{Command, Limits, read_command};
 use std::alloc::Global;
@@ -21,17 +21,16 @@ pub fn read_script(
     alloc: Global,
     reader: &mut Reader<'_>,
     head: Head,
-    rules: Rules,
 ) -> Result<Vec<Command>, RunFault>
     requires { HasRoom reader.old }
-    ensures read { IfOk result (λ commands. (run : Run) → BeginsScript head run
-        → ReadsFrom rules (reader.old.number + 1) (Script run) (lines_of reader.old.rest.now) (with_commands run commands.items)) }
-    ensures refused { IfErr result (λ fault. IfRefused fault (λ refusal. (run : Run) → BeginsScript head run
-        → RefusedFrom rules (place_of reader.old (Script run)) refusal)) }
+    ensures read { IfOk result (λ commands. (tables : Tables) (run : Run) → BeginsScript head run
+        → ReadsFrom tables (reader.old.number + 1) (Script run) (lines_of reader.old.rest.now) (with_commands run commands.items)) }
+    ensures refused { IfErr result (λ fault. IfRefused fault (λ refusal. (tables : Tables) (run : Run) → BeginsScript head run
+        → RefusedFrom tables (place_of reader.old (Script run)) refusal)) }
 {
     let mut commands = Vec::new(alloc);
     let mut left = Limits::whole();
-    'commands: while let Some(command) = read_line(reader, head, &mut left, rules)? {
+    'commands: while let Some(command) = read_line(reader, head, &mut left)? {
         commands.push(command)?;
     }
     read_end(reader)?;
@@ -39,14 +38,14 @@ pub fn read_script(
 }
 
 /// Passes the rest of a file with this head, from the line on that is behind the one that opens the script, and keeps no command.
-pub fn pass_script(reader: &mut Reader<'_>, head: Head, rules: Rules) -> Result<(), Refusal>
+pub fn pass_script(reader: &mut Reader<'_>, head: Head) -> Result<(), Refusal>
     requires { HasRoom reader.old }
-    ensures read { OnOk result ((commands : List Says) × ((run : Run) → BeginsScript head run
-        → ReadsFrom rules (reader.old.number + 1) (Script run) (lines_of reader.old.rest.now) (with_commands run commands))) }
-    ensures refused { IfErr result (λ refusal. (run : Run) → BeginsScript head run → RefusedFrom rules (place_of reader.old (Script run)) refusal) }
+    ensures read { OnOk result ((commands : List Says) × ((tables : Tables) (run : Run) → BeginsScript head run
+        → ReadsFrom tables (reader.old.number + 1) (Script run) (lines_of reader.old.rest.now) (with_commands run commands))) }
+    ensures refused { IfErr result (λ refusal. (tables : Tables) (run : Run) → BeginsScript head run → RefusedFrom tables (place_of reader.old (Script run)) refusal) }
 {
     let mut left = Limits::whole();
-    'commands: while let Some(_command) = read_line(reader, head, &mut left, rules)? {}
+    'commands: while let Some(_command) = read_line(reader, head, &mut left)? {}
     read_end(reader)
 }
 
@@ -55,12 +54,11 @@ fn read_line(
     reader: &mut Reader<'_>,
     head: Head,
     left: &mut Limits,
-    rules: Rules,
 ) -> Result<Option<Command>, Refusal>
     requires { HasRoom reader.old }
-    ensures command { IfOk result (λ read. IfSome read (PassesCommand rules head reader.old reader.new left.old left.new)) }
-    ensures end { IfOk result (λ read. IfNone read ((run : Run) → LeadsTo rules (place_of reader.old (Script run)) (place_of reader.new (End run)))) }
-    ensures refused { IfErr result (λ refusal. (run : Run) → HasScript head run left.old → RefusedFrom rules (place_of reader.old (Script run)) refusal) }
+    ensures command { IfOk result (λ read. IfSome read (PassesCommand head reader.old reader.new left.old left.new)) }
+    ensures end { IfOk result (λ read. IfNone read ((tables : Tables) (run : Run) → LeadsTo tables (place_of reader.old (Script run)) (place_of reader.new (End run)))) }
+    ensures refused { IfErr result (λ refusal. (tables : Tables) (run : Run) → HasScript head run left.old → RefusedFrom tables (place_of reader.old (Script run)) refusal) }
     ensures room { OnOk result (HasRoom reader.new) }
     ensures shorter { OnOk result (length reader.new.rest.now < length reader.old.rest.now) }
 {
@@ -70,7 +68,7 @@ fn read_line(
     if line == "end" {
         return Ok(None);
     }
-    if rules.player.lacks_word_of(line) {
+    if has_unplayed_word(line) {
         return Err(Refusal::of_line(reader.number, Cause::NoFormYet));
     }
     match command_of(line, head, left) {
@@ -93,8 +91,8 @@ fn command_of(line: &str, head: Head, left: &mut Limits) -> Option<Command>
 // Finds that no line is behind the one that ends the script.
 fn read_end(reader: &mut Reader<'_>) -> Result<(), Refusal>
     requires { HasRoom reader.old }
-    ensures read { OnOk result ((rules : Ruled) (run : Run) → ReadsFrom rules (reader.old.number + 1) (End run) (lines_of reader.old.rest.now) run) }
-    ensures refused { IfErr result (λ refusal. (rules : Ruled) (run : Run) → RefusedFrom rules (place_of reader.old (End run)) refusal) }
+    ensures read { OnOk result ((tables : Tables) (run : Run) → ReadsFrom tables (reader.old.number + 1) (End run) (lines_of reader.old.rest.now) run) }
+    ensures refused { IfErr result (λ refusal. (tables : Tables) (run : Run) → RefusedFrom tables (place_of reader.old (End run)) refusal) }
 {
     match reader.next_line() {
         Some(_) => Err(Refusal::of_line(reader.number, Cause::BadScript)),

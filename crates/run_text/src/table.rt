@@ -14,7 +14,6 @@ ghost use Rattle.run_text.specs.Table.{Says, AreSaid, IsFirstFault, IsTableFault
 use crate::opening::Opening;
 use crate::reader::{Reader, cut_lines};
 use crate::refusal::Refusal;
-use crate::rules::Rules;
 use crate::run::Section;
 use anacron_text::AnaLines;
 use cron_fields::Cause;
@@ -33,11 +32,11 @@ pub enum Tables {
 pub fn read_table<'a>(
     reader: &mut Reader<'a>,
     opening: Opening<'a>,
-    rules: Rules,
+    tables: Tables,
 ) -> Result<Section<'a>, Refusal>
     requires { HasRoom reader.old }
-    ensures read { IfOk result (PassesTable rules reader.old reader.new opening.entry) }
-    ensures refused { IfErr result (RefusesTable rules reader.old opening.entry) }
+    ensures read { IfOk result (PassesTable tables reader.old reader.new opening.entry) }
+    ensures refused { IfErr result (RefusesTable tables reader.old opening.entry) }
     ensures room { OnOk result (HasRoom reader.new) }
     ensures shorter { OnOk result (length reader.new.rest.now ≤ length reader.old.rest.now) }
     ensures part { IfOk result (λ section. length section.text.now ≤ length reader.old.rest.now) }
@@ -45,7 +44,7 @@ pub fn read_table<'a>(
     let Some((text, rest)) = cut_lines(reader.rest, opening.count) else {
         return Err(Refusal::of_line(reader.number, Cause::BadSection));
     };
-    if let Some(fault) = judged_fault(text, &opening, rules.tables) {
+    if let Some(fault) = judged_fault(text, &opening, tables) {
         return Err(refusal_of(reader.number, fault));
     }
     let line = reader.number;

@@ -1,6 +1,7 @@
 //! The words of the product's own lines.
 ghost use Rattle.std.specs.Prelude.{◌≡◌, ◌≢◌, ◌↔◌, IsTrue, IfSome, IfNone};
-ghost use Rattle.run_text.specs.Grammar.{IsLabelStart, IsLabelByte, IsLabel, IsZoneByte, IsZoneName, first_word, section_word, HasSectionWord, IsCommandWord};
+ghost use Rattle.run_text.specs.Grammar.{IsLabelStart, IsLabelByte, IsLabel, IsZoneByte, IsZoneName, first_word, section_word, HasSectionWord};
+ghost use Rattle.run_text.specs.Rules.{HasUnplayedWord};
 ghost use Rattle.run_text.specs.Zones.{HasZoneWord};
 ghost use Rattle.run_text.specs.declared.run.SectionKind.{SectionKind};
 
@@ -83,28 +84,9 @@ pub fn has_zone_word(line: &str) -> bool
     first_word(line) == "zone"
 }
 
-/// Whether the word is that of a command.
-pub fn is_command_word(word: &str) -> bool
-    ensures { IsTrue result ↔ IsCommandWord word.now }
+/// Whether the line's first word is that of a command without a form, whatever follows.
+pub fn has_unplayed_word(line: &str) -> bool
+    ensures { IsTrue result ↔ HasUnplayedWord line.now }
 {
-    matches!(
-        word,
-        "round"
-            | "campaign"
-            | "stop"
-            | "break"
-            | "restart"
-            | "cut"
-            | "heal"
-            | "drop"
-            | "repeat"
-            | "reverse"
-            | "again"
-            | "skew"
-            | "fate"
-            | "arrive"
-            | "settle"
-            | "walk"
-            | "free"
-    )
+    matches!(first_word(line), "break" | "free")
 }

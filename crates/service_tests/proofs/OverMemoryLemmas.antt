@@ -3,35 +3,27 @@ use Rattle.std.proofs.Common.{◌≡◌, ◌≢◌, ◌⊎◌, inl, inr, ℕ, ze
 use Rattle.std.specs.Prelude.{IsSome, IsSomeAnd}
 use Rattle.cron_io.specs.Faults.{Rose}
 use Rattle.cron_io.specs.Views.{SourceView, SinkView}
-use Rattle.paxos_base.specs.declared.entry.Entry.{Entry}
+use Rattle.disk_model.specs.declared.mem_disk.MemDisk.{MemDisk}
 use Rattle.due_set.specs.Table.{Table}
-use Rattle.cluster_sched.specs.declared.row.SchedRow.{SchedRow}
-use Rattle.report_text.specs.Report.{IsReport}
+use Rattle.replica_node.specs.declared.node.Node.{Node}
+use Rattle.world_law.specs.Book.{BookState}
 use Rattle.cron_serve.specs.Ends.{Ends}
 use Rattle.run_text.specs.Run.{Run}
 use Rattle.run_text.specs.declared.refusal.Refusal.{Refusal}
 use Rattle.cron_serve.specs.Input.{IsTaken}
-use Rattle.service_tests.specs.OverMemory.{IsReportOfJobs, FitsRoom, IsBeyondRoom}
-use Rattle.cron_serve.specs.Serve.{IsRefused, IsTextOfInput, IsWholeRun}
+use Rattle.service_tests.specs.OverMemory.{IsReportOfRun, FitsRoom, IsBeyondRoom}
+use Rattle.cron_serve.specs.Serve.{IsRefused, IsReportOf, IsTextOfInput}
 use Rattle.cron_serve.specs.declared.words.Output.TheVariants.{Report}
 use Rattle.cron_serve.specs.declared.run_end.RunEnd.{RunEnd}
 use Rattle.cron_serve.proofs.CompleteLemmas.{read_whole, refused_input}
-use Rattle.cron_serve.proofs.VerdictLemmas.{one_taken, suits_or_refused}
+use Rattle.cron_serve.proofs.VerdictLemmas.{suits_or_refused}
 
--- a report of the input is one of its jobs
-report_is : (source source' : SourceView) (bytes text : List ℕ) (run : Run) (table : Table) (log : List Entry) (held : List SchedRow) → source.left ≡ Some bytes
-    → IsTaken bytes run table → IsTextOfInput Report source source' log held text → IsReportOfJobs table text
-report_is source source' bytes text run table log held told taken input =
-    let report = input.is in
+-- a report of the input is one of its bytes
+report_is : (source source' : SourceView) (bytes text : List ℕ) (book : BookState) (nodes : List (Node MemDisk)) → source.left ≡ Some bytes
+    → IsTextOfInput Report source source' book nodes text → IsReportOfRun bytes text
+report_is source source' bytes text book nodes told input =
     let read : input.bytes ≡ bytes = read_whole source source' bytes input.bytes told input.read in
-    let given = subst (λ (bs : List ℕ). IsTaken bs report.run.run report.table) read report.run.taken in
-    let same : report.table ≡ table = (one_taken bytes report.run.run run report.table table given taken).1 in
-    record {
-      log = log;
-      held = held;
-      whole = subst (λ (t : Table). IsWholeRun t log held) same report.run.whole;
-      report = subst (λ (t : Table). IsReport t 1 held text) same report.report;
-    }
+    record { book = book; nodes = nodes; is = subst (λ (bs : List ℕ). IsReportOf bs book nodes text) read input.is }
 
 -- a run that is taken isn't refused, and its report is written whole, or a write failed, or memory ran out
 abbrev AreLeft : ℕ → Type 0
@@ -66,23 +58,23 @@ module _ (source source' : SourceView) (sink sink' : SinkView) (bytes : List ℕ
       are_left end.status over.ends.statuses over.usage (λ e. no_refusal source source' bytes run table end.refusal over.has taken (over.ends.refused e)) over.reliable
 
   -- a run that is taken ends with its report or for want of memory, where the room is enough
-  pub ends_whole : FitsRoom table room → (end.status ≡ 0) ⊎ (end.status ≡ 5)
+  pub ends_whole : FitsRoom bytes room → (end.status ≡ 0) ⊎ (end.status ≡ 5)
   ends_whole enough = elim left_of_run [
     | inl (inl whole) ↦ inl whole
     | inl (inr failed) ↦
         (let lacks = over.ends.exceeds failed room over.has_room in
-        let size = enough lacks.text (report_is source source' bytes lacks.text run table end.log end.ledger.held over.has taken lacks.of_input) in
+        let size = enough lacks.text (report_is source source' bytes lacks.text end.book end.nodes.items over.has lacks.of_input) in
         let beyond = lacks.beyond in
         absurd (omega arith))
     | inr memory ↦ inr memory
   ]
 
   -- a run that is taken ends by a write fault or for want of memory, where the room is too small
-  pub ends_cut : IsBeyondRoom table room → (end.status ≡ 4) ⊎ (end.status ≡ 5)
+  pub ends_cut : IsBeyondRoom bytes room → (end.status ≡ 4) ⊎ (end.status ≡ 5)
   ends_cut small = elim left_of_run [
     | inl (inl whole) ↦
         (let has = over.ends.fits whole room over.has_room in
-        let size = small has.text (report_is source source' bytes has.text run table end.log end.ledger.held over.has taken has.of_input) in
+        let size = small has.text (report_is source source' bytes has.text end.book end.nodes.items over.has has.of_input) in
         let enough = has.taken.fits in
         absurd (omega arith))
     | inl (inr failed) ↦ inl failed

@@ -1,22 +1,20 @@
 -- The length of a run's report, beside the room that a sink has.
 use Rattle.std.specs.Prelude.{ℕ, ◌<◌, ◌≤◌, List, length}
-use Rattle.paxos_base.specs.declared.entry.Entry.{Entry}
-use Rattle.due_set.specs.Table.{Table}
-use Rattle.cluster_sched.specs.declared.row.SchedRow.{SchedRow}
-use Rattle.report_text.specs.Report.{IsReport}
-use Rattle.cron_serve.specs.Serve.{IsWholeRun}
+use Rattle.disk_model.specs.declared.mem_disk.MemDisk.{MemDisk}
+use Rattle.replica_node.specs.declared.node.Node.{Node}
+use Rattle.world_law.specs.Book.{BookState}
+use Rattle.cron_serve.specs.Serve.{IsReportOf}
 
--- the text is the report of these jobs, with some log and the rows that go with it
-pub record IsReportOfJobs (table : Table) (text : List ℕ) : Type 0 where
-  pub log : List Entry
-  pub held : List SchedRow
-  pub whole : IsWholeRun table log held
-  pub report : IsReport table 1 held text
+-- the text is a report of the run, of some book and the nodes that go with it
+pub record IsReportOfRun (bytes text : List ℕ) : Type 0 where
+  pub book : BookState
+  pub nodes : List (Node MemDisk)
+  pub is : IsReportOf bytes book nodes text
 
--- the report of the jobs has no more bytes than so many
-abbrev pub FitsRoom : Table → ℕ → Type 0
-FitsRoom table room = (text : List ℕ) → IsReportOfJobs table text → length text ≤ room
+-- a report of the run has no more bytes than so many
+abbrev pub FitsRoom : List ℕ → ℕ → Type 0
+FitsRoom bytes room = (text : List ℕ) → IsReportOfRun bytes text → length text ≤ room
 
--- the report of the jobs has more bytes than so many
-abbrev pub IsBeyondRoom : Table → ℕ → Type 0
-IsBeyondRoom table room = (text : List ℕ) → IsReportOfJobs table text → room < length text
+-- a report of the run has more bytes than so many
+abbrev pub IsBeyondRoom : List ℕ → ℕ → Type 0
+IsBeyondRoom bytes room = (text : List ℕ) → IsReportOfRun bytes text → room < length text

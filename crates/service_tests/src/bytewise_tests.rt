@@ -6,6 +6,7 @@ use cron_io::{MemSink, MemSource};
 use cron_serve::cron_cluster;
 use std::alloc::Global;
 use std::test::Fail;
+use std::thread::Threads;
 
 // What is left by a run.
 #[derive(Drop)]
@@ -16,13 +17,18 @@ struct Left {
 }
 
 // What is left by a run of single bytes, whose calls of these numbers fail.
-fn play(alloc: Global, input: &str, faults: &Faults) -> Result<Left, Fail> {
+fn play<R: Threads + Sync>(
+    rt: &R,
+    alloc: Global,
+    input: &str,
+    faults: &Faults,
+) -> Result<Left, Fail> {
     let bytes = input.as_bytes().to_vec(alloc)?;
     let mut source = ByteSource(MemSource::new(bytes, faults.reads.to_vec(alloc)?));
     let mut report = ByteSink(MemSink::new(alloc, 1 << 10, faults.writes.to_vec(alloc)?)?);
     let mut notes = ByteSink(MemSink::new(alloc, 100, faults.notes.to_vec(alloc)?)?);
     let words = Vec::new(alloc).into_iter();
-    let end = cron_cluster(alloc, words, &mut source, &mut report, &mut notes);
+    let end = cron_cluster(rt, alloc, words, &mut source, &mut report, &mut notes);
     Ok(Left {
         status: end.status,
         report,
@@ -101,7 +107,7 @@ const BYTEWISE: &[Bytewise] = &[
 #[test]
 fn single_bytes(rt: HostRuntime) -> Result<(), Fail> {
     for row in BYTEWISE {
-        let left = play(rt.alloc(), row.input, &row.faults)?;
+        let left = play(&rt, rt.alloc(), row.input, &row.faults)?;
         assert_eq!(rt; left.status, row.status);
         let report = THREE_LAUNCHES_REPORT.as_bytes();
         assert_eq!(rt;

@@ -14,8 +14,14 @@ mod over_memory;
 #[cfg(test)]
 mod play;
 #[cfg(test)]
+mod program;
+#[cfg(test)]
 mod program_tests;
 #[cfg(test)]
 mod run_tests;
 #[cfg(test)]
 mod runs;
+#[cfg(test)]
+mod script_tests;
+#[cfg(test)]
+mod words_tests;

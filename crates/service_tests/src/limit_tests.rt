@@ -4,6 +4,7 @@ use crate::runs::TOO_LARGE;
 use std::alloc::Global;
 use std::fmt::Write;
 use std::test::Fail;
+use std::thread::Threads;
 
 // A run over a window that ends at a stamp of March 2024, with so many lines of a job.
 fn run_of(alloc: Global, until: &str, lines: u32, line: &str) -> Result<String, Fail> {
@@ -20,14 +21,26 @@ fn run_of(alloc: Global, until: &str, lines: u32, line: &str) -> Result<String, 
 }
 
 // What is left of such a run.
-fn left_of(alloc: Global, until: &str, lines: u32, line: &str) -> Result<Left, Fail> {
+fn left_of<R: Threads + Sync>(
+    rt: &R,
+    alloc: Global,
+    until: &str,
+    lines: u32,
+    line: &str,
+) -> Result<Left, Fail> {
     let input = run_of(alloc, until, lines, line)?;
-    play(alloc, input.as_bytes(), &NO_FAULTS)
+    play(rt, alloc, input.as_bytes(), &NO_FAULTS)
 }
 
 #[test]
 fn a_thousand_jobs(rt: HostRuntime) -> Result<(), Fail> {
-    let left = left_of(rt.alloc(), "2024-03-02T00:00Z", 1000, "0 0 31 2 * never")?;
+    let left = left_of(
+        &rt,
+        rt.alloc(),
+        "2024-03-02T00:00Z",
+        1000,
+        "0 0 31 2 * never",
+    )?;
     assert_eq!(rt; left.end.status, 0);
     Ok(())
 }
@@ -35,10 +48,15 @@ fn a_thousand_jobs(rt: HostRuntime) -> Result<(), Fail> {
 // A job of each minute has a due instant for each minute of the window: 20,000 up to the 14th at 21:20.
 #[test]
 fn twenty_thousand_due_instants(rt: HostRuntime) -> Result<(), Fail> {
-    let left = left_of(rt.alloc(), "2024-03-14T21:20Z", 1, "* * * * * each minute")?;
+    let left = left_of(
+        &rt,
+        rt.alloc(),
+        "2024-03-14T21:20Z",
+        1,
+        "* * * * * each minute",
+    )?;
     assert_eq!(rt; left.end.status, 0);
-    assert_eq!(rt; left.end.ledger.held().len(), 20_000);
-    assert_eq!(rt; left.end.log.items.len(), 40_000);
+    assert_eq!(rt; left.end.book.ledger().held().len(), 20_000);
     Ok(())
 }
 
@@ -54,11 +72,13 @@ fn filled(alloc: Global, length: usize) -> Result<String, Fail> {
 fn a_mebibyte(rt: HostRuntime) -> Result<(), Fail> {
     let most = filled(rt.alloc(), 1_048_576)?;
     assert_eq!(rt;
-        play(rt.alloc(), most.as_bytes(), &NO_FAULTS)?.end.status,
+        play(&rt, rt.alloc(), most.as_bytes(), &NO_FAULTS)?
+            .end
+            .status,
         0
     );
     let more = filled(rt.alloc(), 1_048_577)?;
-    let left = play(rt.alloc(), more.as_bytes(), &NO_FAULTS)?;
+    let left = play(&rt, rt.alloc(), more.as_bytes(), &NO_FAULTS)?;
     assert_eq!(rt; left.notes.bytes(), TOO_LARGE.as_bytes());
     Ok(())
 }

@@ -10,24 +10,26 @@ use cron_io::{MemSink, MemSource, OutOfMemory};
 use cron_serve::cron_cluster;
 use std::alloc::Global;
 use std::test::Fail;
+use std::thread::Threads;
 
 // The status of a run in memory, with so much room for its report.
-fn status_in_memory(
+fn status_in_memory<R: Threads + Sync>(
+    rt: &R,
     alloc: Global,
     bytes: Vec<u8>,
     room: u32,
     notes: &mut MemSink,
 ) -> Result<u8, OutOfMemory>
-    ensures fits { IfOk result (λ status. (run : Run) (table : Table) → IsTaken bytes.items run table → FitsRoom table room
+    ensures fits { IfOk result (λ status. (run : Run) (table : Table) → IsTaken bytes.items run table → FitsRoom bytes.items room
         → (status ≡ 0) ⊎ (status ≡ 5)) }
-    ensures exceeds { IfOk result (λ status. (run : Run) (table : Table) → IsTaken bytes.items run table → IsBeyondRoom table room
+    ensures exceeds { IfOk result (λ status. (run : Run) (table : Table) → IsTaken bytes.items run table → IsBeyondRoom bytes.items room
         → (status ≡ 4) ⊎ (status ≡ 5)) }
     ensures refused { IfOk result (λ status. (Suits Output.Report bytes.items → ⊥) → (status ≡ 2) ⊎ (status ≡ 5)) }
 {
     let mut source = MemSource::new(bytes, Vec::new(alloc));
     let mut sink = MemSink::new(alloc, room, Vec::new(alloc))?;
     let words = Vec::new(alloc).into_iter();
-    let end = cron_cluster(alloc, words, &mut source, &mut sink, notes);
+    let end = cron_cluster(rt, alloc, words, &mut source, &mut sink, notes);
     Ok(end.status)
 }
 
@@ -35,16 +37,16 @@ const RUN: &str =
     "cronrun 1\nreplicas 1\nwindow 2026-01-01T00:00Z 2026-01-01T00:02Z\ngrace 0\nscript\nend\n";
 
 // The status of the run with so much room for its report.
-fn status_with_room(alloc: Global, room: u32) -> Result<u8, Fail> {
+fn status_with_room<R: Threads + Sync>(rt: &R, alloc: Global, room: u32) -> Result<u8, Fail> {
     let mut notes = MemSink::new(alloc, 100, Vec::new(alloc))?;
     let bytes = Vec::from_slice(alloc, RUN.as_bytes())?;
-    Ok(status_in_memory(alloc, bytes, room, &mut notes)?)
+    Ok(status_in_memory(rt, alloc, bytes, room, &mut notes)?)
 }
 
 // The report has 79 bytes.
 #[test]
 fn the_room_of_the_sink_decides(rt: HostRuntime) -> Result<(), Fail> {
-    assert_eq!(rt; status_with_room(rt.alloc(), 79)?, 0);
-    assert_eq!(rt; status_with_room(rt.alloc(), 78)?, 4);
+    assert_eq!(rt; status_with_room(&rt, rt.alloc(), 79)?, 0);
+    assert_eq!(rt; status_with_room(&rt, rt.alloc(), 78)?, 4);
     Ok(())
 }

@@ -3,6 +3,7 @@ use cron_io::{MemSink, MemSource};
 use cron_serve::{RunEnd, cron_cluster};
 use std::alloc::{AllocError, Global};
 use std::test::Fail;
+use std::thread::Threads;
 
 /// The numbers of the reads, of the writes of the report, and of those of the note that fail.
 #[derive(Clone, Copy)]
@@ -27,12 +28,17 @@ pub struct Left {
 }
 
 /// What a run of these bytes leaves.
-pub fn play(alloc: Global, input: &[u8], faults: &Faults) -> Result<Left, Fail> {
+pub fn play<R: Threads + Sync>(
+    rt: &R,
+    alloc: Global,
+    input: &[u8],
+    faults: &Faults,
+) -> Result<Left, Fail> {
     let mut source = MemSource::new(input.to_vec(alloc)?, faults.reads.to_vec(alloc)?);
     let mut report = MemSink::new(alloc, 1 << 20, faults.writes.to_vec(alloc)?)?;
     let mut notes = MemSink::new(alloc, 100, faults.notes.to_vec(alloc)?)?;
     let words = Vec::new(alloc).into_iter();
-    let end = cron_cluster(alloc, words, &mut source, &mut report, &mut notes);
+    let end = cron_cluster(rt, alloc, words, &mut source, &mut report, &mut notes);
     Ok(Left { end, report, notes })
 }
 

@@ -1,50 +1,16 @@
 //! The program by its arguments.
+use crate::program::{args_of, play};
 use crate::runs::{
     NO_FAULTS_CHECK, SKIPPED_HOUR, SKIPPED_HOUR_LIST, THREE_LAUNCHES, THREE_LAUNCHES_LIST,
-    THREE_LAUNCHES_REPORT, TWO_FAULTS, TWO_FAULTS_CHECK, USAGE,
+    THREE_LAUNCHES_REPORT, TWO_FAULTS, TWO_FAULTS_CHECK,
 };
-use cron_io::{MemSink, MemSource};
-use cron_serve::run;
-use std::alloc::Global;
-use std::env::Args;
 use std::io::{self, ErrorKind};
 use std::test::Fail;
-
-// What the program leaves.
-#[derive(Drop)]
-struct Left {
-    status: u8,
-    report: MemSink,
-    notes: MemSink,
-}
-
-// What the program leaves of an input, with these arguments, where these writes of the report fail.
-fn play(alloc: Global, args: io::Result<Args>, input: &str, writes: &[u64]) -> Result<Left, Fail> {
-    let bytes = input.as_bytes().to_vec(alloc)?;
-    let mut source = MemSource::new(bytes, Vec::new(alloc));
-    let mut report = MemSink::new(alloc, 1 << 10, writes.to_vec(alloc)?)?;
-    let mut notes = MemSink::new(alloc, 100, Vec::new(alloc))?;
-    let status = run(alloc, args, &mut source, &mut report, &mut notes);
-    Ok(Left {
-        status,
-        report,
-        notes,
-    })
-}
-
-// The name of the program, and words behind it.
-fn args_of(alloc: Global, words: &[&str]) -> Result<Args, Fail> {
-    let mut args = Vec::new(alloc);
-    args.push(String::from_str(alloc, "cron_cluster")?)?;
-    for word in words {
-        args.push(String::from_str(alloc, word)?)?;
-    }
-    Ok(args.into_iter())
-}
 
 #[test]
 fn a_name_alone(rt: HostRuntime) -> Result<(), Fail> {
     let left = play(
+        &rt,
         rt.alloc(),
         Ok(args_of(rt.alloc(), &[])?),
         THREE_LAUNCHES,
@@ -127,28 +93,9 @@ const LISTED: &[Listed] = &[
 fn lists_and_checks(rt: HostRuntime) -> Result<(), Fail> {
     for row in LISTED {
         let args = args_of(rt.alloc(), row.words)?;
-        let left = play(rt.alloc(), Ok(args), row.input, row.writes)?;
+        let left = play(&rt, rt.alloc(), Ok(args), row.input, row.writes)?;
         assert_eq!(rt; left.status, row.status);
         assert_eq!(rt; left.report.bytes(), row.text.as_bytes());
-    }
-    Ok(())
-}
-
-const FAULTY: &[&[&str]] = &[
-    &["--help"],
-    &["--list", "--check"],
-    &["--list", "--list"],
-    &["--lists"],
-    &[""],
-];
-
-#[test]
-fn faulty_words(rt: HostRuntime) -> Result<(), Fail> {
-    for words in FAULTY {
-        let args = args_of(rt.alloc(), words)?;
-        let left = play(rt.alloc(), Ok(args), THREE_LAUNCHES, &[])?;
-        assert_eq!(rt; left.status, 1);
-        assert_eq!(rt; left.notes.bytes(), USAGE.as_bytes());
     }
     Ok(())
 }
@@ -156,10 +103,10 @@ fn faulty_words(rt: HostRuntime) -> Result<(), Fail> {
 #[test]
 fn arguments_at_fault(rt: HostRuntime) -> Result<(), Fail> {
     let fault = io::Error::from(ErrorKind::InvalidData);
-    let left = play(rt.alloc(), Err(fault), THREE_LAUNCHES, &[])?;
+    let left = play(&rt, rt.alloc(), Err(fault), THREE_LAUNCHES, &[])?;
     assert_eq!(rt; left.status, 1);
     let fault = io::Error::from(ErrorKind::OutOfMemory);
-    let left = play(rt.alloc(), Err(fault), THREE_LAUNCHES, &[])?;
+    let left = play(&rt, rt.alloc(), Err(fault), THREE_LAUNCHES, &[])?;
     assert_eq!(rt; left.status, 5);
     Ok(())
 }

@@ -59,7 +59,7 @@ const REPORTED: &[Reported] = &[
 #[test]
 fn reports(rt: HostRuntime) -> Result<(), Fail> {
     for row in REPORTED {
-        let left = play(rt.alloc(), row.input.as_bytes(), &NO_FAULTS)?;
+        let left = play(&rt, rt.alloc(), row.input.as_bytes(), &NO_FAULTS)?;
         let shown = show(rt.alloc(), &left)?;
         assert!(rt; shown.starts_with("0\n"), "{}", row.input);
         assert!(rt; shown.contains(row.report), "{}", row.input);
@@ -115,7 +115,7 @@ const REFUSED: &[Refused] = &[
 #[test]
 fn refusals(rt: HostRuntime) -> Result<(), Fail> {
     for row in REFUSED {
-        let left = play(rt.alloc(), row.input.as_bytes(), &NO_FAULTS)?;
+        let left = play(&rt, rt.alloc(), row.input.as_bytes(), &NO_FAULTS)?;
         assert_eq!(rt;
             show(rt.alloc(), &left)?.as_str(),
             row.shown,
@@ -123,7 +123,7 @@ fn refusals(rt: HostRuntime) -> Result<(), Fail> {
             row.input
         );
     }
-    let left = play(rt.alloc(), NOT_TEXT, &NO_FAULTS)?;
+    let left = play(&rt, rt.alloc(), NOT_TEXT, &NO_FAULTS)?;
     assert_eq!(rt;
         left.notes.bytes(),
         b"cron_cluster: line 2: cause 15 at 0\n".as_slice()
@@ -189,7 +189,7 @@ const FAULTY: &[Faulty] = &[
 #[test]
 fn faults(rt: HostRuntime) -> Result<(), Fail> {
     for row in FAULTY {
-        let left = play(rt.alloc(), row.input.as_bytes(), &row.faults)?;
+        let left = play(&rt, rt.alloc(), row.input.as_bytes(), &row.faults)?;
         assert_eq!(rt; show(rt.alloc(), &left)?.as_str(), row.shown);
     }
     Ok(())
@@ -219,7 +219,7 @@ fn the_last_line(rt: HostRuntime) -> Result<(), Fail> {
             writes: row.write,
             ..NO_FAULTS
         };
-        let left = play(rt.alloc(), THREE_LAUNCHES.as_bytes(), &faults)?;
+        let left = play(&rt, rt.alloc(), THREE_LAUNCHES.as_bytes(), &faults)?;
         assert_eq!(rt; left.end.status, row.status);
     }
     Ok(())

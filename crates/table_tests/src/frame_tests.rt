@@ -1,6 +1,6 @@
 //! Frames of run files: the lines of tables are counted, and not judged.
 use crate::rows::{short, sides};
-use run_text::{Player, RunFault, RunFile, a_text_has_a_frame, read_frame, read_run};
+use run_text::{RunFault, RunFile, a_text_has_a_frame, read_frame, read_run};
 use std::alloc::Global;
 use std::fmt::Write;
 use std::test::Fail;
@@ -32,7 +32,7 @@ fn show_fault(alloc: Global, fault: RunFault) -> Result<String, Fail> {
 
 // What `read_run` answers.
 fn run_of(alloc: Global, text: &str) -> Result<String, Fail> {
-    match read_run(alloc, short(text)?, Player::Clerk) {
+    match read_run(alloc, short(text)?) {
         Ok(run) => show_sections(alloc, &run),
         Err(fault) => show_fault(alloc, fault),
     }
@@ -40,7 +40,7 @@ fn run_of(alloc: Global, text: &str) -> Result<String, Fail> {
 
 // What `read_frame` answers.
 fn frame_of(alloc: Global, text: &str) -> Result<String, Fail> {
-    match read_frame(alloc, short(text)?, Player::Clerk) {
+    match read_frame(alloc, short(text)?) {
         Ok(run) => show_sections(alloc, &run),
         Err(fault) => show_fault(alloc, fault),
     }
@@ -63,7 +63,7 @@ fn frames(rt: HostRuntime) -> Result<(), Fail> {
         let (run, frame) = answers.split_once(" => ").ok_or("a row without a frame")?;
         let text = format!(in rt.alloc(); "{HEAD}{lines}script\nend\n")?;
         let text = short(&text)?;
-        a_text_has_a_frame(text, Player::Clerk);
+        a_text_has_a_frame(text);
         assert_eq!(rt; run_of(rt.alloc(), text)?.as_str(), run, "{row}");
         assert_eq!(rt; frame_of(rt.alloc(), text)?.as_str(), frame, "{row}");
     }

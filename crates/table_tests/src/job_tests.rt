@@ -4,7 +4,7 @@ ghost use Rattle.std.specs.Prelude.{◌<◌, ◌^◌, length};
 use crate::rows::{short, sides};
 use due_set::{JobKind, JobTable, Period};
 use job_table::build_table;
-use run_text::{Player, RunFault, read_run};
+use run_text::{RunFault, read_run};
 use std::alloc::Global;
 use std::fmt::Write;
 use std::test::Fail;
@@ -20,7 +20,7 @@ fn run_text(alloc: Global, window: &str, sections: &str) -> Result<String, Fail>
 fn build(alloc: Global, text: &str) -> Result<JobTable, RunFault>
     requires { length text.now < 2 ^ 32 }
 {
-    let run = read_run(alloc, text, Player::Clerk)?;
+    let run = read_run(alloc, text)?;
     build_table(alloc, &run)
 }
 

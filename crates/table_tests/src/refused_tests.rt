@@ -1,6 +1,6 @@
 //! Run files that are refused, by the first line that may not stand where it stands.
 use crate::rows::{short, sides};
-use run_text::{Player, RunFault, read_run};
+use run_text::{RunFault, read_run};
 use std::alloc::Global;
 use std::process::Abort;
 use std::test::Fail;
@@ -29,8 +29,8 @@ cronrun 1¶replicas 01¶ => line 2: cause 26 at 0
 cronrun 1¶replicas +1¶ => line 2: cause 26 at 0
 cronrun 1¶replicas  1¶ => line 2: cause 26 at 0
 cronrun 1¶replicas 8¶ => line 2: cause 26 at 0
-cronrun 1¶replicas 2¶ => line 2: cause 35 at 0
-cronrun 1¶replicas 7 => line 2: cause 35 at 0
+cronrun 1¶replicas 2¶ => line 3: cause 27 at 0
+cronrun 1¶replicas 7 => line 3: cause 27 at 0
 cronrun 1¶replicas 1 => line 3: cause 27 at 0
 ",
     behind: "",
@@ -89,9 +89,10 @@ script => line 6: cause 31 at 0
 script¶ => line 6: cause 31 at 0
 script¶end x¶ => line 6: cause 30 at 0
 script¶¶end¶ => line 6: cause 30 at 0
-script¶round 2024-03-31T00:00Z 1¶end¶ => line 6: cause 35 at 0
+script¶round 2024-03-31T00:00Z 1¶ => line 7: cause 31 at 0
+script¶break 0 1 1¶end¶ => line 6: cause 35 at 0
 script¶free¶end¶ => line 6: cause 35 at 0
-script¶heal¶ => line 6: cause 35 at 0
+script¶heal¶ => line 7: cause 31 at 0
 script¶rounds¶end¶ => line 6: cause 30 at 0
 script¶end¶¶ => line 7: cause 30 at 0
 script¶end¶end¶ => line 7: cause 30 at 0
@@ -228,7 +229,7 @@ crontab alice A 2¶zone A posix X¶ => line 6: cause 4 at 0
 
 // What the text is refused for.
 fn refusal_of(alloc: Global, text: &str) -> Result<String, Fail> {
-    match read_run(alloc, short(text)?, Player::Clerk) {
+    match read_run(alloc, short(text)?) {
         Ok(_) => Err(Fail::from("a run")),
         Err(RunFault::OutOfMemory) => Err(Fail::from("no memory")),
         Err(RunFault::Refused(refusal)) => Ok(format!(in alloc;

@@ -1,6 +1,6 @@
 //! Run files of up to seven replicas with commands: what their scripts say, and what is refused in them.
 use crate::rows::{short, sides};
-use run_text::{Command, FateWord, Player, RunFault, RunFile, a_text_has_a_reading, read_run};
+use run_text::{Command, FateWord, RunFault, RunFile, a_text_has_a_reading, read_run};
 use std::alloc::Global;
 use std::process::Abort;
 use std::test::*;
@@ -12,7 +12,7 @@ const HEAD: &str = "cronrun 1\nreplicas 3\nwindow 2024-03-31T00:00Z 2024-03-31T0
 
 // The run that a text says.
 fn run_of(alloc: Global, text: &str) -> Result<RunFile<'_>, Fail> {
-    match read_run(alloc, short(text)?, Player::World) {
+    match read_run(alloc, short(text)?) {
         Ok(run) => Ok(run),
         Err(_) => Err(Fail::from("no run")),
     }
@@ -21,8 +21,8 @@ fn run_of(alloc: Global, text: &str) -> Result<RunFile<'_>, Fail> {
 // The refusal of a text, as its line, cause and place.
 fn refusal_of(alloc: Global, text: &str) -> Result<String, Fail> {
     let text = short(text)?;
-    a_text_has_a_reading(text, Player::World);
-    match read_run(alloc, text, Player::World) {
+    a_text_has_a_reading(text);
+    match read_run(alloc, text) {
         Ok(_) => Err(Fail::from("a run")),
         Err(RunFault::OutOfMemory) => Err(Fail::from("no memory")),
         Err(RunFault::Refused(refusal)) => Ok(format!(in alloc;

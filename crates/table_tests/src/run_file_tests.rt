@@ -1,8 +1,7 @@
 //! What the texts that are run files say.
 use crate::rows::{short, sides};
 use run_text::{
-    Player, RunFault, RunFile, Section, SectionKind, ZoneLine, ZoneText, a_text_has_a_reading,
-    read_run,
+    RunFault, RunFile, Section, SectionKind, ZoneLine, ZoneText, a_text_has_a_reading, read_run,
 };
 use std::alloc::{AllocError, Global};
 use std::fmt::Write;
@@ -45,7 +44,7 @@ fn show_section(alloc: Global, section: &Section<'_>) -> Result<String, AllocErr
 
 // The run that a text says.
 fn run_of(alloc: Global, text: &str) -> Result<RunFile<'_>, Fail> {
-    match read_run(alloc, short(text)?, Player::Clerk) {
+    match read_run(alloc, short(text)?) {
         Ok(run) => Ok(run),
         Err(_) => Err(Fail::from("no run")),
     }
@@ -113,13 +112,8 @@ fn thirty_two_zones(rt: HostRuntime) -> Result<(), Fail> {
     assert_eq!(rt; run_of(rt.alloc(), &most)?.zones.len(), 32);
     let more = zones(rt.alloc(), 33)?;
     let text = short(&more)?;
-    a_text_has_a_reading(text, Player::Clerk);
-    assert!(rt;
-        matches!(
-            read_run(rt.alloc(), text, Player::Clerk),
-            Err(RunFault::Refused(_))
-        )
-    );
+    a_text_has_a_reading(text);
+    assert!(rt; matches!(read_run(rt.alloc(), text), Err(RunFault::Refused(_))));
     Ok(())
 }
 

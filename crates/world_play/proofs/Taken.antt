@@ -9,11 +9,10 @@ use Rattle.script_text.specs.declared.command.Command.TheVariants.{Round, Campai
 use Rattle.run_text.specs.Rules.{PlaysCommand}
 use Rattle.run_text.specs.Run.{Run}
 use Rattle.run_text.specs.Sound.{IsSoundRun}
-use Rattle.run_text.specs.declared.rules.Player.TheVariants.{World}
 use Rattle.world_rounds.specs.Commands.{IsTaken}
 
 -- what a command may name is what a world takes
-taken : (window : Window) (members : ℕ) (command : Command) → 1 ≤ members → IsInRange members window command → PlaysCommand World command → IsTaken window members command
+taken : (window : Window) (members : ℕ) (command : Command) → 1 ≤ members → IsInRange members window command → PlaysCommand command → IsTaken window members command
 taken window members (Round at rounds) some range plays = range.0.inside
 taken window members (Campaign who) some range plays = range
 taken window members (Stop who) some range plays = range
@@ -32,12 +31,12 @@ taken window members (Settle at) some range plays = (omega (arith, some), range.
 taken window members (Walk to) some range plays = (omega (arith, some), range.inside)
 taken window members (Free at turns) some range plays = absurd plays
 
-all_taken : (window : Window) (members : ℕ) (script : List Command) → 1 ≤ members → AllByRecursion (IsInRange members window) script → AllByRecursion (PlaysCommand World) script
+all_taken : (window : Window) (members : ℕ) (script : List Command) → 1 ≤ members → AllByRecursion (IsInRange members window) script → AllByRecursion PlaysCommand script
     → AllByRecursion (IsTaken window members) script
 all_taken window members [] some range plays = tt
 all_taken window members (command ∷ script) some range plays = (taken window members command some range.0 plays.0, all_taken window members script some range.1 plays.1)
 
-pub script_taken : (next : ℕ) (run : Run) → IsSoundRun World next run → All (IsTaken run.window run.members) run.commands
+pub script_taken : (next : ℕ) (run : Run) → IsSoundRun next run → All (IsTaken run.window run.members) run.commands
 script_taken next run sound =
     All-from_recursion (IsTaken run.window run.members) run.commands
     (all_taken run.window run.members run.commands sound.replicas.some sound.script.in_range sound.script.played)

@@ -5,8 +5,12 @@ use Rattle.disk_model.specs.declared.mem_disk.MemDisk.{MemDisk}
 use Rattle.due_set.specs.Table.{Table}
 use Rattle.script_text.specs.declared.command.Command.{Command}
 use Rattle.book_law.specs.Book.{Row}
+use Rattle.replica_node.specs.declared.node.Node.{Node}
+use Rattle.round_law.specs.Rounds.{IsWithinBounds}
 use Rattle.script_law.specs.Script.{ArePartsOf, Obeys}
 use Rattle.script_law.specs.Situation.{Situation, first_situation}
+use Rattle.world_law.specs.Book.{BookState}
+use Rattle.world_rounds.specs.Nodes.{AreNodesOf}
 use Rattle.world_rounds.specs.Start.{IsFreshDisk}
 use Rattle.world_rounds.specs.World.{IsWorldAt, book_of}
 use Rattle.world_rounds.specs.declared.world.World.{World}
@@ -19,6 +23,11 @@ IsFreshMemDisk disk = IsFreshDisk left_by (λ disk. ⊤) told_of disk
 abbrev pub IsMemWorldAt : Table → List Row → World MemDisk → Situation → Type 0
 IsMemWorldAt table rows world situation = IsWorldAt seen_of left_by (λ disk. ⊤) told_of table rows world situation
 
+-- **The nodes on disks in memory are those of the book's replicas**, behind which these rows stand: what the files of node r's disk have, as
+-- `seen_of` shows them, stands for what replica r keeps.
+abbrev pub AreMemNodesOf : Table → List Row → BookState → List (Node MemDisk) → Type 0
+AreMemNodesOf table rows book nodes = AreNodesOf seen_of left_by (λ disk. ⊤) told_of table rows book nodes
+
 -- The world of so many replicas has played the script, from before any turn on: behind its book stand the turns of the script's parts.
 pub record HasPlayed (table : Table) (members : ℕ) (script : List Command) (world : World MemDisk) : Type 0 where
   pub rows : List Row
@@ -28,10 +37,12 @@ pub record HasPlayed (table : Table) (members : ℕ) (script : List Command) (wo
   pub count : (book_of world).members ≡ members
 
 -- The world of so many replicas has played the script, from before any turn on, and has then walked to the window's last minute: the
--- turns that stand behind its book obey the script.
+-- turns that stand behind its book obey the script, and end in the world's situation, within the limits in which each letter is heard whole.
 pub record HasRun (table : Table) (members : ℕ) (script : List Command) (world : World MemDisk) : Type 0 where
   pub rows : List Row
   pub situation : Situation
   pub obeys : Obeys members table script rows
+  pub ends : obeys.after ≡ situation
+  pub limits : IsWithinBounds rows situation.standing.posted
   pub is : IsMemWorldAt table rows world situation
   pub count : (book_of world).members ≡ members

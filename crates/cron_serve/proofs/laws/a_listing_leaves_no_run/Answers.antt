@@ -1,8 +1,8 @@
-use Rattle.std.proofs.Common.{◌≢◌, inl, inr, ℕ, List, refl}
-use Rattle.std.proofs.lemmas.Bool.Decides.{eqb_tells}
+use Rattle.std.proofs.Common.{◌≡◌, ◌≢◌, ◌⊎◌, ◌≤◌, inl, inr, ℕ, zero, suc, List, refl, arith}
 use Rattle.cron_io.specs.Views.{SourceView, SinkView}
-use Rattle.paxos_base.specs.declared.entry.Entry.{Entry}
-use Rattle.cluster_sched.specs.declared.row.SchedRow.{SchedRow}
+use Rattle.disk_model.specs.declared.mem_disk.MemDisk.{MemDisk}
+use Rattle.replica_node.specs.declared.node.Node.{Node}
+use Rattle.world_law.specs.Book.{BookState}
 use Rattle.cron_serve.specs.Ends.{Ends}
 use Rattle.cron_serve.specs.Serve.{IsTextOfInput, LeavesNoRun}
 use Rattle.cron_serve.specs.declared.run_end.RunEnd.{RunEnd}
@@ -10,23 +10,31 @@ use Rattle.cron_serve.specs.declared.words.Output.{Output}
 use Rattle.cron_serve.specs.declared.words.Output.TheVariants.{Report, DueList, Check}
 use Rattle.cron_serve.proofs.laws.a_listing_leaves_no_run.Goals as goal
 
-none_of_text : (output : Output) (source source' : SourceView) (log : List Entry) (held : List SchedRow) (text : List ℕ) → output ≢ Report
-    → IsTextOfInput output source source' log held text → LeavesNoRun log held
-none_of_text Report source source' log held text other is = absurd (other refl)
-none_of_text DueList source source' log held text other is = is.is.0
-none_of_text Check source source' log held text other is = is.is.0
+none_of_text : (output : Output) (source source' : SourceView) (book : BookState) (nodes : List (Node MemDisk)) (text : List ℕ) → output ≢ Report
+    → IsTextOfInput output source source' book nodes text → LeavesNoRun book nodes
+none_of_text Report source source' book nodes text other is = absurd (other refl)
+none_of_text DueList source source' book nodes text other is = is.is.0
+none_of_text Check source source' book nodes text other is = is.is.0
+
+other_status : (status : ℕ) → status ≤ 5 → (status ≡ 0) ⊎ (status ≡ 4) ⊎ (status ≡ 5) ⊎ ((1 ≤ status) × (status ≤ 3))
+other_status zero most = inl refl
+other_status (suc zero) most = inr (inr (inr (omega arith, omega arith)))
+other_status (suc (suc zero)) most = inr (inr (inr (omega arith, omega arith)))
+other_status (suc (suc (suc zero))) most = inr (inr (inr (omega arith, omega arith)))
+other_status (suc (suc (suc (suc zero)))) most = inr (inl (omega arith))
+other_status (suc (suc (suc (suc (suc k))))) most = inr (inr (inl (omega arith)))
 
 no_run : (output : Output) (source source' : SourceView) (sink sink' : SinkView) (end : RunEnd) → output ≢ Report → Ends output source source' sink sink' end
-    → LeavesNoRun end.log end.ledger.held
-no_run output source source' sink sink' end other ends = elim (eqb_tells end.status 0) [
-  | inl none ↦ let t = ends.text none.1 in none_of_text output source source' end.log end.ledger.held t.0 other t.1
-  | inr some ↦ elim (eqb_tells end.status 4) [
-    | inl four ↦ let t = ends.front four.1 in none_of_text output source source' end.log end.ledger.held t.0 other t.1
-    | inr else ↦ ends.no_run some.1 else.1
+    → LeavesNoRun end.book end.nodes.items
+no_run output source source' sink sink' end other ends = elim (other_status end.status ends.statuses) [
+  | inl none ↦ let t = ends.text none in none_of_text output source source' end.book end.nodes.items t.0 other t.1
+  | inr (inl four) ↦ let t = ends.front four in none_of_text output source source' end.book end.nodes.items t.0 other t.1
+  | inr (inr (inl five)) ↦ elim (ends.memory five) [
+    | inl none ↦ none.no_run
+    | inr some ↦ none_of_text output source source' end.book end.nodes.items some.0 other some.1
   ]
+  | inr (inr (inr few)) ↦ (ends.nothing few.0 few.1).no_run
 ]
 
 pub returns : goal.returns
-returns c = λ output source source' sink sink' end other ends.
-    let none = no_run output source source' sink sink' end other ends in
-    (none.no_entry, none.no_row)
+returns c = no_run

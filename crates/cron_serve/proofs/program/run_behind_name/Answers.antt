@@ -5,9 +5,9 @@ use Rattle.cron_serve.proofs.WordLemmas.{behind_first}
 use Rattle.cron_serve.proofs.program.run_behind_name.Goals as goal
 
 pub returns-clause-ends : goal.returns-clause-ends
-returns-clause-ends g c = λ output asked. record {
+returns-clause-ends g c = λ asked asks. record {
   end = c.cron_cluster.result;
-  ends = c.cron_cluster.ensures.ends output (subst (λ words. Asks words output) (sym (behind_first c.args.args c.next-name.new.self c.next-name.result c.next-name.ensures.cases)) asked);
+  ends = c.cron_cluster.ensures.ends asked (subst (λ words. Asks words asked) (sym (behind_first c.args.args c.next-name.new.self c.next-name.result c.next-name.ensures.cases)) asks);
   note = c.cron_cluster.ensures.note;
   status_is = refl;
 }

@@ -1,25 +1,29 @@
 use Rattle.std.proofs.Common.{◌∙◌, ap, subst, sym}
 use Rattle.cron_serve.specs.Complete.{Completes}
 use Rattle.cron_serve.specs.Ends.{Ends}
+use Rattle.cron_serve.specs.declared.words.Asked.{Asked}
 use Rattle.cron_serve.proofs.ServeLemmas.{ends_unread}
-use Rattle.cron_serve.proofs.WordLemmas.{asks_one}
+use Rattle.cron_serve.proofs.WordLemmas.{asks_one, asks_some_lanes}
 use Rattle.cron_serve.proofs.serve.cron_cluster.Goals as goal
 use Rattle.cron_serve.proofs.serve.cron_cluster.Goals.{in-Some, in-None}
 
+pub serve-end-requires-clause-lanes : goal.serve-end-requires-clause-lanes
+serve-end-requires-clause-lanes g c = λ lives borrowed. asks_some_lanes _ c.in-Some.asked c.in-Some.ensures.asks
+
 pub returns-clause-ends : goal.returns-clause-ends
-returns-clause-ends g c = λ output asked.
+returns-clause-ends g c = λ asked asks.
     elim c.match-read_words.branch [
       | in-Some w ↦ rw w.end-is (rw w.source-is (rw w.sink-is
-          (subst (λ o. Ends o (g.S.Source.seen c.args.source.now) (g.S.Source.seen w.serve-end.new.source) (g.K.Sink.seen c.args.sink.now) (g.K.Sink.seen w.serve-end.new.sink) w.serve-end.result) (asks_one _ w.in-Some.output output w.in-Some.ensures.asks asked) w.serve-end.ensures.ends)))
-      | in-None w ↦ absurd (w.in-None.ensures.none asked.0 asked.1)
+          (subst (λ (a : Asked). Ends a.output (g.S.Source.seen c.args.source.now) (g.S.Source.seen w.serve-end.new.source) (g.K.Sink.seen c.args.sink.now) (g.K.Sink.seen w.serve-end.new.sink) w.serve-end.result) (asks_one _ w.in-Some.asked asked w.in-Some.ensures.asks asks) w.serve-end.ensures.ends)))
+      | in-None w ↦ absurd (w.in-None.ensures.none asks.0 asks.1)
     ]
 
 pub returns-clause-complete : goal.returns-clause-complete
-returns-clause-complete g c = λ output asked.
+returns-clause-complete g c = λ asked asks.
     elim c.match-read_words.branch [
       | in-Some w ↦ rw w.end-is (rw w.source-is (rw w.sink-is
-          (subst (λ o. Completes o (g.S.Source.seen c.args.source.now) (g.S.Source.seen w.serve-end.new.source) (g.K.Sink.seen c.args.sink.now) (g.K.Sink.seen w.serve-end.new.sink) w.serve-end.result) (asks_one _ w.in-Some.output output w.in-Some.ensures.asks asked) w.serve-end.ensures.complete)))
-      | in-None w ↦ absurd (w.in-None.ensures.none asked.0 asked.1)
+          (subst (λ (a : Asked). Completes a.output (g.S.Source.seen c.args.source.now) (g.S.Source.seen w.serve-end.new.source) (g.K.Sink.seen c.args.sink.now) (g.K.Sink.seen w.serve-end.new.sink) w.serve-end.result) (asks_one _ w.in-Some.asked asked w.in-Some.ensures.asks asks) w.serve-end.ensures.complete)))
+      | in-None w ↦ absurd (w.in-None.ensures.none asks.0 asks.1)
     ]
 
 pub returns-clause-unread : goal.returns-clause-unread

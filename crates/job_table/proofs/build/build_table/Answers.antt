@@ -8,10 +8,10 @@ use Rattle.job_table.proofs.ZoneLemmas.{zones_count}
 use Rattle.job_table.proofs.build.build_table.Goals as goal
 
 pub assemble-table-requires-clause-limits : goal.assemble-table-requires-clause-limits
-assemble-table-requires-clause-limits c = (sound_run c.requires.player c.requires.text (run_of c.args.run.now) c.requires.says).limits
+assemble-table-requires-clause-limits c = (sound_run c.requires.text (run_of c.args.run.now) c.requires.says).limits
 
 pub assemble-table-requires-clause-grace : goal.assemble-table-requires-clause-grace
-assemble-table-requires-clause-grace c = (sound_run c.requires.player c.requires.text (run_of c.args.run.now) c.requires.says).grace
+assemble-table-requires-clause-grace c = (sound_run c.requires.text (run_of c.args.run.now) c.requires.says).grace
 
 pub assemble-table-requires-clause-zone_numbers : goal.assemble-table-requires-clause-zone_numbers
 assemble-table-requires-clause-zone_numbers c =

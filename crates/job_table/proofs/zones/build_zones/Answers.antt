@@ -7,7 +7,7 @@ use Rattle.job_table.proofs.VariantLemmas.{handed_on}
 use Rattle.job_table.proofs.zones.build_zones.Goals as goal
 
 pub build_source-requires-clause-limits : goal.build_source-requires-clause-limits
-build_source-requires-clause-limits c = (sound_run c.requires.player c.requires.text (run_of c.args.run.now) c.requires.says).limits
+build_source-requires-clause-limits c = (sound_run c.requires.text (run_of c.args.run.now) c.requires.says).limits
 
 pub build_zone-requires-clause-offset : goal.build_zone-requires-clause-offset
 build_zone-requires-clause-offset c =

@@ -12,16 +12,16 @@ use Rattle.run_text.proofs.part.read_part.Goals as goal
 
 pub returns-in_default-clause-refused : goal.returns-in_default-clause-refused
 returns-in_default-clause-refused c = λ run is.
-    missing_line c.args.rules _ (Sections run) c.args.reader.now.rest.now c.of_line.result c.in_default.ensures.missing c.of_line.ensures.cause
+    missing_line c.args.tables _ (Sections run) c.args.reader.now.rest.now c.of_line.result c.in_default.ensures.missing c.of_line.ensures.cause
     (c.of_line.ensures.line ∙ c.in_default.ensures.number) c.of_line.ensures.place
 
 pub returns-in_err-zone-clause-refused : goal.returns-in_err-zone-clause-refused
 returns-in_err-zone-clause-refused c =
     let refused = c.in_err-zone.ensures in
     handed_on c.from_residual.result c.in_err-zone.field-0.0
-    (λ refusal. (run : Run) → HasNames c.args.names.now.items run.zones → RefusedFrom c.args.rules (place_of c.args.reader.now (Sections run)) refusal)
+    (λ refusal. (run : Run) → HasNames c.args.names.now.items run.zones → RefusedFrom c.args.tables (place_of c.args.reader.now (Sections run)) refusal)
     c.from_residual.ensures.1
-    (part_refused c.args.rules c.args.reader.now c.next_line.new.self c.args.names.now.items c.in-Some.line.now c.in_err-zone.field-0.0
+    (part_refused c.args.tables c.args.reader.now c.next_line.new.self c.args.names.now.items c.in-Some.line.now c.in_err-zone.field-0.0
     c.in-Some.ensures.number c.in-Some.ensures.line refused.line
     (inr (inl (c.has_zone_word.ensures.0 c.if-has_zone_word.true, refused.refused, refused.cause))))
 
@@ -30,9 +30,9 @@ returns-in_err-opening-clause-refused c =
     let refused = c.in_err-opening.ensures in
     let no_script : c.in-Some.line.now ≢ codes "script" = grind (arith, common_steps) in
     handed_on c.from_residual-in_err-opening.result c.in_err-opening.field-0.0
-    (λ refusal. (run : Run) → HasNames c.args.names.now.items run.zones → RefusedFrom c.args.rules (place_of c.args.reader.now (Sections run)) refusal)
+    (λ refusal. (run : Run) → HasNames c.args.names.now.items run.zones → RefusedFrom c.args.tables (place_of c.args.reader.now (Sections run)) refusal)
     c.from_residual-in_err-opening.ensures.1
-    (part_refused c.args.rules c.args.reader.now c.next_line.new.self c.args.names.now.items c.in-Some.line.now c.in_err-opening.field-0.0
+    (part_refused c.args.tables c.args.reader.now c.next_line.new.self c.args.names.now.items c.in-Some.line.now c.in_err-opening.field-0.0
     c.in-Some.ensures.number c.in-Some.ensures.line refused.line
     (refused.refused (length (lines_of c.next_line.new.self.rest.now)) (texts_of c.args.names.now.items)
     (λ word. let yes = c.has_zone_word.ensures.1 word in cc (yes, c.if-has_zone_word.false)) no_script))
@@ -46,9 +46,9 @@ returns-in_err-section-clause-refused c =
       is = c.in_ok-opening.ensures.read;
     } in
     handed_on c.from_residual-in_err-section.result c.in_err-section.field-0.0
-    (λ refusal. (run : Run) → HasNames c.args.names.now.items run.zones → RefusedFrom c.args.rules (place_of c.args.reader.now (Sections run)) refusal)
+    (λ refusal. (run : Run) → HasNames c.args.names.now.items run.zones → RefusedFrom c.args.tables (place_of c.args.reader.now (Sections run)) refusal)
     c.from_residual-in_err-section.ensures.1
-    (λ run is. opening_refused c.args.rules c.args.reader.now c.next_line.new.self c.in_ok-opening.opening c.in_err-section.field-0.0 passes c.in_err-section.ensures.refused run)
+    (λ run is. opening_refused c.args.tables c.args.reader.now c.next_line.new.self c.in_ok-opening.opening c.in_err-section.field-0.0 passes c.in_err-section.ensures.refused run)
 
 pub returns-clause-part : goal.returns-clause-part
 returns-clause-part c =

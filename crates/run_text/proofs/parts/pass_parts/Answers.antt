@@ -8,7 +8,7 @@ use Rattle.run_text.proofs.parts.pass_parts.Goals as goal
 
 pub returns-in_err-_part-clause-refused : goal.returns-in_err-_part-clause-refused
 returns-in_err-_part-clause-refused c =
-    handed_on c.from_residual.result c.in_err-_part.field-0.0 (λ refusal. (run : Run) → run.zones ≡ [] → RefusedFrom c.args.rules (place_of c.args.reader.now (Sections run)) refusal)
+    handed_on c.from_residual.result c.in_err-_part.field-0.0 (λ refusal. (run : Run) → run.zones ≡ [] → RefusedFrom c.args.tables (place_of c.args.reader.now (Sections run)) refusal)
     c.from_residual.ensures.1
     (reads_refused _ _ _ _ _ _ c.parts.invariant.2 c.in_err-_part.ensures.refused)
 
@@ -17,7 +17,7 @@ parts-init c = ([], [], reads_none c.args.reader.now _ c.new-names.ensures c.req
 
 pub parts-preserved : goal.parts-preserved
 parts-preserved c =
-    let passes = at_some c.in_ok-_part.field-0 (PassesPart c.args.rules c.parts.reader c.read_part.new.reader c.parts.names.items c.read_part.new.names.items) c.in-Some._part c.in-Some.is c.in_ok-_part.ensures.part in (
+    let passes = at_some c.in_ok-_part.field-0 (PassesPart c.args.tables c.parts.reader c.read_part.new.reader c.parts.names.items c.read_part.new.names.items) c.in-Some._part c.in-Some.is c.in_ok-_part.ensures.part in (
       zones_with c.parts.invariant.0 c.in-Some._part,
       sections_with c.parts.invariant.1 c.in-Some._part,
       reads_next _ _ _ _ _ _ _ c.in-Some._part c.parts.invariant.2 passes c.in_ok-_part.ensures.room (less c.in_ok-_part.ensures.shorter),
@@ -28,6 +28,6 @@ returns-clause-read c = (
   c.parts.invariant.0,
   c.parts.invariant.1,
   reads_all _ _ c.read_part.new.reader _ _ _ c.parts.invariant.2
-      (at_none c.in_ok-_part.field-0 {P = (run : Run) → LeadsTo c.args.rules (place_of c.parts.reader (Sections run)) (place_of c.read_part.new.reader (Script run))}
+      (at_none c.in_ok-_part.field-0 {P = (run : Run) → LeadsTo c.args.tables (place_of c.parts.reader (Sections run)) (place_of c.read_part.new.reader (Script run))}
       c.in_default.is c.in_ok-_part.ensures.script),
 )

@@ -4,7 +4,7 @@ use Rattle.run_text.proofs.PartLemmas.{Reads}
 use Rattle.run_text.proofs.parts.pass_parts.Given as goal
 
 abbrev pub invariant-parts : goal.invariant-parts
-invariant-parts l = (zones : List NamedZone) × (sections : List Section) × Reads l.fn.rules l.fn.reader l.reader l.names.items zones sections
+invariant-parts l = (zones : List NamedZone) × (sections : List Section) × Reads l.fn.tables l.fn.reader l.reader l.names.items zones sections
 
 abbrev pub decreases-parts : goal.decreases-parts
 decreases-parts l = length l.reader.rest.now

@@ -6,7 +6,7 @@ use Rattle.run_text.proofs.parts.read_parts.Given as goal
 
 abbrev pub invariant-parts : goal.invariant-parts
 invariant-parts l =
-    Reads l.fn.rules l.fn.reader l.reader l.names.items (map zone_of l.parts.zones.items) (map section_of l.parts.sections.items)
+    Reads l.fn.tables l.fn.reader l.reader l.names.items (map zone_of l.parts.zones.items) (map section_of l.parts.sections.items)
     × ArePartsOf (length l.fn.reader.rest.now) l.parts.sections.items
     × All HasDigits l.parts.zones.items
 

@@ -8,7 +8,7 @@ use Rattle.service_tests.proofs.OverMemoryLemmas.{EndsOverMemory, ends_whole, en
 use Rattle.service_tests.proofs.over_memory.status_in_memory.Goals as goal
 
 pub returns : goal.returns
-returns c =
+returns g c =
     let end = c.cron_cluster-end.ensures in
     let source = c.new-source.ensures in
     let sink = c.in_ok-sink.ensures in
@@ -20,12 +20,12 @@ returns c =
       has_room = told;
       usage = λ e. end.usage.0 e asked.0 asked.1;
       reliable = end.no_read_fault sure;
-      ends = end.ends Report asked;
+      ends = end.ends _ asked;
     } in
     record {
       fits = λ run table taken. ends_whole _ _ _ _ _ _ _ over_memory run table taken;
       exceeds = λ run table taken. ends_cut _ _ _ _ _ _ _ over_memory run table taken;
       refused = λ none.
-          ends_refused _ _ _ _ c.cron_cluster-end.result (IsRefusedInput Report c.args.bytes.items) (end.ends Report asked)
-          ((end.complete Report asked).others _ (ap Some source.left) none (not_risen _ _ (end.lasting sure).quiet source.faults));
+          ends_refused _ _ _ _ c.cron_cluster-end.result (IsRefusedInput Report c.args.bytes.items) (end.ends _ asked)
+          ((end.complete _ asked).others _ (ap Some source.left) none (not_risen _ _ (end.lasting sure).quiet source.faults));
     }

@@ -24,4 +24,4 @@ returns g c =
     walked table c.args.members c.args.script.now c.in_ok-world.world c.walk.new.self more after played
     (subst (λ minute. Walks c.args.members table minute played.situation more after) last
     (subst (λ n. Walks n table (shown c.window-window.result) played.situation more after) played.count walks))
-    here c.in_ok-walk.ensures.members
+    here c.in_ok-walk.ensures.members c.in_ok-walk.ensures.bounded

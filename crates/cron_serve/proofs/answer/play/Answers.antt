@@ -1,0 +1,36 @@
+use Rattle.std.proofs.Common.{◌≡◌, ◌∙◌, List, All, ap, sym, subst}
+use Rattle.run_text.specs.Run.{run_of}
+use Rattle.script_text.specs.declared.command.Command.{Command}
+use Rattle.world_law.specs.Book.{BookState}
+use Rattle.world_rounds.specs.Commands.{IsTaken as IsPlayable}
+use Rattle.world_rounds.specs.World.{book_of}
+use Rattle.world_play.specs.Play.{AreMemNodesOf, HasRun}
+use Rattle.cron_serve.specs.Serve.{IsRunOf}
+use Rattle.cron_serve.proofs.PlayLemmas.{few_members, left_by_world, playable, some_members}
+use Rattle.cron_serve.proofs.answer.play.Goals as goal
+
+pub play_run-requires-clause-some : goal.play_run-requires-clause-some
+play_run-requires-clause-some g c = λ lives borrowed. some_members c.args.bytes.now (run_of c.in_ok-run.run') c.in_ok-run.table c.in_ok-run.ensures.taken
+
+pub play_run-requires-clause-few : goal.play_run-requires-clause-few
+play_run-requires-clause-few g c = λ lives borrowed. few_members c.args.bytes.now (run_of c.in_ok-run.run') c.in_ok-run.table c.in_ok-run.ensures.taken
+
+pub play_run-requires-clause-taken : goal.play_run-requires-clause-taken
+play_run-requires-clause-taken g c = λ lives borrowed.
+    subst (λ (l : List Command). All (IsPlayable c.in_ok-run.table.window c.in_ok-run.run'.members) l) (sym c.as_slice-commands.ensures.value)
+    (playable c.args.bytes.now (run_of c.in_ok-run.run') c.in_ok-run.table c.in_ok-run.ensures.taken)
+
+pub returns-clause-run : goal.returns-clause-run
+returns-clause-run g c =
+    let run = run_of c.in_ok-run.run' in
+    let table = c.in_ok-run.table in
+    let world = c.in_ok-world.world in
+    let nodes = c.into_book-book.result.1.items in
+    let has : HasRun table run.members run.commands world =
+    subst (λ (l : List Command). HasRun table run.members l world) c.as_slice-commands.ensures.value c.in_ok-world.ensures in
+    let kept : AreMemNodesOf table has.rows (book_of world) nodes = c.into_book-book.ensures.nodes table has.rows has.situation has.is in
+    subst (λ (b : BookState). IsRunOf c.args.bytes.now table b nodes) (sym c.into_book-book.ensures.book)
+    (left_by_world c.args.bytes.now run table c.in_ok-run.ensures.taken world nodes has kept)
+
+pub returns-clause-members : goal.returns-clause-members
+returns-clause-members g c = ap (λ (b : BookState). b.members) c.into_book-book.ensures.book ∙ c.in_ok-world.ensures.count

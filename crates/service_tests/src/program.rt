@@ -1,0 +1,46 @@
+//! The program over memory, by its arguments.
+use cron_io::{MemSink, MemSource};
+use cron_serve::run;
+use std::alloc::Global;
+use std::env::Args;
+use std::io;
+use std::test::Fail;
+use std::thread::Threads;
+
+/// What the program leaves.
+#[derive(Drop)]
+pub struct Left {
+    pub status: u8,
+    pub report: MemSink,
+    pub notes: MemSink,
+}
+
+/// What the program leaves of an input, with these arguments, where these writes of the report fail.
+pub fn play<R: Threads + Sync>(
+    rt: &R,
+    alloc: Global,
+    args: io::Result<Args>,
+    input: &str,
+    writes: &[u64],
+) -> Result<Left, Fail> {
+    let bytes = input.as_bytes().to_vec(alloc)?;
+    let mut source = MemSource::new(bytes, Vec::new(alloc));
+    let mut report = MemSink::new(alloc, 1 << 10, writes.to_vec(alloc)?)?;
+    let mut notes = MemSink::new(alloc, 100, Vec::new(alloc))?;
+    let status = run(rt, alloc, args, &mut source, &mut report, &mut notes);
+    Ok(Left {
+        status,
+        report,
+        notes,
+    })
+}
+
+/// The name of the program, and words behind it.
+pub fn args_of(alloc: Global, words: &[&str]) -> Result<Args, Fail> {
+    let mut args = Vec::new(alloc);
+    args.push(String::from_str(alloc, "cron_cluster")?)?;
+    for word in words {
+        args.push(String::from_str(alloc, word)?)?;
+    }
+    Ok(args.into_iter())
+}

@@ -1,0 +1,156 @@
+//! What the words of a command line ask for, and which are at fault.
+use crate::program::{args_of, play};
+use crate::runs::{THREE_LAUNCHES, USAGE};
+use cron_serve::{Asked, Output, read_words};
+use std::alloc::Global;
+use std::env::Args;
+use std::test::Fail;
+
+// The words behind a program's name.
+fn words_of(alloc: Global, words: &[&str]) -> Result<Args, Fail> {
+    let mut args = args_of(alloc, words)?;
+    let _name = args.next();
+    Ok(args)
+}
+
+// Words, what they ask to be written, and on how many lanes.
+struct Row {
+    words: &'static [&'static str],
+    output: Output,
+    lanes: u8,
+}
+
+const ASKED: &[Row] = &[
+    Row {
+        words: &[],
+        output: Output::Report,
+        lanes: 1,
+    },
+    Row {
+        words: &["--list"],
+        output: Output::DueList,
+        lanes: 1,
+    },
+    Row {
+        words: &["--check"],
+        output: Output::Check,
+        lanes: 1,
+    },
+    Row {
+        words: &["--lanes", "1"],
+        output: Output::Report,
+        lanes: 1,
+    },
+    Row {
+        words: &["--lanes", "8"],
+        output: Output::Report,
+        lanes: 8,
+    },
+    Row {
+        words: &["--lanes=1"],
+        output: Output::Report,
+        lanes: 1,
+    },
+    Row {
+        words: &["--lanes=8"],
+        output: Output::Report,
+        lanes: 8,
+    },
+    Row {
+        words: &["--lanes", "3", "--list"],
+        output: Output::DueList,
+        lanes: 3,
+    },
+    Row {
+        words: &["--list", "--lanes", "3"],
+        output: Output::DueList,
+        lanes: 3,
+    },
+    Row {
+        words: &["--lanes=2", "--check"],
+        output: Output::Check,
+        lanes: 2,
+    },
+    Row {
+        words: &["--check", "--lanes=2"],
+        output: Output::Check,
+        lanes: 2,
+    },
+];
+
+#[test]
+fn words_ask(rt: HostRuntime) -> Result<(), Fail> {
+    let mut ok = true;
+    for row in ASKED {
+        let asked = Asked {
+            output: row.output,
+            lanes: row.lanes,
+        };
+        ok &= read_words(words_of(rt.alloc(), row.words)?) == Some(asked);
+    }
+    assert_eq!(rt; ok, true);
+    Ok(())
+}
+
+const FAULTY: &[&[&str]] = &[
+    // No option, or an abbreviation of one.
+    &[""],
+    &["--"],
+    &["--help"],
+    &["--lists"],
+    &["--lis"],
+    &["--list="],
+    &["--lane", "2"],
+    &["--LANES", "2"],
+    &["3"],
+    &["--", "--list"],
+    &["--list", "--"],
+    // A number that is none of lanes.
+    &["--lanes"],
+    &["--lanes", "0"],
+    &["--lanes", "08"],
+    &["--lanes", "9"],
+    &["--lanes", "+2"],
+    &["--lanes", "-1"],
+    &["--lanes", ""],
+    &["--lanes", " 2"],
+    &["--lanes", "4294967298"],
+    &["--lanes", "--list"],
+    &["--lanes="],
+    &["--lanes=0"],
+    &["--lanes=08"],
+    &["--lanes=9"],
+    &["--lanes=+2"],
+    &["--lanes==2"],
+    &["--lanes=", "2"],
+    // Options that may not stand together.
+    &["--list", "--check"],
+    &["--check", "--list"],
+    &["--list", "--list"],
+    &["--check", "--check"],
+    &["--lanes", "2", "--lanes", "2"],
+    &["--lanes", "2", "--lanes=3"],
+    &["--lanes=2", "--lanes=2"],
+    &["--list", "--lanes", "2", "--check"],
+    &["--lanes=2", "--list", "--lanes=2"],
+    // A word behind all values.
+    &["--lanes", "2", "3"],
+    &["--list", "2"],
+    // Options of the usage note that are not built.
+    &["--journal"],
+    &["--make", "7"],
+    &["--make=7"],
+];
+
+#[test]
+fn faulty_words(rt: HostRuntime) -> Result<(), Fail> {
+    let mut ok = true;
+    for words in FAULTY {
+        ok &= read_words(words_of(rt.alloc(), words)?) == None;
+        let args = args_of(rt.alloc(), words)?;
+        let left = play(&rt, rt.alloc(), Ok(args), THREE_LAUNCHES, &[])?;
+        ok &= left.status == 1 && left.notes.bytes() == USAGE.as_bytes();
+    }
+    assert_eq!(rt; ok, true);
+    Ok(())
+}
