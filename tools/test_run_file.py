@@ -157,14 +157,13 @@ class Words(RunFileTest):
 
     def test_replicas(self):
         self.assertEqual(self.head("--replicas", "1")[0], "replicas 1")
-        self.assertEqual(self.faults("--replicas", "3"), ["run_file: --replicas: the program takes 1 replica so far"])
+        self.assertEqual(self.head("--replicas", "7")[0], "replicas 7")
         self.assertEqual(self.faults("--replicas", "8"), ["run_file: --replicas: `8` is no number from 1 to 7"])
 
     def test_script(self):
         file = self.write("duel", "campaign 0\nround 2024-03-30T00:00Z 1")
         self.assertEqual(self.lines("--script", file)[4:], ["script", "campaign 0", "round 2024-03-30T00:00Z 1", "end"])
-        comment = f"{file} is the script; the program takes no command of a script so far (cause 35)"
-        self.assertEqual(self.comments("--script", file)[0], comment)
+        self.assertEqual(self.comments("--script", file)[0], f"{file} is the script")
         self.assertEqual(self.lines("--script", self.write("empty", ""))[4:], ["script", "end"])
 
     def test_bad_scripts(self):

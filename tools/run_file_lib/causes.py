@@ -31,12 +31,12 @@ CAUSES = {
     27: "not `window STAMP STAMP` within the limits",
     28: "not `grace G` within the limits",
     29: "`crontab`, `system` or `anacrontab` with another form, or with more lines than there are",
-    30: "in the script, neither a command nor `end`; or a line behind `end`",
+    30: "in the script, neither a command nor `end`, or a command too many; or a line behind `end`",
     31: "before the script, neither a zone nor a table nor `script`; or the file ends before `end`",
     32: "a zone whose rule or file `jiff` refuses",
     33: "more than 1,048,576 bytes",
     34: "`zone` with another form; or the name `UTC`, a name that is there, or a 33rd zone",
-    35: "a form that isn't taken so far: `replicas 2` to `replicas 7`, a command of the script",
+    35: "a form that isn't taken so far: in the script, a line whose first word is `break` or `free`, whatever follows",
 }
 # Those of a single line of a table, which a check tells. The script tells the others itself.
 OF_LINES = {*range(1, 21)} - {15}

@@ -217,5 +217,5 @@ class Command:
             if fault or line == "end":
                 raise Stop(at(file, number, fault or caused(30, "the line `end` is written by run_file")))
         if lines:
-            self.comment(f"{shown(file)} is the script; the program takes no command of a script so far (cause 35)")
+            self.comment(f"{shown(file)} is the script")
         return lines

@@ -6,7 +6,7 @@ from datetime import datetime, timedelta
 from .faults import Stop, counted, shown
 from .tzif import beginning_of, clock_at
 
-MOST_REPLICAS = 1
+MOST_REPLICAS = 7
 MOST_GRACE = 525_600
 MOST_MINUTES = 576_000
 MOST_DAYS = MOST_MINUTES // 1440
@@ -40,7 +40,7 @@ OPTIONS = [
     ("--days", "N", f"how many days from there on, 1 to {MOST_DAYS}; 1 by default", "--days 3"),
     ("--until", "STAMP", "in place of --days: the minute behind the last one, in UTC", "--until 2024-04-01T12:00Z"),
     ("--grace", "MINUTES", f"how late a launch may be, 0 to {MOST_GRACE} minutes; 0 by default", "--grace 60"),
-    ("--replicas", "N", f"how many replicas there are; the program takes {MOST_REPLICAS} so far", "--replicas 1"),
+    ("--replicas", "N", f"how many replicas there are, 1 to {MOST_REPLICAS}; 1 by default", "--replicas 3"),
     ("--script", "FILE", "the lines between `script` and `end`; none by default", "--script duel.script"),
     ("--zone", "NAME", "the zone of all tables; that of etc/localtime below the root by default", "--zone Europe/Paris"),
     ("--zoneinfo", "DIR", "the folder of zones; usr/share/zoneinfo below the root by default", "--zoneinfo ~/zones"),
@@ -151,8 +151,6 @@ def window_of(options, now, zone):
 
 def head_of(options, now, zone):
     """The first four lines of the run file. `now` is in UTC, and the zone is that of the tables."""
-    replicas = number_of("--replicas", options.replicas, 1, 7)
-    if replicas > MOST_REPLICAS:
-        raise Stop(f"run_file: --replicas: the program takes {counted(MOST_REPLICAS, 'replica')} so far")
+    replicas = number_of("--replicas", options.replicas, 1, MOST_REPLICAS)
     grace = number_of("--grace", options.grace, 0, MOST_GRACE)
     return ["cronrun 1", f"replicas {replicas}", window_of(options, now, zone), f"grace {grace}"]
