@@ -1,10 +1,8 @@
-//! Tests of launches: the launch table, the scheduler that is called by names, the clerk, and the report.
+//! Tests of launches: the launch table, the scheduler that is called by names, and the report.
 #![tactic(auto)]
 
 #[cfg(test)]
 mod build;
-#[cfg(test)]
-mod clerk;
 #[cfg(test)]
 mod dates;
 #[cfg(test)]

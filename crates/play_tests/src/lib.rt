@@ -4,4 +4,6 @@
 #[cfg(test)]
 mod scripts;
 #[cfg(test)]
+mod walks;
+#[cfg(test)]
 mod worlds;

@@ -1,9 +1,0 @@
-pub mod AgreeLemmas
-pub mod BookLemmas
-pub mod CallLemmas
-pub mod DayLemmas
-pub mod EndLemmas
-pub mod LatestLemmas
-pub mod RowLemmas
-pub mod StepLemmas
-pub mod WalkLemmas
