@@ -1,0 +1,107 @@
+"""A run with what each of its turns did, for those who show it: as the small world plays it, or as a journal tells it."""
+import re
+
+from .instants import minute_of
+from .texts import journal_lines, turn_line
+from .words import role_words
+from .world import World
+
+TURN = re.compile(r"\d+ (\d|-) (campaign|tick|hear|answer|stop|restart|arrive)( .*)?")
+
+
+class BadJournal(Exception):
+    """A journal that isn't one of the run."""
+
+
+class Recorded(World):
+    """A world that keeps the step of each turn, where there is one, and what the replica is after it; and of each letter the
+    turns in which it was heard."""
+
+    def __init__(self, run):
+        super().__init__(run)
+        self.steps = []
+        self.roles = []
+        self.heard = {}
+
+    def add(self, turn, step=None):
+        if turn.word == "hear":
+            self.heard.setdefault(turn.operand, []).append(len(self.turns))
+        running = turn.who is not None and self.runs[turn.who]
+        self.roles.append(role_words(self.replicas[turn.who].term) if running else "stopped")
+        self.steps.append(step)
+        super().add(turn, step)
+
+
+class Replay(Recorded):
+    """A world whose turns are those of a journal. What the journal doesn't say of a turn is worked out."""
+
+    def play_lines(self, lines):
+        """Plays the lines between the first and the last one."""
+        for number, line in enumerate(lines, 2):
+            if line.startswith("command "):
+                self.begin_part(number, line)
+                continue
+            try:
+                self.play_line(line)
+            except (AttributeError, IndexError, KeyError, TypeError, ValueError) as fault:
+                raise BadJournal(f"line {number} of the journal is no line of this run: {line}") from fault
+            if turn_line(self.run, len(self.turns) - 1, self.turns[-1]) != line:
+                raise BadJournal(f"line {number} of the journal is no turn of this run: {line}")
+        if len(self.parts) != len(self.run.script) + 1:
+            raise BadJournal("the journal lacks a command of the script")
+        return self
+
+    def begin_part(self, number, line):
+        """Begins the part of the next command, or that of the walk at the end."""
+        place = len(self.parts) + 1
+        if line != (f"command {place}" if place <= len(self.run.script) else "command end") or place > len(self.run.script) + 1:
+            raise BadJournal(f"line {number} of the journal is no line of this run: {line}")
+        self.parts.append(len(self.turns))
+
+    def play_line(self, line):
+        """Plays the turn of a line."""
+        who, word, rest = TURN.fullmatch(line).groups()
+        words = rest.split() if rest else []
+        if word != "arrive" and self.runs[int(who)] == (word == "restart"):
+            raise ValueError("it runs already, or is stopped")
+        if word == "arrive":
+            self.arrive(int(words[0]))
+        elif word == "restart":
+            self.restart(int(who))
+        elif word == "stop":
+            self.stop(int(who))
+        else:
+            if word == "tick":
+                self.fates[int(who)] = words[1] if words[1:] else "done"
+            self.take(int(who), word, self.operand(int(who), word, words))
+
+    def operand(self, who, word, words):
+        """What a turn is about. A letter that is to be heard comes to the front of the mail."""
+        if word == "tick":
+            return minute_of(words[0])
+        if word == "hear":
+            if self.letters[int(words[0])].to != who:
+                raise ValueError("the letter is another's")
+            self.mails[who].insert(0, int(words[0]))
+            return int(words[0])
+        if word == "answer" and self.waits[who] is None:
+            raise ValueError("no answer waits")
+        return None
+
+
+def journal_in(text):
+    """The lines of the journal in what the program wrote, between its first and its last one."""
+    lines = text.split("\n")
+    if "cron journal 1" not in lines or lines[-2:] != ["end", ""]:
+        raise BadJournal("there is no whole journal")
+    return lines[lines.index("cron journal 1") + 1 : -2]
+
+
+def first_difference(run, lines):
+    """Where a journal has another line than what is worked out of the run; none where it has the same ones."""
+    own = journal_lines(World(run).play())
+    for number, told in enumerate([*lines, "end"], 2):
+        wanted = next(own, "end")
+        if told != wanted:
+            return f"line {number} of the journal is {told!r}, and worked out here it is {wanted!r}"
+    return None

@@ -1,0 +1,210 @@
+#!/usr/bin/env python3
+"""Tests of tools/timeline: which marks its pictures and pages have, what it says of a journal, and what it refuses.
+
+Usage: tools/test_timeline.py [NAME..]
+"""
+import json
+import os
+import re
+import subprocess
+import sys
+import tempfile
+import unittest
+from xml.etree import ElementTree
+
+ROOT = os.path.dirname(os.path.dirname(os.path.abspath(__file__)))
+TOOL = os.path.join(ROOT, "tools", "timeline")
+sys.dont_write_bytecode = True
+sys.path.insert(0, os.path.join(ROOT, ".ci"))
+from small_world.run_file import RunFile
+from small_world.texts import journal_of, report_of
+from small_world.world import World
+
+SVG = "{http://www.w3.org/2000/svg}"
+# Two replicas that make a launch in each minute of a day.
+MANY = """\
+cronrun 1
+replicas 2
+window 2024-03-31T00:00Z 2024-04-01T00:00Z
+grace 1440
+crontab alice UTC 1
+* * * * * poll the mail
+script
+end
+"""
+
+
+def example(name):
+    return os.path.join(ROOT, "examples", name)
+
+
+def world_of(name):
+    with open(example(name), encoding="utf-8") as file:
+        return World(RunFile(file.read())).play()
+
+
+class Timeline(unittest.TestCase):
+    def setUp(self):
+        self.folder = tempfile.TemporaryDirectory()
+        self.addCleanup(self.folder.cleanup)
+        self.journal = os.path.join(self.folder.name, "journal")
+
+    def write(self, text, name="journal"):
+        path = os.path.join(self.folder.name, name)
+        with open(path, "w", encoding="utf-8") as file:
+            file.write(text)
+        return path
+
+    def ran(self, *words):
+        done = subprocess.run([TOOL, *words], capture_output=True, text=True, check=False)
+        return done.returncode, done.stdout, done.stderr
+
+    def picture(self, name, *words):
+        status, output, notes = self.ran(example(name), *words)
+        self.assertEqual((status, notes), (0, ""))
+        return ElementTree.fromstring(output)
+
+    def titles(self, picture, form, kind):
+        """The titles of the marks of a form and a kind, but for those of the legend, which have none."""
+        marks = [mark for mark in picture.iter(SVG + form) if mark.get("class") == kind]
+        return [title.text for title in (mark.find(SVG + "title") for mark in marks) if title is not None]
+
+    def letters(self, picture):
+        return self.titles(picture, "line", "letter") + self.titles(picture, "path", "letter")
+
+    def data(self, page):
+        """What the script of a page draws from."""
+        return json.loads(re.search(r'(?s)<script type="application/json" id="data">(.*?)</script>', page)[1])
+
+    def test_marks_of_a_takeover(self):
+        world = world_of("takeover")
+        picture = self.picture("takeover", "--alone")
+        heard = [turn.operand for turn in world.turns if turn.word == "hear"]
+        self.assertEqual(len(self.letters(picture)), len(heard))
+        self.assertEqual(len(self.titles(picture, "line", "lost")), len(world.letters) - len(set(heard)))
+        name = "calls for alice:1@20240331T0100Z, a launch: the answer is a launch"
+        self.assertEqual(self.titles(picture, "circle", "launch")[0], f"turn 18: replica 0 {name}")
+        self.assertEqual(self.titles(picture, "circle", "found"), [f"turn 29: replica 1 {name}"])
+        bands = self.titles(picture, "rect", "leader")
+        told = ["0: leader 1.0, turns 6 to 20", "1: leader 2.1, turns 28 to 40", "1: leader 3.1, turns 48 to 112"]
+        self.assertEqual(bands, [f"replica {band}" for band in told])
+        self.assertEqual(self.titles(picture, "rect", "stopped"), ["replica 0: stopped, turns 21 to 39"])
+        self.assertEqual(self.titles(picture, "rect", "stop"), ["turn 21: replica 0 stops"])
+
+    def test_late_call_behind_a_void(self):
+        picture = self.picture("late_call", "--alone")
+        self.assertEqual(len(self.titles(picture, "path", "void")), 1)
+        waiting = self.titles(picture, "circle", "waiting")
+        self.assertEqual([title.split(": ")[0] for title in waiting], ["turn 18", "turn 40"])
+        self.assertTrue(waiting[1].endswith("; something stands there already"))
+
+    def test_snapshot(self):
+        tables = self.titles(self.picture("snapshot", "--alone", "--from", "814", "--until", "854"), "rect", "base")
+        self.assertEqual(len(tables), 1)
+        self.assertTrue(tables[0].startswith("turn 839: replica 2 keeps its launch table at slot "))
+
+    def test_commands(self):
+        titles = self.titles(self.picture("snapshot", "--alone", "--from", "814", "--until", "854"), "line", "part")
+        self.assertEqual(titles, [".. round 2024-03-31T00:44Z 200", "restart 2", "round 2024-03-31T00:45Z 10"])
+        titles = self.titles(self.picture("late_call", "--alone"), "line", "part")
+        self.assertEqual(titles[:2] + titles[-1:], ["campaign 0", "fate 0 late; round 2024-03-31T01:00Z 4", "the walk to the end"])
+
+    def test_some_turns_and_one_job(self):
+        picture = self.picture("takeover", "--alone", "--from", "80", "--until", "95", "--jobs", "alice:2")
+        self.assertEqual(len(self.titles(picture, "circle", "launch")), 1)
+        votes = self.titles(picture, "polygon", "vote")
+        self.assertTrue(votes and all("alice:2@20240331T0230Z" in vote for vote in votes))
+        earlier = self.picture("takeover", "--alone", "--until", "40", "--jobs", "alice:2")
+        self.assertEqual(self.titles(earlier, "polygon", "vote") + self.titles(earlier, "circle", "launch"), [])
+
+    def test_a_long_run_is_cut(self):
+        texts = ["".join(text.itertext()) for text in self.picture("snapshot", "--alone").iter(SVG + "text")]
+        self.assertIn("turns 0 to 999 of 1420 are drawn", texts)
+        whole = ["".join(text.itertext()) for text in self.picture("takeover", "--alone").iter(SVG + "text")]
+        self.assertFalse(any("drawn" in text for text in whole))
+
+    def test_a_journal_has_the_same_picture(self):
+        world = world_of("leader_cut_off")
+        self.write(report_of(world) + journal_of(world))
+        read = self.ran(example("leader_cut_off"), self.journal)
+        self.assertEqual(read, self.ran(example("leader_cut_off"), "--alone"))
+
+    def test_a_journal_that_differs(self):
+        text = journal_of(world_of("takeover"))
+        last = text.split("\n")[-3]
+        self.write(text.replace(f"{last}\n", ""))
+        status, output, notes = self.ran(example("takeover"), self.journal)
+        note = f"line {text.count(chr(10)) - 1} of the journal is 'end', and worked out here it is '{last}'"
+        self.assertEqual((status, notes), (0, f"timeline: {note}\n"))
+        self.assertIn(note, ["".join(text.itertext()) for text in ElementTree.fromstring(output).iter(SVG + "text")])
+
+    def test_turns_that_cannot_be(self):
+        text = journal_of(world_of("takeover"))
+        for line, other, number in (
+            ("2 1 hear 0", "2 1 hear 1", 6),
+            ("21 0 stop", "21 0 restart", 26),
+            ("31 1 answer", "31 2 answer", 38),
+            ("22 1 campaign", "22 0 campaign", 28),
+            ("29 1 tick", "29 1 tock", 36),
+            ("23 1 hear 8", "23 1 hear 800", 30),
+        ):
+            self.write(text.replace(line, other, 1))
+            status, output, notes = self.ran(example("takeover"), self.journal)
+            self.assertEqual((status, output), (1, ""))
+            self.assertRegex(notes, f"line {number} of the journal is no (line|turn) of this run: {other}")
+
+    def test_page(self):
+        status, page, notes = self.ran(example("late_call"), "--alone", "--page")
+        self.assertEqual((status, notes), (0, ""))
+        self.assertTrue(page.startswith("<!DOCTYPE html>"))
+        self.assertIn("job alice:1 launched 0 void 1", page)
+        self.assertNotRegex(page.replace("http://www.w3.org/2000/svg", ""), "https?://|src=|href=|@import")
+        data = self.data(page)
+        marks = "".join(mark[-1] for mark in data["marks"])
+        self.assertEqual(marks.count("<title>"), len(ElementTree.fromstring(f"<g>{marks}</g>").findall(".//title")))
+        self.assertEqual([mark[5] for mark in data["marks"] if mark[5] is not None], [0] * 3)
+
+    def test_way_of_a_launch(self):
+        page = self.ran(example("late_call"), "--alone", "--page", "--until", "42")[1]
+        way = self.data(page)["ways"][0]
+        told = [
+            [8, "replica 0 proposes its start at slot 0 in ballot 1.0, and votes for it"],
+            [12, "replica 1 votes for its start at slot 0 in ballot 1.0"],
+            [12, "a majority has voted for its start: it is decided"],
+            [31, "replica 1 takes the answer"],
+            [35, "a majority has voted for its end as a void: it is decided"],
+            [40, "late call 0 arrives at the scheduler"],
+        ]
+        self.assertEqual([event for event in way if event in told], told)
+
+    def test_page_of_many_turns(self):
+        page = self.ran(self.write(MANY, "many"), "--alone", "--page")[1]
+        data = self.data(page)
+        self.assertRegex(page, "This page has turns 0 to 19999 of 3[0-9]{4}[.]")
+        drawn = [way for way in data["ways"] if way]
+        self.assertTrue(800 < len(drawn) < len(data["launches"]) == 1440)
+        for way in drawn:
+            decided = [text for _, text in way if text.endswith(": it is decided")]
+            ends = "its start", "its end as a launch"
+            self.assertEqual(decided, [f"a majority has voted for {end}: it is decided" for end in ends])
+
+    def test_refusals(self):
+        world = world_of("takeover")
+        self.write(report_of(world) + journal_of(world))
+        for name, words, note in (
+            ("late_call", [], "line 49 of the journal is no line of this run: command end"),
+            ("takeover", ["--jobs", "bob:1"], "the run has no job bob:1"),
+            ("takeover", ["--from", "113"], "the journal has turns 0 to 112"),
+            ("five_replicas", [], "line 2 of the journal is no line of this run: command 1"),
+            ("takeover.stdout", [], "is no run file that the program takes"),
+        ):
+            status, output, notes = self.ran(example(name), self.journal, *words)
+            self.assertEqual((status, output), (1, ""))
+            self.assertIn(note, notes)
+        self.write("cron journal 1\n")
+        self.assertEqual(self.ran(example("takeover"), self.journal), (1, "", "timeline: there is no whole journal\n"))
+        self.assertEqual(self.ran(example("takeover"))[0], 2)
+
+
+if __name__ == "__main__":
+    unittest.main()

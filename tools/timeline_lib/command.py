@@ -1,0 +1,88 @@
+"""The command: its words, what it reads and what it writes."""
+import argparse
+import sys
+
+from small_world.replay import BadJournal, Recorded, Replay, first_difference, journal_in
+from small_world.run_file import RunFile
+
+from .page import page_of
+from .picture import Picture
+
+ABOUT = """\
+Draws what replicas did in a run: a track for each replica, from turn to turn, with its terms, its votes, what it learned and
+its letters, and one for the scheduler. It reads the run file and its journal, and writes one picture (SVG) to standard output,
+or a page (HTML). What a journal doesn't say, such as what a letter says, is worked out.
+
+  tools/timeline --alone examples/takeover > takeover.svg
+"""
+# So many turns are drawn at most.
+MOST_DRAWN = {"picture": 1_000, "page": 20_000}
+
+
+def parser():
+    made = argparse.ArgumentParser(prog="timeline", description=ABOUT, formatter_class=argparse.RawDescriptionHelpFormatter)
+    made.add_argument("run", metavar="RUN", help="the run file")
+    journal = "its journal; what stands before it, such as a report, is passed over"
+    made.add_argument("journal", metavar="JOURNAL", nargs="?", help=journal)
+    made.add_argument("--alone", action="store_true", help="work the journal out, in place of reading it")
+    made.add_argument("--from", dest="first", type=int, default=0, metavar="TURN", help="the first turn that is drawn")
+    made.add_argument("--until", type=int, metavar="TURN", help="the turn behind the last one that is drawn")
+    made.add_argument("--jobs", action="append", metavar="NAME", help="draw what is about this job alone, or these")
+    made.add_argument("--page", action="store_true", help="write a page, to be scrolled and asked")
+    return made
+
+
+def read(path):
+    with open(path, encoding="utf-8") as file:
+        return file.read()
+
+
+def played(options, run):
+    """The run as it was played, and where its journal differs from what is worked out."""
+    if options.alone:
+        return Recorded(run).play(), None
+    lines = journal_in(read(options.journal))
+    difference = first_difference(run, lines)
+    if difference:
+        print(f"timeline: {difference}", file=sys.stderr)
+    return Replay(run).play_lines(lines), difference
+
+
+def jobs_of(options, run):
+    """The numbers of the jobs that are asked for; none where all are drawn."""
+    names = [job.name for job in run.jobs]
+    for name in options.jobs or []:
+        if name not in names:
+            raise BadJournal(f"the run has no job {name}")
+    return {names.index(name) for name in options.jobs} if options.jobs else None
+
+
+def drawn(options):
+    """The text that the words ask for."""
+    run = RunFile(read(options.run))
+    jobs = jobs_of(options, run)
+    world, difference = played(options, run)
+    count = len(world.turns)
+    most = options.first + MOST_DRAWN["page" if options.page else "picture"]
+    until = min(most, count if options.until is None else options.until, count)
+    if not 0 <= options.first < until:
+        raise BadJournal(f"the journal has turns 0 to {count - 1}")
+    picture = Picture(world, options.first, until)
+    return page_of(picture, options.run, jobs, difference) if options.page else picture.text(jobs, difference)
+
+
+def run(words):
+    """Writes the picture, and gives the status: 1 where a word or a file is at fault."""
+    options = parser().parse_args(words)
+    if options.alone == (options.journal is not None):
+        parser().error("either a journal or --alone")
+    try:
+        sys.stdout.write(drawn(options))
+        sys.stdout.flush()
+    except (BadJournal, OSError, UnicodeDecodeError) as fault:
+        print(f"timeline: {fault}", file=sys.stderr)
+        return 1
+    except (IndexError, KeyError, ValueError):
+        print(f"timeline: {options.run} is no run file that the program takes", file=sys.stderr)
+        return 1
+    return 0
