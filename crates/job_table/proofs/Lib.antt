@@ -1,8 +1,8 @@
 mod AnacrontabLemmas
 mod CrontabLemmas
-mod DueCountLemmas
-mod JobLemmas
-mod MarkLemmas
+pub mod DueCountLemmas
+pub mod JobLemmas
+pub mod MarkLemmas
 mod RunLemmas
 mod SectionLemmas
 mod SomeLemmas

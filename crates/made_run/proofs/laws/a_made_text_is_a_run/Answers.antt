@@ -1,0 +1,8 @@
+use Rattle.made_run.proofs.TextLemmas.{text_says, text_is_short}
+use Rattle.made_run.proofs.laws.a_made_text_is_a_run.Goals as goal
+
+pub returns-clause-says : goal.returns-clause-says
+returns-clause-says c = text_says
+
+pub returns-clause-short : goal.returns-clause-short
+returns-clause-short c = text_is_short

@@ -1,0 +1,17 @@
+//! Laws of made runs. Each is the contract of a function that does nothing.
+ghost use Rattle.std.specs.Prelude.{◌<◌, ◌^◌, ℕ, length};
+ghost use Rattle.due_set.specs.Table.{Table};
+ghost use Rattle.job_table.specs.Table.{IsTableOf};
+ghost use Rattle.run_text.specs.Reading.{IsRunText};
+ghost use Rattle.made_run.specs.Made.{made_run, made_text};
+
+/// The text that a seed makes is that of its run, and it is short enough to be read.
+pub fn a_made_text_is_a_run()
+    ensures says { (seed : ℕ) → IsRunText (made_text seed) (made_run seed) }
+    ensures short { (seed : ℕ) → length (made_text seed) < 2 ^ 32 }
+{}
+
+/// The tables of a made run are taken: there is a table of its jobs.
+pub fn each_made_run_has_a_table()
+    ensures { (seed : ℕ) → (table : Table) × IsTableOf (made_run seed) table }
+{}
