@@ -1,5 +1,5 @@
 //! Tests of what a table of jobs says: fields, crontabs, anacrontabs, run files, the jobs that these name, and the
-//! commands of scripts.
+//! commands of scripts; and of the runs that seeds make.
 #![tactic(auto)]
 
 #[cfg(test)]
@@ -20,6 +20,8 @@ mod field_tests;
 mod frame_tests;
 #[cfg(test)]
 mod job_tests;
+#[cfg(test)]
+mod made_tests;
 #[cfg(test)]
 mod match_tests;
 #[cfg(test)]
