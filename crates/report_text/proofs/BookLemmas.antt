@@ -9,6 +9,7 @@ use Rattle.cluster_sched.specs.declared.row.SchedRow.{SchedRow}
 use Rattle.paxos_base.specs.declared.entry.Entry.{Entry}
 use Rattle.launch_law.specs.Fits.{Fits, IsBacked}
 use Rattle.book_law.specs.Book.{Row}
+use Rattle.book_law.specs.Legal.{IsLegal}
 use Rattle.book_law.proofs.Agreement.{book_log}
 use Rattle.fits_law.specs.Fitting.{held_in}
 use Rattle.fits_law.proofs.Whole.{whole}
@@ -29,25 +30,23 @@ name_of_backed table log row backed =
       inside = start_near table row.name.job start.row row.name.at backed.start.0 start.may;
     }
 
-module _ (table : Table) (rows : List Row) (book : BookState) (few : book.members ≤ 7) (behind : StandsBehind table rows book) where
+module _ (table : Table) (members : ℕ) (rows : List Row) (few : members ≤ 7) (legal : IsLegal members table rows) where
   -- what is held fits the log
-  fits : (log : List Entry) × Fits table log (held_in book.members table rows)
-  fits =
-      let (log, is_log) = book_log book.members table rows few behind.legal in
-      (log, whole book.members table rows few behind.legal log is_log)
+  fits : (log : List Entry) × Fits table log (held_in members table rows)
+  fits = let (log, is_log) = book_log members table rows few legal in (log, whole members table rows few legal log is_log)
 
-  pub named : All (λ (row : SchedRow). IsNameIn table row.name) (held_in book.members table rows)
+  pub named : All (λ (row : SchedRow). IsNameIn table row.name) (held_in members table rows)
   named =
-      All-weaker (IsBacked table fits.0) (λ (row : SchedRow). IsNameIn table row.name) (name_of_backed table fits.0) (held_in book.members table rows) fits.1.backed
+      All-weaker (IsBacked table fits.0) (λ (row : SchedRow). IsNameIn table row.name) (name_of_backed table fits.0) (held_in members table rows) fits.1.backed
 
-  pub once : AreNamedOnce (held_in book.members table rows)
+  pub once : AreNamedOnce (held_in members table rows)
   once = fits.1.once
 
 -- the rows that the ledger holds are launches of the table
 pub named_at_rest : (table : Table) (rows : List Row) (book : BookState) → book.members ≤ 7 → StandsBehind table rows book → book.pending ≡ None
     → All (λ (row : SchedRow). IsNameIn table row.name) book.ledger.held
 named_at_rest table rows book few behind rest =
-    subst (All (λ (row : SchedRow). IsNameIn table row.name)) (sym (held_at_rest table rows book rest behind)) (named table rows book few behind)
+    subst (All (λ (row : SchedRow). IsNameIn table row.name)) (sym (held_at_rest table rows book rest behind)) (named table book.members rows few behind.legal)
 
 -- the report of what the ledger holds is the book's
 pub book_report : (table : Table) (rows : List Row) (book : BookState) (text : List ℕ) → StandsBehind table rows book → book.pending ≡ None
@@ -72,4 +71,4 @@ of_ledger table book text rest is =
 pub one_report : (table : Table) (book : BookState) (a b : List ℕ) → book.members ≤ 7 → IsBookReport table book a → IsBookReport table book b → a ≡ b
 one_report table book a b few first second =
     one_text table book.members (held_in book.members table first.rows) a b first.report (of_rows table book first.rows b first.behind second)
-    (once table first.rows book few first.behind)
+    (once table book.members first.rows few first.behind.legal)

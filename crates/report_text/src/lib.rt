@@ -16,3 +16,4 @@ pub use laws::{
     a_report_lists_each_due_instant, a_report_says_one_text,
 };
 pub use report::write_report;
+pub use write::{write_line, write_text};

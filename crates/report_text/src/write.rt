@@ -15,8 +15,12 @@ use paxos_base::Kind;
 use std::fmt::Write;
 use zone_minutes::{Window, write_stamp};
 
-// Writes a line and its newline at once.
-fn write_line<K: Sink>(sink: &mut K, line: &mut String) -> Result<(), ReportFault>
+/// Writes the line and its newline at once. The newline stands in `line` then, too.
+///
+/// # Errors
+///
+/// `WriteFault` only where a write failed, and `OutOfMemory`. Some front of the line may be written then.
+pub fn write_line<K: Sink>(sink: &mut K, line: &mut String) -> Result<(), ReportFault>
     ensures { Writes (K.seen sink.old) (K.seen sink.new) result (string_bytes line.old ++ 10 ∷ []) }
 {
     line.push('\n')?;
@@ -57,7 +61,11 @@ fn put_row(line: &mut String, table: &JobTable, row: SchedRow) -> Result<(), Out
     write_name(table, row.name, line)
 }
 
-/// Writes the text as a line.
+/// Writes the text as a line, at once. It is put together in `line`, whatever that has.
+///
+/// # Errors
+///
+/// `WriteFault` only where a write failed, and `OutOfMemory`. Some front of the line may be written then.
 pub fn write_text<K: Sink>(sink: &mut K, line: &mut String, text: &str) -> Result<(), ReportFault>
     ensures { Writes (K.seen sink.old) (K.seen sink.new) result (text.now ++ 10 ∷ []) }
 {
