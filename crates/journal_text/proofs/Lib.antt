@@ -1,0 +1,6 @@
+pub mod ToldLemmas
+pub mod PartLemmas
+pub mod SummaryLemmas
+pub mod Twins
+pub mod Determined
+pub mod StartLemmas

@@ -1,0 +1,162 @@
+-- The lines of parts, and the turns that they tell.
+use Rattle.std.proofs.Common.{◌≡◌, ◌⊎◌, inl, inr, ◌<◌, ◌≤◌, ◌+◌, ◌-◌, ℕ, zero, suc, List, [], ◌∷◌, ◌++◌, length, map, take, drop, get_or, append-nil, arith, refl, sym, ap, ◌∙◌}
+use Rattle.std.specs.Prelude.{codes, flat_map}
+use Rattle.std.specs.List.{enumerate_from, range_with_len}
+use Rattle.std.proofs.Math.ListN.{get_or-map}
+use Rattle.std.proofs.Math.Seq.{take-length}
+use Rattle.std.proofs.lemmas.Grind.{flat_map-append}
+use Rattle.std.proofs.lemmas.List.{drop-take, get_or_default, get_or_past, length-map, length-take-le, take-append-drop, take-take, take_all}
+use Rattle.std.proofs.lemmas.List.FromFn.{get_or-enumerate_from, get_or-range_with_len, length-enumerate_from, length-range_with_len}
+use Rattle.due_set.specs.Table.{Table}
+use Rattle.book_law.specs.declared.turn.Turn.{Turn}
+use Rattle.report_text.specs.Lines.{text_of_lines}
+use Rattle.journal_text.specs.Journal.{end_of, journal_text, numbered_turns, part_lines, part_turns, turn_line}
+use Rattle.journal_text.specs.Starts.{AreStarts}
+
+-- ---- turns
+
+pub line_within : (table : Table) (first : ℕ) (turns : List Turn) (i : ℕ) → i < length turns → i < length (map (turn_line table) (enumerate_from first turns))
+line_within table first turns i lt =
+    let lines : length (map (turn_line table) (enumerate_from first turns)) ≡ length (enumerate_from first turns) = length-map _ _ in
+    let count = length-enumerate_from first turns in
+    omega arith
+
+pub line_at : (table : Table) (first : ℕ) (turns : List Turn) (i : ℕ) (turn : Turn) → i < length turns → turn ≡ get_or turns i turn
+    → turn_line table (first + i, turn) ≡ get_or (map (turn_line table) (enumerate_from first turns)) i (turn_line table (first + i, turn))
+line_at table first turns i turn lt is =
+    let here : ℕ × Turn = (first + i, turn) in
+    sym (
+    get_or-map (turn_line table) (enumerate_from first turns) i here
+    ∙ ap (turn_line table) (get_or-enumerate_from first turns i here lt ∙ ap (λ (t : Turn). (first + i, t)) (sym is))
+    )
+
+pub lines_all : (table : Table) (first : ℕ) (turns : List Turn) (i : ℕ) → length turns ≤ i
+    → take i (map (turn_line table) (enumerate_from first turns)) ≡ map (turn_line table) (enumerate_from first turns)
+lines_all table first turns i past =
+    let lines : length (map (turn_line table) (enumerate_from first turns)) ≡ length (enumerate_from first turns) = length-map _ _ in
+    let count = length-enumerate_from first turns in
+    take_all i (map (turn_line table) (enumerate_from first turns)) (omega arith)
+
+-- ---- lines
+
+-- the lines of lists of lines, one after another
+pub text_of_parts : {X : Type 0} (f : X → List (List ℕ)) (xs : List X) → text_of_lines (flat_map f xs) ≡ flat_map (λ (x : X). text_of_lines (f x)) xs
+text_of_parts f [] = refl
+text_of_parts {X} f (x ∷ xs) =
+    flat_map-append (λ (line : List ℕ). line ++ 10 ∷ []) (f x) (flat_map f xs) ∙ ap (λ (l : List ℕ). text_of_lines (f x) ++ l) (text_of_parts f xs)
+
+-- a text between two lines
+pub text_between : (first last : List ℕ) (lines : List (List ℕ))
+    → text_of_lines (first ∷ (lines ++ last ∷ [])) ≡ (first ++ 10 ∷ []) ++ (text_of_lines lines ++ (last ++ 10 ∷ []))
+text_between first last lines =
+    ap (λ (l : List ℕ). (first ++ 10 ∷ []) ++ l)
+    (flat_map-append (λ (line : List ℕ). line ++ 10 ∷ []) lines (last ∷ []) ∙ ap (λ (l : List ℕ). text_of_lines lines ++ l) (append-nil (last ++ 10 ∷ [])))
+
+-- a place is among the places of all parts
+pub place_in_range : (n i : ℕ) → i < n → (i < length (range_with_len 0 n)) × (i ≡ get_or (range_with_len 0 n) i i)
+place_in_range n i lt =
+    let size = length-range_with_len 0 n in
+    let here = get_or-range_with_len 0 n i i lt in
+    (omega arith, omega arith)
+
+-- a journal is its first line, the lines of its parts, and its last line
+pub journal_is : (table : Table) (turns : List Turn) (starts : List ℕ)
+    → (codes "cron journal 1" ++ 10 ∷ [])
+    ++ (flat_map (λ place. text_of_lines (part_lines table turns starts place)) (range_with_len 0 (length starts)) ++ (codes "end" ++ 10 ∷ []))
+    ≡ journal_text table turns starts
+journal_is table turns starts =
+    let lines = flat_map (part_lines table turns starts) (range_with_len 0 (length starts)) in
+    sym (
+    text_between (codes "cron journal 1") (codes "end") lines
+    ∙ ap (λ (l : List ℕ). (codes "cron journal 1" ++ 10 ∷ []) ++ (l ++ (codes "end" ++ 10 ∷ []))) (text_of_parts (part_lines table turns starts) (range_with_len 0 (length starts)))
+    )
+
+-- ---- parts
+
+below_or_past : (i n : ℕ) → (i < n) ⊎ (n ≤ i)
+below_or_past i zero = inr (omega arith)
+below_or_past zero (suc n) = inl (omega arith)
+below_or_past (suc i) (suc n) = elim (below_or_past i n) [ inl lt ↦ inl (omega arith) | inr past ↦ inr (omega arith) ]
+
+range_from : (a n : ℕ) → range_with_len a (suc n) ≡ range_with_len a n ++ (a + n) ∷ []
+range_from a zero = ap (λ k. k ∷ []) (omega arith)
+range_from a (suc n) = ap (λ (l : List ℕ). a ∷ l) (range_from (a + 1) n ∙ ap (λ k. range_with_len (a + 1) n ++ k ∷ []) (omega arith))
+
+range_more : (n : ℕ) → range_with_len 0 (suc n) ≡ range_with_len 0 n ++ n ∷ []
+range_more n = range_from 0 n ∙ ap (λ k. range_with_len 0 n ++ k ∷ []) (omega arith)
+
+enumerate-append : {X : Type 0} (n : ℕ) (xs ys : List X) → enumerate_from n (xs ++ ys) ≡ enumerate_from n xs ++ enumerate_from (n + length xs) ys
+enumerate-append n [] ys = ap (λ k. enumerate_from k ys) (omega arith)
+enumerate-append {X} n (x ∷ xs) ys =
+    ap (λ (l : List (ℕ × X)). (n, x) ∷ l) (enumerate-append (n + 1) xs ys ∙ ap (λ k. enumerate_from (n + 1) xs ++ enumerate_from k ys) (omega arith))
+
+-- the turns up to a number, and those from it up to another
+numbered_join : (turns : List Turn) (a b : ℕ) → a ≤ b → b ≤ length turns → enumerate_from 0 (take a turns) ++ numbered_turns turns a b ≡ enumerate_from 0 (take b turns)
+numbered_join turns a b le within =
+    let long : length (take a turns) ≡ a = length-take-le a turns (omega arith) in
+    let size : 0 + length (take a turns) ≡ a = omega arith in
+    let shorter : take a (take b turns) ≡ take a turns = take-take a b turns le in
+    let back : drop a (take b turns) ≡ take (b - a) (drop a turns) =
+    let sum : b ≡ a + (b - a) = omega arith in
+    ap (λ n. drop a (take n turns)) sum ∙ drop-take a (b - a) turns in
+    let parts : take b turns ≡ take a turns ++ take (b - a) (drop a turns) =
+    sym (take-append-drop a (take b turns)) ∙ ap (λ (l : List Turn). l ++ drop a (take b turns)) shorter ∙ ap (λ (l : List Turn). take a turns ++ l) back in
+    sym (
+    ap (enumerate_from 0) parts
+    ∙ enumerate-append 0 (take a turns) (take (b - a) (drop a turns))
+    ∙ ap (λ k. enumerate_from 0 (take a turns) ++ enumerate_from k (take (b - a) (drop a turns))) size
+    )
+
+-- where the part of a place begins; the place behind the last one is where the turns end
+abbrev begin_of : (turns : ℕ) (starts : List ℕ) → ℕ → ℕ
+begin_of turns starts place = get_or starts place turns
+
+begin_within : (turns : ℕ) (starts : List ℕ) (place : ℕ) → AreStarts turns starts → begin_of turns starts place ≤ turns
+begin_within turns starts place are = elim (below_or_past place (length starts)) [
+  | inl lt ↦ are.within place turns lt
+  | inr past ↦ (let is = get_or_past starts place turns past in omega arith)
+]
+
+-- a part ends behind its begin
+pub ends_behind : (turns : ℕ) (starts : List ℕ) (place : ℕ) → AreStarts turns starts → place < length starts
+    → get_or starts place 0 ≤ end_of starts turns place
+ends_behind turns starts place are within =
+    let here : get_or starts place turns ≡ get_or starts place 0 = get_or_default starts place turns 0 within in
+    elim (below_or_past (suc place) (length starts)) [
+      | inl lt ↦ (let rise = are.rise place (suc place) turns (omega arith) lt in omega arith)
+      | inr past ↦ (
+          let last = get_or_past starts (suc place) turns past in
+          let low = are.within place 0 within in
+          omega arith
+          )
+    ]
+
+pub end_within : (turns : ℕ) (starts : List ℕ) (place : ℕ) → AreStarts turns starts → end_of starts turns place ≤ turns
+end_within turns starts place are = begin_within turns starts (suc place) are
+
+-- the turns of the first parts are those up to where the next one begins
+first_parts : (turns : List Turn) (starts : List ℕ) (n : ℕ) → AreStarts (length turns) starts → n ≤ length starts
+    → flat_map (part_turns turns starts) (range_with_len 0 n) ≡ enumerate_from 0 (take (begin_of (length turns) starts n) turns)
+first_parts turns starts zero are le =
+    let first : begin_of (length turns) starts 0 ≡ 0 = get_or_default starts 0 (length turns) 0 are.some ∙ are.first in
+    sym (ap (λ n. enumerate_from 0 (take n turns)) first)
+first_parts turns starts (suc n) are le =
+    let within : n < length starts = omega arith in
+    let front = first_parts turns starts n are (omega arith) in
+    let here : get_or starts n (length turns) ≡ get_or starts n 0 = get_or_default starts n (length turns) 0 within in
+    let one : flat_map (part_turns turns starts) (n ∷ []) ≡ part_turns turns starts n = append-nil (part_turns turns starts n) in
+    ap (flat_map (part_turns turns starts)) (range_more n)
+    ∙ flat_map-append (part_turns turns starts) (range_with_len 0 n) (n ∷ [])
+    ∙ ap (λ (l : List (ℕ × Turn)). l ++ flat_map (part_turns turns starts) (n ∷ [])) front
+    ∙ ap (λ (l : List (ℕ × Turn)). enumerate_from 0 (take (begin_of (length turns) starts n) turns) ++ l) one
+    ∙ ap (λ k. enumerate_from 0 (take k turns) ++ part_turns turns starts n) here
+    ∙ numbered_join turns (get_or starts n 0) (end_of starts (length turns) n) (ends_behind (length turns) starts n are within)
+    (end_within (length turns) starts n are)
+
+-- **The turns of the parts, one after another, are all turns, in order.**
+pub all_parts : (turns : List Turn) (starts : List ℕ) → AreStarts (length turns) starts
+    → flat_map (part_turns turns starts) (range_with_len 0 (length starts)) ≡ enumerate_from 0 turns
+all_parts turns starts are =
+    let last : begin_of (length turns) starts (length starts) ≡ length turns = get_or_past starts (length starts) (length turns) (omega arith) in
+    first_parts turns starts (length starts) are (omega arith)
+    ∙ ap (λ n. enumerate_from 0 (take n turns)) last ∙ ap (enumerate_from 0) (take-length turns)

@@ -1,0 +1,4 @@
+pub mod Journal
+pub mod Starts
+pub mod Summary
+pub mod Told

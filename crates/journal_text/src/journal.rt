@@ -1,0 +1,147 @@
+//! The journal of a book.
+ghost use Rattle.std.specs.Prelude.{◌≡◌, ◌+◌, ◌<◌, ◌≤◌, ◌^◌, ◌++◌, ◌∷◌, [], length, map, get_or, All, string_bytes, OnOk};
+ghost use Rattle.std.specs.List.{enumerate_from, flat_map, range_with_len};
+ghost use Rattle.due_set.specs.Table.{IsSound};
+ghost use Rattle.report_text.specs.Lines.{text_of_lines};
+ghost use Rattle.report_text.specs.Writes.{Writes};
+ghost use Rattle.journal_text.specs.Journal.{end_of, journal_text, part_head, part_lines, turn_line};
+ghost use Rattle.journal_text.specs.Starts.{AreStarts};
+ghost use Rattle.journal_text.specs.Told.{CanBeTold};
+ghost use Rattle.world_law.specs.Book.{IsLegalBook};
+
+use crate::words::put_turn;
+use book_law::Turn;
+use cron_io::{OutOfMemory, Sink};
+use due_set::JobTable;
+use report_text::{ReportFault, write_line, write_text};
+use std::alloc::Global;
+use std::fmt::Write;
+use world_law::Book;
+
+fn put_head(line: &mut String, parts: usize, place: usize) -> Result<(), OutOfMemory>
+    requires { place < parts }
+    ensures { OnOk result (string_bytes line.new ≡ part_head parts place) }
+{
+    let number = place + 1;
+    line.clear();
+    line.push_str("command ")?;
+    if number == parts {
+        line.push_str("end")?;
+    } else {
+        write!(line, "{number}")?;
+    }
+    Ok(())
+}
+
+// Writes the line of a turn.
+fn write_turn<K: Sink>(
+    sink: &mut K,
+    line: &mut String,
+    table: &JobTable,
+    number: u64,
+    turn: Turn,
+) -> Result<(), ReportFault>
+    requires { CanBeTold table.now turn }
+    ensures { Writes (K.seen sink.old) (K.seen sink.new) result (turn_line table.now (number, turn) ++ 10 ∷ []) }
+{
+    put_turn(line, table, number, turn)?;
+    write_line(sink, line)
+}
+
+// Writes the lines of turns, the first of which has this number.
+fn write_turns<K: Sink>(
+    sink: &mut K,
+    line: &mut String,
+    table: &JobTable,
+    first: u64,
+    turns: &[Turn],
+) -> Result<(), ReportFault>
+    requires told { All (CanBeTold table.now) turns.now }
+    requires numbers { first + length turns.now < 2 ^ 64 }
+    ensures { Writes (K.seen sink.old) (K.seen sink.new) result
+        (text_of_lines (map (turn_line table.now) (enumerate_from first turns.now))) }
+{
+    for (place, turn) in turns.iter().enumerate() {
+        write_turn(sink, line, table, first + place as u64, *turn)?;
+    }
+    Ok(())
+}
+
+// Where the part of a place ends.
+fn part_end(starts: &[u64], turns: usize, place: usize) -> usize
+    requires starts { AreStarts turns starts.now }
+    requires place { place < length starts.now }
+    ensures is { result ≡ end_of starts.now turns place }
+    ensures behind { get_or starts.now place 0 ≤ result }
+    ensures within { result ≤ turns }
+{
+    match starts.get(place + 1) {
+        Some(next) => *next as usize,
+        None => turns,
+    }
+}
+
+// Writes the lines of the part of a place.
+fn write_part<K: Sink>(
+    sink: &mut K,
+    line: &mut String,
+    table: &JobTable,
+    turns: &[Turn],
+    starts: &[u64],
+    place: usize,
+) -> Result<(), ReportFault>
+    requires told { All (CanBeTold table.now) turns.now }
+    requires starts { AreStarts (length turns.now) starts.now }
+    requires place { place < length starts.now }
+    ensures { Writes (K.seen sink.old) (K.seen sink.new) result (text_of_lines (part_lines table.now turns.now starts.now place)) }
+{
+    let first = starts[place];
+    let end = part_end(starts, turns.len(), place);
+    put_head(line, starts.len(), place)?;
+    write_line(sink, line)?;
+    write_turns(sink, line, table, first, &turns[first as usize..end])
+}
+
+// Writes the lines of all parts.
+fn write_parts<K: Sink>(
+    sink: &mut K,
+    line: &mut String,
+    table: &JobTable,
+    turns: &[Turn],
+    starts: &[u64],
+) -> Result<(), ReportFault>
+    requires told { All (CanBeTold table.now) turns.now }
+    requires starts { AreStarts (length turns.now) starts.now }
+    ensures { Writes (K.seen sink.old) (K.seen sink.new) result
+        (flat_map (λ place. text_of_lines (part_lines table.now turns.now starts.now place)) (range_with_len 0 (length starts.now))) }
+{
+    for place in 0..starts.len() {
+        write_part(sink, line, table, turns, starts, place)?;
+    }
+    Ok(())
+}
+
+/// Writes the journal of a book of at most seven replicas, each line by one write. The parts of its script begin at these
+/// numbers of turns: that of each command, and last that of the walk behind them.
+///
+/// # Errors
+///
+/// `WriteFault` only where a write failed, and `OutOfMemory`. Some front of the journal may be written then.
+pub fn write_journal<K: Sink>(
+    alloc: Global,
+    sink: &mut K,
+    table: &JobTable,
+    book: &Book,
+    starts: &[u64],
+) -> Result<(), ReportFault>
+    requires sound { IsSound table.now }
+    requires few { book.now.members ≤ 7 }
+    requires legal { IsLegalBook table.now book.now }
+    requires starts { AreStarts (length book.now.turns) starts.now }
+    ensures { Writes (K.seen sink.old) (K.seen sink.new) result (journal_text table.now book.now.turns starts.now) }
+{
+    let mut line = String::new(alloc);
+    write_text(sink, &mut line, "cron journal 1")?;
+    write_parts(sink, &mut line, table, book.turns(), starts)?;
+    write_text(sink, &mut line, "end")
+}

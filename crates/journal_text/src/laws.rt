@@ -1,0 +1,53 @@
+//! Laws of journals and summaries. Each is the contract of a function that does nothing.
+ghost use Rattle.std.specs.Prelude.{◌≡◌, ◌+◌, ℕ, List, None, length};
+ghost use Rattle.std.specs.List.{enumerate_from, flat_map, range_with_len};
+ghost use Rattle.due_set.specs.Table.{Table};
+ghost use Rattle.cluster_sched.specs.declared.row.SchedRow.{SchedRow};
+ghost use Rattle.paxos_base.specs.declared.entry.Kind.TheVariants.{Launch, Void};
+ghost use Rattle.script_text.specs.declared.command.Command.{Command};
+ghost use Rattle.book_law.specs.Book.{Row};
+ghost use Rattle.book_law.specs.declared.turn.Turn.{Turn};
+ghost use Rattle.script_law.specs.Script.{Obeys};
+ghost use Rattle.world_law.specs.Book.{BookState, StandsBehind};
+ghost use Rattle.journal_text.specs.Journal.{journal_text, part_turns};
+ghost use Rattle.journal_text.specs.Starts.{AreStarts, BeginAt, IsBookJournal};
+ghost use Rattle.journal_text.specs.Summary.{IsBookSummary, summary_text, total_of};
+
+/// The turns of a journal's parts, one after another, are all turns, each once, in order and by its number.
+pub fn a_journal_has_each_turn_once()
+    ensures { (turns : List Turn) (starts : List ℕ) → AreStarts (length turns) starts
+        → flat_map (part_turns turns starts) (range_with_len 0 (length starts)) ≡ enumerate_from 0 turns }
+{}
+
+/// Where turns obey a script, there is one list of numbers at which its parts begin. The first is 0, none lies before the one in front
+/// of it, and none behind the last turn.
+pub fn a_script_begins_its_parts_once()
+    ensures there { (members : ℕ) (table : Table) (script : List Command) (rows : List Row) → Obeys members table script rows
+        → (starts : List ℕ) × BeginAt members table script rows starts }
+    ensures one { (members : ℕ) (table : Table) (script : List Command) (rows : List Row) (a b : List ℕ)
+        → BeginAt members table script rows a → BeginAt members table script rows b → a ≡ b }
+    ensures starts { (members : ℕ) (table : Table) (script : List Command) (rows : List Row) (starts : List ℕ)
+        → BeginAt members table script rows starts → AreStarts (length rows) starts }
+{}
+
+/// A book whose turns obey a script has one journal, whichever rows stand behind it: the text of its turns, with the parts where the
+/// script's begin.
+pub fn a_book_has_one_journal()
+    ensures there { (table : Table) (script : List Command) (book : BookState) (rows : List Row) → StandsBehind table rows book
+        → Obeys book.members table script rows → (text : List ℕ) × IsBookJournal table script book text }
+    ensures one { (table : Table) (script : List Command) (book : BookState) (a b : List ℕ) → IsBookJournal table script book a
+        → IsBookJournal table script book b → a ≡ b }
+    ensures starts { (table : Table) (script : List Command) (book : BookState) (rows : List Row) (starts : List ℕ)
+        → StandsBehind table rows book → BeginAt book.members table script rows starts
+        → AreStarts (length book.turns) starts × IsBookJournal table script book (journal_text table book.turns starts) }
+{}
+
+/// A book has one summary, whichever rows stand behind it. Its counts are of all that the scheduler holds after the turns: together
+/// they are as many as there are rows; and where no call is pending, that is what the book's ledger holds.
+pub fn a_summary_counts_all_that_is_held()
+    ensures one { (table : Table) (seed : ℕ) (book : BookState) (a b : List ℕ) → IsBookSummary table seed book a → IsBookSummary table seed book b
+        → a ≡ b }
+    ensures all { (rows : List SchedRow) → total_of rows Launch + total_of rows Void ≡ length rows }
+    ensures ledger { (table : Table) (seed : ℕ) (book : BookState) (text : List ℕ) → book.pending ≡ None → IsBookSummary table seed book text
+        → text ≡ summary_text table seed book.ledger.held }
+{}
