@@ -1,14 +1,28 @@
-//! A run file, the world that has played its run, and the report of its book.
-ghost use Rattle.std.specs.Prelude.{◌<◌, ◌^◌, IfOk, length};
+//! The run of a file, the world that has played it, and the texts of its book.
+ghost use Rattle.std.specs.Prelude.{◌≡◌, ◌<◌, ◌≤◌, ◌^◌, All, IfOk, IsTrue, None, length};
+ghost use Rattle.due_set.specs.Table.{IsSound};
+ghost use Rattle.journal_text.specs.Starts.{AreStarts};
+ghost use Rattle.world_law.specs.Book.{IsLegalBook};
 
 use cron_io::MemSink;
+use due_set::JobTable;
 use job_table::build_table;
-use report_text::write_book_report;
+use journal_text::{write_journal, write_summary};
+use report_text::{ReportFault, write_book_report};
 use run_text::read_run;
 use std::alloc::Global;
 use std::test::Fail;
 use std::thread::Threads;
+use world_law::Book;
 use world_play::play_run;
+
+// A run that was played: the table of its jobs, its number of replicas, and the book that it left.
+#[derive(Drop)]
+struct Played {
+    table: JobTable,
+    members: u8,
+    book: Book,
+}
 
 // The text, which is short enough to be read.
 fn short(text: &str) -> Result<&str, Fail>
@@ -21,6 +35,32 @@ fn short(text: &str) -> Result<&str, Fail>
     }
 }
 
+// Plays the run of a file in a world of its replicas, rounds in so many lanes.
+fn play<R: Threads + Sync>(rt: &R, alloc: Global, text: &str, lanes: u8) -> Result<Played, Fail>
+    requires lanes { 0 < lanes }
+    ensures few { IfOk result (λ played. played.members ≤ 7) }
+    ensures members { IfOk result (λ played. played.book.members ≡ played.members) }
+    ensures legal { IfOk result (λ played. IsLegalBook played.table played.book) }
+    ensures rest { IfOk result (λ played. played.book.pending ≡ None) }
+{
+    let Ok(run) = read_run(alloc, short(text)?) else {
+        return Err(Fail::from("no run"));
+    };
+    let Ok(table) = build_table(alloc, &run) else {
+        return Err(Fail::from("no table"));
+    };
+    let commands = run.commands.as_slice();
+    let Ok(world) = play_run(rt, alloc, &table, run.members, commands, lanes) else {
+        return Err(Fail::from("no world"));
+    };
+    let (book, _nodes) = world.into_book();
+    Ok(Played {
+        table,
+        members: run.members,
+        book,
+    })
+}
+
 /// The report of the world that has played the run of a file, rounds in so many lanes.
 pub fn report_of<R: Threads + Sync>(
     rt: &R,
@@ -30,29 +70,71 @@ pub fn report_of<R: Threads + Sync>(
 ) -> Result<String, Fail>
     requires lanes { 0 < lanes }
 {
-    let Ok(run) = read_run(alloc, short(text)?) else {
-        return Err(Fail::from("no run"));
-    };
-    let Ok(table) = build_table(alloc, &run) else {
-        return Err(Fail::from("no table"));
-    };
-    let Ok(world) = play_run(
-        rt,
-        alloc,
-        &table,
-        run.members,
-        run.commands.as_slice(),
-        lanes,
-    ) else {
-        return Err(Fail::from("no world"));
-    };
+    let played = play(rt, alloc, text, lanes)?;
     let mut sink = MemSink::new(alloc, 100_000, Vec::new(alloc))?;
-    let written = write_book_report(alloc, &mut sink, &table, run.members, world.book());
-    if written.is_err() {
+    let Played {
+        table,
+        members,
+        book,
+    } = &played;
+    if write_book_report(alloc, &mut sink, table, *members, book).is_err() {
         return Err(Fail::from("no report"));
     }
-    let Ok(report) = std::str::from_utf8(sink.bytes()) else {
-        return Err(Fail::from("no text"));
-    };
+    let report = std::str::from_utf8(sink.bytes())?;
     Ok(String::from_str(alloc, report)?)
+}
+
+// Whether the window of the table is a day at most; a longer run takes too much time.
+fn is_short(table: &JobTable) -> bool
+    ensures { IsSound table.now }
+{
+    let window = table.window();
+    window.until.0 <= window.from.0 + 1440
+}
+
+// Whether none of the numbers lies behind so many turns.
+fn are_within(turns: usize, starts: &[u64]) -> bool
+    ensures { IsTrue result → All (λ start. start ≤ turns) starts.now }
+{
+    starts.iter().all(|start| *start <= turns as u64)
+}
+
+// Whether parts may begin at these of so many turns.
+fn may_begin(turns: usize, starts: &[u64]) -> bool
+    ensures { IsTrue result → AreStarts turns starts.now }
+{
+    if starts.is_empty() || starts[0] != 0 || !starts.is_sorted() {
+        return false;
+    }
+    are_within(turns, starts)
+}
+
+/// Plays the run of a file, and writes the journal of the world's book, whose parts begin at these numbers of turns.
+pub fn write_journal_of<R: Threads + Sync>(
+    rt: &R,
+    alloc: Global,
+    text: &str,
+    starts: &[u64],
+    sink: &mut MemSink,
+) -> Result<Result<(), ReportFault>, Fail> {
+    let played = play(rt, alloc, text, 1)?;
+    if !is_short(&played.table) {
+        return Err(Fail::from("a long window"));
+    }
+    if !may_begin(played.book.turns().len(), starts) {
+        return Err(Fail::from("no parts"));
+    }
+    Ok(write_journal(alloc, sink, &played.table, &played.book, starts))
+}
+
+/// Plays the run of a file, and writes the summary of the world's book, as if the run were made from a seed.
+pub fn write_summary_of<R: Threads + Sync>(
+    rt: &R,
+    alloc: Global,
+    text: &str,
+    seed: u32,
+    sink: &mut MemSink,
+) -> Result<Result<(), ReportFault>, Fail> {
+    let played = play(rt, alloc, text, 1)?;
+    Ok(write_summary(alloc, sink, &played.table, &played.book, seed))
 }
