@@ -1,15 +1,20 @@
 -- The lines of parts, and the turns that they tell.
-use Rattle.std.proofs.Common.{◌≡◌, ◌⊎◌, inl, inr, ◌<◌, ◌≤◌, ◌+◌, ◌-◌, ℕ, zero, suc, List, [], ◌∷◌, ◌++◌, length, map, take, drop, get_or, append-nil, arith, refl, sym, ap, ◌∙◌}
-use Rattle.std.specs.Prelude.{codes, flat_map}
+use Rattle.std.proofs.Common.{◌≡◌, ◌⊎◌, inl, inr, ◌<◌, ◌≤◌, ◌+◌, ◌-◌, ℕ, zero, suc, List, [], ◌∷◌, ◌++◌, length, map, take, drop, get_or, append-nil, append_assoc, length-append, arith, refl, sym, subst, ap, ◌∙◌, Result, Ok, Err}
+use Rattle.std.specs.Prelude.{codes, flat_map, All, IsErrAnd}
 use Rattle.std.specs.List.{enumerate_from, range_with_len}
 use Rattle.std.proofs.Math.ListN.{get_or-map}
-use Rattle.std.proofs.Math.Seq.{take-length}
+use Rattle.std.proofs.Math.Seq.{drop-append_seam, take-length}
 use Rattle.std.proofs.lemmas.Grind.{flat_map-append}
-use Rattle.std.proofs.lemmas.List.{drop-take, get_or_default, get_or_past, length-map, length-take-le, take-append-drop, take-take, take_all}
+use Rattle.std.proofs.lemmas.List.{drop-take, get_or_default, get_or_past, length-map, length-take-le, map-append, take-append-drop, take-take, take_all, take_more}
+use Rattle.std.proofs.lemmas.List.Elements.{All-drop}
 use Rattle.std.proofs.lemmas.List.FromFn.{get_or-enumerate_from, get_or-range_with_len, length-enumerate_from, length-range_with_len}
 use Rattle.due_set.specs.Table.{Table}
 use Rattle.book_law.specs.declared.turn.Turn.{Turn}
+use Rattle.cron_io.specs.Views.{SinkView}
 use Rattle.report_text.specs.Lines.{text_of_lines}
+use Rattle.report_text.specs.Writes.{HasWritten, Writes}
+use Rattle.report_text.specs.declared.fault.ReportFault.{ReportFault}
+use Rattle.report_text.proofs.WritingLemmas.{writes_exit, writes_on}
 use Rattle.journal_text.specs.Journal.{end_of, journal_text, numbered_turns, part_lines, part_turns, turn_line}
 use Rattle.journal_text.specs.Starts.{AreStarts}
 
@@ -36,6 +41,14 @@ lines_all table first turns i past =
     let lines : length (map (turn_line table) (enumerate_from first turns)) ≡ length (enumerate_from first turns) = length-map _ _ in
     let count = length-enumerate_from first turns in
     take_all i (map (turn_line table) (enumerate_from first turns)) (omega arith)
+
+-- what lines spell: those before a place, and the one there
+pub text_more : (lines : List (List ℕ)) (i : ℕ) (line : List ℕ) → i < length lines → line ≡ get_or lines i line
+    → text_of_lines (take (i + 1) lines) ≡ text_of_lines (take i lines) ++ (line ++ 10 ∷ [])
+text_more lines i line lt is =
+    ap text_of_lines (take_more lines i line lt ∙ ap (λ (l : List ℕ). take i lines ++ l ∷ []) (sym is))
+    ∙ flat_map-append (λ (l : List ℕ). l ++ 10 ∷ []) (take i lines) (line ∷ [])
+    ∙ ap (λ (l : List ℕ). text_of_lines (take i lines) ++ l) (append-nil (line ++ 10 ∷ []))
 
 -- ---- lines
 
@@ -160,3 +173,66 @@ all_parts turns starts are =
     let last : begin_of (length turns) starts (length starts) ≡ length turns = get_or_past starts (length starts) (length turns) (omega arith) in
     first_parts turns starts (length starts) are (omega arith)
     ∙ ap (λ n. enumerate_from 0 (take n turns)) last ∙ ap (enumerate_from 0) (take-length turns)
+
+-- ---- groups of turns
+
+-- the lines of turns, the first of which has this number
+abbrev pub lines_from : Table → (first : ℕ) → List Turn → List ℕ
+lines_from table first turns = text_of_lines (map (turn_line table) (enumerate_from first turns))
+
+-- the lines of turns, and then of others
+lines-append : (table : Table) (first : ℕ) (xs ys : List Turn) → lines_from table first (xs ++ ys) ≡ lines_from table first xs ++ lines_from table (first + length xs) ys
+lines-append table first xs ys =
+    ap (λ (l : List (ℕ × Turn)). text_of_lines (map (turn_line table) l)) (enumerate-append first xs ys)
+    ∙ ap text_of_lines (map-append (turn_line table) (enumerate_from first xs) (enumerate_from (first + length xs) ys))
+    ∙ flat_map-append (λ (line : List ℕ). line ++ 10 ∷ []) (map (turn_line table) (enumerate_from first xs)) (map (turn_line table) (enumerate_from (first + length xs) ys))
+
+-- some turns were told, the first of them by that number; these are left, whose first has this one
+pub record IsTelling (table : Table) (old new : SinkView) (first : ℕ) (turns : List Turn) (next : ℕ) (rest : List Turn) : Type 0 where
+  pub done : List Turn
+  pub split : turns ≡ done ++ rest
+  pub number : next ≡ first + length done
+  pub written : HasWritten old new (lines_from table first done)
+
+-- a group of those that are left was told
+pub telling_more : (table : Table) (old new newer : SinkView) (first : ℕ) (turns : List Turn) (next : ℕ) (group others : List Turn)
+    → IsTelling table old new first turns next (group ++ others) → HasWritten new newer (lines_from table next group)
+    → IsTelling table old newer first turns (next + length group) others
+telling_more table old new newer first turns next group others before w =
+    let size = length-append before.done group in
+    record {
+      done = before.done ++ group;
+      split = before.split ∙ sym (append_assoc before.done group others);
+      number = let number = before.number in omega arith;
+      written = subst (HasWritten old newer) (sym (lines-append table first before.done group))
+          (writes_on old new newer tt (Ok tt) (lines_from table first before.done) (lines_from table (first + length before.done) group) before.written
+          (subst (λ n. HasWritten new newer (lines_from table n group)) before.number w));
+    }
+
+-- a group of those that are left wasn't told whole
+pub telling_exit : {S T : Type 0} (table : Table) (old new newer : SinkView) (first : ℕ) (turns : List Turn) (next : ℕ) (group others : List Turn)
+    (fault : ReportFault) (result : Result T ReportFault) → IsTelling table old new first turns next (group ++ others) → IsErrAnd result (λ e. e ≡ fault)
+    → (let failed : Result S ReportFault = Err fault in Writes new newer failed (lines_from table next group)) → Writes old newer result (lines_from table first turns)
+telling_exit {S} {T} table old new newer first turns next group others fault result before is w =
+    let told = lines_from table first before.done in
+    let here = lines_from table next group in
+    let left = lines_from table (next + length group) others in
+    let rest : lines_from table (first + length before.done) (group ++ others) ≡ here ++ left =
+    ap (λ n. lines_from table n (group ++ others)) (sym before.number) ∙ lines-append table next group others in
+    let whole : told ++ (here ++ left) ≡ lines_from table first turns =
+    ap (λ (l : List ℕ). told ++ l) (sym rest) ∙ sym (lines-append table first before.done (group ++ others)) ∙ ap (lines_from table first) (sym before.split) in
+    subst (Writes old newer result) whole
+    (writes_on old new newer tt result told (here ++ left) before.written (writes_exit {S = S} {T = T} new newer fault result here left is w))
+
+-- of those that are left what holds of all holds
+pub telling_left : (table : Table) (old new : SinkView) (first : ℕ) (turns : List Turn) (next : ℕ) (rest : List Turn) (P : Turn → Type 0)
+    → IsTelling table old new first turns next rest → All P turns → All P rest
+telling_left table old new first turns next rest P telling all =
+    subst (All P) (ap (drop (length telling.done)) telling.split ∙ drop-append_seam telling.done rest) (All-drop P (length telling.done) turns all)
+
+-- all are told
+pub telling_all : (table : Table) (old new : SinkView) (first : ℕ) (turns : List Turn) (next : ℕ) (rest : List Turn)
+    → IsTelling table old new first turns next rest → rest ≡ [] → HasWritten old new (lines_from table first turns)
+telling_all table old new first turns next rest telling none =
+    let all : telling.done ≡ turns = sym (telling.split ∙ ap (λ (l : List Turn). telling.done ++ l) none ∙ append-nil telling.done) in
+    subst (λ (l : List Turn). HasWritten old new (lines_from table first l)) all telling.written

@@ -9,14 +9,17 @@ ghost use Rattle.journal_text.specs.Starts.{AreStarts};
 ghost use Rattle.journal_text.specs.Told.{CanBeTold};
 ghost use Rattle.world_law.specs.Book.{IsLegalBook};
 
-use crate::words::put_turn;
+use crate::words::push_line;
 use book_law::Turn;
-use cron_io::{OutOfMemory, Sink};
+use cron_io::{OutOfMemory, Sink, write_all};
 use due_set::JobTable;
 use report_text::{ReportFault, write_line, write_text};
 use std::alloc::Global;
 use std::fmt::Write;
 use world_law::Book;
+
+// How many turns one write tells at most: some ten kilobytes, since a write of each line would take longer than its making.
+const GROUP: usize = 256;
 
 fn put_head(line: &mut String, parts: usize, place: usize) -> Result<(), OutOfMemory>
     requires { place < parts }
@@ -33,25 +36,28 @@ fn put_head(line: &mut String, parts: usize, place: usize) -> Result<(), OutOfMe
     Ok(())
 }
 
-// Writes the line of a turn.
-fn write_turn<K: Sink>(
-    sink: &mut K,
-    line: &mut String,
+// Makes the text that of the lines of turns, the first of which has this number.
+fn put_turns(
+    text: &mut String,
     table: &JobTable,
-    number: u64,
-    turn: Turn,
-) -> Result<(), ReportFault>
-    requires { CanBeTold table.now turn }
-    ensures { Writes (K.seen sink.old) (K.seen sink.new) result (turn_line table.now (number, turn) ++ 10 ∷ []) }
+    first: u64,
+    turns: &[Turn],
+) -> Result<(), OutOfMemory>
+    requires told { All (CanBeTold table.now) turns.now }
+    requires numbers { first + length turns.now < 2 ^ 64 }
+    ensures { OnOk result (string_bytes text.new ≡ text_of_lines (map (turn_line table.now) (enumerate_from first turns.now))) }
 {
-    put_turn(line, table, number, turn)?;
-    write_line(sink, line)
+    text.clear();
+    for (place, turn) in turns.iter().enumerate() {
+        push_line(text, table, first + place as u64, *turn)?;
+    }
+    Ok(())
 }
 
-// Writes the lines of turns, the first of which has this number.
-fn write_turns<K: Sink>(
+// Writes the lines of turns at once, the first of which has this number.
+fn write_group<K: Sink>(
     sink: &mut K,
-    line: &mut String,
+    text: &mut String,
     table: &JobTable,
     first: u64,
     turns: &[Turn],
@@ -61,8 +67,31 @@ fn write_turns<K: Sink>(
     ensures { Writes (K.seen sink.old) (K.seen sink.new) result
         (text_of_lines (map (turn_line table.now) (enumerate_from first turns.now))) }
 {
-    for (place, turn) in turns.iter().enumerate() {
-        write_turn(sink, line, table, first + place as u64, *turn)?;
+    put_turns(text, table, first, turns)?;
+    write_all(sink, text.as_bytes())?;
+    Ok(())
+}
+
+// Writes the lines of turns, the first of which has this number.
+fn write_turns<K: Sink>(
+    sink: &mut K,
+    text: &mut String,
+    table: &JobTable,
+    first: u64,
+    turns: &[Turn],
+) -> Result<(), ReportFault>
+    requires told { All (CanBeTold table.now) turns.now }
+    requires numbers { first + length turns.now < 2 ^ 64 }
+    ensures { Writes (K.seen sink.old) (K.seen sink.new) result
+        (text_of_lines (map (turn_line table.now) (enumerate_from first turns.now))) }
+{
+    let mut next = first;
+    let mut rest = turns;
+    'groups: while !rest.is_empty() {
+        let (group, others) = rest.split_at(rest.len().min(GROUP));
+        write_group(sink, text, table, next, group)?;
+        next += group.len() as u64;
+        rest = others;
     }
     Ok(())
 }
@@ -121,7 +150,7 @@ fn write_parts<K: Sink>(
     Ok(())
 }
 
-/// Writes the journal of a book of at most seven replicas, each line by one write. The parts of its script begin at these
+/// Writes the journal of a book of at most seven replicas, the turns of a part in writes of 256 lines. The parts of its script begin at these
 /// numbers of turns: that of each command, and last that of the walk behind them.
 ///
 /// # Errors

@@ -1,5 +1,5 @@
-//! What a line of the journal says of a turn.
-ghost use Rattle.std.specs.Prelude.{◌≡◌, ◌++◌, string_bytes, IfSome, OnOk};
+//! The line of the journal that tells a turn.
+ghost use Rattle.std.specs.Prelude.{◌≡◌, ◌++◌, ◌∷◌, [], string_bytes, IfSome, OnOk};
 ghost use Rattle.cluster_sched.specs.Names.{IsNameIn};
 ghost use Rattle.journal_text.specs.Journal.{answer_words, call_words, cause_words, end_word, fate_word, stop_words, turn_line, turn_words};
 ghost use Rattle.journal_text.specs.Told.{CanBeTold, HasStamp, IsAnsweredBy};
@@ -118,17 +118,18 @@ fn push_turn(line: &mut String, table: &JobTable, turn: Turn) -> Result<(), OutO
     }
 }
 
-/// Makes the line that of the turn of a number.
-pub fn put_turn(
-    line: &mut String,
+/// Appends the line of the turn of a number, and its newline.
+pub fn push_line(
+    lines: &mut String,
     table: &JobTable,
     number: u64,
     turn: Turn,
 ) -> Result<(), OutOfMemory>
     requires { CanBeTold table.now turn }
-    ensures { OnOk result (string_bytes line.new ≡ turn_line table.now (number, turn)) }
+    ensures { OnOk result (string_bytes lines.new ≡ string_bytes lines.old ++ (turn_line table.now (number, turn) ++ 10 ∷ [])) }
 {
-    line.clear();
-    write!(line, "{number} ")?;
-    push_turn(line, table, turn)
+    write!(lines, "{number} ")?;
+    push_turn(lines, table, turn)?;
+    lines.push('\n')?;
+    Ok(())
 }

@@ -1,45 +1,38 @@
-use Rattle.std.proofs.Common.{◌+◌, ◌++◌, ◌∷◌, [], ℕ, List, None, get_or, map, arith, subst}
-use Rattle.std.specs.List.{enumerate_from}
-use Rattle.std.proofs.lemmas.List.{get_or_default}
-use Rattle.book_law.specs.declared.turn.Cause.TheVariants.{Campaign}
+use Rattle.std.proofs.Common.{◌≡◌, ◌++◌, List, All, sym, ap, subst, ◌∙◌, ℕ, take, drop, take-append-drop, arith}
+use Rattle.std.proofs.lemmas.Grind.{common_steps}
+use Rattle.std.proofs.lemmas.List.Elements.{All-take}
 use Rattle.book_law.specs.declared.turn.Turn.{Turn}
-use Rattle.book_law.specs.declared.turn.Turn.TheVariants.{Did}
-use Rattle.report_text.specs.Lines.{text_of_lines}
-use Rattle.report_text.specs.Writes.{HasWritten}
-use Rattle.report_text.proofs.WritingLemmas.{writes_more, writes_some}
-use Rattle.journal_text.specs.Journal.{turn_line}
-use Rattle.journal_text.proofs.PartLemmas.{line_at, line_within, lines_all}
+use Rattle.journal_text.specs.Told.{CanBeTold}
+use Rattle.journal_text.proofs.PartLemmas.{IsTelling, telling_all, telling_exit, telling_left, telling_more}
 use Rattle.journal_text.proofs.journal.write_turns.Goals as goal
 
--- what a read past the end would give
-abbrev default_turn : Turn
-default_turn = Did 0 Campaign None
+-- a list by its two parts
+cut : (rest group others : List Turn) (middle : ℕ) → group ≡ take middle rest → others ≡ drop middle rest → rest ≡ group ++ others
+cut rest group others middle front back =
+    sym (ap (λ (l : List Turn). l ++ others) front ∙ ap (λ (l : List Turn). take middle rest ++ l) back ∙ take-append-drop middle rest)
 
-pub returns-in_err-write_turn : goal.returns-in_err-write_turn
-returns-in_err-write_turn g c =
-    let table = c.args.table.now in
-    let turns = c.args.turns.now in
-    let first = c.args.first in
-    let i = c.loop-place.place in
-    let turn = get_or turns i default_turn in
-    let lt = c.loop-place-test.true in
-    let is = line_at table first turns i turn lt (get_or_default turns i default_turn turn lt) in
-    writes_some (λ (line : List ℕ). line ++ 10 ∷ []) (map (turn_line table) (enumerate_from first turns)) i (turn_line table (first + i, turn)) _ _ _ _ _
-    (line_within table first turns i lt) is c.loop-place.invariant c.from_residual.ensures.1 c.in_err-write_turn.ensures
+pub write_group-requires-clause-told : goal.write_group-requires-clause-told
+write_group-requires-clause-told g c =
+    let left = telling_left _ _ _ _ _ _ _ (CanBeTold c.args.table.now) c.groups.invariant c.requires.told in
+    subst (All (CanBeTold c.args.table.now)) (sym c.split_at.ensures.front) (All-take (CanBeTold c.args.table.now) c.min.result c.groups.rest.now left)
 
-pub loop-place-preserved : goal.loop-place-preserved
-loop-place-preserved g c =
-    let table = c.args.table.now in
-    let turns = c.args.turns.now in
-    let first = c.args.first in
-    let i = c.loop-place.place in
-    let turn = get_or turns i default_turn in
-    let lt = c.loop-place-test.true in
-    let is = line_at table first turns i turn lt (get_or_default turns i default_turn turn lt) in
-    writes_more (λ (line : List ℕ). line ++ 10 ∷ []) (map (turn_line table) (enumerate_from first turns)) i (turn_line table (first + i, turn)) _ _ _
-    (line_within table first turns i lt) is c.loop-place.invariant c.in_ok-write_turn.ensures
+pub returns-in_err-write_group : goal.returns-in_err-write_group
+returns-in_err-write_group g c =
+    let group = c.split_at.result.0.now in
+    let others = c.split_at.result.1.now in
+    let parts : c.groups.rest.now ≡ group ++ others = cut c.groups.rest.now group others c.min.result c.split_at.ensures.front c.split_at.ensures.back in
+    telling_exit c.args.table.now _ (g.K.Sink.seen c.groups.sink) _ c.args.first c.args.turns.now c.groups.next group others _ _
+    (subst (λ (left : List Turn). IsTelling c.args.table.now (g.K.Sink.seen c.args.sink.now) (g.K.Sink.seen c.groups.sink) c.args.first c.args.turns.now c.groups.next left) parts c.groups.invariant)
+    c.from_residual.ensures.1 c.in_err-write_group.ensures
+
+pub groups-preserved : goal.groups-preserved
+groups-preserved g c =
+    let group = c.split_at.result.0.now in
+    let others = c.split_at.result.1.now in
+    let parts : c.groups.rest.now ≡ group ++ others = cut c.groups.rest.now group others c.min.result c.split_at.ensures.front c.split_at.ensures.back in
+    telling_more c.args.table.now _ (g.K.Sink.seen c.groups.sink) _ c.args.first c.args.turns.now c.groups.next group others
+    (subst (λ (left : List Turn). IsTelling c.args.table.now (g.K.Sink.seen c.args.sink.now) (g.K.Sink.seen c.groups.sink) c.args.first c.args.turns.now c.groups.next left) parts c.groups.invariant)
+    c.in_ok-write_group.ensures
 
 pub returns : goal.returns
-returns g c =
-    subst (λ lines. HasWritten (g.K.Sink.seen c.args.sink.now) (g.K.Sink.seen c.loop-place.sink) (text_of_lines lines))
-    (lines_all c.args.table.now c.args.first c.args.turns.now c.loop-place.place (omega (arith, c.loop-place-test.false))) c.loop-place.invariant
+returns g c = telling_all _ _ _ _ _ _ _ c.groups.invariant (grind (arith, common_steps))

@@ -1,12 +1,9 @@
-use Rattle.std.proofs.Common.{map, take}
-use Rattle.std.specs.List.{enumerate_from}
-use Rattle.report_text.specs.Lines.{text_of_lines}
-use Rattle.report_text.specs.Writes.{HasWritten}
-use Rattle.journal_text.specs.Journal.{turn_line}
+use Rattle.std.proofs.Common.{length}
+use Rattle.journal_text.proofs.PartLemmas.{IsTelling}
 use Rattle.journal_text.proofs.journal.write_turns.Given as goal
 
-abbrev pub invariant-loop-place : goal.invariant-loop-place
-invariant-loop-place g l =
-    let seen = g.K.Sink.seen in
-    HasWritten (seen l.fn.sink) (seen l.sink)
-    (text_of_lines (take l.place (map (turn_line l.table) (enumerate_from l.first l.turns))))
+abbrev pub invariant-groups : goal.invariant-groups
+invariant-groups g l = IsTelling l.table (g.K.Sink.seen l.fn.sink) (g.K.Sink.seen l.sink) l.first l.turns l.next l.rest
+
+abbrev pub decreases-groups : goal.decreases-groups
+decreases-groups g l = length l.rest
