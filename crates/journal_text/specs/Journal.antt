@@ -93,4 +93,6 @@ part_lines table turns starts place = part_head (length starts) place ∷ map (t
 -- **The journal of some turns**, whose parts begin at these numbers
 abbrev pub journal_text : Table → List Turn → List ℕ → List ℕ
 journal_text table turns starts =
-    text_of_lines (codes "cron journal 1" ∷ (flat_map (part_lines table turns starts) (range_with_len 0 (length starts)) ++ codes "end" ∷ []))
+    text_of_lines (
+    codes "cron journal 1" ∷ (flat_map (part_lines table turns starts) (range_with_len 0 (length starts)) ++ codes "end" ∷ [])
+    )

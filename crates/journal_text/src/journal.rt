@@ -122,7 +122,8 @@ fn write_part<K: Sink>(
     requires told { All (CanBeTold table.now) turns.now }
     requires starts { AreStarts (length turns.now) starts.now }
     requires place { place < length starts.now }
-    ensures { Writes (K.seen sink.old) (K.seen sink.new) result (text_of_lines (part_lines table.now turns.now starts.now place)) }
+    ensures { Writes (K.seen sink.old) (K.seen sink.new) result
+        (text_of_lines (part_lines table.now turns.now starts.now place)) }
 {
     let first = starts[place];
     let end = part_end(starts, turns.len(), place);
@@ -142,7 +143,8 @@ fn write_parts<K: Sink>(
     requires told { All (CanBeTold table.now) turns.now }
     requires starts { AreStarts (length turns.now) starts.now }
     ensures { Writes (K.seen sink.old) (K.seen sink.new) result
-        (flat_map (λ place. text_of_lines (part_lines table.now turns.now starts.now place)) (range_with_len 0 (length starts.now))) }
+        (flat_map (λ place. text_of_lines (part_lines table.now turns.now starts.now place))
+        (range_with_len 0 (length starts.now))) }
 {
     for place in 0..starts.len() {
         write_part(sink, line, table, turns, starts, place)?;

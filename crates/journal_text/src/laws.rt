@@ -19,8 +19,8 @@ pub fn a_journal_has_each_turn_once()
         → flat_map (part_turns turns starts) (range_with_len 0 (length starts)) ≡ enumerate_from 0 turns }
 {}
 
-/// Where turns obey a script, there is one list of numbers at which its parts begin. The first is 0, none lies before the one in front
-/// of it, and none behind the last turn.
+/// Where turns obey a script, there is one list of numbers at which its parts begin. The first is 0, none lies before the
+/// one in front of it, and none behind the last turn.
 pub fn a_script_begins_its_parts_once()
     ensures there { (members : ℕ) (table : Table) (script : List Command) (rows : List Row) → Obeys members table script rows
         → (starts : List ℕ) × BeginAt members table script rows starts }
@@ -30,8 +30,8 @@ pub fn a_script_begins_its_parts_once()
         → BeginAt members table script rows starts → AreStarts (length rows) starts }
 {}
 
-/// A book whose turns obey a script has one journal, whichever rows stand behind it: the text of its turns, with the parts where the
-/// script's begin.
+/// A book whose turns obey a script has one journal, whichever rows stand behind it: the text of its turns, with the parts
+/// where the script's begin.
 pub fn a_book_has_one_journal()
     ensures there { (table : Table) (script : List Command) (book : BookState) (rows : List Row) → StandsBehind table rows book
         → Obeys book.members table script rows → (text : List ℕ) × IsBookJournal table script book text }
@@ -42,12 +42,12 @@ pub fn a_book_has_one_journal()
         → AreStarts (length book.turns) starts × IsBookJournal table script book (journal_text table book.turns starts) }
 {}
 
-/// A book has one summary, whichever rows stand behind it. Its counts are of all that the scheduler holds after the turns: together
-/// they are as many as there are rows; and where no call is pending, that is what the book's ledger holds.
+/// A book has one summary, whichever rows stand behind it. Its counts are of all that the scheduler holds after the turns:
+/// together they are as many as there are rows; and where no call is pending, that is what the book's ledger holds.
 pub fn a_summary_counts_all_that_is_held()
-    ensures one { (table : Table) (seed : ℕ) (book : BookState) (a b : List ℕ) → IsBookSummary table seed book a → IsBookSummary table seed book b
-        → a ≡ b }
+    ensures one { (table : Table) (seed : ℕ) (book : BookState) (a b : List ℕ) → IsBookSummary table seed book a
+        → IsBookSummary table seed book b → a ≡ b }
     ensures all { (rows : List SchedRow) → total_of rows Launch + total_of rows Void ≡ length rows }
-    ensures ledger { (table : Table) (seed : ℕ) (book : BookState) (text : List ℕ) → book.pending ≡ None → IsBookSummary table seed book text
-        → text ≡ summary_text table seed book.ledger.held }
+    ensures ledger { (table : Table) (seed : ℕ) (book : BookState) (text : List ℕ) → book.pending ≡ None
+        → IsBookSummary table seed book text → text ≡ summary_text table seed book.ledger.held }
 {}

@@ -48,7 +48,8 @@ pub fn write_summary<K: Sink>(
 ) -> Result<(), ReportFault>
     requires legal { IsLegalBook table.now book.now }
     requires rest { book.now.pending ≡ None }
-    ensures { (text : List ℕ) × IsBookSummary table.now seed book.now text × Writes (K.seen sink.old) (K.seen sink.new) result text }
+    ensures { (text : List ℕ) × IsBookSummary table.now seed book.now text
+        × Writes (K.seen sink.old) (K.seen sink.new) result text }
 {
     let held = book.ledger().held();
     let mut line = String::new(alloc);
