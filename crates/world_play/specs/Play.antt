@@ -10,7 +10,7 @@ use Rattle.round_law.specs.Rounds.{IsWithinBounds}
 use Rattle.script_law.specs.Script.{ArePartsOf, Obeys}
 use Rattle.script_law.specs.Situation.{Situation, first_situation}
 use Rattle.world_law.specs.Book.{BookState}
-use Rattle.world_rounds.specs.Nodes.{AreNodesOf}
+use Rattle.world_parts.specs.Nodes.{AreNodesOf}
 use Rattle.world_rounds.specs.Start.{IsFreshDisk}
 use Rattle.world_rounds.specs.World.{IsWorldAt, book_of}
 use Rattle.world_rounds.specs.declared.world.World.{World}

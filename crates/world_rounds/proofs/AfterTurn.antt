@@ -24,9 +24,11 @@ use Rattle.replica_node.specs.Node.{replica_of}
 use Rattle.script_law.specs.Situation.{Situation, after_turn, fates_after, mails_after}
 use Rattle.world_law.specs.Book.{BookState, standing_behind}
 use Rattle.world_law.specs.declared.letter.LetterRow.{LetterRow}
-use Rattle.world_rounds.specs.Steps.{IsNodeAhead, IsSentTo, IsToldOf, TookSteps, causes_of, waits_in}
+use Rattle.world_parts.specs.Parts.{IsSentTo}
+use Rattle.world_rounds.specs.Steps.{IsNodeAhead, IsToldOf, TookSteps, causes_of, waits_in}
 use Rattle.world_rounds.specs.Turns.{HasJoinedAt, HasLetters, IsNextStep}
-use Rattle.world_rounds.specs.World.{IsBookAt, IsMemberAhead, fate_then, heard_for, heard_in, noted}
+use Rattle.world_parts.specs.Parts.{IsBookAt}
+use Rattle.world_rounds.specs.World.{IsMemberAhead, fate_then, heard_for, heard_in, noted}
 use Rattle.world_rounds.specs.declared.member.Member.{Member}
 use Rattle.world_rounds.specs.declared.steps.Taken.{Taken}
 use Rattle.replica_core.specs.declared.input.Input.{Input}

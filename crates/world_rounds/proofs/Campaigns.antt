@@ -22,7 +22,8 @@ use Rattle.world_rounds.specs.Mails.{Changes}
 use Rattle.world_rounds.specs.Rounds.{IsMemberIdle}
 use Rattle.world_rounds.specs.Steps.{IsBeside, WasToldOf, causes_of}
 use Rattle.world_rounds.specs.Taking.{CommitsOwn, HasTaken, IsAhead, MayCommitOwn, PutsDown, steps_at, steps_of, tasks_by}
-use Rattle.world_rounds.specs.World.{GoesOnBy, IsBookAt, IsMemberAhead, IsWorld, IsWorldAt, heard_in}
+use Rattle.world_parts.specs.Parts.{IsBookAt}
+use Rattle.world_rounds.specs.World.{GoesOnBy, IsMemberAhead, IsWorld, IsWorldAt, heard_in}
 use Rattle.world_rounds.specs.declared.member.Member.{Member}
 use Rattle.world_rounds.specs.declared.world.World.{World}
 

@@ -20,10 +20,11 @@ use Rattle.world_law.specs.declared.letter.LetterRow.{LetterRow}
 use Rattle.world_rounds.proofs.StepsAt.{cases_number}
 use Rattle.world_rounds.proofs.Worlds.{set_cases}
 use Rattle.world_rounds.specs.Mails.{Changes, arrival_of, arrived}
-use Rattle.world_rounds.specs.Steps.{IsSentTo}
+use Rattle.world_parts.specs.Parts.{IsSentTo}
 use Rattle.script_text.specs.Command.{IsSkew}
-use Rattle.world_rounds.specs.World.{IsMailOf, IsMemberAhead, IsWorld, IsWorldAt}
-use Rattle.world_rounds.specs.declared.member.Mail.{Mail}
+use Rattle.world_parts.specs.Parts.{IsMailOf}
+use Rattle.world_rounds.specs.World.{IsMemberAhead, IsWorld, IsWorldAt}
+use Rattle.world_parts.specs.declared.mail.MemberMail.{MemberMail}
 use Rattle.world_rounds.specs.declared.member.Member.{Member}
 use Rattle.world_rounds.specs.declared.world.World.{World}
 
@@ -87,7 +88,7 @@ module _ {D : Type 0} (seen : D → Image) (may_leave : D → Image → Type 0) 
       ]
 
   -- a mail with what has arrived
-  mail_more : (letters : List LetterRow) (situation : Situation) (number who : ℕ) (more : List ℕ) (old new : Mail) → IsMailOf letters situation who [] old → arrival_of situation number who ≡ more
+  mail_more : (letters : List LetterRow) (situation : Situation) (number who : ℕ) (more : List ℕ) (old new : MemberMail) → IsMailOf letters situation who [] old → arrival_of situation number who ≡ more
       → new.letters.items ≡ old.letters.items ++ more → new.runs ≡ old.runs → new.skew ≡ old.skew → new.fate ≡ old.fate → new.waits ≡ old.waits
       → ((number : ℕ) → Contains new.letters.items number → IsSentTo letters who number) → IsMailOf letters (arrived number situation) who [] new
   mail_more letters situation number who more old new mail arrives items runs skew fate waits sent = record {
@@ -100,7 +101,7 @@ module _ {D : Type 0} (seen : D → Image) (may_leave : D → Image → Type 0) 
     sent = sent;
   }
 
-  same_mail : (letters : List LetterRow) (situation : Situation) (number who : ℕ) (mail : Mail) → IsMailOf letters situation who [] mail → arrival_of situation number who ≡ []
+  same_mail : (letters : List LetterRow) (situation : Situation) (number who : ℕ) (mail : MemberMail) → IsMailOf letters situation who [] mail → arrival_of situation number who ≡ []
       → IsMailOf letters (arrived number situation) who [] mail
   same_mail letters situation number who mail is none =
       mail_more letters situation number who [] mail mail is none (sym (append_nil mail.letters.items)) refl refl refl refl is.sent
@@ -190,7 +191,7 @@ filter_next test [] x = elim (cases_Bool (test x)) [ inl is ↦ rw is refl | inr
 filter_next test (y ∷ xs) x = elim (cases_Bool (test y)) [ inl is ↦ rw is (ap (λ more. y ∷ more) (filter_next test xs x)) | inr isnt ↦ rw isnt (filter_next test xs x) ]
 
 module _ {D : Type 0} (seen : D → Image) (may_leave : D → Image → Type 0) (honest : D → Type 0) (told_of : D → Option Told) where
-  mail_like : (letters : List LetterRow) (situation : Situation) (mails : ℕ → List ℕ) (who : ℕ) (mail : Mail) → situation.mails who ≡ mails who → IsMailOf letters situation who [] mail
+  mail_like : (letters : List LetterRow) (situation : Situation) (mails : ℕ → List ℕ) (who : ℕ) (mail : MemberMail) → situation.mails who ≡ mails who → IsMailOf letters situation who [] mail
       → IsMailOf letters (record situation { mails = mails }) who [] mail
   mail_like letters situation mails who mail same is =
       record { runs = is.runs; letters_are = sym same ∙ is.letters_are; skew = is.skew; small = is.small; fate = is.fate; waits = is.waits; sent = is.sent }

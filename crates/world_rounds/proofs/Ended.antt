@@ -19,7 +19,8 @@ use Rattle.replica_store.specs.Files.{BodiesStand, FilesStand}
 use Rattle.replica_store.specs.Store.{area_of, records_of}
 use Rattle.script_law.specs.Situation.{Situation}
 use Rattle.world_law.specs.Book.{BookState, standing_behind}
-use Rattle.world_rounds.specs.Nodes.{AreNodesOf, IsNodeOf, nodes_of}
+use Rattle.world_parts.specs.Nodes.{AreNodesOf, IsNodeOf}
+use Rattle.world_rounds.specs.Nodes.{nodes_of}
 use Rattle.world_rounds.specs.Steps.{IsNodeAhead}
 use Rattle.world_rounds.specs.World.{IsMemberAhead, IsNodeStopped, IsWorldAt}
 use Rattle.world_rounds.specs.declared.member.Member.{Member}

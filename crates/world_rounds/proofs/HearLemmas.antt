@@ -16,7 +16,8 @@ use Rattle.book_law.specs.Book.{Row}
 use Rattle.book_law.specs.declared.turn.Cause.TheVariants.{Hear}
 use Rattle.replica_node.specs.declared.node.Node.{Node}
 use Rattle.world_law.specs.Book.{BookState}
-use Rattle.world_rounds.specs.Steps.{IsBeside, IsSentTo, MayHear, WasToldOf, causes_of, hear_causes}
+use Rattle.world_parts.specs.Parts.{IsSentTo}
+use Rattle.world_rounds.specs.Steps.{IsBeside, MayHear, WasToldOf, causes_of, hear_causes}
 use Rattle.world_rounds.specs.declared.steps.Taken.{Taken}
 
 -- so many of the letters are heard

@@ -26,4 +26,6 @@ pub mod WalkLemmas
 pub mod LoopLemmas
 pub mod LaneLemmas
 pub mod Ended
+pub mod Apart
+pub mod Together
 pub mod Limits

@@ -24,7 +24,7 @@ use Rattle.world_rounds.proofs.AfterTurn.{fact_here, leaves_other, member_stays}
 use Rattle.world_rounds.proofs.Halts.{goes_alone, has_same}
 use Rattle.world_rounds.proofs.Worlds.{set_cases}
 use Rattle.world_rounds.specs.Alone.{HasJoinedAlone, HasStartedAgain, IsAlone}
-use Rattle.world_rounds.specs.Steps.{IsSentTo}
+use Rattle.world_parts.specs.Parts.{IsSentTo}
 use Rattle.world_rounds.specs.World.{GoesOnBy, IsMemberAhead, IsNodeStopped, IsWorld, IsWorldAt}
 use Rattle.world_rounds.specs.declared.member.Member.{Member}
 use Rattle.world_rounds.specs.declared.world.World.{World}

@@ -25,7 +25,8 @@ use Rattle.world_rounds.specs.Mails.{Changes}
 use Rattle.world_rounds.specs.Rounds.{AllTakeRounds, CommitsAll, HasTakenRound, MayTakeRound, TakesRound, tasks_at_hand}
 use Rattle.world_rounds.specs.Steps.{causes_of}
 use Rattle.world_rounds.specs.Taking.{CommitsOwn, HasTaken, IsAhead, MayCommitOwn, PutsDown, steps_at, steps_of, tasks_by}
-use Rattle.world_rounds.specs.World.{GoesOnBy, IsBookAt, IsMemberAhead, IsWorld, IsWorldAt, book_of, none_taken}
+use Rattle.world_parts.specs.Parts.{IsBookAt}
+use Rattle.world_rounds.specs.World.{GoesOnBy, IsMemberAhead, IsWorld, IsWorldAt, book_of, none_taken}
 use Rattle.world_rounds.specs.declared.member.Member.{Member}
 use Rattle.world_rounds.specs.declared.world.World.{World}
 

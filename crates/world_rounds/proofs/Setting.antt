@@ -18,8 +18,9 @@ use Rattle.world_rounds.proofs.Delivery.{same_mails}
 use Rattle.world_rounds.proofs.Worlds.{set_cases}
 use Rattle.world_rounds.specs.Mails.{Changes}
 use Rattle.script_text.specs.Command.{IsSkew}
-use Rattle.world_rounds.specs.World.{GoesOnBy, IsMailOf, IsWorldAt}
-use Rattle.world_rounds.specs.declared.member.Mail.{Mail}
+use Rattle.world_parts.specs.Parts.{IsMailOf}
+use Rattle.world_rounds.specs.World.{GoesOnBy, IsWorldAt}
+use Rattle.world_parts.specs.declared.mail.MemberMail.{MemberMail}
 use Rattle.world_rounds.specs.declared.member.Member.{Member}
 use Rattle.world_rounds.specs.declared.world.World.{World}
 
@@ -35,7 +36,7 @@ pub cut_pushed : (from to : ℕ) (pairs others : List (ℕ × ℕ)) (pair : ℕ 
 cut_pushed from to pairs others pair same = cut_last from to pairs pair ∙ ap (λ rest. if eqb pair.0 from && eqb pair.1 to then true else rest) same
 
 -- what is set for another replica leaves a mail
-mail_as : (letters : List LetterRow) (one other : Situation) (who : ℕ) (mail : Mail) → other.standing ≡ one.standing → other.mails who ≡ one.mails who → other.skews who ≡ one.skews who
+mail_as : (letters : List LetterRow) (one other : Situation) (who : ℕ) (mail : MemberMail) → other.standing ≡ one.standing → other.mails who ≡ one.mails who → other.skews who ≡ one.skews who
     → other.fates who ≡ one.fates who → IsMailOf letters one who [] mail → IsMailOf letters other who [] mail
 mail_as letters one other who mail standing mails skews fates is = record {
   runs = is.runs ∙ ap (λ (s : Standing). s.runs who) (sym standing);

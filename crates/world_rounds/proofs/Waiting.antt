@@ -19,7 +19,7 @@ use Rattle.world_law.specs.declared.letter.LetterRow.{LetterRow}
 use Rattle.world_rounds.proofs.AfterTurn.{fact_here, fact_there}
 use Rattle.world_rounds.proofs.Setting.{member_set}
 use Rattle.world_rounds.specs.Mails.{Changes}
-use Rattle.world_rounds.specs.Steps.{IsSentTo}
+use Rattle.world_parts.specs.Parts.{IsSentTo}
 use Rattle.world_rounds.specs.World.{IsWorldAt}
 use Rattle.world_rounds.specs.declared.member.Member.{Member}
 use Rattle.world_rounds.specs.declared.world.World.{World}

@@ -6,6 +6,7 @@ pub mod Commands
 pub mod Drains
 pub mod Mails
 pub mod Nodes
+pub mod Parts
 pub mod Start
 pub mod Steps
 pub mod Taking

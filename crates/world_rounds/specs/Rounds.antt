@@ -10,7 +10,8 @@ use Rattle.script_law.specs.Situation.{Situation, Task}
 use Rattle.world_law.specs.Book.{BookState}
 use Rattle.world_rounds.specs.Steps.{causes_of}
 use Rattle.world_rounds.specs.Taking.{HasTaken, IsAhead, steps_at, tasks_by}
-use Rattle.world_rounds.specs.World.{IsBookAt, IsMemberAhead, book_of}
+use Rattle.world_parts.specs.Parts.{IsBookAt}
+use Rattle.world_rounds.specs.World.{IsMemberAhead, book_of}
 use Rattle.world_rounds.specs.declared.member.Member.{Member}
 use Rattle.world_rounds.specs.declared.world.World.{World}
 

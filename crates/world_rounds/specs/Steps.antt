@@ -1,5 +1,5 @@
 -- The steps that a replica has taken beside a book, which has no turns of them yet.
-use Rattle.std.specs.Prelude.{◌≡◌, ℕ, ◌≤◌, List, [], ◌∷◌, Option, None, Some, Contains, map, slice_get}
+use Rattle.std.specs.Prelude.{◌≡◌, ℕ, ◌≤◌, List, [], ◌∷◌, Option, None, Some, Contains, map}
 use Rattle.cluster_sched.specs.declared.row.SchedRow.{SchedRow}
 use Rattle.disk_model.specs.Images.{Image}
 use Rattle.disk_model.specs.Told.{Told}
@@ -17,13 +17,8 @@ use Rattle.replica_node.specs.declared.node.Node.{Node}
 use Rattle.world_law.specs.Book.{BookState, StandsBehind, standing_behind}
 use Rattle.world_law.specs.Replicas.{IsLetterInput, StandsAt}
 use Rattle.world_law.specs.declared.letter.LetterRow.{LetterRow}
+use Rattle.world_parts.specs.Parts.{IsSentTo}
 use Rattle.world_rounds.specs.declared.steps.Taken.{Taken}
-
--- the letter of that number goes to the replica
-pub record IsSentTo (letters : List LetterRow) (who number : ℕ) : Type 0 where
-  pub letter : LetterRow
-  pub there : slice_get letters number ≡ Some letter
-  pub to : letter.to ≡ who
 
 -- the input is a letter of that number, which goes to the replica
 pub record IsLetterOf (letters : List LetterRow) (who number : ℕ) (input : Input) : Type 0 where

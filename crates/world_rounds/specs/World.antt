@@ -1,11 +1,11 @@
 -- A world of replicas, by the situation in which they are.
-use Rattle.std.specs.Prelude.{◌≡◌, ℕ, ◌≤◌, ◌≤ℤ◌, true, false, List, [], ◌∷◌, ◌++◌, length, Option, None, Some, Contains, slice_get}
+use Rattle.std.specs.Prelude.{◌≡◌, ℕ, true, false, List, [], ◌∷◌, ◌++◌, length, Option, None, Some, slice_get}
 use Rattle.std.specs.List.{flat_map}
 use Rattle.cluster_sched.specs.declared.fate.Fate.{Fate}
 use Rattle.cluster_sched.specs.declared.fate.Fate.TheVariants as becomes
 use Rattle.disk_model.specs.Images.{Image}
 use Rattle.disk_model.specs.Told.{Told}
-use Rattle.due_set.specs.Table.{IsSound, Table}
+use Rattle.due_set.specs.Table.{Table}
 use Rattle.step_law.specs.State.{started}
 use Rattle.agree_law.specs.Transition.{identity_of}
 use Rattle.book_law.specs.Book.{Row, Standing, answer_to}
@@ -15,12 +15,11 @@ use Rattle.book_law.specs.declared.turn.Cause.TheVariants.{Hear}
 use Rattle.replica_node.specs.Node.{IsNodeAtRest, disk_of, replica_of}
 use Rattle.replica_node.specs.Reliable.{IsReliable}
 use Rattle.replica_node.specs.declared.node.Node.{Node}
-use Rattle.script_text.specs.Command.{IsSkew}
 use Rattle.script_law.specs.Situation.{Situation, is_cut}
-use Rattle.world_law.specs.Book.{BookState, StandsBehind, standing_behind}
-use Rattle.world_law.specs.declared.letter.LetterRow.{LetterRow}
-use Rattle.world_rounds.specs.Steps.{IsNodeAhead, IsSentTo, causes_of}
-use Rattle.world_rounds.specs.declared.member.Mail.{Mail}
+use Rattle.world_law.specs.Book.{BookState, standing_behind}
+use Rattle.world_parts.specs.Parts.{IsBookAt, IsMailOf}
+use Rattle.world_parts.specs.declared.mail.MemberMail.{MemberMail}
+use Rattle.world_rounds.specs.Steps.{IsNodeAhead, causes_of}
 use Rattle.world_rounds.specs.declared.member.Member.{Member}
 use Rattle.world_rounds.specs.declared.steps.Taken.{Taken}
 use Rattle.world_rounds.specs.declared.world.World.{World}
@@ -34,27 +33,6 @@ heard_for cause = []
 abbrev pub heard_in : List Cause → List ℕ
 heard_in causes = flat_map heard_for causes
 
--- The rows stand behind a book at rest, of a table of jobs and at most seven replicas, and this is the situation after them, whose
--- latest clock reading is of the window or later.
-pub record IsBookAt (table : Table) (rows : List Row) (book : BookState) (situation : Situation) : Type 0 where
-  pub sound : IsSound table
-  pub behind : StandsBehind table rows book
-  pub rest : book.pending ≡ None
-  pub few : book.members ≤ 7
-  pub standing : situation.standing ≡ standing_behind table rows book
-  pub since : table.window.from.0 ≤ℤ situation.latest
-
--- What a world has of a replica is what the situation has, but for the letters that were heard in steps that aren't turns yet; and the
--- letters of its mail go to it.
-pub record IsMailOf (letters : List LetterRow) (situation : Situation) (who : ℕ) (steps : List Taken) (mail : Mail) : Type 0 where
-  pub runs : mail.runs ≡ situation.standing.runs who
-  pub letters_are : situation.mails who ≡ heard_in (causes_of steps) ++ mail.letters.items
-  pub skew : mail.skew ≡ situation.skews who
-  pub small : IsSkew mail.skew
-  pub fate : mail.fate ≡ situation.fates who
-  pub waits : mail.waits ≡ situation.standing.waits who
-  pub sent : (number : ℕ) → Contains mail.letters.items number → IsSentTo letters who number
-
 -- the node of a replica that is stopped: it keeps what the replica does, and has taken no step
 pub record IsNodeStopped {D : Type 0} (seen : D → Image) (may_leave : D → Image → Type 0) (honest : D → Type 0) (told_of : D → Option Told) (table : Table) (members : ℕ) (standing : Standing) (who : ℕ) (steps : List Taken) (node : Node D) : Type 0 where
   pub at_rest : IsNodeAtRest seen may_leave honest table node
@@ -66,7 +44,7 @@ pub record IsNodeStopped {D : Type 0} (seen : D → Image) (may_leave : D → Im
 
 -- a replica of the world, which may be some steps ahead of the book
 pub record IsMemberAhead {D : Type 0} (seen : D → Image) (may_leave : D → Image → Type 0) (honest : D → Type 0) (told_of : D → Option Told) (table : Table) (rows : List Row) (book : BookState) (situation : Situation) (who : ℕ) (steps : List Taken) (member : Member D) : Type 0 where
-  pub mail : IsMailOf book.letters situation who steps member.mail
+  pub mail : IsMailOf book.letters situation who (heard_in (causes_of steps)) member.mail
   pub running : (standing_behind table rows book).runs who ≡ true → IsNodeAhead seen may_leave honest told_of table rows book who steps member.node
   pub stopped : (standing_behind table rows book).runs who ≡ false → IsNodeStopped seen may_leave honest told_of table book.members (standing_behind table rows book) who steps member.node
 
@@ -85,7 +63,7 @@ fate_then None set = set
 fate_then (Some made) set = becomes.Done
 
 -- what is set for a replica behind its step: an answer of the call that the step has made waits for it
-abbrev pub noted : Option CallRow → Mail → Mail
+abbrev pub noted : Option CallRow → MemberMail → MemberMail
 noted made mail = record mail { waits = answer_to made; fate = fate_then made mail.fate }
 
 -- the book of a world

@@ -11,8 +11,9 @@ mod laws;
 mod letters;
 mod mails;
 mod member;
-mod nodes;
+mod parts;
 mod quiet;
+mod rooms;
 mod rounds;
 mod settling;
 mod start;
@@ -22,5 +23,7 @@ mod walking;
 mod world;
 
 pub use laws::a_new_disk_in_memory_is_fresh;
+pub use parts::Parts;
+pub use rooms::MemberRoom;
 pub use steps::Taken;
 pub use world::World;

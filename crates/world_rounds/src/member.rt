@@ -10,42 +10,27 @@ ghost use Rattle.script_text.specs.Command.{IsSkew};
 
 use crate::steps::{Taken, hear_letters, take_answer, take_step};
 use book_law::Cause;
-use cluster_sched::{Fate, SchedRow};
 use cron_io::OutOfMemory;
 use disk_model::Disk;
 use due_set::JobTable;
 use replica_core::Input;
 use replica_node::Node;
 use world_law::Book;
+use world_parts::MemberMail;
 use zone_minutes::{Minute, Window};
-
-/// What is on its way to a replica, and what is set for it.
-#[derive(Debug, Drop)]
-pub(crate) struct Mail {
-    // Whether it runs.
-    pub(crate) runs: bool,
-    // The numbers of the letters that wait for it.
-    pub(crate) letters: Vec<u64>,
-    // How many minutes its clock is ahead.
-    pub(crate) skew: i64,
-    // What becomes of its next call.
-    pub(crate) fate: Fate,
-    // The answer that waits for it.
-    pub(crate) waits: Option<SchedRow>,
-}
 
 /// A replica: its node, also while it is stopped, its mail, the steps that it has taken since its last turn, and whether want
 /// of memory has ended its steps in lanes.
 #[derive(Debug, Drop)]
 pub(crate) struct Member<D> {
     pub(crate) node: Node<D>,
-    pub(crate) mail: Mail,
+    pub(crate) mail: MemberMail,
     pub(crate) steps: Vec<Taken>,
     pub(crate) short: bool,
 }
 
 // What a replica's clock reads at an instant, held within the window.
-fn reading_of(mail: &Mail, window: Window, at: Minute) -> Minute
+fn reading_of(mail: &MemberMail, window: Window, at: Minute) -> Minute
     requires limits { IsWithinLimits window }
     requires inside { IsInWindow window at.0 }
     requires small { IsSkew mail.now.skew }

@@ -4,13 +4,13 @@ ghost use Rattle.book_law.specs.Book.{Row};
 ghost use Rattle.due_set.specs.Table.{Table};
 ghost use Rattle.script_law.specs.Situation.{Situation, first_situation};
 ghost use Rattle.world_law.specs.Book.{BookState};
-ghost use Rattle.world_rounds.specs.Nodes.{AreNodesOf};
+ghost use Rattle.world_parts.specs.Nodes.{AreNodesOf};
 ghost use Rattle.world_rounds.specs.Start.{IsFreshMember, IsFreshDisk};
 ghost use Rattle.world_rounds.specs.World.{IsWorldAt, book_of};
 
 use crate::fault::memory_of;
-use crate::member::{Mail, Member};
-use crate::nodes::NodeRoom;
+use crate::member::Member;
+use crate::rooms::PartsRoom;
 use crate::world::World;
 use cluster_sched::Fate;
 use cron_io::OutOfMemory;
@@ -19,6 +19,7 @@ use due_set::JobTable;
 use replica_node::Node;
 use std::alloc::Global;
 use world_law::Book;
+use world_parts::MemberMail;
 
 // A replica that starts on an empty disk.
 fn start_member<D: Disk>(
@@ -36,7 +37,7 @@ fn start_member<D: Disk>(
     match Node::recover(alloc, me, members, table, disk) {
         Ok(node) => Ok(Member {
             node,
-            mail: Mail {
+            mail: MemberMail {
                 runs: true,
                 letters: Vec::new(alloc),
                 skew: 0,
@@ -77,7 +78,7 @@ impl<D: Disk> World<D> {
         }
         let book = Book::new(alloc, members);
         let cuts = Vec::new(alloc);
-        let room = NodeRoom::new(alloc)?;
+        let room = PartsRoom::new(alloc)?;
         let window = table.window();
         Ok(World {
             alloc,
@@ -105,10 +106,11 @@ impl<D: Disk> World<D> {
     {
         let World {
             book,
-            members,
+            mut members,
             room,
             ..
         } = self;
-        (book, room.filled(members))
+        let (nodes, _mails) = room.take(&mut members);
+        (book, nodes)
     }
 }

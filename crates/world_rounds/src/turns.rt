@@ -11,7 +11,6 @@ ghost use Rattle.world_rounds.specs.Taking.{Commits, CommitsOwn, KeepsSteps, May
 ghost use Rattle.world_rounds.specs.World.{book_of, noted};
 ghost use Rattle.world_rounds.specs.declared.steps.Taken.{Taken as Step};
 
-use crate::member::Mail;
 use crate::steps::Taken;
 use crate::world::World;
 use book_law::{CallRow, Cause, Turn};
@@ -21,6 +20,7 @@ use disk_model::Disk;
 use due_set::JobTable;
 use std::mem;
 use world_law::Book;
+use world_parts::MemberMail;
 use zone_minutes::Minute;
 
 // Makes the call that a step asks for, where it asks for one.
@@ -72,7 +72,7 @@ pub(crate) fn commit_step(
 }
 
 // An answer of the call that a step has made waits for the replica, and the call has spent its fate.
-pub(crate) fn note_call(mail: &mut Mail, call: Option<CallRow>)
+pub(crate) fn note_call(mail: &mut MemberMail, call: Option<CallRow>)
     ensures { mail.new ≡ noted call mail.old }
 {
     mail.waits = None;

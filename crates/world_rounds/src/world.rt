@@ -1,6 +1,6 @@
 //! Replicas in rounds.
 use crate::member::Member;
-use crate::nodes::NodeRoom;
+use crate::rooms::PartsRoom;
 use std::alloc::Global;
 use world_law::Book;
 use zone_minutes::Minute;
@@ -15,6 +15,6 @@ pub struct World<D> {
     pub(crate) cuts: Vec<(u8, u8)>,
     // The latest clock reading.
     pub(crate) latest: Minute,
-    // What `World::into_book` needs, so that it takes no memory.
-    pub(crate) room: NodeRoom<D>,
+    // What is needed to take it apart without memory.
+    pub(crate) room: PartsRoom<D>,
 }
