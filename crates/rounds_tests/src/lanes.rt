@@ -29,7 +29,8 @@ fn are_same_letters(one: &[LetterRow], other: &[LetterRow]) -> bool {
     true
 }
 
-fn is_same_book(one: &Book, other: &Book) -> bool {
+/// Whether the books have the same turns, letters and held rows.
+pub fn is_same_book(one: &Book, other: &Book) -> bool {
     let rows = one.turns() == other.turns() && one.ledger().held() == other.ledger().held();
     rows && are_same_letters(one.letters(), other.letters())
 }

@@ -7,6 +7,12 @@ mod hour;
 #[cfg(test)]
 mod lanes;
 #[cfg(test)]
+mod meeting;
+#[cfg(test)]
+mod meets;
+#[cfg(test)]
+mod parts;
+#[cfg(test)]
 mod rounds;
 #[cfg(test)]
 mod settles;

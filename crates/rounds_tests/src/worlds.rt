@@ -2,13 +2,13 @@
 ghost use Rattle.std.specs.Bool.{⊤};
 ghost use Rattle.std.specs.Prelude.{◌≡◌, ◌<◌, ◌≤◌, Contains, IfOk, OnOk, length};
 ghost use Rattle.disk_model.specs.MemDisk.{left_by, seen_of, told_of};
-ghost use Rattle.disk_model.specs.declared.mem_disk.MemDisk.{MemDisk as Disk};
+ghost use Rattle.disk_model.specs.declared.mem_disk.MemDisk.{MemDisk as Medium};
 ghost use Rattle.world_rounds.specs.Commands.{IsTaken};
 ghost use Rattle.world_rounds.specs.Start.{IsFreshDisk};
 ghost use Rattle.world_rounds.specs.World.{IsWorld, book_of};
 ghost use Rattle.rounds_tests.specs.Plays.{AreTaken};
 
-use disk_model::MemDisk;
+use disk_model::{Disk, MemDisk};
 use due_set::JobTable;
 use script_text::Command;
 use std::alloc::Global;
@@ -16,7 +16,8 @@ use std::test::*;
 use std::thread::Threads;
 use world_rounds::World;
 
-fn empty_disk(alloc: Global) -> MemDisk
+/// A new disk in memory.
+pub fn empty_disk(alloc: Global) -> MemDisk
     ensures { IsFreshDisk left_by (λ disk. ⊤) told_of result }
 {
     let fails = Vec::new(alloc);
@@ -25,7 +26,7 @@ fn empty_disk(alloc: Global) -> MemDisk
 
 fn disks(alloc: Global, count: u8) -> Result<Vec<MemDisk>, Fail>
     ensures count { IfOk result (λ disks. length disks.items ≡ count) }
-    ensures fresh { IfOk result (λ disks. (disk : Disk) → Contains disks.items disk → IsFreshDisk left_by (λ disk. ⊤) told_of disk) }
+    ensures fresh { IfOk result (λ disks. (disk : Medium) → Contains disks.items disk → IsFreshDisk left_by (λ disk. ⊤) told_of disk) }
 {
     let mut disks = Vec::new(alloc);
     'disks: for _disk in 0..count {
@@ -48,23 +49,43 @@ fn first_world(alloc: Global, table: &JobTable, count: u8) -> Result<World<MemDi
 }
 
 // A command is taken.
-fn take<R: Threads + Sync>(
+fn take<R: Threads + Sync, D: Disk + Send>(
     rt: &R,
-    world: &mut World<MemDisk>,
+    world: &mut World<D>,
     table: &JobTable,
     command: &Command,
     lanes: u8,
 ) -> Result<(), Fail>
     requires lanes { 0 < lanes }
-    requires world { IsWorld seen_of left_by (λ disk. ⊤) told_of table.now world.old }
+    requires world { IsWorld D.seen D.may_leave D.honest D.told table.now world.old }
     requires taken { IsTaken table.now.window (book_of world.old).members command.now }
-    ensures world { OnOk result (IsWorld seen_of left_by (λ disk. ⊤) told_of table.now world.new) }
+    ensures world { OnOk result (IsWorld D.seen D.may_leave D.honest D.told table.now world.new) }
     ensures members { OnOk result ((book_of world.new).members ≡ (book_of world.old).members) }
 {
     match world.command(rt, table, command, lanes) {
         Ok(()) => Ok(()),
         Err(_) => Err(Fail::from("a fault")),
     }
+}
+
+/// The world after some more commands, with rounds in so many lanes.
+pub fn play_on<R: Threads + Sync, D: Disk + Send>(
+    rt: &R,
+    mut world: World<D>,
+    table: &JobTable,
+    commands: &[Command],
+    lanes: u8,
+) -> Result<World<D>, Fail>
+    requires lanes { 0 < lanes }
+    requires world { IsWorld D.seen D.may_leave D.honest D.told table.now world }
+    requires taken { AreTaken table.now.window (book_of world).members commands.now }
+    ensures world { IfOk result (IsWorld D.seen D.may_leave D.honest D.told table.now) }
+    ensures members { IfOk result (λ after. (book_of after).members ≡ (book_of world).members) }
+{
+    'commands: for command in commands {
+        take(rt, &mut world, table, command, lanes)?;
+    }
+    Ok(world)
 }
 
 /// A world of so many replicas, after some commands, with rounds in so many lanes.
@@ -79,10 +100,9 @@ pub fn world_after<R: Threads + Sync>(
     requires lanes { 0 < lanes }
     requires few { count ≤ 7 }
     requires taken { AreTaken table.now.window count commands.now }
+    ensures world { IfOk result (IsWorld seen_of left_by (λ disk. ⊤) told_of table.now) }
+    ensures members { IfOk result (λ world. (book_of world).members ≡ count) }
 {
-    let mut world = first_world(alloc, table, count)?;
-    'commands: for command in commands {
-        take(rt, &mut world, table, command, lanes)?;
-    }
-    Ok(world)
+    let world = first_world(alloc, table, count)?;
+    play_on(rt, world, table, commands, lanes)
 }

@@ -1,17 +1,7 @@
-use Rattle.std.proofs.Common.{◌∙◌}
-use Rattle.rounds_tests.proofs.Played.{taken_at}
+use Rattle.std.proofs.Common.{sym, subst}
+use Rattle.rounds_tests.specs.Plays.{AreTaken}
 use Rattle.rounds_tests.proofs.worlds.world_after.Goals as goal
 
-pub commands-init : goal.commands-init
-commands-init g c = record { world_is = c.in_ok-world.ensures.world; members = c.in_ok-world.ensures.members }
-
-pub take-requires-clause-world : goal.take-requires-clause-world
-take-requires-clause-world g c = λ lives borrowed. c.commands.invariant.world_is
-
-pub take-requires-clause-taken : goal.take-requires-clause-taken
-take-requires-clause-taken g c = λ lives borrowed.
-    taken_at c.args.table.now.window c.args.count c.commands.world.book.members c.args.commands.now c.commands.command-index _ c.commands-test.true
-    c.commands.invariant.members c.requires.taken
-
-pub commands-preserved : goal.commands-preserved
-commands-preserved g c = record { world_is = c.in_ok-take.ensures.world; members = c.in_ok-take.ensures.members ∙ c.commands.invariant.members }
+pub play_on-requires-clause-taken : goal.play_on-requires-clause-taken
+play_on-requires-clause-taken g c = λ lives borrowed.
+    subst (λ members. AreTaken c.args.table.now.window members c.args.commands.now) (sym c.in_ok-world.ensures.members) c.requires.taken

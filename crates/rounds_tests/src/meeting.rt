@@ -1,0 +1,147 @@
+//! Disks of which two wait for each other.
+use disk_model::{Disk, DiskFault, FileNo, MemDisk};
+use std::alloc::Global;
+use std::sync::Arc;
+use std::sync::atomic::{AtomicBool, AtomicU64, Ordering};
+use std::thread;
+
+// How often a disk looks whether the other has come. Where their replicas don't run at once, this ends the wait.
+const LOOKS: u32 = 1_000_000;
+
+/// Where two disks meet.
+#[derive(Drop)]
+pub struct Meeting {
+    // Whether they wait for each other from now on.
+    open: AtomicBool,
+    // How often each has come.
+    first: AtomicU64,
+    second: AtomicU64,
+    // How many waits ended since the other had come, and how many by the limit.
+    met: AtomicU64,
+    missed: AtomicU64,
+}
+
+// Counts a coming, and waits until the other has come as often. It says whether that has.
+fn meets(mine: &AtomicU64, other: &AtomicU64) -> bool {
+    let before = mine.fetch_add(1, Ordering::SeqCst);
+    'looks: for _look in 0..LOOKS {
+        if other.load(Ordering::SeqCst) > before {
+            return true;
+        }
+        thread::yield_now();
+    }
+    false
+}
+
+impl Meeting {
+    /// A meeting that isn't open.
+    pub fn new() -> Meeting {
+        Meeting {
+            open: AtomicBool::new(false),
+            first: AtomicU64::new(0),
+            second: AtomicU64::new(0),
+            met: AtomicU64::new(0),
+            missed: AtomicU64::new(0),
+        }
+    }
+
+    /// From now on the disks wait for each other.
+    pub fn open(&self) {
+        self.open.store(true, Ordering::SeqCst);
+    }
+
+    /// How many waits ended since the other had come, and how many by the limit.
+    pub fn counts(&self) -> (u64, u64) {
+        (
+            self.met.load(Ordering::SeqCst),
+            self.missed.load(Ordering::SeqCst),
+        )
+    }
+
+    // A disk of this number comes; only 0 and 1 wait.
+    fn come(&self, who: u8) {
+        if who > 1 || !self.open.load(Ordering::SeqCst) {
+            return;
+        }
+        let met = if who == 0 {
+            meets(&self.first, &self.second)
+        } else {
+            meets(&self.second, &self.first)
+        };
+        if met {
+            self.met.fetch_add(1, Ordering::SeqCst);
+        } else {
+            self.missed.fetch_add(1, Ordering::SeqCst);
+        }
+    }
+}
+
+/// A disk in memory, of this number. In each sync it waits for the other of 0 and 1.
+#[derive(Drop)]
+pub struct MeetingDisk {
+    disk: MemDisk,
+    who: u8,
+    meeting: Arc<Meeting, Global>,
+}
+
+impl MeetingDisk {
+    ghost use Rattle.std.specs.Prelude.{◌≡◌};
+
+    /// The disk takes part in the meeting.
+    pub fn new(disk: MemDisk, who: u8, meeting: Arc<Meeting, Global>) -> MeetingDisk
+        ensures { result.disk ≡ disk }
+    {
+        MeetingDisk { disk, who, meeting }
+    }
+}
+
+impl Disk for MeetingDisk {
+    ghost use Rattle.std.specs.Prelude.{◌≡◌, ⊤};
+    ghost use Rattle.std.proofs.Common.{inl, sym, ap};
+    ghost use Rattle.disk_model.specs.Left.{seen_left};
+    ghost use Rattle.disk_model.specs.MemDisk.{told_of, seen_of, left_by, left_since_by, moment_of, counts_by, done_in};
+    ghost use Rattle.disk_model.specs.Past.{only_now};
+
+    ghost seen = { λ disk. seen_of disk.disk };
+
+    ghost may_leave = { λ disk. left_by disk.disk };
+
+    ghost moment = { λ disk. moment_of disk.disk };
+
+    ghost left_since = { λ disk. left_since_by disk.disk };
+
+    ghost honest = { λ disk. ⊤ };
+
+    ghost counts = { λ disk. counts_by disk.disk };
+
+    ghost told = { λ disk. told_of disk.disk };
+
+    ghost counts_now = { λ disk start image honest le now. inl now };
+
+    ghost only_now = { λ disk image honest left. only_now disk.disk.history.items disk.disk.files image left };
+
+    ghost seen_is_left = { λ disk honest. seen_left disk.disk.files };
+
+    ghost done_is_seen = { λ disk told_now is. sym (ap (λ told. done_in told (seen_of disk.disk)) is) };
+
+    fn length(&mut self, file: FileNo) -> Result<u64, DiskFault> {
+        self.disk.length(file)
+    }
+
+    fn read(&mut self, file: FileNo, at: u64, into: &mut [u8]) -> Result<(), DiskFault> {
+        self.disk.read(file, at, into)
+    }
+
+    fn write_at(&mut self, file: FileNo, at: u64, bytes: &[u8]) -> Result<(), DiskFault> {
+        self.disk.write_at(file, at, bytes)
+    }
+
+    fn cut(&mut self, file: FileNo, length: u64) -> Result<(), DiskFault> {
+        self.disk.cut(file, length)
+    }
+
+    fn sync(&mut self, file: FileNo) -> Result<(), DiskFault> {
+        self.meeting.come(self.who);
+        self.disk.sync(file)
+    }
+}
