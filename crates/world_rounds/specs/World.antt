@@ -23,6 +23,7 @@ use Rattle.world_rounds.specs.Steps.{IsNodeAhead, causes_of}
 use Rattle.world_rounds.specs.declared.member.Member.{Member}
 use Rattle.world_rounds.specs.declared.steps.Taken.{Taken}
 use Rattle.world_rounds.specs.declared.world.World.{World}
+use Rattle.zone_minutes.specs.declared.minute.Minute.{Minute}
 
 -- the letter that is heard for a cause
 abbrev pub heard_for : Cause → List ℕ
@@ -69,6 +70,16 @@ noted made mail = record mail { waits = answer_to made; fate = fate_then made ma
 -- the book of a world
 abbrev pub book_of : {D : Type 0} → World D → BookState
 book_of world = world.book
+
+-- the replicas of a world, whose letters are lost on the way to whom, and the latest clock reading
+abbrev pub members_of : {D : Type 0} → World D → List (Member D)
+members_of world = world.members.items
+
+abbrev pub cuts_of : {D : Type 0} → World D → List (ℕ × ℕ)
+cuts_of world = world.cuts.items
+
+abbrev pub latest_of : {D : Type 0} → World D → Minute
+latest_of world = world.latest
 
 -- no step has been taken that isn't a turn
 abbrev pub none_taken : ℕ → List Taken

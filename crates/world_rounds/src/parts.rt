@@ -6,7 +6,7 @@ ghost use Rattle.script_law.specs.Situation.{Situation};
 ghost use Rattle.world_parts.specs.Parts.{AreParts, ArePartsAt, HasListRoom};
 ghost use Rattle.world_rounds.specs.Nodes.{AreNodesAndMails};
 ghost use Rattle.world_rounds.specs.Parts.{IsRoomFor};
-ghost use Rattle.world_rounds.specs.World.{IsWorld, IsWorldAt, book_of};
+ghost use Rattle.world_rounds.specs.World.{IsWorld, IsWorldAt, book_of, cuts_of, latest_of, members_of};
 
 use crate::rooms::{MemberRoom, PartsRoom};
 use crate::world::World;
@@ -24,9 +24,9 @@ impl<D: Disk> World<D> {
         ensures parts { (table : Table) (rows : List Row) (situation : Situation) → IsWorldAt D.seen D.may_leave D.honest D.told table rows self situation
             → ArePartsAt D.seen D.may_leave D.honest D.told table rows result situation }
         ensures book { result.book ≡ book_of self }
-        ensures replicas { AreNodesAndMails self.members.items result.nodes.items result.mail.members.items }
-        ensures cuts { result.mail.cuts ≡ self.cuts }
-        ensures latest { result.mail.latest ≡ self.latest }
+        ensures replicas { AreNodesAndMails (members_of self) result.nodes.items result.mail.members.items }
+        ensures cuts { result.mail.cuts.items ≡ cuts_of self }
+        ensures latest { result.mail.latest ≡ latest_of self }
         ensures lists { HasListRoom result }
         ensures room { IsRoomFor (book_of self).members result.room }
     {
@@ -60,9 +60,9 @@ impl<D: Disk> World<D> {
         ensures world { (table : Table) (rows : List Row) (situation : Situation) → ArePartsAt D.seen D.may_leave D.honest D.told table rows parts situation
             → IsWorldAt D.seen D.may_leave D.honest D.told table rows result situation }
         ensures book { book_of result ≡ parts.book }
-        ensures replicas { AreNodesAndMails result.members.items parts.nodes.items parts.mail.members.items }
-        ensures cuts { result.cuts ≡ parts.mail.cuts }
-        ensures latest { result.latest ≡ parts.mail.latest }
+        ensures replicas { AreNodesAndMails (members_of result) parts.nodes.items parts.mail.members.items }
+        ensures cuts { cuts_of result ≡ parts.mail.cuts.items }
+        ensures latest { latest_of result ≡ parts.mail.latest }
     {
         let Bundle {
             mut nodes,
