@@ -6,3 +6,4 @@ pub mod LoopLemmas
 pub mod PartLemmas
 pub mod ReadLemmas
 pub mod TextLemmas
+pub mod ZeroLemmas

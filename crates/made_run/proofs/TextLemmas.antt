@@ -368,7 +368,7 @@ unfolding made_text
 text_says seed = subst (λ (ls : List (List ℕ)). ReadsFrom Judged 1 Nothing ls (made_run seed)) (sym (lines_of_text (made_lines seed) (made_lines_are_short seed))) (made_reads seed)
 
 -- and is short
-pub text_is_short : (seed : ℕ) → length (made_text seed) < 2 ^ 32
+pub text_is_short : (seed : ℕ) → length (made_text seed) ≤ 1_048_576
 unfolding made_text first_parts
 text_is_short seed =
     let lines = map command_line (made_script seed) in
