@@ -50,7 +50,7 @@ fn play<R: Threads + Sync>(rt: &R, alloc: Global, text: &str, lanes: u8) -> Resu
         return Err(Fail::from("no table"));
     };
     let commands = run.commands.as_slice();
-    let Ok(world) = play_run(rt, alloc, &table, run.members, commands, lanes) else {
+    let Ok((world, _starts)) = play_run(rt, alloc, &table, run.members, commands, lanes) else {
         return Err(Fail::from("no world"));
     };
     let (book, _nodes) = world.into_book();

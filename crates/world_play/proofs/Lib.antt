@@ -1,4 +1,5 @@
 pub mod Commands
 pub mod Fresh
 pub mod Runs
+pub mod Starts
 pub mod Taken

@@ -46,21 +46,29 @@ last_inside window limits =
     subst (IsInWindow window) (sym (last_minute window limits)) (record { since = omega (arith, ints); before = omega (arith, ints) })
 
 -- the world walks to the window's last minute
-pub walked : (table : Table) (members : ℕ) (script : List Command) (old new : World MemDisk) (more : List Row) (after : Situation) → (played : HasPlayed table members script old)
+pub walked : (table : Table) (members : ℕ) (script : List Command) (starts : List ℕ) (old new : World MemDisk) (more : List Row) (after : Situation) → (played : HasPlayed table members script starts old)
     → Walks members table (table.window.until.0 -ℤ pos 1) played.situation more after → IsMemWorldAt table (played.rows ++ more) new after
     → (book_of new).members ≡ (book_of old).members → IsBounded (book_of new) → HasRun table members script new
-walked table members script old new more after played walks here same bounded = record {
+walked table members script starts old new more after played walks here same bounded = record {
   rows = played.rows ++ more;
   situation = after;
   obeys = record {
     after = after;
-    obeys = record { front = played.rows; middle = played.situation; back = more; parts = refl; one = played.parts; two = walks };
+    obeys = record { front = played.rows; middle = played.situation; back = more; parts = refl; one = played.parts.parts; two = walks };
   };
   ends = refl;
   limits = within_bounds seen_of left_by (λ disk. ⊤) told_of table (played.rows ++ more) new after here bounded;
   is = here;
   count = same ∙ played.count;
 }
+
+-- behind its book stand the turns of the script, and then those of the walk
+pub walked_rows : (table : Table) (members : ℕ) (script : List Command) (starts : List ℕ) (old new : World MemDisk) (more : List Row) (after : Situation) → (played : HasPlayed table members script starts old)
+    → (walks : Walks members table (table.window.until.0 -ℤ pos 1) played.situation more after) (here : IsMemWorldAt table (played.rows ++ more) new after)
+    → (same : (book_of new).members ≡ (book_of old).members) (bounded : IsBounded (book_of new))
+    → (walked table members script starts old new more after played walks here same bounded).rows ≡ played.rows ++ more
+unfolding walked
+walked_rows table members script starts old new more after played walks here same bounded = refl
 
 module _ (table : Table) (members : ℕ) (script : List Command) (world : World MemDisk) (run : HasRun table members script world) (nodes : List (Node MemDisk)) (are : AreMemNodesOf table run.rows (book_of world) nodes) where
   pub files_stand : (who : ℕ) (node : Node MemDisk) → slice_get nodes who ≡ Some node

@@ -1,15 +1,16 @@
 -- A world on disks in memory, and a script that it has played.
-use Rattle.std.specs.Prelude.{◌≡◌, ℕ, List, ⊤}
+use Rattle.std.specs.Prelude.{◌≡◌, ℕ, ◌+◌, ◌<◌, List, ◌++◌, length, take, get_or, ⊤}
 use Rattle.disk_model.specs.MemDisk.{left_by, seen_of, told_of}
 use Rattle.disk_model.specs.declared.mem_disk.MemDisk.{MemDisk}
 use Rattle.due_set.specs.Table.{Table}
 use Rattle.script_text.specs.declared.command.Command.{Command}
 use Rattle.book_law.specs.Book.{Row}
+use Rattle.journal_text.specs.Starts.{BeginAt}
 use Rattle.replica_node.specs.declared.node.Node.{Node}
 use Rattle.round_law.specs.Rounds.{IsWithinBounds}
 use Rattle.script_law.specs.Script.{ArePartsOf, Obeys}
 use Rattle.script_law.specs.Situation.{Situation, first_situation}
-use Rattle.world_law.specs.Book.{BookState}
+use Rattle.world_law.specs.Book.{BookState, StandsBehind}
 use Rattle.world_parts.specs.Nodes.{AreNodesOf}
 use Rattle.world_rounds.specs.Start.{IsFreshDisk}
 use Rattle.world_rounds.specs.World.{IsWorldAt, book_of}
@@ -28,11 +29,29 @@ IsMemWorldAt table rows world situation = IsWorldAt seen_of left_by (λ disk. �
 abbrev pub AreMemNodesOf : Table → List Row → BookState → List (Node MemDisk) → Type 0
 AreMemNodesOf table rows book nodes = AreNodesOf seen_of left_by (λ disk. ⊤) told_of table rows book nodes
 
--- The world of so many replicas has played the script, from before any turn on: behind its book stand the turns of the script's parts.
-pub record HasPlayed (table : Table) (members : ℕ) (script : List Command) (world : World MemDisk) : Type 0 where
+-- The part of the command of a place begins at this number of turns, where so many were taken before the script: the
+-- rows in front of it are the parts of the commands before it.
+pub record BeginsAt (members : ℕ) (table : Table) (script : List Command) (first : ℕ) (situation : Situation) (rows : List Row) (place start : ℕ) : Type 0 where
+  pub front : List Row
+  pub back : List Row
+  pub middle : Situation
+  pub split : rows ≡ front ++ back
+  pub number : start ≡ first + length front
+  pub parts : ArePartsOf members table (take place script) situation front middle
+
+-- The rows are the parts of commands, one after another, which begin at these numbers of turns, where so many were
+-- taken before them.
+pub record ArePartsAt (members : ℕ) (table : Table) (script : List Command) (first : ℕ) (starts : List ℕ) (situation : Situation) (rows : List Row) (after : Situation) : Type 0 where
+  pub parts : ArePartsOf members table script situation rows after
+  pub count : length starts ≡ length script
+  pub each : (place : ℕ) → place < length starts → BeginsAt members table script first situation rows place (get_or starts place 0)
+
+-- The world of so many replicas has played the script, from before any turn on: behind its book stand the turns of the
+-- script's parts, which begin at these numbers.
+pub record HasPlayed (table : Table) (members : ℕ) (script : List Command) (starts : List ℕ) (world : World MemDisk) : Type 0 where
   pub rows : List Row
   pub situation : Situation
-  pub parts : ArePartsOf members table script (first_situation members table) rows situation
+  pub parts : ArePartsAt members table script 0 starts (first_situation members table) rows situation
   pub is : IsMemWorldAt table rows world situation
   pub count : (book_of world).members ≡ members
 
@@ -46,3 +65,9 @@ pub record HasRun (table : Table) (members : ℕ) (script : List Command) (world
   pub limits : IsWithinBounds rows situation.standing.posted
   pub is : IsMemWorldAt table rows world situation
   pub count : (book_of world).members ≡ members
+
+-- The turns of the book obey the script, whose parts begin at these numbers of turns, and last the walk behind them.
+pub record HasStarts (table : Table) (script : List Command) (book : BookState) (starts : List ℕ) : Type 0 where
+  pub rows : List Row
+  pub behind : StandsBehind table rows book
+  pub begin : BeginAt book.members table script rows starts

@@ -35,12 +35,12 @@ pub returns-clause-few : goal.returns-clause-few
 returns-clause-few g c = (sound_run c.in_ok-short.field-0.now (run_of c.in-Ok.run') c.in-Ok.ensures.read).replicas.few
 
 pub returns-clause-members : goal.returns-clause-members
-returns-clause-members g c = ap (λ (b : BookState). b.members) c.into_book-book.ensures.book ∙ c.in-Ok-play_run.ensures.count
+returns-clause-members g c = ap (λ (b : BookState). b.members) c.into_book-book.ensures.book ∙ c.in-Ok-play_run.ensures.run.count
 
 pub returns-clause-legal : goal.returns-clause-legal
 returns-clause-legal g c =
-    subst (IsLegalBook c.in-Ok-build_table.table) (sym c.into_book-book.ensures.book) (legal_book _ _ _ _ c.in-Ok-play_run.ensures)
+    subst (IsLegalBook c.in-Ok-build_table.table) (sym c.into_book-book.ensures.book) (legal_book _ _ _ _ c.in-Ok-play_run.ensures.run)
 
 pub returns-clause-rest : goal.returns-clause-rest
 returns-clause-rest g c =
-    ap (λ (b : BookState). b.pending) c.into_book-book.ensures.book ∙ at_rest _ _ _ _ c.in-Ok-play_run.ensures
+    ap (λ (b : BookState). b.pending) c.into_book-book.ensures.book ∙ at_rest _ _ _ _ c.in-Ok-play_run.ensures.run

@@ -1,7 +1,9 @@
-use Rattle.std.proofs.Common.{[], sym, subst, ◌∙◌, All}
-use Rattle.script_law.specs.Script.{ArePartsOf}
+use Rattle.std.proofs.Common.{◌≡◌, ℕ, [], length, sym, subst, ◌∙◌, All}
 use Rattle.script_law.specs.Situation.{first_situation}
 use Rattle.world_rounds.specs.Commands.{IsTaken}
+use Rattle.world_rounds.specs.World.{book_of}
+use Rattle.world_play.specs.Play.{ArePartsAt}
+use Rattle.world_play.proofs.Starts.{as_many_turns}
 use Rattle.world_play.proofs.script.play_script.Goals as goal
 
 pub play-requires-clause-world : goal.play-requires-clause-world
@@ -13,14 +15,19 @@ play-requires-clause-taken g c = λ lives borrowed.
 
 pub returns : goal.returns
 returns g c =
-    let first = first_situation c.args.members c.args.table.now in
-    let (rows, situation, parts, here) = c.in_ok-play.ensures.goes [] first c.in_ok-world.ensures.starts in
+    let table = c.args.table.now in
+    let script = c.args.script.now in
+    let first = first_situation c.args.members table in
+    let starts = c.in_ok-starts.starts.items in
+    let none : length (book_of c.in_ok-world.world).turns ≡ 0 = as_many_turns table [] (book_of c.in_ok-world.world) c.in_ok-world.ensures.starts.ahead.at.behind in
+    let (rows, situation, parts, here) = c.in_ok-starts.ensures.goes [] first c.in_ok-world.ensures.starts in
     record {
       played = record {
         rows = rows;
         situation = situation;
-        parts = subst (λ n. ArePartsOf n c.args.table.now c.args.script.now first rows situation) c.in_ok-world.ensures.members parts;
+        parts = subst (λ (n : ℕ). ArePartsAt n table script 0 starts first rows situation) c.in_ok-world.ensures.members
+            (subst (λ (n : ℕ). ArePartsAt (book_of c.in_ok-world.world).members table script n starts first rows situation) none parts);
         is = here;
-        count = c.in_ok-play.ensures.members ∙ c.in_ok-world.ensures.members;
+        count = c.in_ok-starts.ensures.members ∙ c.in_ok-world.ensures.members;
       };
     }
