@@ -1,4 +1,6 @@
 pub mod CompleteLemmas
+pub mod MadeLemmas
+pub mod OptionLemmas
 pub mod PlayLemmas
 pub mod ServeLemmas
 pub mod TextLemmas

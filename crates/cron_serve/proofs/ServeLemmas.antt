@@ -1,6 +1,7 @@
 -- From what was written to what the program says of its end.
-use Rattle.std.proofs.Common.{◌≡◌, ◌≢◌, ◌⊎◌, inl, inr, ℕ, ◌≤◌, ◌↔◌, List, [], ◌∷◌, length, map, Option, None, Some, Result, Ok, Err, refl, sym, ◌∙◌, subst, arith}
+use Rattle.std.proofs.Common.{◌≡◌, ◌≢◌, ◌⊎◌, inl, inr, ℕ, ◌≤◌, ◌↔◌, List, [], ◌∷◌, ◌++◌, length, map, Option, None, Some, Result, Ok, Err, refl, sym, ◌∙◌, subst, arith}
 use Rattle.std.specs.Prelude.{IfErr, IsErrAnd, IsSome, IsSomeAnd}
+use Rattle.std.specs.Io.KnownBytes.{Consumes}
 use Rattle.std.proofs.lemmas.List.{append-nil}
 use Rattle.cron_io.specs.Faults.{Rose}
 use Rattle.cron_io.specs.Reading.{HasReadOn, IsReadToEnd}
@@ -13,6 +14,11 @@ use Rattle.book_law.specs.Some.{no_jobs}
 use Rattle.world_law.specs.Book.{BookState, posted_as}
 use Rattle.world_law.proofs.Called.{held_at_rest, late_at_rest}
 use Rattle.report_text.specs.Book.{IsBookReport}
+use Rattle.journal_text.specs.Starts.{AreStarts, IsBookJournal}
+use Rattle.journal_text.specs.Journal.{journal_text}
+use Rattle.journal_text.specs.Summary.{IsBookSummary}
+use Rattle.journal_text.proofs.StartLemmas.{book_starts}
+use Rattle.world_play.specs.Play.{HasStarts}
 use Rattle.report_text.specs.Writes.{Writes}
 use Rattle.report_text.specs.declared.fault.ReportFault.{ReportFault}
 use Rattle.report_text.specs.declared.fault.ReportFault.TheVariants as report
@@ -20,12 +26,12 @@ use Rattle.due_list.specs.Listing.{WritesListing}
 use Rattle.due_list.specs.declared.fault.ListFault.{ListFault}
 use Rattle.due_list.specs.declared.fault.ListFault.TheVariants as listing
 use Rattle.cron_serve.specs.Ends.{Ends, EndsUnread}
-use Rattle.cron_serve.specs.Serve.{IsRefused, IsReportOf, IsRunOf, IsTextOf, LeavesNoRun}
-use Rattle.cron_serve.specs.Input.{IsRefusedBytes}
+use Rattle.cron_serve.specs.Serve.{IsGiven, IsJournalOf, IsRefused, IsReportOf, IsRunOf, IsSummaryOf, IsTextOf, LeavesNoRun}
+use Rattle.cron_serve.specs.Input.{IsOfInput, IsRefusedBytes}
 use Rattle.cron_serve.specs.Stop.{StopsFor, refusal_of, status_of, stop_of_run}
-use Rattle.cron_serve.specs.Written.{EndsWriting, WritesAtStatus, WritesTextOf, status_of_listing}
+use Rattle.cron_serve.specs.Written.{EndsWriting, WritesAtStatus, WritesTextOf, status_of_listing, status_of_writing}
 use Rattle.cron_serve.specs.declared.words.Output.{Output}
-use Rattle.cron_serve.specs.declared.words.Output.TheVariants.{Report}
+use Rattle.cron_serve.specs.declared.words.Output.TheVariants.{Report, Journal, DueList, Check, Summary}
 use Rattle.run_text.specs.Steps.{IfRefused}
 use Rattle.run_text.specs.declared.refusal.Refusal.{Refusal}
 use Rattle.run_text.specs.declared.refusal.RunFault.{RunFault}
@@ -35,70 +41,66 @@ use Rattle.cron_serve.specs.declared.stop.Stop.{Stop}
 use Rattle.cron_serve.specs.declared.stop.Stop.TheVariants.{Usage, Refused, ReadFault, OutOfMemory}
 
 -- the exit of a `?` with an input that is refused, or for want of memory
-pub stops_for_input : {T : Type 0} (output : Output) (source source' : SourceView) (bytes : List ℕ) (fault : RunFault) (result : Result T Stop)
+pub stops_for_input : {T : Type 0} (output : Output) (source source' : SourceView) (bytes : List ℕ) (fault : RunFault) (result : Result T Stop) → IsOfInput output
     → IsErrAnd result (λ stop. stop ≡ stop_of_run fault) → IsReadToEnd source source' bytes → length bytes ≤ 1_048_576
     → IfRefused fault (IsRefusedBytes output bytes) → IfErr result (StopsFor output source source')
-stops_for_input output source source' bytes fault (Ok value) is read short why = tt
-stops_for_input output source source' bytes (run.Refused refusal) (Err stop) is read short why =
-    subst (StopsFor output source source') (sym is) (inr (record { bytes = bytes; read = read; short = short; refused = why }))
-stops_for_input output source source' bytes run.OutOfMemory (Err stop) is read short why = subst (StopsFor output source source') (sym is) tt
+stops_for_input output source source' bytes fault (Ok value) of is read short why = tt
+stops_for_input output source source' bytes (run.Refused refusal) (Err stop) of is read short why =
+    subst (StopsFor output source source') (sym is) (of, inr (record { bytes = bytes; read = read; short = short; refused = why }))
+stops_for_input output source source' bytes run.OutOfMemory (Err stop) of is read short why = subst (StopsFor output source source') (sym is) tt
 
 -- what was written whole is a front of itself
 prefix_of_whole : (old new : SinkView) (text : List ℕ) → HasGained old new text → HasGainedPrefix old new text
 prefix_of_whole old new text gained = record { front = text; back = []; parts = sym (append-nil text); gained = gained }
 
 -- what was written, at the status of the writing's end
-pub written_whole : {T : Type 0} (old new : SinkView) (result : Result T ReportFault) (value : T) (status : ℕ) (text : List ℕ)
-    → result ≡ Ok value → status ≡ 0 → Writes old new result text → WritesAtStatus old new status text
-written_whole old new (Err fault) value status text e is w = absurd (cc)
-written_whole old new (Ok done) value status text e is w = record {
+pub written_at : (old new : SinkView) (result : Result (Unit {0}) ReportFault) (status : ℕ) (text : List ℕ) → status ≡ status_of_writing result
+    → Writes old new result text → WritesAtStatus old new status text
+written_at old new (Ok done) status text is w = record {
   whole = λ _. w.written;
   front = w.front;
   later = w.later;
-  fault = λ four. absurd (omega arith);
+  fault = λ four. absurd (omega (arith, is));
   taken = λ _ room tells_room. w.taken room tells_room;
-  beyond = λ four room tells_room. absurd (omega arith);
+  beyond = λ four room tells_room. absurd (omega (arith, is));
 }
-
-pub written_front : {T : Type 0} (old new : SinkView) (result : Result T ReportFault) (status : ℕ) (text : List ℕ)
-    → result ≡ Err report.WriteFault → status ≡ 4 → Writes old new result text → WritesAtStatus old new status text
-written_front old new result status text e is w = record {
-  whole = λ none. absurd (omega arith);
+written_at old new (Err report.WriteFault) status text is w = record {
+  whole = λ none. absurd (omega (arith, is));
   front = w.front;
   later = w.later;
-  fault = λ _. w.fault e;
-  taken = λ none room tells_room. absurd (omega arith);
-  beyond = λ _ room tells_room. w.beyond room tells_room e;
+  fault = λ _. w.fault refl;
+  taken = λ none room tells_room. absurd (omega (arith, is));
+  beyond = λ _ room tells_room. w.beyond room tells_room refl;
 }
-
-pub written_in_part : {T : Type 0} (old new : SinkView) (result : Result T ReportFault) (status : ℕ) (text : List ℕ)
-    → status ≡ 5 → Writes old new result text → WritesAtStatus old new status text
-written_in_part old new result status text e w = record {
-  whole = λ none. absurd (omega arith);
+written_at old new (Err report.OutOfMemory) status text is w = record {
+  whole = λ none. absurd (omega (arith, is));
   front = w.front;
   later = w.later;
-  fault = λ four. absurd (omega arith);
-  taken = λ none room tells_room. absurd (omega arith);
-  beyond = λ four room tells_room. absurd (omega arith);
+  fault = λ four. absurd (omega (arith, is));
+  taken = λ none room tells_room. absurd (omega (arith, is));
+  beyond = λ four room tells_room. absurd (omega (arith, is));
 }
 
--- what the end of a run says that was read, whose report was written or begun
-pub record EndsReport (sink sink' : SinkView) (table : Table) (book : BookState) (nodes : List (Node MemDisk)) (end : RunEnd) (text : List ℕ) : Type 0 where
-  pub report : IsBookReport table book text
+pub three_statuses : (result : Result (Unit {0}) ReportFault) (status : ℕ) → status ≡ status_of_writing result → (status ≡ 0) ⊎ (status ≡ 4) ⊎ (status ≡ 5)
+three_statuses (Ok done) status is = inl is
+three_statuses (Err report.WriteFault) status is = inr (inl is)
+three_statuses (Err report.OutOfMemory) status is = inr (inr is)
+
+-- what the end of a run says, of which a text was written or begun
+pub record EndsRun (sink sink' : SinkView) (book : BookState) (nodes : List (Node MemDisk)) (end : RunEnd) (text : List ℕ) : Type 0 where
   pub written : WritesAtStatus sink sink' end.status text
   pub same_book : end.book ≡ book
   pub same_nodes : end.nodes.items ≡ nodes
   pub no_refusal : end.refusal ≡ None
   pub statuses : (end.status ≡ 0) ⊎ (end.status ≡ 4) ⊎ (end.status ≡ 5)
 
-pub ends_launches : (bytes : List ℕ) (sink sink' : SinkView) (table : Table) (book : BookState) (nodes : List (Node MemDisk)) (end : RunEnd) (text : List ℕ)
-    → IsRunOf bytes table book nodes → EndsReport sink sink' table book nodes end text → EndsWriting Report bytes sink sink' end
-ends_launches bytes sink sink' table book nodes end text run e =
-    let report : IsReportOf bytes book nodes text = record { table = table; run = run; report = e.report } in
-    let is : IsReportOf bytes end.book end.nodes.items text =
-    subst (λ (b : BookState). IsReportOf bytes b end.nodes.items text) (sym e.same_book)
-    (subst (λ (n : List (Node MemDisk)). IsReportOf bytes book n text) (sym e.same_nodes) report) in
-    let writes : WritesTextOf Report bytes sink sink' end.status end.book end.nodes.items = record { text = text; is = is; written = e.written } in
+ends_run : (output : Output) (bytes : List ℕ) (sink sink' : SinkView) (book : BookState) (nodes : List (Node MemDisk)) (end : RunEnd) (text : List ℕ)
+    → IsTextOf output bytes book nodes text → EndsRun sink sink' book nodes end text → EndsWriting output bytes sink sink' end
+ends_run output bytes sink sink' book nodes end text of e =
+    let is : IsTextOf output bytes end.book end.nodes.items text =
+    subst (λ (b : BookState). IsTextOf output bytes b end.nodes.items text) (sym e.same_book)
+    (subst (λ (n : List (Node MemDisk)). IsTextOf output bytes book n text) (sym e.same_nodes) of) in
+    let writes : WritesTextOf output bytes sink sink' end.status end.book end.nodes.items = record { text = text; is = is; written = e.written } in
     record {
       statuses = e.statuses;
       no_refusal = e.no_refusal;
@@ -106,6 +108,39 @@ ends_launches bytes sink sink' table book nodes end text run e =
       told = λ some. writes;
       memory = λ five. inr writes;
     }
+
+pub ends_launches : (bytes : List ℕ) (sink sink' : SinkView) (table : Table) (book : BookState) (nodes : List (Node MemDisk)) (end : RunEnd) (text : List ℕ)
+    → IsRunOf bytes table book nodes → IsBookReport table book text → EndsRun sink sink' book nodes end text → EndsWriting Report bytes sink sink' end
+ends_launches bytes sink sink' table book nodes end text run report e =
+    let of : IsReportOf bytes book nodes text = record { table = table; run = run; report = report } in
+    ends_run Report bytes sink sink' book nodes end text of e
+
+-- a journal may be written of a run
+pub may_start : (bytes : List ℕ) (table : Table) (book : BookState) (nodes : List (Node MemDisk)) (starts : List ℕ) (run : IsRunOf bytes table book nodes)
+    → HasStarts table run.run.commands book starts → AreStarts (length book.turns) starts × IsBookJournal table run.run.commands book (journal_text table book.turns starts)
+may_start bytes table book nodes starts run has = book_starts table run.run.commands book has.rows starts has.behind has.begin
+
+pub ends_journal : (bytes : List ℕ) (sink sink' : SinkView) (table : Table) (book : BookState) (nodes : List (Node MemDisk)) (starts : List ℕ) (end : RunEnd) (front : List ℕ)
+    → (run : IsRunOf bytes table book nodes) → HasStarts table run.run.commands book starts → IsBookReport table book front
+    → EndsRun sink sink' book nodes end (front ++ journal_text table book.turns starts) → EndsWriting Journal bytes sink sink' end
+ends_journal bytes sink sink' table book nodes starts end front run has report e =
+    let journal = (may_start bytes table book nodes starts run has).1 in
+    let of : IsJournalOf bytes book nodes (front ++ journal_text table book.turns starts) = record {
+      table = table;
+      run = run;
+      front = front;
+      back = journal_text table book.turns starts;
+      parts = refl;
+      report = report;
+      journal = journal;
+    } in
+    ends_run Journal bytes sink sink' book nodes end (front ++ journal_text table book.turns starts) of e
+
+pub ends_summary : (seed : ℕ) (bytes : List ℕ) (sink sink' : SinkView) (table : Table) (book : BookState) (nodes : List (Node MemDisk)) (end : RunEnd) (text : List ℕ)
+    → IsRunOf bytes table book nodes → IsBookSummary table seed book text → EndsRun sink sink' book nodes end text → EndsWriting (Summary seed) bytes sink sink' end
+ends_summary seed bytes sink sink' table book nodes end text run summary e =
+    let of : IsSummaryOf seed bytes book nodes text = record { table = table; run = run; summary = summary } in
+    ends_run (Summary seed) bytes sink sink' book nodes end text of e
 
 -- a list was written whole, or a front of it, or nothing
 pub ends_listing : (output : Output) (bytes : List ℕ) (sink sink' : SinkView) (result : Result (Unit {0}) ListFault) (Is : List ℕ → Type 0) (end : RunEnd)
@@ -163,25 +198,25 @@ no_some : {T : Type 0} (o : Option T) → o ≡ None → IsSome o → ⊥
 no_some None is some = absurd (cc)
 no_some (Some x) is some = absurd (cc)
 
--- the text was written of an input that was read to its end
+-- the text was written of the bytes that were given
 pub ends_text : (output : Output) (source source' : SourceView) (sink sink' : SinkView) (bytes : List ℕ) (end : RunEnd)
-    → IsReadToEnd source source' bytes → HasReadOn source source' → EndsWriting output bytes sink sink' end → Ends output source source' sink sink' end
-ends_text output source source' sink sink' bytes end read read_on e =
+    → IsGiven output source source' bytes → HasReadOn source source' → EndsWriting output bytes sink sink' end → Ends output source source' sink sink' end
+ends_text output source source' sink sink' bytes end given read_on e =
     let statuses = e.statuses in
     record {
       text = λ is.
           let t = e.told (inl is) in
-          (t.text, record { bytes = bytes; read = read; is = t.is }, t.written.whole is);
+          (t.text, record { bytes = bytes; given = given; is = t.is }, t.written.whole is);
       refused = λ is. absurd (omega (arith, statuses));
       refusal = (λ some. absurd (no_some end.refusal e.no_refusal some), λ is. absurd (omega (arith, statuses)));
       read_fault = λ is. absurd (omega (arith, statuses));
       write_fault = λ is. (e.told (inr is)).written.fault is;
       front = λ is.
           let t = e.told (inr is) in
-          (t.text, record { bytes = bytes; read = read; is = t.is }, t.written.front);
+          (t.text, record { bytes = bytes; given = given; is = t.is }, t.written.front);
       memory = λ is. elim (e.memory is) [
         | inl none ↦ inl none
-        | inr some ↦ inr (some.text, record { bytes = bytes; read = read; is = some.is }, some.written.front)
+        | inr some ↦ inr (some.text, record { bytes = bytes; given = given; is = some.is }, some.written.front)
       ];
       statuses = omega (arith, statuses);
       nothing = λ least most. absurd (omega (arith, statuses));
@@ -189,11 +224,27 @@ ends_text output source source' sink sink' bytes end read read_on e =
       later = e.later;
       fits = λ is room tells.
           let t = e.told (inl is) in
-          record { text = t.text; of_input = record { bytes = bytes; read = read; is = t.is }; gained = t.written.whole is; taken = t.written.taken is room tells };
+          record { text = t.text; of_input = record { bytes = bytes; given = given; is = t.is }; gained = t.written.whole is; taken = t.written.taken is room tells };
       exceeds = λ is room tells.
           let t = e.told (inr is) in
-          record { text = t.text; of_input = record { bytes = bytes; read = read; is = t.is }; front = t.written.front; beyond = t.written.beyond is room tells };
+          record { text = t.text; of_input = record { bytes = bytes; given = given; is = t.is }; front = t.written.front; beyond = t.written.beyond is room tells };
     }
+
+-- an input that was read to its end was given
+pub given_by_reading : (output : Output) (source source' : SourceView) (bytes : List ℕ) → IsOfInput output → IsReadToEnd source source' bytes → IsGiven output source source' bytes
+given_by_reading Report source source' bytes of read = read
+given_by_reading Journal source source' bytes of read = read
+given_by_reading DueList source source' bytes of read = read
+given_by_reading Check source source' bytes of read = read
+given_by_reading (Summary seed) source source' bytes of read = absurd of
+
+none_consumed : (left : Option (List ℕ)) → Consumes left left []
+none_consumed None = tt
+none_consumed (Some bytes) = refl
+
+-- where nothing was read, nothing was taken
+pub none_read : (source : SourceView) → HasReadOn source source
+none_read source = record { taken = ([], none_consumed source.left); later = omega arith }
 
 -- the refusal that a stop hands on
 refused_by : (output : Output) (source source' : SourceView) (stop : Stop) (refusal : Option Refusal) → refusal ≡ refusal_of stop

@@ -8,9 +8,9 @@ use Rattle.run_text.specs.Run.{Run}
 use Rattle.run_text.specs.declared.refusal.Refusal.{Refusal}
 use Rattle.run_text.proofs.UniqueLemmas as reading
 use Rattle.job_table.specs.Table.{IsTableOf, IsRefusedRun}
-use Rattle.cron_serve.specs.Input.{IsTaken, IsTakenFrame, IsRefusedRunFile, IsRefusedAsRun, IsRefusedAsFrame, IsRefusedBytes, IsRefusedInput, Suits}
+use Rattle.cron_serve.specs.Input.{IsTaken, IsTakenFrame, IsRefusedRunFile, IsRefusedAsRun, IsRefusedAsFrame, IsOfInput, IsRefusedBytes, IsRefusedInput, Suits}
 use Rattle.cron_serve.specs.declared.words.Output.{Output}
-use Rattle.cron_serve.specs.declared.words.Output.TheVariants.{Report, DueList, Check}
+use Rattle.cron_serve.specs.declared.words.Output.TheVariants.{Report, Journal, DueList, Check, Summary}
 use Rattle.cron_serve.proofs.TextLemmas.{never_both, one_fault}
 use Rattle.job_table.proofs.UniqueLemmas.{one_table, one_refused_run, not_refused_run}
 
@@ -53,15 +53,17 @@ one_refused_frame bytes a b (inr first) (inr second) = reading.one_refusal_by Co
 
 one_refused : (output : Output) (bytes : List ℕ) (a b : Refusal) → IsRefusedBytes output bytes a → IsRefusedBytes output bytes b → a ≡ b
 one_refused Report bytes a b first second = one_refused_run_file bytes a b first second
+one_refused Journal bytes a b first second = one_refused_run_file bytes a b first second
 one_refused DueList bytes a b first second = one_refused_run_file bytes a b first second
 one_refused Check bytes a b first second = one_refused_frame bytes a b first second
+one_refused (Summary seed) bytes a b first second = absurd first
 
 -- an input is refused for one thing
 pub one_input : (output : Output) (bytes : List ℕ) (a b : Refusal) → IsRefusedInput output bytes a → IsRefusedInput output bytes b → a ≡ b
-one_input output bytes a b (inl (large, is)) (inl (also, other)) = is ∙ sym other
-one_input output bytes a b (inl (large, is)) (inr (short, why)) = absurd (omega arith)
-one_input output bytes a b (inr (short, why)) (inl (large, is)) = absurd (omega arith)
-one_input output bytes a b (inr (short, why)) (inr (also, other)) = one_refused output bytes a b why other
+one_input output bytes a b (of, inl (large, is)) (of', inl (also, other)) = is ∙ sym other
+one_input output bytes a b (of, inl (large, is)) (of', inr (short, why)) = absurd (omega arith)
+one_input output bytes a b (of, inr (short, why)) (of', inl (large, is)) = absurd (omega arith)
+one_input output bytes a b (of, inr (short, why)) (of', inr (also, other)) = one_refused output bytes a b why other
 
 not_refused_file : (bytes : List ℕ) (run : Run) (table : Table) (refusal : Refusal) → IsTaken bytes run table → IsRefusedRunFile bytes refusal → ⊥
 not_refused_file bytes run table refusal taken refused = elim refused.why [
@@ -71,7 +73,7 @@ not_refused_file bytes run table refusal taken refused = elim refused.why [
 ]
 
 -- a run that is taken isn't refused
-taken_or_refused : (bytes : List ℕ) (run : Run) (table : Table) (refusal : Refusal) → IsTaken bytes run table → IsRefusedAsRun bytes refusal → ⊥
+pub taken_or_refused : (bytes : List ℕ) (run : Run) (table : Table) (refusal : Refusal) → IsTaken bytes run table → IsRefusedAsRun bytes refusal → ⊥
 taken_or_refused bytes run table refusal taken (inl fault) = never_both bytes refusal taken.texts fault
 taken_or_refused bytes run table refusal taken (inr refused) = not_refused_file bytes run table refusal taken refused
 
@@ -82,18 +84,22 @@ frame_or_refused bytes run refusal taken (inr refused) = reading.never_both_by C
 
 suits_or_refused_bytes : (output : Output) (bytes : List ℕ) (refusal : Refusal) → Suits output bytes → IsRefusedBytes output bytes refusal → ⊥
 suits_or_refused_bytes Report bytes refusal suits refused = taken_or_refused bytes suits.0 suits.1 refusal suits.2 refused
+suits_or_refused_bytes Journal bytes refusal suits refused = taken_or_refused bytes suits.0 suits.1 refusal suits.2 refused
 suits_or_refused_bytes DueList bytes refusal suits refused = taken_or_refused bytes suits.0 suits.1 refusal suits.2 refused
 suits_or_refused_bytes Check bytes refusal suits refused = frame_or_refused bytes suits.0 refusal suits.1 refused
+suits_or_refused_bytes (Summary seed) bytes refusal suits refused = refused
 
-suits_short : (output : Output) (bytes : List ℕ) → Suits output bytes → length bytes ≤ 1_048_576
-suits_short Report bytes suits = suits.2.short
-suits_short DueList bytes suits = suits.2.short
-suits_short Check bytes suits = suits.1.short
+suits_short : (output : Output) (bytes : List ℕ) → IsOfInput output → Suits output bytes → length bytes ≤ 1_048_576
+suits_short Report bytes of suits = suits.2.short
+suits_short Journal bytes of suits = suits.2.short
+suits_short DueList bytes of suits = suits.2.short
+suits_short Check bytes of suits = suits.1.short
+suits_short (Summary seed) bytes of suits = absurd of
 
 -- an input that suits what is to be written isn't refused
 pub suits_or_refused : (output : Output) (bytes : List ℕ) (refusal : Refusal) → Suits output bytes → IsRefusedInput output bytes refusal → ⊥
-suits_or_refused output bytes refusal suits (inl (large, is)) = let short = suits_short output bytes suits in omega arith
-suits_or_refused output bytes refusal suits (inr (short, why)) = suits_or_refused_bytes output bytes refusal suits why
+suits_or_refused output bytes refusal suits (of, inl (large, is)) = let short = suits_short output bytes of suits in omega arith
+suits_or_refused output bytes refusal suits (of, inr (short, why)) = suits_or_refused_bytes output bytes refusal suits why
 
 -- an input is taken as one frame
 pub one_frame : (bytes : List ℕ) (run other : Run) → IsTakenFrame bytes run → IsTakenFrame bytes other → run ≡ other

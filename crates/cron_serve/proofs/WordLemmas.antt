@@ -6,7 +6,7 @@ use Rattle.std.specs.Vec.Iter.{into_iter_items, into_iter_len, into_iter_steps}
 use Rattle.std.specs.declared.alloc.Global.{Global}
 use Rattle.std.specs.declared.vec.IntoIter.{IntoIter}
 use Rattle.std.proofs.lemmas.Fmt.{decimal_injective}
-use Rattle.std.proofs.lemmas.List.{append-nil, append_cancel_left, nil_from_length}
+use Rattle.std.proofs.lemmas.List.{append-nil, nil_from_length}
 use Rattle.std.proofs.lemmas.List.Quantifiers.{all_pairs_push}
 use Rattle.cron_serve.specs.Words.{IsSpelledBy, BeginsWith, AreSpelledBy, MayStandTogether, output_of, lanes_of, wanted, Asks, AsksNothing, AreWishesOf, texts_of, behind_name}
 use Rattle.cron_serve.specs.declared.words.Asked.{Asked}
@@ -15,84 +15,7 @@ use Rattle.cron_serve.specs.declared.words.Choice.TheVariants as choice
 use Rattle.cron_serve.specs.declared.words.Output.{Output}
 use Rattle.cron_serve.specs.declared.words.Output.TheVariants.{Report}
 use Rattle.cron_serve.specs.declared.words.Wishes.{Wishes}
-
--- two numbers of lanes that are written alike are one
-same_lanes : (a b : ℕ) → a ≤ 8 → b ≤ 8 → decimal a ≡ decimal b → choice.Lanes a ≡ choice.Lanes b
-same_lanes a b small low is = ap choice.Lanes (decimal_injective a b (omega (arith, small)) (omega (arith, low)) is)
-
--- words begin with one word
-same_head : (a b : List ℕ) (ps qs p q words rest others : List (List ℕ)) → p ≡ a ∷ ps → words ≡ p ++ rest → q ≡ b ∷ qs → words ≡ q ++ others
-    → (a ≡ b) × (ps ++ rest ≡ qs ++ others)
-same_head a b ps qs p q words rest others pa pw qb qw =
-    let joined : a ∷ ps ++ rest ≡ b ∷ qs ++ others = sym (ap (λ x. x ++ rest) pa) ∙ sym pw ∙ qw ∙ ap (λ x. x ++ others) qb in
-    (ap (λ (l : List (List ℕ)). get_or l 0 []) joined, ap behind_name joined)
-
-list_or_check : codes "--list" ≢ codes "--check"
-list_or_check is = let byte : 108 ≡ 99 = ap (λ (l : List ℕ). get_or l 2 0) is in omega (arith, byte)
-
-list_or_lanes : codes "--list" ≢ codes "--lanes"
-list_or_lanes is = let byte : 105 ≡ 97 = ap (λ (l : List ℕ). get_or l 3 0) is in omega (arith, byte)
-
-list_or_joined : (value : List ℕ) → codes "--list" ≢ codes "--lanes" ++ codes "=" ++ value
-list_or_joined value is = let byte : 105 ≡ 97 = ap (λ (l : List ℕ). get_or l 3 0) is in omega (arith, byte)
-
-check_or_lanes : codes "--check" ≢ codes "--lanes"
-check_or_lanes is = let byte : 99 ≡ 108 = ap (λ (l : List ℕ). get_or l 2 0) is in omega (arith, byte)
-
-check_or_joined : (value : List ℕ) → codes "--check" ≢ codes "--lanes" ++ codes "=" ++ value
-check_or_joined value is = let byte : 99 ≡ 108 = ap (λ (l : List ℕ). get_or l 2 0) is in omega (arith, byte)
-
-lanes_or_joined : (value : List ℕ) → codes "--lanes" ≢ codes "--lanes" ++ codes "=" ++ value
-lanes_or_joined value is = let byte : 0 ≡ 61 = ap (λ (l : List ℕ). get_or l 7 0) is in omega (arith, byte)
-
-same_value : (a b : List ℕ) → codes "--lanes" ++ codes "=" ++ a ≡ codes "--lanes" ++ codes "=" ++ b → a ≡ b
-same_value a b is = append_cancel_left (codes "--lanes=") a b is
-
--- words begin with one option at most, and behind it stand the same words
-pub one_first : (a b : Choice) (words rest others : List (List ℕ)) → BeginsWith a words rest → BeginsWith b words others → (a ≡ b) × (rest ≡ others)
-one_first choice.List choice.List words rest others (p, pa, pw) (q, qa, qw) = (refl, (same_head _ _ _ _ p q words rest others pa pw qa qw).1)
-one_first choice.List choice.Check words rest others (p, pa, pw) (q, qa, qw) = absurd (list_or_check (same_head _ _ _ _ p q words rest others pa pw qa qw).0)
-one_first choice.List (choice.Lanes n) words rest others (p, pa, pw) (q, (l, m, inl qa), qw) = absurd (list_or_lanes (same_head _ _ _ _ p q words rest others pa pw qa qw).0)
-one_first choice.List (choice.Lanes n) words rest others (p, pa, pw) (q, (l, m, inr qa), qw) = absurd (list_or_joined (decimal n) (same_head _ _ _ _ p q words rest others pa pw qa qw).0)
-one_first choice.Check choice.List words rest others (p, pa, pw) (q, qa, qw) = absurd (list_or_check (sym (same_head _ _ _ _ p q words rest others pa pw qa qw).0))
-one_first choice.Check choice.Check words rest others (p, pa, pw) (q, qa, qw) = (refl, (same_head _ _ _ _ p q words rest others pa pw qa qw).1)
-one_first choice.Check (choice.Lanes n) words rest others (p, pa, pw) (q, (l, m, inl qa), qw) = absurd (check_or_lanes (same_head _ _ _ _ p q words rest others pa pw qa qw).0)
-one_first choice.Check (choice.Lanes n) words rest others (p, pa, pw) (q, (l, m, inr qa), qw) = absurd (check_or_joined (decimal n) (same_head _ _ _ _ p q words rest others pa pw qa qw).0)
-one_first (choice.Lanes n) choice.List words rest others (p, (l, m, inl pa), pw) (q, qa, qw) = absurd (list_or_lanes (sym (same_head _ _ _ _ p q words rest others pa pw qa qw).0))
-one_first (choice.Lanes n) choice.List words rest others (p, (l, m, inr pa), pw) (q, qa, qw) = absurd (list_or_joined (decimal n) (sym (same_head _ _ _ _ p q words rest others pa pw qa qw).0))
-one_first (choice.Lanes n) choice.Check words rest others (p, (l, m, inl pa), pw) (q, qa, qw) = absurd (check_or_lanes (sym (same_head _ _ _ _ p q words rest others pa pw qa qw).0))
-one_first (choice.Lanes n) choice.Check words rest others (p, (l, m, inr pa), pw) (q, qa, qw) = absurd (check_or_joined (decimal n) (sym (same_head _ _ _ _ p q words rest others pa pw qa qw).0))
-one_first (choice.Lanes n) (choice.Lanes k) words rest others (p, (l, m, inl pa), pw) (q, (l', m', inl qa), qw) =
-    let behind = (same_head _ _ _ _ p q words rest others pa pw qa qw).1 in
-    (same_lanes n k m m' (ap (λ (l : List (List ℕ)). get_or l 0 []) behind), ap behind_name behind)
-one_first (choice.Lanes n) (choice.Lanes k) words rest others (p, (l, m, inl pa), pw) (q, (l', m', inr qa), qw) = absurd (lanes_or_joined (decimal k) (same_head _ _ _ _ p q words rest others pa pw qa qw).0)
-one_first (choice.Lanes n) (choice.Lanes k) words rest others (p, (l, m, inr pa), pw) (q, (l', m', inl qa), qw) = absurd (lanes_or_joined (decimal n) (sym (same_head _ _ _ _ p q words rest others pa pw qa qw).0))
-one_first (choice.Lanes n) (choice.Lanes k) words rest others (p, (l, m, inr pa), pw) (q, (l', m', inr qa), qw) =
-    let same = same_head _ _ _ _ p q words rest others pa pw qa qw in
-    (same_lanes n k m m' (same_value (decimal n) (decimal k) same.0), same.1)
-
-word_there : (a : List ℕ) (ps p words others : List (List ℕ)) → p ≡ a ∷ ps → words ≡ p ++ others → words ≢ []
-word_there a ps p words others pa pw none =
-    let joined : a ∷ ps ++ others ≡ [] = sym (ap (λ x. x ++ others) pa) ∙ sym pw ∙ none in
-    let size : suc (length (ps ++ others)) ≡ 0 = ap (λ (l : List (List ℕ)). length l) joined in
-    omega (arith, size)
-
--- no option begins where there is no word
-pub begins_somewhere : (a : Choice) (words others : List (List ℕ)) → BeginsWith a words others → words ≢ []
-begins_somewhere choice.List words others (p, pa, pw) none = word_there _ _ p words others pa pw none
-begins_somewhere choice.Check words others (p, pa, pw) none = word_there _ _ p words others pa pw none
-begins_somewhere (choice.Lanes n) words others (p, (l, m, inl pa), pw) none = word_there _ _ p words others pa pw none
-begins_somewhere (choice.Lanes n) words others (p, (l, m, inr pa), pw) none = word_there _ _ p words others pa pw none
-
--- words spell one list of options
-pub one_spelled : (xs ys : List Choice) (words : List (List ℕ)) → AreSpelledBy xs words → AreSpelledBy ys words → xs ≡ ys
-one_spelled [] [] words first second = refl
-one_spelled [] (y ∷ ys) words none (others, begins, spelled) = absurd (begins_somewhere y words others begins none)
-one_spelled (x ∷ xs) [] words (others, begins, spelled) none = absurd (begins_somewhere x words others begins none)
-one_spelled (x ∷ xs) (y ∷ ys) words (others, begins, spelled) (others', begins', spelled') =
-    let same = one_first x y words others others' begins begins' in
-    let rest : xs ≡ ys = one_spelled xs ys others spelled (subst (AreSpelledBy ys) (sym same.1) spelled') in
-    cc
+use Rattle.cron_serve.proofs.OptionLemmas.{begins_somewhere, one_first, one_spelled, word_there}
 
 -- words ask for one thing
 pub asks_one : (words : List (List ℕ)) (a b : Asked) → Asks words a → Asks words b → a ≡ b
@@ -119,8 +42,12 @@ output_free : (before : List Choice) (c : Choice) → output_of before ≡ None 
 output_free [] c none own k d within = absurd (omega (arith, within))
 output_free (choice.List ∷ xs) c none own k d within = absurd (cc)
 output_free (choice.Check ∷ xs) c none own k d within = absurd (cc)
+output_free (choice.Journal ∷ xs) c none own k d within = absurd (cc)
+output_free (choice.Make s ∷ xs) c none own k d within = absurd (cc)
 output_free (choice.Lanes n ∷ xs) choice.List none own zero d within = tt
 output_free (choice.Lanes n ∷ xs) choice.Check none own zero d within = tt
+output_free (choice.Lanes n ∷ xs) choice.Journal none own zero d within = tt
+output_free (choice.Lanes n ∷ xs) (choice.Make s) none own zero d within = tt
 output_free (choice.Lanes n ∷ xs) (choice.Lanes m) none own zero d within = absurd (cc)
 output_free (choice.Lanes n ∷ xs) c none own (suc k) d within = output_free xs c none own k d (omega (arith, within))
 
@@ -129,31 +56,43 @@ lanes_free [] n none k d within = absurd (omega (arith, within))
 lanes_free (choice.Lanes m ∷ xs) n none k d within = absurd (cc)
 lanes_free (choice.List ∷ xs) n none zero d within = tt
 lanes_free (choice.Check ∷ xs) n none zero d within = tt
+lanes_free (choice.Journal ∷ xs) n none zero d within = tt
+lanes_free (choice.Make s ∷ xs) n none zero d within = tt
 lanes_free (choice.List ∷ xs) n none (suc k) d within = lanes_free xs n none k d (omega (arith, within))
 lanes_free (choice.Check ∷ xs) n none (suc k) d within = lanes_free xs n none k d (omega (arith, within))
+lanes_free (choice.Journal ∷ xs) n none (suc k) d within = lanes_free xs n none k d (omega (arith, within))
+lanes_free (choice.Make s ∷ xs) n none (suc k) d within = lanes_free xs n none k d (omega (arith, within))
 
 output_push : (before : List Choice) (c : Choice) → output_of before ≡ None → output_of (before ++ c ∷ []) ≡ output_of (c ∷ [])
 output_push [] c none = refl
 output_push (choice.List ∷ xs) c none = absurd (cc)
 output_push (choice.Check ∷ xs) c none = absurd (cc)
+output_push (choice.Journal ∷ xs) c none = absurd (cc)
+output_push (choice.Make s ∷ xs) c none = absurd (cc)
 output_push (choice.Lanes n ∷ xs) c none = output_push xs c none
 
 output_kept : (before : List Choice) (n : ℕ) → output_of (before ++ choice.Lanes n ∷ []) ≡ output_of before
 output_kept [] n = refl
 output_kept (choice.List ∷ xs) n = refl
 output_kept (choice.Check ∷ xs) n = refl
+output_kept (choice.Journal ∷ xs) n = refl
+output_kept (choice.Make s ∷ xs) n = refl
 output_kept (choice.Lanes m ∷ xs) n = output_kept xs n
 
 lanes_push : (before : List Choice) (n : ℕ) → lanes_of before ≡ None → lanes_of (before ++ choice.Lanes n ∷ []) ≡ Some n
 lanes_push [] n none = refl
 lanes_push (choice.List ∷ xs) n none = lanes_push xs n none
 lanes_push (choice.Check ∷ xs) n none = lanes_push xs n none
+lanes_push (choice.Journal ∷ xs) n none = lanes_push xs n none
+lanes_push (choice.Make s ∷ xs) n none = lanes_push xs n none
 lanes_push (choice.Lanes m ∷ xs) n none = absurd (cc)
 
 lanes_kept : (before : List Choice) (c : Choice) → lanes_of (c ∷ []) ≡ None → lanes_of (before ++ c ∷ []) ≡ lanes_of before
 lanes_kept [] c own = own
 lanes_kept (choice.List ∷ xs) c own = lanes_kept xs c own
 lanes_kept (choice.Check ∷ xs) c own = lanes_kept xs c own
+lanes_kept (choice.Journal ∷ xs) c own = lanes_kept xs c own
+lanes_kept (choice.Make s ∷ xs) c own = lanes_kept xs c own
 lanes_kept (choice.Lanes m ∷ xs) c own = refl
 
 -- an option that asks for a text, behind others
@@ -179,20 +118,43 @@ with_lanes n old new is before are =
     }
 
 -- of two options that ask for a text, or for lanes, one may stand
+never_two : (a c : Choice) → lanes_of (a ∷ []) ≡ None → lanes_of (c ∷ []) ≡ None → MayStandTogether a c → ⊥
+never_two choice.List choice.List left right may = may
+never_two choice.List choice.Check left right may = may
+never_two choice.List choice.Journal left right may = may
+never_two choice.List (choice.Make s') left right may = may
+never_two choice.List (choice.Lanes n') left right may = absurd (cc)
+never_two choice.Check choice.List left right may = may
+never_two choice.Check choice.Check left right may = may
+never_two choice.Check choice.Journal left right may = may
+never_two choice.Check (choice.Make s') left right may = may
+never_two choice.Check (choice.Lanes n') left right may = absurd (cc)
+never_two choice.Journal choice.List left right may = may
+never_two choice.Journal choice.Check left right may = may
+never_two choice.Journal choice.Journal left right may = may
+never_two choice.Journal (choice.Make s') left right may = may
+never_two choice.Journal (choice.Lanes n') left right may = absurd (cc)
+never_two (choice.Make s) choice.List left right may = may
+never_two (choice.Make s) choice.Check left right may = may
+never_two (choice.Make s) choice.Journal left right may = may
+never_two (choice.Make s) (choice.Make s') left right may = may
+never_two (choice.Make s) (choice.Lanes n') left right may = absurd (cc)
+never_two (choice.Lanes n) c left right may = absurd (cc)
+
 output_clash : (before behind : List Choice) (c : Choice) → lanes_of (c ∷ []) ≡ None → IsSome (output_of before) → AllPairs MayStandTogether (before ++ c ∷ behind) → ⊥
 output_clash [] behind c own some pairs = absurd (cc)
-output_clash (choice.List ∷ xs) behind choice.List own some pairs = head_apart choice.List choice.List xs behind pairs
-output_clash (choice.List ∷ xs) behind choice.Check own some pairs = head_apart choice.List choice.Check xs behind pairs
-output_clash (choice.List ∷ xs) behind (choice.Lanes n) own some pairs = absurd (cc)
-output_clash (choice.Check ∷ xs) behind choice.List own some pairs = head_apart choice.Check choice.List xs behind pairs
-output_clash (choice.Check ∷ xs) behind choice.Check own some pairs = head_apart choice.Check choice.Check xs behind pairs
-output_clash (choice.Check ∷ xs) behind (choice.Lanes n) own some pairs = absurd (cc)
+output_clash (choice.List ∷ xs) behind c own some pairs = never_two choice.List c refl own (head_apart choice.List c xs behind pairs)
+output_clash (choice.Check ∷ xs) behind c own some pairs = never_two choice.Check c refl own (head_apart choice.Check c xs behind pairs)
+output_clash (choice.Journal ∷ xs) behind c own some pairs = never_two choice.Journal c refl own (head_apart choice.Journal c xs behind pairs)
+output_clash (choice.Make s ∷ xs) behind c own some pairs = never_two (choice.Make s) c refl own (head_apart (choice.Make s) c xs behind pairs)
 output_clash (choice.Lanes n ∷ xs) behind c own some pairs = output_clash xs behind c own some (tail_apart (choice.Lanes n) (xs ++ c ∷ behind) pairs)
 
 lanes_clash : (before behind : List Choice) (n : ℕ) → IsSome (lanes_of before) → AllPairs MayStandTogether (before ++ choice.Lanes n ∷ behind) → ⊥
 lanes_clash [] behind n some pairs = absurd (cc)
 lanes_clash (choice.List ∷ xs) behind n some pairs = lanes_clash xs behind n some (tail_apart choice.List (xs ++ choice.Lanes n ∷ behind) pairs)
 lanes_clash (choice.Check ∷ xs) behind n some pairs = lanes_clash xs behind n some (tail_apart choice.Check (xs ++ choice.Lanes n ∷ behind) pairs)
+lanes_clash (choice.Journal ∷ xs) behind n some pairs = lanes_clash xs behind n some (tail_apart choice.Journal (xs ++ choice.Lanes n ∷ behind) pairs)
+lanes_clash (choice.Make s ∷ xs) behind n some pairs = lanes_clash xs behind n some (tail_apart (choice.Make s) (xs ++ choice.Lanes n ∷ behind) pairs)
 lanes_clash (choice.Lanes m ∷ xs) behind n some pairs = head_apart (choice.Lanes m) (choice.Lanes n) xs behind pairs
 
 pub no_output_more : (c : Choice) (old : Wishes) (r : Option Wishes) → lanes_of (c ∷ []) ≡ None → IfNone r (IsSome old.output)
@@ -226,12 +188,30 @@ lanes_apart word value n items rest is number next =
     let own : word ∷ value ∷ [] ≡ codes "--lanes" ∷ decimal n ∷ [] = rw (is, number.2) refl in
     (word ∷ value ∷ [], (number.0, number.1, inl own), ap (λ (xs : List (List ℕ)). word ∷ xs) next)
 
-pub lanes_joined : (word value : List ℕ) (n : ℕ) (items : List (List ℕ)) → StripsPrefix (FindsTextPrefix (codes "--lanes=")) word value → (1 ≤ n) × (n ≤ 8) × (value ≡ decimal n)
-    → BeginsWith (choice.Lanes n) (word ∷ items) items
-lanes_joined word value n items (size, found, cut, long) number =
+pub seed_apart : (word value : List ℕ) (n : ℕ) (items rest : List (List ℕ)) → word ≡ codes "--make" → (n ≤ 4_294_967_295) × (value ≡ decimal n) → items ≡ value ∷ rest
+    → BeginsWith (choice.Make n) (word ∷ items) rest
+seed_apart word value n items rest is number next =
+    let own : word ∷ value ∷ [] ≡ codes "--make" ∷ decimal n ∷ [] = rw (is, number.1) refl in
+    (word ∷ value ∷ [], (number.0, inl own), ap (λ (xs : List (List ℕ)). word ∷ xs) next)
+
+pub lanes_joined : (word value : List ℕ) (n : ℕ) → StripsPrefix (FindsTextPrefix (codes "--lanes=")) word value → (1 ≤ n) × (n ≤ 8) × (value ≡ decimal n)
+    → IsSpelledBy (choice.Lanes n) (word ∷ [])
+lanes_joined word value n (size, found, cut, long) number =
     let is : word ≡ codes "--lanes=" ++ value = found.1 ∙ ap (λ t. codes "--lanes=" ++ t) (sym cut) in
     let own : word ∷ [] ≡ (codes "--lanes" ++ codes "=" ++ decimal n) ∷ [] = rw (is, number.2) refl in
-    (word ∷ [], (number.0, number.1, inr own), refl)
+    (number.0, number.1, inr own)
+
+pub seed_joined : (word value : List ℕ) (n : ℕ) → StripsPrefix (FindsTextPrefix (codes "--make=")) word value → (n ≤ 4_294_967_295) × (value ≡ decimal n)
+    → IsSpelledBy (choice.Make n) (word ∷ [])
+seed_joined word value n (size, found, cut, long) number =
+    let is : word ≡ codes "--make=" ++ value = found.1 ∙ ap (λ t. codes "--make=" ++ t) (sym cut) in
+    let own : word ∷ [] ≡ (codes "--make" ++ codes "=" ++ decimal n) ∷ [] = rw (is, number.1) refl in
+    (number.0, inr own)
+
+-- a word that spells an option begins any words with it
+pub spelled_begins : (r : Option Choice) (word : List ℕ) (items : List (List ℕ)) → IfSome r (λ c. IsSpelledBy c (word ∷ [])) → IfSome r (λ c. BeginsWith c (word ∷ items) items)
+spelled_begins None word items is = tt
+spelled_begins (Some c) word items is = (word ∷ [], is, refl)
 
 -- 0 is no number of lanes
 pub no_lanes_of_zero : (text : List ℕ) (n : ℕ) → text ≡ decimal n → n ≡ 0 → (lanes : ℕ) → 1 ≤ lanes → lanes ≤ 8 → text ≢ decimal lanes
@@ -351,20 +331,34 @@ asks_clash a b own other behind first second apart (x ∷ y ∷ more) are =
     let next = one_first y b spelled.0 rest.0 behind rest.1 (subst (λ (words : List (List ℕ)). BeginsWith b words behind) (sym same.1) (other, second, refl)) in
     apart (subst (λ (c : Choice). MayStandTogether c b) same.0 (subst (MayStandTogether x) next.0 (are.together zero (suc zero) x (omega arith) (omega arith))))
 
--- a first word that begins no option asks for nothing
-pub asks_unknown : (word : List ℕ) (words : List (List ℕ)) → word ≢ codes "--list" → word ≢ codes "--check" → word ≢ codes "--lanes"
-    → ((n : ℕ) → 1 ≤ n → n ≤ 8 → word ≢ codes "--lanes" ++ codes "=" ++ decimal n) → AsksNothing (word ∷ words)
-asks_unknown word words a b c d [] are = word_there word words (word ∷ words) (word ∷ words) [] refl (sym (append-nil (word ∷ words))) are.spelled
-asks_unknown word words a b c d (x ∷ xs) are = let spelled = are.spelled in unknown x spelled.0 spelled.1
-  where
-    is : (head : List ℕ) (ps own others : List (List ℕ)) → own ≡ head ∷ ps → word ∷ words ≡ own ++ others → word ≡ head
-    is head ps own others spells whole = ap (λ (l : List (List ℕ)). get_or l 0 []) (whole ∙ ap (λ (l : List (List ℕ)). l ++ others) spells)
+-- the word is no option, and no name with a value that is one
+pub record IsNoOption (word : List ℕ) : Type 0 where
+  pub list : word ≢ codes "--list"
+  pub check : word ≢ codes "--check"
+  pub journal : word ≢ codes "--journal"
+  pub lanes : word ≢ codes "--lanes"
+  pub make : word ≢ codes "--make"
+  pub with_lanes : (n : ℕ) → 1 ≤ n → n ≤ 8 → word ≢ codes "--lanes" ++ codes "=" ++ decimal n
+  pub with_seed : (s : ℕ) → s ≤ 4_294_967_295 → word ≢ codes "--make" ++ codes "=" ++ decimal s
 
-    unknown : (x : Choice) (others : List (List ℕ)) → BeginsWith x (word ∷ words) others → ⊥
-    unknown choice.List others (own, spells, whole) = a (is _ _ own others spells whole)
-    unknown choice.Check others (own, spells, whole) = b (is _ _ own others spells whole)
-    unknown (choice.Lanes n) others (own, (l, m, inl spells), whole) = c (is _ _ own others spells whole)
-    unknown (choice.Lanes n) others (own, (l, m, inr spells), whole) = d n l m (is _ _ own others spells whole)
+module _ (word : List ℕ) (words : List (List ℕ)) (other : IsNoOption word) where
+  is_first : (head : List ℕ) (ps own others : List (List ℕ)) → own ≡ head ∷ ps → word ∷ words ≡ own ++ others → word ≡ head
+  is_first head ps own others spells whole = ap (λ (l : List (List ℕ)). get_or l 0 []) (whole ∙ ap (λ (l : List (List ℕ)). l ++ others) spells)
+
+  -- it begins no option
+  pub begins_none : (x : Choice) (others : List (List ℕ)) → BeginsWith x (word ∷ words) others → ⊥
+  begins_none choice.List others (own, spells, whole) = other.list (is_first _ _ own others spells whole)
+  begins_none choice.Check others (own, spells, whole) = other.check (is_first _ _ own others spells whole)
+  begins_none choice.Journal others (own, spells, whole) = other.journal (is_first _ _ own others spells whole)
+  begins_none (choice.Make s) others (own, (l, inl spells), whole) = other.make (is_first _ _ own others spells whole)
+  begins_none (choice.Make s) others (own, (l, inr spells), whole) = other.with_seed s l (is_first _ _ own others spells whole)
+  begins_none (choice.Lanes n) others (own, (l, m, inl spells), whole) = other.lanes (is_first _ _ own others spells whole)
+  begins_none (choice.Lanes n) others (own, (l, m, inr spells), whole) = other.with_lanes n l m (is_first _ _ own others spells whole)
+
+-- a first word that begins no option asks for nothing
+pub asks_unknown : (word : List ℕ) (words : List (List ℕ)) → IsNoOption word → AsksNothing (word ∷ words)
+asks_unknown word words other [] are = word_there word words (word ∷ words) (word ∷ words) [] refl (sym (append-nil (word ∷ words))) are.spelled
+asks_unknown word words other (x ∷ xs) are = let spelled = are.spelled in begins_none word words other x spelled.0 spelled.1
 
 -- a number of lanes that is asked for
 abbrev IsLaneCount : Option ℕ → Type 0
@@ -375,6 +369,8 @@ lane_counts : (choices : List Choice) (words : List (List ℕ)) → AreSpelledBy
 lane_counts [] words is = tt
 lane_counts (choice.List ∷ xs) words is = lane_counts xs is.0 is.2
 lane_counts (choice.Check ∷ xs) words is = lane_counts xs is.0 is.2
+lane_counts (choice.Journal ∷ xs) words is = lane_counts xs is.0 is.2
+lane_counts (choice.Make s ∷ xs) words is = lane_counts xs is.0 is.2
 lane_counts (choice.Lanes n ∷ xs) words (others, (own, (l, m, spells), whole), behind) = (l, m)
 
 count_or_one : (lanes : Option ℕ) → IsLaneCount lanes → (1 ≤ unwrap_or lanes 1) × (unwrap_or lanes 1 ≤ 8)
@@ -405,6 +401,8 @@ some_lanes : (choices : List Choice) (words : List (List ℕ)) → AreSpelledBy 
 some_lanes [] words spelled = omega arith
 some_lanes (choice.List ∷ choices) words spelled = some_lanes choices spelled.0 spelled.2
 some_lanes (choice.Check ∷ choices) words spelled = some_lanes choices spelled.0 spelled.2
+some_lanes (choice.Journal ∷ choices) words spelled = some_lanes choices spelled.0 spelled.2
+some_lanes (choice.Make s ∷ choices) words spelled = some_lanes choices spelled.0 spelled.2
 some_lanes (choice.Lanes lanes ∷ choices) words spelled = spelled.1.1.0
 
 pub asks_some_lanes : (words : List (List ℕ)) (asked : Asked) → Asks words asked → 0 < asked.lanes

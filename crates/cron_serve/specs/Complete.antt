@@ -7,7 +7,7 @@ use Rattle.disk_model.specs.declared.mem_disk.MemDisk.{MemDisk}
 use Rattle.replica_node.specs.declared.node.Node.{Node}
 use Rattle.world_law.specs.Book.{BookState}
 use Rattle.run_text.specs.declared.refusal.Refusal.{Refusal}
-use Rattle.cron_serve.specs.Input.{IsRefusedInput, Suits}
+use Rattle.cron_serve.specs.Input.{IsOfInput, IsRefusedInput, Suits}
 use Rattle.cron_serve.specs.Serve.{IsTextOfInput}
 use Rattle.cron_serve.specs.declared.run_end.RunEnd.{RunEnd}
 use Rattle.cron_serve.specs.declared.words.Output.{Output}
@@ -23,6 +23,8 @@ pub record Completes (output : Output) (source source' : SourceView) (sink sink'
   -- and each input of which it can't is refused
   pub others : (bytes : List ℕ) → source.left ≡ Some bytes → (Suits output bytes → ⊥) → ¬ Rose source.faults source'.faults
       → IsSomeAnd end.refusal (IsRefusedInput output bytes) ⊎ (end.status ≡ 5)
+  -- and what is of no input ends with its text, whatever the source has
+  pub made : (IsOfInput output → ⊥) → ¬ Rose sink.faults sink'.faults → (end.status ≡ 0) ⊎ (end.status ≡ 5)
 
 -- the source told these bytes, no read and no write failed, and the end is the one that they decide
 pub record EndsUndisturbed (output : Output) (source source' : SourceView) (sink sink' : SinkView) (end : RunEnd) (bytes : List ℕ) : Type 0 where

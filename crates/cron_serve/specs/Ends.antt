@@ -1,5 +1,5 @@
 -- What each end of the program says of its input, its text, its book and its nodes.
-use Rattle.std.specs.Prelude.{◌≡◌, ◌≢◌, ◌⊎◌, ◌↔◌, ℕ, ◌≤◌, None, Some, IsSome, IsSomeAnd}
+use Rattle.std.specs.Prelude.{◌≡◌, ◌⊎◌, ◌↔◌, ℕ, ◌≤◌, None, Some, IsSome, IsSomeAnd}
 use Rattle.cron_io.specs.Faults.{Rose}
 use Rattle.cron_io.specs.Reading.{HasReadOn}
 use Rattle.cron_io.specs.Views.{SourceView, SinkView}

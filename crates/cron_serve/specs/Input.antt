@@ -1,5 +1,5 @@
 -- Which inputs the program takes, by what it is asked to write, and for what it refuses the others.
-use Rattle.std.specs.Prelude.{◌≡◌, ◌⊎◌, ℕ, ◌<◌, ◌≤◌, List, length}
+use Rattle.std.specs.Prelude.{◌≡◌, ◌⊎◌, ℕ, ◌<◌, ◌≤◌, List, length, ⊤}
 use Rattle.crontab_text.specs.Lines.{lines_of}
 use Rattle.due_set.specs.Table.{Table}
 use Rattle.run_text.specs.Reading.{IsRunText, IsRefusedText, IsFrameText, IsRefusedFrame}
@@ -8,7 +8,7 @@ use Rattle.run_text.specs.declared.refusal.Refusal.{Refusal}
 use Rattle.job_table.specs.Table.{IsTableOf, IsRefusedRun, whole_run}
 use Rattle.cron_serve.specs.Text.{AreTexts, IsNotText}
 use Rattle.cron_serve.specs.declared.words.Output.{Output}
-use Rattle.cron_serve.specs.declared.words.Output.TheVariants.{Report, DueList, Check}
+use Rattle.cron_serve.specs.declared.words.Output.TheVariants.{Report, Journal, DueList, Check, Summary}
 use Rattle.cron_fields.specs.declared.cause.Cause.TheVariants.{TooLarge}
 
 -- the input is the text of this run, whose jobs have this table
@@ -24,11 +24,18 @@ pub record IsTakenFrame (bytes : List ℕ) (run : Run) : Type 0 where
   pub texts : AreTexts (lines_of bytes)
   pub says : IsFrameText bytes run
 
--- the input is one of which this can be written: of a run with a table, and the check of any run
+-- this is written of an input, and not of a run that is made
+abbrev pub IsOfInput : Output → Type 0
+IsOfInput (Summary seed) = ⊥
+IsOfInput output = ⊤
+
+-- the input is one of which this can be written: of a run with a table, and the check of any run; a summary is of none
 abbrev pub Suits : Output → List ℕ → Type 0
 Suits Report bytes = (run : Run) × (table : Table) × IsTaken bytes run table
+Suits Journal bytes = (run : Run) × (table : Table) × IsTaken bytes run table
 Suits DueList bytes = (run : Run) × (table : Table) × IsTaken bytes run table
 Suits Check bytes = (run : Run) × IsTakenFrame bytes run
+Suits (Summary seed) bytes = ⊤
 
 -- the text of a run is refused for the run's tables
 abbrev pub IsRefusedTable : List ℕ → Refusal → Type 0
@@ -55,11 +62,14 @@ IsRefusedAsFrame bytes refusal = IsNotText bytes refusal ⊎ IsRefusedFrameFile 
 -- for what the bytes are refused, where this is to be written
 abbrev pub IsRefusedBytes : Output → List ℕ → Refusal → Type 0
 IsRefusedBytes Report bytes refusal = IsRefusedAsRun bytes refusal
+IsRefusedBytes Journal bytes refusal = IsRefusedAsRun bytes refusal
 IsRefusedBytes DueList bytes refusal = IsRefusedAsRun bytes refusal
 IsRefusedBytes Check bytes refusal = IsRefusedAsFrame bytes refusal
+IsRefusedBytes (Summary seed) bytes refusal = ⊥
 
--- the input is refused: it has more than 1,048,576 bytes, or else it is refused for what it says
+-- the input, of which this was to be written, is refused: it has more than 1,048,576 bytes, or else it is refused for
+-- what it says
 abbrev pub IsRefusedInput : Output → List ℕ → Refusal → Type 0
 IsRefusedInput output bytes refusal =
-    ((1_048_576 < length bytes) × (refusal ≡ whole_run TooLarge))
-    ⊎ ((length bytes ≤ 1_048_576) × IsRefusedBytes output bytes refusal)
+    IsOfInput output × (((1_048_576 < length bytes) × (refusal ≡ whole_run TooLarge))
+    ⊎ ((length bytes ≤ 1_048_576) × IsRefusedBytes output bytes refusal))

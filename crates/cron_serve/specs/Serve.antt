@@ -1,5 +1,5 @@
 -- How the program ends, and what it leaves.
-use Rattle.std.specs.Prelude.{◌≡◌, ◌⊎◌, ℕ, ◌≤◌, ◌==◌, if◌then◌else◌, List, [], ◌∷◌, ◌++◌, length, Option, None, Some, pos, ◌-ℤ◌, codes, decimal}
+use Rattle.std.specs.Prelude.{◌≡◌, ◌⊎◌, ℕ, ◌≤◌, ◌==◌, if◌then◌else◌, List, [], ◌∷◌, ◌++◌, length, Option, None, Some, codes, decimal}
 use Rattle.cron_io.specs.Faults.{Rose}
 use Rattle.cron_io.specs.Reading.{IsReadToEnd, HasTakenCount}
 use Rattle.cron_io.specs.Views.{SourceView, SinkView}
@@ -12,14 +12,17 @@ use Rattle.replica_node.specs.declared.node.Node.{Node}
 use Rattle.book_law.specs.Book.{Row}
 use Rattle.world_law.specs.Book.{BookState, StandsBehind}
 use Rattle.report_text.specs.Book.{IsBookReport}
+use Rattle.journal_text.specs.Starts.{IsBookJournal}
+use Rattle.journal_text.specs.Summary.{IsBookSummary}
+use Rattle.made_run.specs.Made.{made_text}
 use Rattle.whole_law.specs.Whole.{IsWholeRun}
 use Rattle.world_play.specs.Play.{AreMemNodesOf}
 use Rattle.run_text.specs.Run.{Run}
 use Rattle.run_text.specs.declared.refusal.Refusal.{Refusal}
 use Rattle.job_table.specs.Table.{whole_run}
-use Rattle.cron_serve.specs.Input.{IsTaken, IsTakenFrame, IsRefusedBytes}
+use Rattle.cron_serve.specs.Input.{IsOfInput, IsTaken, IsTakenFrame, IsRefusedBytes}
 use Rattle.cron_serve.specs.declared.words.Output.{Output}
-use Rattle.cron_serve.specs.declared.words.Output.TheVariants.{Report, DueList, Check}
+use Rattle.cron_serve.specs.declared.words.Output.TheVariants.{Report, Journal, DueList, Check, Summary}
 use Rattle.cron_fields.specs.declared.cause.Cause.TheVariants.{TooLarge}
 
 -- more than 1,048,576 bytes came
@@ -34,9 +37,9 @@ pub record IsReadAndRefused (output : Output) (old new : SourceView) (refusal : 
   pub short : length bytes ≤ 1_048_576
   pub refused : IsRefusedBytes output bytes refusal
 
--- why the input was refused, where this was to be written
+-- why the input was refused, of which this was to be written
 abbrev pub IsRefused : Output → (old new : SourceView) → Refusal → Type 0
-IsRefused output old new refusal = IsTooLarge old new refusal ⊎ IsReadAndRefused output old new refusal
+IsRefused output old new refusal = IsOfInput output × (IsTooLarge old new refusal ⊎ IsReadAndRefused output old new refusal)
 
 -- **The bytes are a run that is taken**, of these jobs, and this book and these nodes are what it leaves: behind the book stand the turns of a
 -- whole run of its script, and each node keeps what its replica keeps.
@@ -55,6 +58,22 @@ pub record IsReportOf (bytes : List ℕ) (book : BookState) (nodes : List (Node 
   pub table : Table
   pub run : IsRunOf bytes table book nodes
   pub report : IsBookReport table book text
+
+-- the bytes are such a run, and this is the report of its book, and behind it the journal of the turns that obey its script
+pub record IsJournalOf (bytes : List ℕ) (book : BookState) (nodes : List (Node MemDisk)) (text : List ℕ) : Type 0 where
+  pub table : Table
+  pub run : IsRunOf bytes table book nodes
+  pub front : List ℕ
+  pub back : List ℕ
+  pub parts : text ≡ front ++ back
+  pub report : IsBookReport table book front
+  pub journal : IsBookJournal table run.run.commands book back
+
+-- the bytes are such a run, and this is the summary of its book, with the seed
+pub record IsSummaryOf (seed : ℕ) (bytes : List ℕ) (book : BookState) (nodes : List (Node MemDisk)) (text : List ℕ) : Type 0 where
+  pub table : Table
+  pub run : IsRunOf bytes table book nodes
+  pub summary : IsBookSummary table seed book text
 
 -- the bytes are a run that is taken, and these are the due instants of its jobs
 pub record IsDueListOf (bytes text : List ℕ) : Type 0 where
@@ -75,16 +94,24 @@ pub record LeavesNoRun (book : BookState) (nodes : List (Node MemDisk)) : Type 0
   pub no_call : book.pending ≡ None
   pub no_node : nodes ≡ []
 
--- This is to be written of the bytes, and this book and these nodes are left: only the report is of a run that was made.
+-- This is to be written of the bytes, and this book and these nodes are left: no run is played for a due list and for a check.
 abbrev pub IsTextOf : Output → List ℕ → BookState → List (Node MemDisk) → (text : List ℕ) → Type 0
 IsTextOf Report bytes book nodes text = IsReportOf bytes book nodes text
+IsTextOf Journal bytes book nodes text = IsJournalOf bytes book nodes text
 IsTextOf DueList bytes book nodes text = LeavesNoRun book nodes × IsDueListOf bytes text
 IsTextOf Check bytes book nodes text = LeavesNoRun book nodes × IsCheckOf bytes text
+IsTextOf (Summary seed) bytes book nodes text = IsSummaryOf seed bytes book nodes text
 
--- the input was read to its end, and this is to be written of it
+-- Where the bytes come from of which this is to be written: the input, which was read to its end; but for a summary
+-- they are the text that its seed makes, and nothing was read.
+abbrev pub IsGiven : Output → (old new : SourceView) → List ℕ → Type 0
+IsGiven (Summary seed) old new bytes = (bytes ≡ made_text seed) × (new ≡ old)
+IsGiven output old new bytes = IsReadToEnd old new bytes
+
+-- this is to be written of the bytes that were given
 pub record IsTextOfInput (output : Output) (old new : SourceView) (book : BookState) (nodes : List (Node MemDisk)) (text : List ℕ) : Type 0 where
   pub bytes : List ℕ
-  pub read : IsReadToEnd old new bytes
+  pub given : IsGiven output old new bytes
   pub is : IsTextOf output bytes book nodes text
 
 -- the text of the input was written

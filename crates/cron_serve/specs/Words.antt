@@ -5,7 +5,7 @@ use Rattle.cron_serve.specs.declared.words.Asked.{Asked}
 use Rattle.cron_serve.specs.declared.words.Choice.{Choice}
 use Rattle.cron_serve.specs.declared.words.Choice.TheVariants as choice
 use Rattle.cron_serve.specs.declared.words.Output.{Output}
-use Rattle.cron_serve.specs.declared.words.Output.TheVariants.{Report, DueList, Check}
+use Rattle.cron_serve.specs.declared.words.Output.TheVariants.{Report, Journal, DueList, Check, Summary}
 use Rattle.cron_serve.specs.declared.words.Wishes.{Wishes}
 
 -- the words are this name and this value: two words, or one with `=` between the two
@@ -16,6 +16,8 @@ IsNameWithValue name value words = (words ≡ name ∷ value ∷ []) ⊎ (words 
 abbrev pub IsSpelledBy : Choice → List (List ℕ) → Type 0
 IsSpelledBy choice.List words = words ≡ codes "--list" ∷ []
 IsSpelledBy choice.Check words = words ≡ codes "--check" ∷ []
+IsSpelledBy choice.Journal words = words ≡ codes "--journal" ∷ []
+IsSpelledBy (choice.Make seed) words = (seed ≤ 4_294_967_295) × IsNameWithValue (codes "--make") (decimal seed) words
 IsSpelledBy (choice.Lanes lanes) words = (1 ≤ lanes) × (lanes ≤ 8) × IsNameWithValue (codes "--lanes") (decimal lanes) words
 
 -- the words begin with a spelling of the option, and the others stand behind it
@@ -31,8 +33,12 @@ AreSpelledBy (choice ∷ choices) words = (others : List (List ℕ)) × BeginsWi
 abbrev pub MayStandTogether : Choice → Choice → Type 0
 MayStandTogether choice.List (choice.Lanes lanes) = Unit {0}
 MayStandTogether choice.Check (choice.Lanes lanes) = Unit {0}
+MayStandTogether choice.Journal (choice.Lanes lanes) = Unit {0}
+MayStandTogether (choice.Make seed) (choice.Lanes lanes) = Unit {0}
 MayStandTogether (choice.Lanes lanes) choice.List = Unit {0}
 MayStandTogether (choice.Lanes lanes) choice.Check = Unit {0}
+MayStandTogether (choice.Lanes lanes) choice.Journal = Unit {0}
+MayStandTogether (choice.Lanes lanes) (choice.Make seed) = Unit {0}
 MayStandTogether choice other = ⊥
 
 -- the words are those of the options, any two of which may stand together
@@ -45,6 +51,8 @@ abbrev pub output_of : List Choice → Option Output
 output_of [] = None
 output_of (choice.List ∷ choices) = Some DueList
 output_of (choice.Check ∷ choices) = Some Check
+output_of (choice.Journal ∷ choices) = Some Journal
+output_of (choice.Make seed ∷ choices) = Some (Summary seed)
 output_of (choice.Lanes lanes ∷ choices) = output_of choices
 
 -- how many lanes the first option that says so asks for

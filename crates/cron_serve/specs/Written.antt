@@ -8,6 +8,8 @@ use Rattle.replica_node.specs.declared.node.Node.{Node}
 use Rattle.world_law.specs.Book.{BookState}
 use Rattle.due_list.specs.declared.fault.ListFault.{ListFault}
 use Rattle.due_list.specs.declared.fault.ListFault.TheVariants.{WriteFault, OutOfMemory}
+use Rattle.report_text.specs.declared.fault.ReportFault.{ReportFault}
+use Rattle.report_text.specs.declared.fault.ReportFault.TheVariants as report
 use Rattle.cron_serve.specs.Serve.{IsTextOf, LeavesNoRun}
 use Rattle.cron_serve.specs.declared.run_end.RunEnd.{RunEnd}
 use Rattle.cron_serve.specs.declared.words.Output.{Output}
@@ -27,6 +29,12 @@ abbrev pub status_of_listing : Result (Unit {0}) ListFault → ℕ
 status_of_listing (Ok done) = 0
 status_of_listing (Err WriteFault) = 4
 status_of_listing (Err OutOfMemory) = 5
+
+-- the status of the end of a run's text
+abbrev pub status_of_writing : Result (Unit {0}) ReportFault → ℕ
+status_of_writing (Ok done) = 0
+status_of_writing (Err report.WriteFault) = 4
+status_of_writing (Err report.OutOfMemory) = 5
 
 -- the text of the bytes was written, as this status tells, and this book and these nodes are left
 pub record WritesTextOf (output : Output) (bytes : List ℕ) (sink sink' : SinkView) (status : ℕ) (book : BookState) (nodes : List (Node MemDisk)) : Type 0 where

@@ -1,11 +1,16 @@
 //! What is written of an input that was read.
-ghost use Rattle.std.specs.Prelude.{◌≡◌, ◌⊎◌, ◌<◌, ◌≤◌, List, ℕ, length, None, IfOk, IfErr};
+ghost use Rattle.std.specs.Prelude.{◌≡◌, ◌⊎◌, ◌++◌, ◌<◌, ◌≤◌, List, ℕ, length, None, IfOk, IfErr};
+ghost use Rattle.due_set.specs.Table.{IsSound};
+ghost use Rattle.journal_text.specs.Starts.{AreStarts};
+ghost use Rattle.journal_text.specs.Journal.{journal_text};
 ghost use Rattle.report_text.specs.Book.{IsBookReport};
+ghost use Rattle.report_text.specs.Writes.{Writes};
 ghost use Rattle.run_text.specs.Steps.{IfRefused};
 ghost use Rattle.world_law.specs.Book.{IsLegalBook};
-ghost use Rattle.cron_serve.specs.Input.{IsRefusedAsFrame, IsRefusedAsRun, IsRefusedBytes};
+ghost use Rattle.world_play.specs.Play.{HasStarts};
+ghost use Rattle.cron_serve.specs.Input.{IsOfInput, IsRefusedAsFrame, IsRefusedAsRun, IsRefusedBytes};
 ghost use Rattle.cron_serve.specs.Serve.{IsRunOf, LeavesNoRun};
-ghost use Rattle.cron_serve.specs.Written.{EndsWriting, WritesAtStatus, status_of_listing};
+ghost use Rattle.cron_serve.specs.Written.{EndsWriting, WritesAtStatus, status_of_listing, status_of_writing};
 
 use crate::input::{take_frame, take_table};
 use crate::run_end::RunEnd;
@@ -14,6 +19,7 @@ use cron_io::Sink;
 use disk_model::MemDisk;
 use due_list::{ListFault, write_check, write_due};
 use due_set::JobTable;
+use journal_text::write_journal;
 use replica_node::Node;
 use report_text::{ReportFault, write_book_report};
 use run_text::RunFault;
@@ -22,13 +28,20 @@ use std::thread::Threads;
 use world_law::Book;
 use world_play::play_run;
 
-// A run that was played: the table of its jobs, its number of replicas, and the book and the nodes that it left.
+/// A run that was played: the table of its jobs, its number of replicas, the book and the nodes that it left, and the
+/// numbers of turns at which the parts of its script begin.
 #[derive(Drop)]
-struct Played {
-    table: JobTable,
-    members: u8,
-    book: Book,
-    nodes: Vec<Node<MemDisk>>,
+pub struct Played {
+    /// The table of its jobs.
+    pub table: JobTable,
+    /// Its number of replicas, 1 to 7.
+    pub members: u8,
+    /// The book that it left.
+    pub book: Book,
+    /// The nodes that it left, in order of number.
+    pub nodes: Vec<Node<MemDisk>>,
+    /// The numbers of turns at which the parts of its commands begin, and last that of the walk.
+    pub starts: Vec<u64>,
 }
 
 /// Writes what is asked for of an input.
@@ -45,14 +58,17 @@ pub fn write_output<K: Sink, R: Threads + Sync>(
 ) -> Result<RunEnd, RunFault>
     requires short { length bytes.now ≤ 1_048_576 }
     requires lanes { 0 < asked.lanes }
+    requires input { IsOfInput asked.output }
     ensures end { IfOk result (EndsWriting asked.output bytes.now (K.seen sink.old) (K.seen sink.new)) }
     ensures refused { IfErr result (λ fault. IfRefused fault (IsRefusedBytes asked.output bytes.now)) }
     ensures unwritten { IfErr result (λ _. K.seen sink.new ≡ K.seen sink.old) }
 {
     match asked.output {
         Output::Report => launch(rt, alloc, asked.lanes, bytes, sink),
+        Output::Journal => tell(rt, alloc, asked.lanes, bytes, sink),
         Output::DueList => list(alloc, bytes, sink),
         Output::Check => check(alloc, bytes, sink),
+        Output::Summary(_) => unreachable!(),
     }
 }
 
@@ -74,8 +90,30 @@ fn launch<K: Sink, R: Threads + Sync>(
     Ok(report(alloc, sink, played))
 }
 
-// Plays the run in a world of its replicas.
-fn play<R: Threads + Sync>(
+// Plays the run, and writes its report, and its journal behind it.
+fn tell<K: Sink, R: Threads + Sync>(
+    rt: &R,
+    alloc: Global,
+    lanes: u8,
+    bytes: &[u8],
+    sink: &mut K,
+) -> Result<RunEnd, RunFault>
+    requires short { length bytes.now ≤ 1_048_576 }
+    requires lanes { 0 < lanes }
+    ensures end { IfOk result (EndsWriting Output.Journal bytes.now (K.seen sink.old) (K.seen sink.new)) }
+    ensures refused { IfErr result (λ fault. IfRefused fault (IsRefusedAsRun bytes.now)) }
+    ensures unwritten { IfErr result (λ _. K.seen sink.new ≡ K.seen sink.old) }
+{
+    let played = play(rt, alloc, lanes, bytes)?;
+    Ok(journal(alloc, sink, played))
+}
+
+/// Plays a run in a world of its replicas.
+///
+/// # Errors
+///
+/// What the bytes are refused for, or want of memory.
+pub fn play<R: Threads + Sync>(
     rt: &R,
     alloc: Global,
     lanes: u8,
@@ -86,17 +124,21 @@ fn play<R: Threads + Sync>(
     ensures run { IfOk result (λ played. IsRunOf bytes.now played.table played.book played.nodes.items) }
     ensures members { IfOk result (λ played. played.book.members ≡ played.members) }
     ensures few { IfOk result (λ played. played.members ≤ 7) }
+    ensures sound { IfOk result (λ played. IsSound played.table) }
+    ensures starts { IfOk result (λ played. (run : IsRunOf bytes.now played.table played.book played.nodes.items)
+        → HasStarts played.table run.run.commands played.book played.starts.items) }
     ensures refused { IfErr result (λ fault. IfRefused fault (IsRefusedAsRun bytes.now)) }
 {
     let (run, table) = take_table(alloc, bytes)?;
     let commands = run.commands.as_slice();
-    let world = play_run(rt, alloc, &table, run.members, commands, lanes)?;
+    let (world, starts) = play_run(rt, alloc, &table, run.members, commands, lanes)?;
     let (book, nodes) = world.into_book();
     Ok(Played {
         table,
         members: run.members,
         book,
         nodes,
+        starts,
     })
 }
 
@@ -113,7 +155,54 @@ fn report<K: Sink>(alloc: Global, sink: &mut K, played: Played) -> RunEnd
     ensures refusal { result.refusal ≡ None }
     ensures statuses { (result.status ≡ 0) ⊎ (result.status ≡ 4) ⊎ (result.status ≡ 5) }
 {
-    let status = match write_book_report(alloc, sink, &played.table, played.members, &played.book) {
+    let written = write_book_report(alloc, sink, &played.table, played.members, &played.book);
+    written_end(written, played)
+}
+
+// Writes the report of a run, and its journal behind it.
+fn journal<K: Sink>(alloc: Global, sink: &mut K, played: Played) -> RunEnd
+    requires few { played.members ≤ 7 }
+    requires members { played.book.members ≡ played.members }
+    requires sound { IsSound played.table }
+    requires legal { IsLegalBook played.table played.book }
+    requires rest { played.book.pending ≡ None }
+    requires starts { AreStarts (length played.book.turns) played.starts.items }
+    ensures text { (front : List ℕ) × IsBookReport played.table played.book front
+        × WritesAtStatus (K.seen sink.old) (K.seen sink.new) result.status
+        (front ++ journal_text played.table played.book.turns played.starts.items) }
+    ensures book { result.book ≡ played.book }
+    ensures nodes { result.nodes.items ≡ played.nodes.items }
+    ensures refusal { result.refusal ≡ None }
+    ensures statuses { (result.status ≡ 0) ⊎ (result.status ≡ 4) ⊎ (result.status ≡ 5) }
+{
+    let written = write_both(alloc, sink, &played);
+    written_end(written, played)
+}
+
+// Writes a report, and a journal behind it.
+fn write_both<K: Sink>(alloc: Global, sink: &mut K, played: &Played) -> Result<(), ReportFault>
+    requires few { played.now.members ≤ 7 }
+    requires members { played.now.book.members ≡ played.now.members }
+    requires sound { IsSound played.now.table }
+    requires legal { IsLegalBook played.now.table played.now.book }
+    requires rest { played.now.book.pending ≡ None }
+    requires starts { AreStarts (length played.now.book.turns) played.now.starts.items }
+    ensures { (front : List ℕ) × IsBookReport played.now.table played.now.book front
+        × Writes (K.seen sink.old) (K.seen sink.new) result
+        (front ++ journal_text played.now.table played.now.book.turns played.now.starts.items) }
+{
+    write_book_report(alloc, sink, &played.table, played.members, &played.book)?;
+    write_journal(alloc, sink, &played.table, &played.book, &played.starts)
+}
+
+/// The end of a program that wrote a text of a run.
+pub fn written_end(written: Result<(), ReportFault>, played: Played) -> RunEnd
+    ensures status { result.status ≡ status_of_writing written }
+    ensures book { result.book ≡ played.book }
+    ensures nodes { result.nodes.items ≡ played.nodes.items }
+    ensures refusal { result.refusal ≡ None }
+{
+    let status = match written {
         Ok(()) => 0,
         Err(ReportFault::WriteFault) => 4,
         Err(ReportFault::OutOfMemory) => 5,

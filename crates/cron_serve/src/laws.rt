@@ -34,9 +34,10 @@ ghost use Rattle.cron_serve.specs.declared.words.Choice.{Choice};
 ghost use Rattle.cron_serve.specs.declared.words.Output.{Output};
 ghost use Rattle.cron_serve.specs.declared.run_end.RunEnd.{RunEnd};
 
-/// Words ask for one thing at most: without a word for the report, by `--list` for the due instants, by `--check` for the check of the
-/// tables, and by `--lanes` in front of these or behind them for a number of lanes. Options that may not stand together ask for nothing,
-/// nor does any other word.
+/// Words ask for one thing at most: without a word for the report, by `--journal` for the journal behind it, by
+/// `--list` for the due instants, by `--check` for the check of the tables, by `--make` for the summary of the run that
+/// a seed makes, and by `--lanes` in front of these or behind them for a number of lanes. Options that may not stand
+/// together ask for nothing, nor does any other word.
 pub fn words_ask_for_one_text()
     ensures one { (words : List (List ℕ)) (a b : Asked) → Asks words a → Asks words b → a ≡ b }
     ensures none { (words : List (List ℕ)) (asked : Asked) → Asks words asked → AsksNothing words → ⊥ }
@@ -44,6 +45,9 @@ pub fn words_ask_for_one_text()
     ensures report { (asked : Asked) → asked.output ≡ Output.Report → asked.lanes ≡ 1 → Asks [] asked }
     ensures list { (asked : Asked) → asked.output ≡ Output.DueList → asked.lanes ≡ 1 → Asks (codes "--list" ∷ []) asked }
     ensures check { (asked : Asked) → asked.output ≡ Output.Check → asked.lanes ≡ 1 → Asks (codes "--check" ∷ []) asked }
+    ensures journal { (asked : Asked) → asked.output ≡ Output.Journal → asked.lanes ≡ 1 → Asks (codes "--journal" ∷ []) asked }
+    ensures make { (asked : Asked) (seed : ℕ) (own : List (List ℕ)) → seed ≤ 4_294_967_295 → IsNameWithValue (codes "--make") (decimal seed) own
+        → asked.output ≡ Output.Summary seed → asked.lanes ≡ 1 → Asks own asked }
     ensures on_lanes { (asked : Asked) (own : List (List ℕ)) → 1 ≤ asked.lanes → asked.lanes ≤ 8
         → IsNameWithValue (codes "--lanes") (decimal asked.lanes) own → asked.output ≡ Output.Report → Asks own asked }
     ensures list_on_lanes { (asked : Asked) (own : List (List ℕ)) → 1 ≤ asked.lanes → asked.lanes ≤ 8
@@ -52,10 +56,18 @@ pub fn words_ask_for_one_text()
     ensures check_on_lanes { (asked : Asked) (own : List (List ℕ)) → 1 ≤ asked.lanes → asked.lanes ≤ 8
         → IsNameWithValue (codes "--lanes") (decimal asked.lanes) own → asked.output ≡ Output.Check
         → Asks (codes "--check" ∷ own) asked × Asks (own ++ codes "--check" ∷ []) asked }
+    ensures journal_on_lanes { (asked : Asked) (own : List (List ℕ)) → 1 ≤ asked.lanes → asked.lanes ≤ 8
+        → IsNameWithValue (codes "--lanes") (decimal asked.lanes) own → asked.output ≡ Output.Journal
+        → Asks (codes "--journal" ∷ own) asked × Asks (own ++ codes "--journal" ∷ []) asked }
+    ensures make_on_lanes { (asked : Asked) (seed : ℕ) (own other : List (List ℕ)) → 1 ≤ asked.lanes → asked.lanes ≤ 8
+        → IsNameWithValue (codes "--lanes") (decimal asked.lanes) own → seed ≤ 4_294_967_295 → IsNameWithValue (codes "--make") (decimal seed) other
+        → asked.output ≡ Output.Summary seed → Asks (other ++ own) asked × Asks (own ++ other) asked }
     ensures apart { (first second : Choice) (own other behind : List (List ℕ)) → IsSpelledBy first own → IsSpelledBy second other
         → (MayStandTogether first second → ⊥) → AsksNothing (own ++ (other ++ behind)) }
-    ensures others { (word : List ℕ) (words : List (List ℕ)) → word ≢ codes "--list" → word ≢ codes "--check" → word ≢ codes "--lanes"
-        → ((lanes : ℕ) → 1 ≤ lanes → lanes ≤ 8 → word ≢ codes "--lanes" ++ codes "=" ++ decimal lanes) → AsksNothing (word ∷ words) }
+    ensures others { (word : List ℕ) (words : List (List ℕ)) → word ≢ codes "--list" → word ≢ codes "--check" → word ≢ codes "--journal"
+        → word ≢ codes "--lanes" → ((lanes : ℕ) → 1 ≤ lanes → lanes ≤ 8 → word ≢ codes "--lanes" ++ codes "=" ++ decimal lanes)
+        → word ≢ codes "--make" → ((seed : ℕ) → seed ≤ 4_294_967_295 → word ≢ codes "--make" ++ codes "=" ++ decimal seed)
+        → AsksNothing (word ∷ words) }
 {}
 
 /// An input is taken as one run with one table at most, and as one frame at most; it is refused for one thing at most; and it isn't
@@ -154,9 +166,9 @@ pub fn a_late_end_leaves_a_front()
         × IsTextOfInput output source source' end.book end.nodes.items text × HasGainedPrefix sink sink' text) }
 {}
 
-/// Where a due list or a check is asked for, no run is made and none is left, whatever the end.
+/// Where a due list or a check is asked for, no run is played and none is left, whatever the end.
 pub fn a_listing_leaves_no_run()
-    ensures { (output : Output) (source source' : SourceView) (sink sink' : SinkView) (end : RunEnd) → output ≢ Output.Report
+    ensures { (output : Output) (source source' : SourceView) (sink sink' : SinkView) (end : RunEnd) → (output ≡ Output.DueList) ⊎ (output ≡ Output.Check)
         → Ends output source source' sink sink' end → LeavesNoRun end.book end.nodes.items }
 {}
 

@@ -4,6 +4,7 @@
 mod answer;
 mod input;
 mod laws;
+mod made;
 mod note;
 mod program;
 mod run_end;

@@ -17,9 +17,10 @@ pub struct RunEnd {
     pub status: u8,
     /// Why the input was refused, at status 2.
     pub refusal: Option<Refusal>,
-    /// The book of the run, where its report was written or begun. Otherwise it is empty.
+    /// The book of the run, where a text of it was written or begun. Otherwise it is empty.
     pub book: Book,
-    /// The nodes of the run's replicas after it, in order of number, where its report was written or begun. Otherwise there are none.
+    /// The nodes of the run's replicas after it, in order of number, where a text of it was written or begun. Otherwise
+    /// there are none.
     pub nodes: Vec<Node<MemDisk>>,
 }
 

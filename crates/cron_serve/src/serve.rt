@@ -1,18 +1,22 @@
-ghost use Rattle.std.specs.Prelude.{◌≡◌, ◌⊎◌, ◌↔◌, ◌≢◌, ◌<◌, None, IfOk, IfErr, IsErrOf};
+ghost use Rattle.std.specs.Prelude.{◌≡◌, ◌⊎◌, ◌↔◌, ◌≢◌, ◌<◌, ℕ, None, IfOk, IfErr, IsErrOf, IfSome, IfNone};
 ghost use Rattle.std.specs.Vec.Iter.{into_iter_items};
 ghost use Rattle.cron_io.specs.Reading.{HasReadOn, StaysReliable};
+ghost use Rattle.cron_io.specs.Views.{SourceView};
 ghost use Rattle.cron_serve.specs.Complete.{Completes};
 ghost use Rattle.cron_serve.specs.Ends.{Ends, EndsUnread};
+ghost use Rattle.cron_serve.specs.Input.{IsOfInput};
 ghost use Rattle.cron_serve.specs.Serve.{note_text, IsNoted};
 ghost use Rattle.cron_serve.specs.Stop.{StopsFor};
 ghost use Rattle.cron_serve.specs.Words.{Asks, AsksNothing, texts_of};
 ghost use Rattle.cron_serve.specs.declared.words.Asked.{Asked};
+ghost use Rattle.cron_serve.specs.declared.words.Output.{Output as Wanted};
 
 use crate::answer::write_output;
+use crate::made::write_made;
 use crate::note::write_note;
 use crate::run_end::RunEnd;
 use crate::stop::Stop;
-use crate::words::{Asked, read_words};
+use crate::words::{Asked, Output, read_words};
 use cron_io::{Sink, Source, read_all};
 use std::alloc::Global;
 use std::env::Args;
@@ -30,6 +34,7 @@ fn answer<S: Source, K: Sink, R: Threads + Sync>(
     sink: &mut K,
 ) -> Result<RunEnd, Stop>
     requires lanes { 0 < asked.lanes }
+    requires input { IsOfInput asked.output }
     ensures ends { IfOk result (Ends asked.output (S.seen source.old) (S.seen source.new) (K.seen sink.old) (K.seen sink.new)) }
     ensures words { IfOk result (λ end. end.status ≢ 1) }
     ensures no_read_fault { IfOk result (λ end. end.status ≢ 3) }
@@ -47,7 +52,7 @@ fn answer<S: Source, K: Sink, R: Threads + Sync>(
 }
 
 // Reads the input, and writes what is asked for of it, or stops.
-fn serve<S: Source, K: Sink, R: Threads + Sync>(
+fn serve_input<S: Source, K: Sink, R: Threads + Sync>(
     rt: &R,
     alloc: Global,
     asked: Asked,
@@ -55,6 +60,7 @@ fn serve<S: Source, K: Sink, R: Threads + Sync>(
     sink: &mut K,
 ) -> RunEnd
     requires lanes { 0 < asked.lanes }
+    requires input { IsOfInput asked.output }
     ensures ends { Ends asked.output (S.seen source.old) (S.seen source.new) (K.seen sink.old) (K.seen sink.new) result }
     ensures words { result.status ≢ 1 }
     ensures complete { Completes asked.output (S.seen source.old) (S.seen source.new) (K.seen sink.old) (K.seen sink.new) result }
@@ -68,10 +74,65 @@ fn serve<S: Source, K: Sink, R: Threads + Sync>(
     }
 }
 
-/// Reads a run file from the source, and writes to the sink what the words ask for. Without a word that is the report of the run's
-/// launches: a world of the run's replicas, each on an empty disk in memory, plays the commands of its script, and walks to the
-/// window's last minute; `--lanes` says in how many lanes. `--list` asks for the due instants of the run's jobs, and `--check` for the lines of its tables that break a
-/// rule: no launch is made then. A note of what went wrong goes to `notes`.
+// Makes the run of a seed, and writes its summary, or stops. No source is read, whichever there is.
+fn serve_made<K: Sink, R: Threads + Sync>(
+    rt: &R,
+    alloc: Global,
+    lanes: u8,
+    seed: u32,
+    sink: &mut K,
+) -> RunEnd
+    requires lanes { 0 < lanes }
+    ensures ends { (source : SourceView) → Ends (Wanted.Summary seed) source source (K.seen sink.old) (K.seen sink.new) result }
+    ensures complete { (source : SourceView) → Completes (Wanted.Summary seed) source source (K.seen sink.old) (K.seen sink.new) result }
+    ensures statuses { (result.status ≡ 0) ⊎ (result.status ≡ 4) ⊎ (result.status ≡ 5) }
+{
+    match write_made(rt, alloc, lanes, seed, sink) {
+        Ok(end) => end,
+        Err(_) => RunEnd::stopped(alloc, Stop::OutOfMemory),
+    }
+}
+
+// The seed, where the run that it makes is asked for.
+fn seed_of(output: Output) -> Option<u32>
+    ensures some { IfSome result (λ seed. output ≡ Wanted.Summary seed) }
+    ensures none { IfNone result (IsOfInput output) }
+{
+    match output {
+        Output::Summary(seed) => Some(seed),
+        Output::Report | Output::Journal | Output::DueList | Output::Check => None,
+    }
+}
+
+// Writes what is asked for, of the input or of a run that is made.
+fn serve<S: Source, K: Sink, R: Threads + Sync>(
+    rt: &R,
+    alloc: Global,
+    asked: Asked,
+    source: &mut S,
+    sink: &mut K,
+) -> RunEnd
+    requires lanes { 0 < asked.lanes }
+    ensures ends { Ends asked.output (S.seen source.old) (S.seen source.new) (K.seen sink.old) (K.seen sink.new) result }
+    ensures words { result.status ≢ 1 }
+    ensures made { (seed : ℕ) → asked.output ≡ Wanted.Summary seed → S.seen source.new ≡ S.seen source.old }
+    ensures complete { Completes asked.output (S.seen source.old) (S.seen source.new) (K.seen sink.old) (K.seen sink.new) result }
+    ensures no_read_fault { S.reliable source.old → result.status ≢ 3 }
+    ensures lasting { S.reliable source.old →
+        StaysReliable (S.seen source.old) (S.seen source.new) (S.reliable source.new) }
+{
+    match seed_of(asked.output) {
+        Some(seed) => serve_made(rt, alloc, asked.lanes, seed, sink),
+        None => serve_input(rt, alloc, asked, source, sink),
+    }
+}
+
+/// Reads a run file from the source, and writes to the sink what the words ask for. Without a word that is the report
+/// of the run's launches: a world of the run's replicas, each on an empty disk in memory, plays the commands of its
+/// script, and walks to the window's last minute; `--lanes` says in how many lanes. `--journal` asks for the journal of
+/// the run's turns behind the report. `--list` asks for the due instants of the run's jobs, and `--check` for the lines
+/// of its tables that break a rule: no launch is made then. `--make` asks for the summary of the run that a seed makes:
+/// nothing is read then. A note of what went wrong goes to `notes`.
 pub fn cron_cluster<S: Source, K: Sink, E: Sink, R: Threads + Sync>(
     rt: &R,
     alloc: Global,
@@ -87,6 +148,10 @@ pub fn cron_cluster<S: Source, K: Sink, E: Sink, R: Threads + Sync>(
     // Status 1: the words are at fault. Then nothing is read or written.
     ensures usage { (result.status ≡ 1) ↔ AsksNothing (texts_of (into_iter_items words)) }
     ensures unread { result.status ≡ 1 → EndsUnread (S.seen source.old) (S.seen source.new) (K.seen sink.old) (K.seen sink.new) result }
+
+    // Where the run that a seed makes is asked for, nothing is read.
+    ensures made { (asked : Asked) (seed : ℕ) → Asks (texts_of (into_iter_items words)) asked → asked.output ≡ Wanted.Summary seed
+        → S.seen source.new ≡ S.seen source.old }
 
     // An input that suits what is asked for ends with its text, and any other is refused, where no call failed and memory lasts.
     ensures complete { (asked : Asked) → Asks (texts_of (into_iter_items words)) asked

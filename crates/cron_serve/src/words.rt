@@ -1,7 +1,7 @@
 //! The words of the command line.
-ghost use Rattle.std.specs.Prelude.{◌≡◌, ◌≢◌, ◌≤◌, ◌∷◌, ◌++◌, [], ℕ, List, None, Some, IfSome, IfNone, IsSome, AllPairs, decimal, unwrap_or};
+ghost use Rattle.std.specs.Prelude.{◌≡◌, ◌≢◌, ◌≤◌, ◌∷◌, ◌++◌, [], ℕ, List, None, Some, IfSome, IfNone, IsSome, AllPairs, codes, decimal, unwrap_or};
 ghost use Rattle.std.specs.Vec.Iter.{into_iter_items, into_iter_len};
-ghost use Rattle.cron_serve.specs.Words.{AreWishesOf, Asks, AsksNothing, BeginsWith, MayStandTogether, texts_of};
+ghost use Rattle.cron_serve.specs.Words.{AreWishesOf, Asks, AsksNothing, BeginsWith, IsSpelledBy, MayStandTogether, texts_of};
 
 use anacron_text::read_number;
 use std::env::Args;
@@ -14,10 +14,14 @@ const MAX_LANES: u32 = 8;
 pub enum Output {
     /// The report of the launches that the run makes.
     Report,
+    /// That report, and behind it the journal of the run's turns.
+    Journal,
     /// The due instants of the run's jobs.
     DueList,
     /// The lines of the run's tables that break a rule.
     Check,
+    /// The summary of the run that is made from this seed. No input is read for it.
+    Summary(u32),
 }
 
 /// What the words of the command line ask for.
@@ -36,6 +40,10 @@ pub enum Choice {
     List,
     /// `--check`: the check of the tables is wanted.
     Check,
+    /// `--journal`: the journal is wanted behind the report.
+    Journal,
+    /// `--make SEED` or `--make=SEED`: the summary of the run that this seed makes is wanted, 0 to 4,294,967,295.
+    Make(u32),
     /// `--lanes N` or `--lanes=N`: so many lanes are wanted, 1 to 8.
     Lanes(u8),
 }
@@ -50,16 +58,41 @@ impl Choice {
         match word {
             "--list" => Some(Choice::List),
             "--check" => Some(Choice::Check),
+            "--journal" => Some(Choice::Journal),
             "--lanes" => {
                 let value = words.next()?;
                 Some(Choice::Lanes(read_lanes(&value)?))
             }
-            _ => {
-                let value = word.strip_prefix("--lanes=")?;
-                Some(Choice::Lanes(read_lanes(value)?))
+            "--make" => {
+                let value = words.next()?;
+                Some(Choice::Make(read_seed(&value)?))
             }
+            _ => joined(word),
         }
     }
+}
+
+// The option whose name and value are this word.
+fn joined(word: &str) -> Option<Choice>
+    ensures found { IfSome result (λ choice. IsSpelledBy choice (word.now ∷ [])) }
+    ensures no_lanes { IfNone result ((lanes : ℕ) → 1 ≤ lanes → lanes ≤ 8 → word.now ≢ codes "--lanes" ++ codes "=" ++ decimal lanes) }
+    ensures no_seed { IfNone result ((seed : ℕ) → seed ≤ 4_294_967_295 → word.now ≢ codes "--make" ++ codes "=" ++ decimal seed) }
+{
+    match word.strip_prefix("--lanes=") {
+        Some(value) => Some(Choice::Lanes(read_lanes(value)?)),
+        None => {
+            let value = word.strip_prefix("--make=")?;
+            Some(Choice::Make(read_seed(value)?))
+        }
+    }
+}
+
+// A seed.
+fn read_seed(text: &str) -> Option<u32>
+    ensures read { IfSome result (λ seed. (seed ≤ 4_294_967_295) × (text.now ≡ decimal seed)) }
+    ensures none { IfNone result ((seed : ℕ) → seed ≤ 4_294_967_295 → text.now ≢ decimal seed) }
+{
+    read_number(text, u32::MAX)
 }
 
 // A number of lanes.
@@ -90,6 +123,8 @@ impl Wishes {
         match choice {
             Choice::List => self.with_output(Output::DueList),
             Choice::Check => self.with_output(Output::Check),
+            Choice::Journal => self.with_output(Output::Journal),
+            Choice::Make(seed) => self.with_output(Output::Summary(seed)),
             Choice::Lanes(lanes) => self.with_lanes(lanes),
         }
     }

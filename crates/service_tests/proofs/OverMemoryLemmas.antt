@@ -22,7 +22,7 @@ use Rattle.cron_serve.proofs.VerdictLemmas.{suits_or_refused}
 report_is : (source source' : SourceView) (bytes text : List ℕ) (book : BookState) (nodes : List (Node MemDisk)) → source.left ≡ Some bytes
     → IsTextOfInput Report source source' book nodes text → IsReportOfRun bytes text
 report_is source source' bytes text book nodes told input =
-    let read : input.bytes ≡ bytes = read_whole source source' bytes input.bytes told input.read in
+    let read : input.bytes ≡ bytes = read_whole source source' bytes input.bytes told input.given in
     record { book = book; nodes = nodes; is = subst (λ (bs : List ℕ). IsReportOf bs book nodes text) read input.is }
 
 -- a run that is taken isn't refused, and its report is written whole, or a write failed, or memory ran out

@@ -8,6 +8,8 @@ mod bytewise;
 #[cfg(test)]
 mod bytewise_tests;
 #[cfg(test)]
+mod journal_tests;
+#[cfg(test)]
 mod kept;
 #[cfg(test)]
 mod limit_tests;

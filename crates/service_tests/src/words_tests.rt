@@ -76,6 +76,51 @@ const ASKED: &[Row] = &[
         output: Output::Check,
         lanes: 2,
     },
+    Row {
+        words: &["--journal"],
+        output: Output::Journal,
+        lanes: 1,
+    },
+    Row {
+        words: &["--journal", "--lanes", "3"],
+        output: Output::Journal,
+        lanes: 3,
+    },
+    Row {
+        words: &["--lanes=3", "--journal"],
+        output: Output::Journal,
+        lanes: 3,
+    },
+    Row {
+        words: &["--make", "7"],
+        output: Output::Summary(7),
+        lanes: 1,
+    },
+    Row {
+        words: &["--make=7"],
+        output: Output::Summary(7),
+        lanes: 1,
+    },
+    Row {
+        words: &["--make", "0"],
+        output: Output::Summary(0),
+        lanes: 1,
+    },
+    Row {
+        words: &["--make=4294967295"],
+        output: Output::Summary(4_294_967_295),
+        lanes: 1,
+    },
+    Row {
+        words: &["--make", "7", "--lanes", "2"],
+        output: Output::Summary(7),
+        lanes: 2,
+    },
+    Row {
+        words: &["--lanes=2", "--make=7"],
+        output: Output::Summary(7),
+        lanes: 2,
+    },
 ];
 
 #[test]
@@ -136,10 +181,32 @@ const FAULTY: &[&[&str]] = &[
     // A word behind all values.
     &["--lanes", "2", "3"],
     &["--list", "2"],
-    // Options of the usage note that are not built.
-    &["--journal"],
-    &["--make", "7"],
-    &["--make=7"],
+    // A number that is no seed.
+    &["--make"],
+    &["--make", "07"],
+    &["--make", "+7"],
+    &["--make", "-1"],
+    &["--make", ""],
+    &["--make", "4294967296"],
+    &["--make", "18446744073709551623"],
+    &["--make", "--journal"],
+    &["--make="],
+    &["--make=07"],
+    &["--make=4294967296"],
+    &["--make==7"],
+    // A journal of another text, or two of a kind.
+    &["--journal="],
+    &["--journals"],
+    &["--journal", "7"],
+    &["--journal", "--journal"],
+    &["--journal", "--list"],
+    &["--check", "--journal"],
+    &["--make", "7", "--journal"],
+    &["--journal", "--make=7"],
+    &["--make", "7", "--make", "7"],
+    &["--make=7", "--lanes", "2", "--make", "8"],
+    &["--list", "--make=7"],
+    &["--make", "7", "--check"],
 ];
 
 #[test]

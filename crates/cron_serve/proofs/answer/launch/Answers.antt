@@ -11,9 +11,8 @@ pub returns-clause-end : goal.returns-clause-end
 returns-clause-end g c =
     let text = c.report.ensures.text in
     ends_launches c.args.bytes.now _ _ c.in_ok-played.played.table c.in_ok-played.played.book c.in_ok-played.played.nodes.items c.report.result text.0
-    c.in_ok-played.ensures.run
+    c.in_ok-played.ensures.run text.1
     (record {
-      report = text.1;
       written = text.2;
       same_book = c.report.ensures.book;
       same_nodes = c.report.ensures.nodes;

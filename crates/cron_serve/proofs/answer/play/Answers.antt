@@ -1,12 +1,13 @@
 use Rattle.std.proofs.Common.{◌≡◌, ◌∙◌, List, All, ap, sym, subst}
-use Rattle.run_text.specs.Run.{run_of}
+use Rattle.run_text.specs.Run.{Run, run_of}
 use Rattle.script_text.specs.declared.command.Command.{Command}
 use Rattle.world_law.specs.Book.{BookState}
 use Rattle.world_rounds.specs.Commands.{IsTaken as IsPlayable}
 use Rattle.world_rounds.specs.World.{book_of}
-use Rattle.world_play.specs.Play.{AreMemNodesOf, HasRun}
+use Rattle.world_play.specs.Play.{AreMemNodesOf, HasRun, HasStarts}
 use Rattle.cron_serve.specs.Serve.{IsRunOf}
 use Rattle.cron_serve.proofs.PlayLemmas.{few_members, left_by_world, playable, some_members}
+use Rattle.cron_serve.proofs.VerdictLemmas.{one_taken}
 use Rattle.cron_serve.proofs.answer.play.Goals as goal
 
 pub play_run-requires-clause-some : goal.play_run-requires-clause-some
@@ -27,10 +28,24 @@ returns-clause-run g c =
     let world = c.in_ok-world.world in
     let nodes = c.into_book-book.result.1.items in
     let has : HasRun table run.members run.commands world =
-    subst (λ (l : List Command). HasRun table run.members l world) c.as_slice-commands.ensures.value c.in_ok-world.ensures in
+    subst (λ (l : List Command). HasRun table run.members l world) c.as_slice-commands.ensures.value c.in_ok-world.ensures.run in
     let kept : AreMemNodesOf table has.rows (book_of world) nodes = c.into_book-book.ensures.nodes table has.rows has.situation has.is in
     subst (λ (b : BookState). IsRunOf c.args.bytes.now table b nodes) (sym c.into_book-book.ensures.book)
     (left_by_world c.args.bytes.now run table c.in_ok-run.ensures.taken world nodes has kept)
 
 pub returns-clause-members : goal.returns-clause-members
-returns-clause-members g c = ap (λ (b : BookState). b.members) c.into_book-book.ensures.book ∙ c.in_ok-world.ensures.count
+returns-clause-members g c = ap (λ (b : BookState). b.members) c.into_book-book.ensures.book ∙ c.in_ok-world.ensures.run.count
+
+pub returns-clause-sound : goal.returns-clause-sound
+returns-clause-sound g c = c.in_ok-world.ensures.run.is.ahead.at.sound
+
+pub returns-clause-starts : goal.returns-clause-starts
+returns-clause-starts g c = λ left.
+    let run = run_of c.in_ok-run.run' in
+    let table = c.in_ok-run.table in
+    let starts = c.in_ok-world.starts.items in
+    let same : run ≡ left.run = (one_taken c.args.bytes.now run left.run table table c.in_ok-run.ensures.taken left.taken).0 in
+    let has : HasStarts table run.commands (book_of c.in_ok-world.world) starts =
+    subst (λ (l : List Command). HasStarts table l (book_of c.in_ok-world.world) starts) c.as_slice-commands.ensures.value c.in_ok-world.ensures.starts in
+    subst (λ (r : Run). HasStarts table r.commands c.into_book-book.result.0 starts) same
+    (subst (λ (b : BookState). HasStarts table run.commands b starts) (sym c.into_book-book.ensures.book) has)

@@ -12,6 +12,8 @@ returns c = record {
   report = λ asked output lanes. asks_none [] asked refl output lanes;
   list = λ asked output lanes. asks_alone choice.List _ asked refl output lanes;
   check = λ asked output lanes. asks_alone choice.Check _ asked refl output lanes;
+  journal = λ asked output lanes. asks_alone choice.Journal _ asked refl output lanes;
+  make = λ asked seed own most spelled output lanes. asks_alone (choice.Make seed) own asked (most, spelled) output lanes;
   on_lanes = λ asked own some most spelled output. asks_alone (choice.Lanes asked.lanes) own asked (some, most, spelled) output refl;
   list_on_lanes = λ asked own some most spelled output. (
     asks_both choice.List (choice.Lanes asked.lanes) (codes "--list" ∷ []) own asked refl (some, most, spelled) tt (same_asked _ _ output refl),
@@ -21,6 +23,23 @@ returns c = record {
     asks_both choice.Check (choice.Lanes asked.lanes) (codes "--check" ∷ []) own asked refl (some, most, spelled) tt (same_asked _ _ output refl),
     asks_both (choice.Lanes asked.lanes) choice.Check own (codes "--check" ∷ []) asked (some, most, spelled) refl tt (same_asked _ _ output refl),
   );
+  journal_on_lanes = λ asked own some most spelled output. (
+    asks_both choice.Journal (choice.Lanes asked.lanes) (codes "--journal" ∷ []) own asked refl (some, most, spelled) tt (same_asked _ _ output refl),
+    asks_both (choice.Lanes asked.lanes) choice.Journal own (codes "--journal" ∷ []) asked (some, most, spelled) refl tt (same_asked _ _ output refl),
+  );
+  make_on_lanes = λ asked seed own other some most spelled below made output. (
+    asks_both (choice.Make seed) (choice.Lanes asked.lanes) other own asked (below, made) (some, most, spelled) tt (same_asked _ _ output refl),
+    asks_both (choice.Lanes asked.lanes) (choice.Make seed) own other asked (some, most, spelled) (below, made) tt (same_asked _ _ output refl),
+  );
   apart = asks_clash;
-  others = asks_unknown;
+  others = λ word words list check journal lanes with_lanes make with_seed.
+      asks_unknown word words (record {
+        list = list;
+        check = check;
+        journal = journal;
+        lanes = lanes;
+        make = make;
+        with_lanes = with_lanes;
+        with_seed = with_seed;
+      });
 }

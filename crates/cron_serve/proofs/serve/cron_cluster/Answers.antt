@@ -33,3 +33,10 @@ returns-clause-unread g c = λ one.
       | in-None w ↦ rw w.end-is (rw w.source-is (rw w.sink-is (ends_unread _ _ w.stopped-end.result
           (record { status = w.stopped-end.ensures.status; refusal = w.stopped-end.ensures.refusal; no_run = w.stopped-end.ensures.no_run }))))
     ]
+
+pub returns-clause-made : goal.returns-clause-made
+returns-clause-made g c = λ asked seed asks is.
+    elim c.match-read_words.branch [
+      | in-Some w ↦ rw w.source-is (w.serve-end.ensures.made seed (ap (λ (a : Asked). a.output) (asks_one _ w.in-Some.asked asked w.in-Some.ensures.asks asks) ∙ is))
+      | in-None w ↦ absurd (w.in-None.ensures.none asks.0 asks.1)
+    ]

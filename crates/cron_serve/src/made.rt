@@ -1,0 +1,70 @@
+//! The summary of a run that is made from a seed.
+ghost use Rattle.std.specs.Prelude.{◌≡◌, ◌⊎◌, ◌<◌, ◌≤◌, ℕ, List, None, IfOk, IfErr, string_bytes};
+ghost use Rattle.cron_serve.specs.Serve.{IsRunOf};
+ghost use Rattle.cron_serve.specs.Written.{EndsWriting, WritesAtStatus};
+ghost use Rattle.cron_serve.specs.declared.words.Output.{Output};
+ghost use Rattle.journal_text.specs.Summary.{IsBookSummary};
+ghost use Rattle.made_run.specs.Made.{made_text};
+ghost use Rattle.world_law.specs.Book.{IsLegalBook};
+
+use crate::answer::{Played, play, written_end};
+use crate::run_end::RunEnd;
+use cron_io::{OutOfMemory, Sink};
+use journal_text::write_summary;
+use made_run::make_run;
+use run_text::RunFault;
+use std::alloc::Global;
+use std::thread::Threads;
+
+/// Makes the run of a seed, plays it, and writes its summary.
+///
+/// # Errors
+///
+/// Want of memory; then nothing is written.
+pub fn write_made<K: Sink, R: Threads + Sync>(
+    rt: &R,
+    alloc: Global,
+    lanes: u8,
+    seed: u32,
+    sink: &mut K,
+) -> Result<RunEnd, OutOfMemory>
+    requires lanes { 0 < lanes }
+    ensures end { IfOk result (EndsWriting (Output.Summary seed) (made_text seed) (K.seen sink.old) (K.seen sink.new)) }
+    ensures unwritten { IfErr result (λ _. K.seen sink.new ≡ K.seen sink.old) }
+{
+    let played = play_made(rt, alloc, lanes, seed)?;
+    Ok(summarize(alloc, sink, seed, played))
+}
+
+// Plays the run of a seed. It is never refused.
+fn play_made<R: Threads + Sync>(
+    rt: &R,
+    alloc: Global,
+    lanes: u8,
+    seed: u32,
+) -> Result<Played, OutOfMemory>
+    requires lanes { 0 < lanes }
+    ensures run { IfOk result (λ played. IsRunOf (made_text seed) played.table played.book played.nodes.items) }
+{
+    let text = make_run(alloc, seed)?;
+    match play(rt, alloc, lanes, text.as_bytes()) {
+        Ok(played) => Ok(played),
+        Err(RunFault::OutOfMemory) => Err(OutOfMemory),
+        Err(RunFault::Refused(_)) => unreachable!(),
+    }
+}
+
+// Writes the summary of the run of a seed.
+fn summarize<K: Sink>(alloc: Global, sink: &mut K, seed: u32, played: Played) -> RunEnd
+    requires legal { IsLegalBook played.table played.book }
+    requires rest { played.book.pending ≡ None }
+    ensures text { (text : List ℕ) × IsBookSummary played.table seed played.book text
+        × WritesAtStatus (K.seen sink.old) (K.seen sink.new) result.status text }
+    ensures book { result.book ≡ played.book }
+    ensures nodes { result.nodes.items ≡ played.nodes.items }
+    ensures refusal { result.refusal ≡ None }
+    ensures statuses { (result.status ≡ 0) ⊎ (result.status ≡ 4) ⊎ (result.status ≡ 5) }
+{
+    let written = write_summary(alloc, sink, &played.table, &played.book, seed);
+    written_end(written, played)
+}
