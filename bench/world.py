@@ -10,8 +10,12 @@ launches each; and one replica that walks through 20,000 launches of one job. A 
 rate of some runs, in turns a second of the processor, and the most bytes that a run was resident in, by the turn; then the same
 of bench/plain_world, which rustc builds, and which has to write the same report in as many turns. How many turns a run has was
 worked out by small_world (.ci/small_world), which the gate compares with the program.
+
+Then comes the first run once more, as the program makes it with the word --make, and a run of some 1,000,000 turns: the seconds
+of the processor that it takes without and with its journal, and those in which `cat` copies what was written.
 """
 import os
+import re
 import subprocess
 import sys
 import tempfile
@@ -22,10 +26,13 @@ sys.path.insert(0, os.path.join(ROOT, ".ci"))
 from small_world.texts import made_run
 
 PROGRAM = os.path.join(ROOT, "crates", "cron_cluster", "out", "cron_cluster")
+TURN = re.compile(r"(?m)^\d+ ")
 PLAIN = os.path.join(ROOT, "bench", "plain_world", "main.rs")
 BUILD = ["rustc", "-C", "opt-level=3", "--edition", "2024", "-o"]
 SEED = 7
 TRIES = 3
+# So many jobs make some 1,000,000 turns.
+JOURNAL_JOBS = 680
 
 
 def run_file(members, window, entries):
@@ -34,24 +41,28 @@ def run_file(members, window, entries):
     return "\n".join([*head, *entries, "script", "end", ""])
 
 
+def seven_replicas(jobs):
+    """A run of seven replicas, with so many jobs of 20 launches each."""
+    twice_a_day = [f"{k % 60} {k % 12},{k % 12 + 12} * * * job {k}" for k in range(jobs)]
+    return run_file(7, "2024-01-01T00:00Z 2024-01-11T00:00Z", twice_a_day)
+
+
 def runs():
     """The run files, each with its name and how many turns and launches it has."""
     yield f"three replicas, 200 jobs, the run of seed {SEED}", made_run(SEED), 317_725, 11_200
-    twice_a_day = [f"{k % 60} {k % 12},{k % 12 + 12} * * * job {k}" for k in range(1000)]
-    seven = run_file(7, "2024-01-01T00:00Z 2024-01-11T00:00Z", twice_a_day)
-    yield "seven replicas, 1,000 jobs", seven, 1_475_004, 20_000
+    yield "seven replicas, 1,000 jobs", seven_replicas(1000), 1_475_004, 20_000
     one = run_file(1, "2024-01-01T00:00Z 2024-01-14T21:20Z", ["* * * * * job"])
     yield "one replica, a job of each minute", one, 80_001, 20_000
 
 
-def measured(program, source, sink, notes):
+def measured(words, source, sink, notes):
     """The seconds of the processor of a run, and the most bytes that it was resident in. Linux tells these in units of 1,024."""
     with open(source, "rb") as stdin, open(sink, "wb") as stdout, open(notes, "wb") as stderr:
-        process = subprocess.Popen([program], stdin=stdin, stdout=stdout, stderr=stderr)
+        process = subprocess.Popen(words, stdin=stdin, stdout=stdout, stderr=stderr)
         _, status, usage = os.wait4(process.pid, 0)
     process.returncode = os.WEXITSTATUS(status) if os.WIFEXITED(status) else -os.WTERMSIG(status)
     if process.returncode != 0:
-        sys.exit(f"{program} ended with status {process.returncode}")
+        sys.exit(f"{' '.join(words)} ended with status {process.returncode}")
     return usage.ru_utime + usage.ru_stime, 1024 * usage.ru_maxrss
 
 
@@ -60,12 +71,41 @@ def text_of(path):
         return file.read()
 
 
+def tried(words, folder, source="run", sink="report"):
+    """The least seconds of a command, and its most bytes."""
+    tries = [measured(words, *(os.path.join(folder, name) for name in (source, sink, "notes"))) for _ in range(TRIES)]
+    return min(tries)[0], max(size for _, size in tries)
+
+
 def best_of(program, folder, turns):
     """The report of a program, what it notes, its best rate, and its most bytes a turn."""
-    source, sink, notes = (os.path.join(folder, name) for name in ("run", "report", "notes"))
-    tries = [measured(program, source, sink, notes) for _ in range(TRIES)]
-    rate = turns / min(tries)[0]
-    return text_of(sink), text_of(notes), rate, max(size for _, size in tries) / turns
+    seconds, size = tried([program], folder)
+    return text_of(os.path.join(folder, "report")), text_of(os.path.join(folder, "notes")), turns / seconds, size / turns
+
+
+def write_run(folder, text):
+    with open(os.path.join(folder, "run"), "w", encoding="utf-8") as file:
+        file.write(text)
+
+
+def measure_made(program, folder):
+    """The first run, as the program makes it."""
+    _, _, turns, launches = next(runs())
+    seconds, size = tried([program, "--make", str(SEED)], folder)
+    if f"\nlaunched {launches}\n" not in text_of(os.path.join(folder, "report")):
+        sys.exit(f"--make {SEED}: another summary")
+    print(f"--make {SEED}: {turns:,} turns, {turns / seconds:,.0f} turns a second, {size / turns:.0f} bytes a turn")
+
+
+def measure_journal(program, folder):
+    """A run without and with its journal, and a copy of what is written then."""
+    write_run(folder, seven_replicas(JOURNAL_JOBS))
+    alone, _ = tried([program], folder)
+    told, _ = tried([program, "--journal"], folder, sink="journal")
+    copied, _ = tried(["cat"], folder, source="journal", sink="copy")
+    turns = len(TURN.findall(text_of(os.path.join(folder, "journal"))))
+    print(f"seven replicas, {JOURNAL_JOBS} jobs: {turns:,} turns, {alone:.2f} seconds, with the journal {told:.2f} seconds")
+    print(f"    cat of what is written then {copied:.2f} seconds")
 
 
 def main():
@@ -74,8 +114,7 @@ def main():
         plain = os.path.join(folder, "plain")
         subprocess.run([*BUILD, plain, PLAIN], check=True)
         for name, text, turns, launches in runs():
-            with open(os.path.join(folder, "run"), "w", encoding="utf-8") as file:
-                file.write(text)
+            write_run(folder, text)
             report, _, rate, size = best_of(program, folder, turns)
             if report.count("\nlaunch ") != launches:
                 sys.exit(f"{name}: {report.count(chr(10) + 'launch '):,} launches in place of {launches:,}")
@@ -84,6 +123,8 @@ def main():
                 sys.exit(f"{name}: bench/plain_world has another report, or {told.strip()} turns in place of {turns:,}")
             print(f"{name}: {turns:,} turns, {launches:,} launches, {rate:,.0f} turns a second, {size:.0f} bytes a turn")
             print(f"    in plain Rust {plain_rate:,.0f} turns a second, {plain_size:.0f} bytes a turn")
+        measure_made(program, folder)
+        measure_journal(program, folder)
 
 
 if __name__ == "__main__":

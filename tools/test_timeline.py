@@ -203,7 +203,25 @@ class Timeline(unittest.TestCase):
             self.assertIn(note, notes)
         self.write("cron journal 1\n")
         self.assertEqual(self.ran(example("takeover"), self.journal), (1, "", "timeline: there is no whole journal\n"))
-        self.assertEqual(self.ran(example("takeover"))[0], 2)
+        self.assertEqual(self.ran(example("takeover"), self.journal, "--alone")[0], 2)
+
+    def program(self, script):
+        """A program that is a script of the shell."""
+        path = self.write(f"#!/bin/sh\n{script}\n", "program")
+        os.chmod(path, 0o755)
+        return ["--program", path]
+
+    def test_a_program_that_is_asked(self):
+        world = world_of("takeover")
+        self.write(report_of(world) + journal_of(world))
+        words = self.program(f'[ "$*" = --journal ] && cmp -s - {example("takeover")} && cat {self.journal}')
+        self.assertEqual(self.ran(example("takeover"), *words), self.ran(example("takeover"), "--alone"))
+        words = self.program("echo 'cron_cluster: line 6: cause 3 at 0' >&2; exit 2")
+        note = "timeline: the program ends with status 2: cron_cluster: line 6: cause 3 at 0\n"
+        self.assertEqual(self.ran(example("takeover"), *words), (1, "", note))
+        status, output, notes = self.ran(example("takeover"), "--program", os.path.join(self.folder.name, "none"))
+        self.assertEqual((status, output), (1, ""))
+        self.assertIn("No such file or directory", notes)
 
 
 if __name__ == "__main__":

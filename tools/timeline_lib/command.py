@@ -1,5 +1,7 @@
 """The command: its words, what it reads and what it writes."""
 import argparse
+import os
+import subprocess
 import sys
 
 from small_world.replay import BadJournal, Recorded, Replay, first_difference, journal_in
@@ -10,11 +12,15 @@ from .picture import Picture
 
 ABOUT = """\
 Draws what replicas did in a run: a track for each replica, from turn to turn, with its terms, its votes, what it learned and
-its letters, and one for the scheduler. It reads the run file and its journal, and writes one picture (SVG) to standard output,
-or a page (HTML). What a journal doesn't say, such as what a letter says, is worked out.
+its letters, and one for the scheduler. It has the program play a run file, or reads its journal, and writes one picture (SVG)
+to standard output, or a page (HTML). What a journal doesn't say, such as what a letter says, is worked out.
 
-  tools/timeline --alone examples/takeover > takeover.svg
+docs/FORMATS.md is the manual.
+
+  tools/timeline examples/takeover > takeover.svg
 """
+ROOT = os.path.dirname(os.path.dirname(os.path.dirname(os.path.abspath(__file__))))
+PROGRAM = os.path.join(ROOT, "crates", "cron_cluster", "out", "cron_cluster")
 # So many turns are drawn at most.
 MOST_DRAWN = {"picture": 1_000, "page": 20_000}
 
@@ -22,9 +28,10 @@ MOST_DRAWN = {"picture": 1_000, "page": 20_000}
 def parser():
     made = argparse.ArgumentParser(prog="timeline", description=ABOUT, formatter_class=argparse.RawDescriptionHelpFormatter)
     made.add_argument("run", metavar="RUN", help="the run file")
-    journal = "its journal; what stands before it, such as a report, is passed over"
+    journal = "its journal, in place of what the program writes; a report before it is passed over"
     made.add_argument("journal", metavar="JOURNAL", nargs="?", help=journal)
-    made.add_argument("--alone", action="store_true", help="work the journal out, in place of reading it")
+    made.add_argument("--program", metavar="PATH", default=PROGRAM, help="the program; the built one by default")
+    made.add_argument("--alone", action="store_true", help="work the journal out, without the program")
     made.add_argument("--from", dest="first", type=int, default=0, metavar="TURN", help="the first turn that is drawn")
     made.add_argument("--until", type=int, metavar="TURN", help="the turn behind the last one that is drawn")
     made.add_argument("--jobs", action="append", metavar="NAME", help="draw what is about this job alone, or these")
@@ -37,11 +44,21 @@ def read(path):
         return file.read()
 
 
+def written(program, path):
+    """What the program writes of a run file, with its journal."""
+    with open(path, "rb") as file:
+        done = subprocess.run([program, "--journal"], stdin=file, stdout=subprocess.PIPE, stderr=subprocess.PIPE, check=False)
+    if done.returncode != 0:
+        note = done.stderr.decode(errors="replace").strip()
+        raise BadJournal(f"the program ends with status {done.returncode}: {note}")
+    return done.stdout.decode()
+
+
 def played(options, run):
     """The run as it was played, and where its journal differs from what is worked out."""
     if options.alone:
         return Recorded(run).play(), None
-    lines = journal_in(read(options.journal))
+    lines = journal_in(read(options.journal) if options.journal else written(options.program, options.run))
     difference = first_difference(run, lines)
     if difference:
         print(f"timeline: {difference}", file=sys.stderr)
@@ -74,7 +91,7 @@ def drawn(options):
 def run(words):
     """Writes the picture, and gives the status: 1 where a word or a file is at fault."""
     options = parser().parse_args(words)
-    if options.alone == (options.journal is not None):
+    if options.alone and options.journal:
         parser().error("either a journal or --alone")
     try:
         sys.stdout.write(drawn(options))
