@@ -304,7 +304,7 @@ class Lines(RunFileTest):
 
     def manual_rows(self):
         """The rows of the documents about lines of tables: the cause, the table, the line, and what to write."""
-        texts = [Path(DOCUMENTS, name).read_text(encoding="utf-8") for name in sorted(os.listdir(DOCUMENTS))]
+        texts = [path.read_text(encoding="utf-8") for path in sorted(Path(DOCUMENTS).glob("*.md"))]
         lines = [line for text in texts for line in text.split("\n") if line.startswith("|")]
         rows = [[cell.strip() for cell in line.strip("|").split("|")] for line in lines]
         rows = [row for row in rows if len(row) == 6 and row[0].isdigit() and row[1] in ("crontab", "system", "anacrontab")]
