@@ -48,7 +48,8 @@ fn are_votes_of(votes: &[Vote], ballot: Ballot, due: &[i64]) -> bool {
 #[test]
 fn a_disk_keeps_what_its_replica_voted_for(rt: HostRuntime) -> Result<(), Fail> {
     let left = play(&rt, rt.alloc(), ONE.as_bytes(), &NO_FAULTS)?;
-    let mut nodes = left.end.nodes;
+    let end = left.end;
+    let mut nodes = end.nodes;
     let Some(node) = nodes.pop() else {
         return Err(Fail::from("no node"));
     };
