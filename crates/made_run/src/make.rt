@@ -82,7 +82,7 @@ fn put_rounds(into: &mut String, at: Minute) -> Result<(), OutOfMemory>
     Ok(())
 }
 
-// Appends the lines by which a replica stops and another one stands for leader.
+// Appends the lines by which a replica stops and one stands for leader.
 fn put_change(into: &mut String, stops: u32, leads: u32) -> Result<(), OutOfMemory>
     ensures { OnOk result (string_bytes into.new ≡ string_bytes into.old
         ++ (codes "stop " ++ decimal stops ++ 10 ∷ codes "campaign " ++ decimal leads ++ 10 ∷ [])) }

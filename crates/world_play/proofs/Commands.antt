@@ -10,7 +10,7 @@ use Rattle.script_law.specs.Script.{ArePartsOf, IsPartOf}
 use Rattle.script_law.specs.Situation.{Situation}
 use Rattle.world_rounds.specs.World.{GoesOnBy, IsWorld, IsWorldAt}
 use Rattle.world_rounds.specs.declared.world.World.{World}
-use Rattle.world_play.specs.Play.{ArePartsAt}
+use Rattle.world_play.specs.Play.{ArePartsFrom}
 use Rattle.world_play.proofs.Starts.{as_many_turns, parts_at_none, parts_at_push}
 
 -- one part more
@@ -37,7 +37,7 @@ parts_push n table (first ∷ script) command situation middle after rows more p
 module _ {D : Type 0} (seen : D → Image) (may_leave : D → Image → Type 0) (honest : D → Type 0) (told_of : D → Option Told) (table : Table) where
   -- the world has played some commands, whose parts begin at these numbers of turns
   pub record HasDone (script : List Command) (starts : List ℕ) (old new : World D) : Type 0 where
-    pub goes : GoesOnBy seen may_leave honest told_of table (ArePartsAt old.book.members table script (length old.book.turns) starts) old new
+    pub goes : GoesOnBy seen may_leave honest told_of table (ArePartsFrom old.book.members table script (length old.book.turns) starts) old new
     pub members : new.book.members ≡ old.book.members
     pub world : IsWorld seen may_leave honest told_of table new
 

@@ -13,7 +13,7 @@ use Rattle.world_law.specs.Book.{BookState, StandsBehind}
 use Rattle.journal_text.specs.Starts.{BeginAt}
 use Rattle.world_rounds.specs.World.{book_of}
 use Rattle.world_rounds.specs.declared.world.World.{World}
-use Rattle.world_play.specs.Play.{ArePartsAt, BeginsAt, HasPlayed, HasRun, HasStarts}
+use Rattle.world_play.specs.Play.{ArePartsFrom, PartBegins, HasPlayed, HasRun, HasStarts}
 
 -- there are as many turns in a book as rows behind it
 pub as_many_turns : (table : Table) (rows : List Row) (book : BookState) → StandsBehind table rows book → length book.turns ≡ length rows
@@ -30,7 +30,7 @@ before_or_last (suc place) (suc count) within = elim (before_or_last place count
 ]
 
 -- no part begins where nothing was played
-pub parts_at_none : (members : ℕ) (table : Table) (first : ℕ) (situation : Situation) → ArePartsAt members table [] first [] situation [] situation
+pub parts_at_none : (members : ℕ) (table : Table) (first : ℕ) (situation : Situation) → ArePartsFrom members table [] first [] situation [] situation
 parts_at_none members table first situation = record {
   parts = record { none = refl; is = refl };
   count = refl;
@@ -40,7 +40,7 @@ parts_at_none members table first situation = record {
 module _ (members : ℕ) (table : Table) (first : ℕ) (situation : Situation) where
   -- where a part begins doesn't change by what is played behind it
   begins_before : (script : List Command) (command : Command) (rows more : List Row) (place start : ℕ) → place ≤ length script
-      → BeginsAt members table script first situation rows place start → BeginsAt members table (script ++ command ∷ []) first situation (rows ++ more) place start
+      → PartBegins members table script first situation rows place start → PartBegins members table (script ++ command ∷ []) first situation (rows ++ more) place start
   begins_before script command rows more place start within begins = record {
     front = begins.front;
     back = begins.back ++ more;
@@ -53,7 +53,7 @@ module _ (members : ℕ) (table : Table) (first : ℕ) (situation : Situation) w
   -- the part that is played next begins behind all turns
   begins_last : (script more_script : List Command) (rows more : List Row) (middle : Situation) (place start : ℕ) → place ≡ length script
       → start ≡ first + length rows → ArePartsOf members table script situation rows middle
-      → BeginsAt members table (script ++ more_script) first situation (rows ++ more) place start
+      → PartBegins members table (script ++ more_script) first situation (rows ++ more) place start
   begins_last script more_script rows more middle place start place_is start_is parts =
       let whole : take place (script ++ more_script) ≡ script = ap (λ n. take n (script ++ more_script)) place_is ∙ take-append_seam script more_script in
       record {
@@ -67,9 +67,9 @@ module _ (members : ℕ) (table : Table) (first : ℕ) (situation : Situation) w
 
   -- one part more
   pub parts_at_push : (script : List Command) (command : Command) (starts : List ℕ) (start : ℕ) (rows more : List Row) (middle after : Situation)
-      → ArePartsAt members table script first starts situation rows middle → start ≡ first + length rows
+      → ArePartsFrom members table script first starts situation rows middle → start ≡ first + length rows
       → ArePartsOf members table (script ++ command ∷ []) situation (rows ++ more) after
-      → ArePartsAt members table (script ++ command ∷ []) first (starts ++ start ∷ []) situation (rows ++ more) after
+      → ArePartsFrom members table (script ++ command ∷ []) first (starts ++ start ∷ []) situation (rows ++ more) after
   parts_at_push script command starts start rows more middle after so_far start_is parts =
       let count = so_far.count in
       record {
@@ -77,9 +77,9 @@ module _ (members : ℕ) (table : Table) (first : ℕ) (situation : Situation) w
         count = length_push starts start ∙ ap (λ n. n + 1) count ∙ sym (length_push script command);
         each = λ place within.
             elim (before_or_last place (length starts) (let size = length_push starts start in omega (arith, within, size))) [
-              | inl before ↦ subst (BeginsAt members table (script ++ command ∷ []) first situation (rows ++ more) place) (sym (get_or_append_left starts (start ∷ []) 0 place before))
+              | inl before ↦ subst (PartBegins members table (script ++ command ∷ []) first situation (rows ++ more) place) (sym (get_or_append_left starts (start ∷ []) 0 place before))
                   (begins_before script command rows more place (get_or starts place 0) (omega (arith, before, count)) (so_far.each place before))
-              | inr last ↦ subst (BeginsAt members table (script ++ command ∷ []) first situation (rows ++ more) place) (sym (get_or_push starts start 0 place (sym last)))
+              | inr last ↦ subst (PartBegins members table (script ++ command ∷ []) first situation (rows ++ more) place) (sym (get_or_push starts start 0 place (sym last)))
                   (begins_last script (command ∷ []) rows more middle place start (last ∙ count) start_is so_far.parts)
             ];
       }
@@ -102,16 +102,16 @@ module _ (members : ℕ) (table : Table) (script : List Command) where
   begin = first_situation members table
 
   -- the part of each place begins where the numbers say so, and that of the walk behind all commands
-  starts_at : (starts : List ℕ) (start : ℕ) (rows more : List Row) (middle : Situation) → ArePartsAt members table script 0 starts begin rows middle → start ≡ length rows
-      → (place : ℕ) → place < length (starts ++ start ∷ []) → BeginsAt members table (script ++ []) 0 begin (rows ++ more) place (get_or (starts ++ start ∷ []) place 0)
+  starts_at : (starts : List ℕ) (start : ℕ) (rows more : List Row) (middle : Situation) → ArePartsFrom members table script 0 starts begin rows middle → start ≡ length rows
+      → (place : ℕ) → place < length (starts ++ start ∷ []) → PartBegins members table (script ++ []) 0 begin (rows ++ more) place (get_or (starts ++ start ∷ []) place 0)
   starts_at starts start rows more middle parts start_is place within =
       let count = parts.count in
       elim (before_or_last place (length starts) (let size = length_push starts start in omega (arith, within, size))) [
         | inl before ↦
             let here = parts.each place before in
             let script_is : script ++ [] ≡ script = append-nil script in
-            subst (BeginsAt members table (script ++ []) 0 begin (rows ++ more) place) (sym (get_or_append_left starts (start ∷ []) 0 place before))
-            (subst (λ (l : List Command). BeginsAt members table l 0 begin (rows ++ more) place (get_or starts place 0)) (sym script_is)
+            subst (PartBegins members table (script ++ []) 0 begin (rows ++ more) place) (sym (get_or_append_left starts (start ∷ []) 0 place before))
+            (subst (λ (l : List Command). PartBegins members table l 0 begin (rows ++ more) place (get_or starts place 0)) (sym script_is)
             (record {
               front = here.front;
               back = here.back ++ more;
@@ -120,12 +120,12 @@ module _ (members : ℕ) (table : Table) (script : List Command) where
               number = here.number;
               parts = here.parts;
             }))
-        | inr last ↦ subst (BeginsAt members table (script ++ []) 0 begin (rows ++ more) place) (sym (get_or_push starts start 0 place (sym last)))
+        | inr last ↦ subst (PartBegins members table (script ++ []) 0 begin (rows ++ more) place) (sym (get_or_push starts start 0 place (sym last)))
             (begins_last members table 0 begin script [] rows more middle place start (last ∙ count) (omega (arith, start_is)) parts.parts)
       ]
 
   -- the numbers are those of the script's parts, and last the walk's
-  pub begin_at : (starts : List ℕ) (start : ℕ) (rows more : List Row) (middle : Situation) → ArePartsAt members table script 0 starts begin rows middle → start ≡ length rows
+  pub begin_at : (starts : List ℕ) (start : ℕ) (rows more : List Row) (middle : Situation) → ArePartsFrom members table script 0 starts begin rows middle → start ≡ length rows
       → Obeys members table script (rows ++ more) → BeginAt members table script (rows ++ more) (starts ++ start ∷ [])
   begin_at starts start rows more middle parts start_is obeys =
       let count = parts.count in

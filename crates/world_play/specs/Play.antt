@@ -31,7 +31,7 @@ AreMemNodesOf table rows book nodes = AreNodesOf seen_of left_by (λ disk. ⊤) 
 
 -- The part of the command of a place begins at this number of turns, where so many were taken before the script: the
 -- rows in front of it are the parts of the commands before it.
-pub record BeginsAt (members : ℕ) (table : Table) (script : List Command) (first : ℕ) (situation : Situation) (rows : List Row) (place start : ℕ) : Type 0 where
+pub record PartBegins (members : ℕ) (table : Table) (script : List Command) (first : ℕ) (situation : Situation) (rows : List Row) (place start : ℕ) : Type 0 where
   pub front : List Row
   pub back : List Row
   pub middle : Situation
@@ -41,17 +41,17 @@ pub record BeginsAt (members : ℕ) (table : Table) (script : List Command) (fir
 
 -- The rows are the parts of commands, one after another, which begin at these numbers of turns, where so many were
 -- taken before them.
-pub record ArePartsAt (members : ℕ) (table : Table) (script : List Command) (first : ℕ) (starts : List ℕ) (situation : Situation) (rows : List Row) (after : Situation) : Type 0 where
+pub record ArePartsFrom (members : ℕ) (table : Table) (script : List Command) (first : ℕ) (starts : List ℕ) (situation : Situation) (rows : List Row) (after : Situation) : Type 0 where
   pub parts : ArePartsOf members table script situation rows after
   pub count : length starts ≡ length script
-  pub each : (place : ℕ) → place < length starts → BeginsAt members table script first situation rows place (get_or starts place 0)
+  pub each : (place : ℕ) → place < length starts → PartBegins members table script first situation rows place (get_or starts place 0)
 
 -- The world of so many replicas has played the script, from before any turn on: behind its book stand the turns of the
 -- script's parts, which begin at these numbers.
 pub record HasPlayed (table : Table) (members : ℕ) (script : List Command) (starts : List ℕ) (world : World MemDisk) : Type 0 where
   pub rows : List Row
   pub situation : Situation
-  pub parts : ArePartsAt members table script 0 starts (first_situation members table) rows situation
+  pub parts : ArePartsFrom members table script 0 starts (first_situation members table) rows situation
   pub is : IsMemWorldAt table rows world situation
   pub count : (book_of world).members ≡ members
 

@@ -1,7 +1,7 @@
 //! Commands, one after another.
 ghost use Rattle.std.specs.Prelude.{◌≡◌, ◌<◌, ◌≤◌, IfOk, OnOk, OnErr, All, length};
 ghost use Rattle.world_law.specs.Book.{IsLegalBook};
-ghost use Rattle.world_play.specs.Play.{ArePartsAt, HasPlayed, HasRun, HasStarts};
+ghost use Rattle.world_play.specs.Play.{ArePartsFrom, HasPlayed, HasRun, HasStarts};
 ghost use Rattle.world_rounds.specs.Commands.{IsTaken};
 ghost use Rattle.world_rounds.specs.World.{GoesOnBy, IsWorld, book_of};
 
@@ -33,12 +33,13 @@ pub fn play<D: Disk + Send, R: Threads + Sync>(
     requires world { IsWorld D.seen D.may_leave D.honest D.told table.now world.old }
     requires taken { All (IsTaken table.now.window (book_of world.old).members) commands.now }
     ensures goes { IfOk result (λ starts. GoesOnBy D.seen D.may_leave D.honest D.told table.now
-        (ArePartsAt (book_of world.old).members table.now commands.now (length (book_of world.old).turns) starts.items)
+        (ArePartsFrom (book_of world.old).members table.now commands.now (length (book_of world.old).turns) starts.items)
         world.old world.new) }
     ensures members { OnOk result ((book_of world.new).members ≡ (book_of world.old).members) }
     ensures legal { OnErr result (IsLegalBook table.now (book_of world.new)) }
 {
-    let mut starts = Vec::new(alloc);
+    // One more is that of a walk behind them.
+    let mut starts = Vec::with_capacity(alloc, commands.len() + 1)?;
     'commands: for command in commands {
         starts.push(world.book().turns().len() as u64)?;
         world.command(rt, table, command, lanes)?;

@@ -3,7 +3,7 @@ use Rattle.std.proofs.lemmas.List.{take_all, take_more}
 use Rattle.script_text.specs.declared.command.Command.{Command}
 use Rattle.script_text.specs.declared.command.Command.TheVariants.{Round}
 use Rattle.world_law.specs.Book.{BookState}
-use Rattle.world_play.specs.Play.{ArePartsAt}
+use Rattle.world_play.specs.Play.{ArePartsFrom}
 use Rattle.world_rounds.specs.Commands.{IsTaken}
 use Rattle.world_rounds.specs.World.{GoesOnBy}
 use Rattle.world_play.proofs.Commands.{HasDone, done_none, done_next}
@@ -15,7 +15,7 @@ default_command = Round (record { 0 = pos 0 }) 0
 
 pub commands-init : goal.commands-init
 commands-init g c =
-    subst (λ (l : List ℕ). HasDone g.D.Disk.seen g.D.Disk.may_leave g.D.Disk.honest g.D.Disk.told c.args.table.now [] l c.args.world.now c.args.world.now) (sym c.new-starts.ensures.items)
+    subst (λ (l : List ℕ). HasDone g.D.Disk.seen g.D.Disk.may_leave g.D.Disk.honest g.D.Disk.told c.args.table.now [] l c.args.world.now c.args.world.now) (sym c.in_ok-starts.ensures.items)
     (done_none g.D.Disk.seen g.D.Disk.may_leave g.D.Disk.honest g.D.Disk.told c.args.table.now c.args.world.now c.requires.world)
 
 pub command-requires-clause-world : goal.command-requires-clause-world
@@ -39,7 +39,7 @@ pub returns-clause-goes : goal.returns-clause-goes
 returns-clause-goes g c =
     let whole : take c.commands.command-index c.args.commands.now ≡ c.args.commands.now =
     take_all c.commands.command-index c.args.commands.now (omega (arith, c.commands-test.false)) in
-    subst (λ script. GoesOnBy g.D.Disk.seen g.D.Disk.may_leave g.D.Disk.honest g.D.Disk.told c.args.table.now (ArePartsAt c.args.world.now.book.members c.args.table.now script (length c.args.world.now.book.turns) c.commands.starts.items) c.args.world.now c.commands.world)
+    subst (λ script. GoesOnBy g.D.Disk.seen g.D.Disk.may_leave g.D.Disk.honest g.D.Disk.told c.args.table.now (ArePartsFrom c.args.world.now.book.members c.args.table.now script (length c.args.world.now.book.turns) c.commands.starts.items) c.args.world.now c.commands.world)
     whole c.commands.invariant.goes
 
 pub returns-clause-members : goal.returns-clause-members

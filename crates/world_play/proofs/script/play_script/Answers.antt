@@ -2,7 +2,7 @@ use Rattle.std.proofs.Common.{◌≡◌, ℕ, [], length, sym, subst, ◌∙◌,
 use Rattle.script_law.specs.Situation.{first_situation}
 use Rattle.world_rounds.specs.Commands.{IsTaken}
 use Rattle.world_rounds.specs.World.{book_of}
-use Rattle.world_play.specs.Play.{ArePartsAt}
+use Rattle.world_play.specs.Play.{ArePartsFrom}
 use Rattle.world_play.proofs.Starts.{as_many_turns}
 use Rattle.world_play.proofs.script.play_script.Goals as goal
 
@@ -25,8 +25,8 @@ returns g c =
       played = record {
         rows = rows;
         situation = situation;
-        parts = subst (λ (n : ℕ). ArePartsAt n table script 0 starts first rows situation) c.in_ok-world.ensures.members
-            (subst (λ (n : ℕ). ArePartsAt (book_of c.in_ok-world.world).members table script n starts first rows situation) none parts);
+        parts = subst (λ (n : ℕ). ArePartsFrom n table script 0 starts first rows situation) c.in_ok-world.ensures.members
+            (subst (λ (n : ℕ). ArePartsFrom (book_of c.in_ok-world.world).members table script n starts first rows situation) none parts);
         is = here;
         count = c.in_ok-starts.ensures.members ∙ c.in_ok-world.ensures.members;
       };
