@@ -4,3 +4,4 @@ pub mod SummaryLemmas
 pub mod Twins
 pub mod Determined
 pub mod StartLemmas
+pub mod PlaceLemmas

@@ -9,7 +9,7 @@ use Rattle.std.proofs.lemmas.List.FromFn.{get_or-map-range_with_len, length-map-
 use Rattle.due_set.specs.Table.{Table}
 use Rattle.script_text.specs.declared.command.Command.{Command}
 use Rattle.book_law.specs.Book.{Row, Standing}
-use Rattle.script_law.specs.Parts.{Then}
+use Rattle.script_law.specs.Parts.{Stays, Then}
 use Rattle.script_law.specs.Script.{ArePartsOf, Obeys}
 use Rattle.script_law.specs.Settling.{Walks}
 use Rattle.script_law.specs.Situation.{Situation, first_situation}
@@ -123,10 +123,10 @@ same_starts members table script rows others a b twins x y =
     one two here there (twins_split members (first_stands members table) rows others n m twins) in
     sym (length-take-le n rows (x.within place 0 lt)) ∙ ends.size ∙ length-take-le m others (y.within place 0 within))
 
-none_before : (members : ℕ) (table : Table) (script : List Command) (situation : Situation) (rows : List Row) (after : Situation)
-    → ArePartsOf members table (take 0 script) situation rows after → rows ≡ []
-none_before members table [] situation rows after parts = parts.none
-none_before members table (given ∷ script) situation rows after parts = parts.none
+pub none_before : (members : ℕ) (table : Table) (script : List Command) (situation : Situation) (rows : List Row) (after : Situation)
+    → ArePartsOf members table (take 0 script) situation rows after → Stays situation rows after
+none_before members table [] situation rows after parts = parts
+none_before members table (given ∷ script) situation rows after parts = parts
 
 -- none of them lies before an earlier one
 rises : (members : ℕ) (table : Table) (script : List Command) (rows : List Row) (a : List ℕ) (i j : ℕ) → BeginAt members table script rows a → i < j → j < length a
@@ -158,7 +158,7 @@ are_starts members table script rows a begin =
     let count = begin.count in
     let some : 0 < length a = omega arith in
     let (after, parts) = begin.before 0 some in
-    let none : take (get_or a 0 0) rows ≡ [] = none_before members table script (first_situation members table) (take (get_or a 0 0) rows) after parts in
+    let none : take (get_or a 0 0) rows ≡ [] = (none_before members table script (first_situation members table) (take (get_or a 0 0) rows) after parts).none in
     record {
       some = some;
       first = sym (length-take-le (get_or a 0 0) rows (begin.within 0 0 some)) ∙ ap length none;

@@ -1,5 +1,5 @@
 //! Laws of journals and summaries. Each is the contract of a function that does nothing.
-ghost use Rattle.std.specs.Prelude.{◌≡◌, ◌+◌, ℕ, List, None, length};
+ghost use Rattle.std.specs.Prelude.{◌≡◌, ◌+◌, ℕ, List, None, Some, get_or, length, map, pos, slice_get, ◌-ℤ◌};
 ghost use Rattle.std.specs.List.{enumerate_from, flat_map, range_with_len};
 ghost use Rattle.due_set.specs.Table.{Table};
 ghost use Rattle.cluster_sched.specs.declared.row.SchedRow.{SchedRow};
@@ -7,10 +7,11 @@ ghost use Rattle.paxos_base.specs.declared.entry.Kind.TheVariants.{Launch, Void}
 ghost use Rattle.script_text.specs.declared.command.Command.{Command};
 ghost use Rattle.book_law.specs.Book.{Row};
 ghost use Rattle.book_law.specs.declared.turn.Turn.{Turn};
-ghost use Rattle.script_law.specs.Script.{Obeys};
+ghost use Rattle.script_law.specs.Script.{IsPartOf, Obeys};
+ghost use Rattle.script_law.specs.Settling.{Walks};
 ghost use Rattle.world_law.specs.Book.{BookState, StandsBehind};
 ghost use Rattle.journal_text.specs.Journal.{journal_text, part_turns};
-ghost use Rattle.journal_text.specs.Starts.{AreStarts, BeginAt, IsBookJournal};
+ghost use Rattle.journal_text.specs.Starts.{AreStarts, BeginAt, HasPart, IsBookJournal, part_rows};
 ghost use Rattle.journal_text.specs.Summary.{IsBookSummary, summary_text, total_of};
 
 /// The turns of a journal's parts, one after another, are all turns, each once, in order and by its number.
@@ -28,6 +29,20 @@ pub fn a_script_begins_its_parts_once()
         → BeginAt members table script rows a → BeginAt members table script rows b → a ≡ b }
     ensures starts { (members : ℕ) (table : Table) (script : List Command) (rows : List Row) (starts : List ℕ)
         → BeginAt members table script rows starts → AreStarts (length rows) starts }
+{}
+
+/// The turns between a command's start and the next one are that command's, from where the commands before it end. Those
+/// from the last start on are the walk's to the window's last minute. They are what a journal tells there.
+pub fn a_part_has_its_commands_turns()
+    ensures commands { (members : ℕ) (table : Table) (script : List Command) (rows : List Row) (starts : List ℕ) (place : ℕ)
+        (command : Command) → BeginAt members table script rows starts → slice_get script place ≡ Some command
+        → HasPart members table script rows starts place (IsPartOf members table command) }
+    ensures walk { (members : ℕ) (table : Table) (script : List Command) (rows : List Row) (starts : List ℕ)
+        → BeginAt members table script rows starts
+        → HasPart members table script rows starts (length script) (Walks members table (table.window.until.0 -ℤ pos 1)) }
+    ensures told { (table : Table) (book : BookState) (rows : List Row) (starts : List ℕ) (place : ℕ)
+        → StandsBehind table rows book → part_turns book.turns starts place
+        ≡ enumerate_from (get_or starts place 0) (map (λ (row : Row). row.turn) (part_rows rows starts place)) }
 {}
 
 /// A book whose turns obey a script has one journal, whichever rows stand behind it: the text of its turns, with the parts
