@@ -1,5 +1,7 @@
 pub mod CompleteLemmas
+pub mod MadeEndLemmas
 pub mod MadeLemmas
+pub mod OneTextLemmas
 pub mod OptionLemmas
 pub mod PlayLemmas
 pub mod ServeLemmas

@@ -14,7 +14,8 @@ use Rattle.cron_serve.specs.declared.words.Output.TheVariants.{Report, Journal, 
 use Rattle.cron_serve.proofs.TextLemmas.{never_both, one_fault}
 use Rattle.job_table.proofs.UniqueLemmas.{one_table, one_refused_run, not_refused_run}
 
-same_run : (bytes : List ℕ) (a b : Run) → IsRunText bytes a → IsRunText bytes b → a ≡ b
+-- a text is that of one run
+pub same_run : (bytes : List ℕ) (a b : Run) → IsRunText bytes a → IsRunText bytes b → a ≡ b
 same_run bytes a b first second = reading.one_run_by Judged (lines_of bytes) a b first second
 
 no_reading : (bytes : List ℕ) (run : Run) (refusal : Refusal) → IsRunText bytes run → IsRefusedText bytes refusal → ⊥

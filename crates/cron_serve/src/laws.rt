@@ -24,10 +24,13 @@ ghost use Rattle.date_law.specs.Barred.{IsBarred};
 ghost use Rattle.world_law.specs.Book.{BookState};
 ghost use Rattle.run_text.specs.Run.{Run};
 ghost use Rattle.run_text.specs.declared.refusal.Refusal.{Refusal};
-ghost use Rattle.cron_serve.specs.Complete.{EndsUndisturbed};
+ghost use Rattle.job_table.specs.Table.{IsTableOf};
+ghost use Rattle.journal_text.specs.Summary.{IsBookSummary};
+ghost use Rattle.made_run.specs.Made.{made_run, made_text};
+ghost use Rattle.cron_serve.specs.Complete.{Completes, EndsUndisturbed};
 ghost use Rattle.cron_serve.specs.Ends.{Ends};
 ghost use Rattle.cron_serve.specs.Input.{IsTaken, IsTakenFrame, IsRefusedInput, Suits};
-ghost use Rattle.cron_serve.specs.Serve.{IsNoted, IsRefused, IsRunOf, IsTextOfInput, LeavesNoRun, WritesSome};
+ghost use Rattle.cron_serve.specs.Serve.{IsNoted, IsRefused, IsRunOf, IsTextOf, IsTextOfInput, LeavesNoRun, WritesSome};
 ghost use Rattle.cron_serve.specs.Words.{Asks, AsksNothing, IsNameWithValue, IsSpelledBy, MayStandTogether};
 ghost use Rattle.cron_serve.specs.declared.words.Asked.{Asked};
 ghost use Rattle.cron_serve.specs.declared.words.Choice.{Choice};
@@ -141,6 +144,29 @@ pub fn a_run_keeps_dates_apart()
         → a.kind ≡ Launch → b.kind ≡ Launch → a.name.at <ℤ b.name.at
         → slice_get table.jobs a.name.job ≡ Some job → job.kind ≡ Anacron period first last
         → IsPeriodOver period a.name.at b.name.at }
+{}
+
+/// Whatever is asked for, one text at most is to be written of bytes, where they leave this book and these nodes.
+pub fn a_book_has_one_text()
+    ensures { (output : Output) (bytes : List ℕ) (book : BookState) (nodes : List (Node MemDisk)) (a b : List ℕ)
+        → IsTextOf output bytes book nodes a → IsTextOf output bytes book nodes b → a ≡ b }
+{}
+
+/// Where the summary of a made run was written, or a front of it until a write failed, the book and the nodes are what the
+/// run of its seed leaves, and nothing was read. At status 0 the sink gained the summary of this book. And unless a write
+/// fails, the end is at status 0, or memory ran out.
+pub fn a_made_run_is_played()
+    ensures played { (seed : ℕ) (source source' : SourceView) (sink sink' : SinkView) (end : RunEnd)
+        → Ends (Output.Summary seed) source source' sink sink' end → (end.status ≡ 0) ⊎ (end.status ≡ 4)
+        → (table : Table) × (run : IsRunOf (made_text seed) table end.book end.nodes.items) × (run.run ≡ made_run seed) }
+    ensures unread { (seed : ℕ) (source source' : SourceView) (sink sink' : SinkView) (end : RunEnd)
+        → Ends (Output.Summary seed) source source' sink sink' end → (end.status ≡ 0) ⊎ (end.status ≡ 4) → source' ≡ source }
+    ensures summary { (seed : ℕ) (source source' : SourceView) (sink sink' : SinkView) (end : RunEnd)
+        → Ends (Output.Summary seed) source source' sink sink' end → end.status ≡ 0
+        → (table : Table) × IsTableOf (made_run seed) table × (text : List ℕ) × IsBookSummary table seed end.book text × HasGained sink sink' text }
+    ensures done { (seed : ℕ) (source source' : SourceView) (sink sink' : SinkView) (end : RunEnd)
+        → Completes (Output.Summary seed) source source' sink sink' end → ¬ Rose sink.faults sink'.faults
+        → (end.status ≡ 0) ⊎ (end.status ≡ 5) }
 {}
 
 /// At status 1, 2 and 3 nothing is written, and no run is left. So it is at 5 too, or else memory ran out within the text, and the book

@@ -1,0 +1,51 @@
+-- What the summary of a made run tells of its book.
+use Rattle.std.proofs.Common.{◌≡◌, ◌⊎◌, inl, inr, ℕ, List, subst}
+use Rattle.cron_io.specs.Views.{SourceView, SinkView}
+use Rattle.cron_io.specs.Writing.{HasGained}
+use Rattle.due_set.specs.Table.{Table}
+use Rattle.disk_model.specs.declared.mem_disk.MemDisk.{MemDisk}
+use Rattle.replica_node.specs.declared.node.Node.{Node}
+use Rattle.world_law.specs.Book.{BookState}
+use Rattle.job_table.specs.Table.{IsTableOf}
+use Rattle.journal_text.specs.Summary.{IsBookSummary}
+use Rattle.run_text.specs.Run.{Run}
+use Rattle.made_run.specs.Made.{made_run, made_text}
+use Rattle.made_run.proofs.TextLemmas.{text_says}
+use Rattle.cron_serve.specs.Ends.{Ends}
+use Rattle.cron_serve.specs.Serve.{IsRunOf, IsTextOfInput, WritesText}
+use Rattle.cron_serve.specs.declared.run_end.RunEnd.{RunEnd}
+use Rattle.cron_serve.specs.declared.words.Output.TheVariants.{Summary}
+use Rattle.cron_serve.proofs.VerdictLemmas.{same_run}
+
+-- a run of the text that a seed makes is the run that it makes
+made_is : (seed : ℕ) (table : Table) (book : BookState) (nodes : List (Node MemDisk)) (run : IsRunOf (made_text seed) table book nodes) → run.run ≡ made_run seed
+made_is seed table book nodes run = same_run (made_text seed) run.run (made_run seed) run.taken.says (text_says seed)
+
+module _ (seed : ℕ) (source source' : SourceView) (book : BookState) (nodes : List (Node MemDisk)) where
+  run_of_text : (text : List ℕ) (is : IsTextOfInput (Summary seed) source source' book nodes text) → IsRunOf (made_text seed) is.is.table book nodes
+  run_of_text text is = subst (λ (bytes : List ℕ). IsRunOf bytes is.is.table book nodes) is.given.0 is.is.run
+
+  played_of : (text : List ℕ) → IsTextOfInput (Summary seed) source source' book nodes text
+      → (table : Table) × (run : IsRunOf (made_text seed) table book nodes) × (run.run ≡ made_run seed)
+  played_of text is = let run = run_of_text text is in (is.is.table, run, made_is seed is.is.table book nodes run)
+
+  pub summary_of : (sink sink' : SinkView) → WritesText (Summary seed) source source' sink sink' book nodes
+      → (table : Table) × IsTableOf (made_run seed) table × (text : List ℕ) × IsBookSummary table seed book text × HasGained sink sink' text
+  summary_of sink sink' (text, is, gained) =
+      let run = run_of_text text is in
+      let table_is : IsTableOf (made_run seed) is.is.table =
+      subst (λ (r : Run). IsTableOf r is.is.table) (made_is seed is.is.table book nodes run) run.taken.table_is in
+      (is.is.table, table_is, text, is.is.summary, gained)
+
+-- at these statuses there is a text, whole or in part
+module _ (seed : ℕ) (source source' : SourceView) (sink sink' : SinkView) (end : RunEnd) (ends : Ends (Summary seed) source source' sink sink' end) where
+  text_at : (end.status ≡ 0) ⊎ (end.status ≡ 4) → (text : List ℕ) × IsTextOfInput (Summary seed) source source' end.book end.nodes.items text
+  text_at (inl zero) = let (text, is, gained) = ends.text zero in (text, is)
+  text_at (inr four) = let (text, is, gained) = ends.front four in (text, is)
+
+  pub played_at : (end.status ≡ 0) ⊎ (end.status ≡ 4)
+      → (table : Table) × (run : IsRunOf (made_text seed) table end.book end.nodes.items) × (run.run ≡ made_run seed)
+  played_at status = let (text, is) = text_at status in played_of seed source source' end.book end.nodes.items text is
+
+  pub unread_at : (end.status ≡ 0) ⊎ (end.status ≡ 4) → source' ≡ source
+  unread_at status = let (text, is) = text_at status in is.given.1
