@@ -33,14 +33,14 @@ pub record EndsUndisturbed (output : Output) (source source' : SourceView) (sink
   pub read : ¬ Rose source.faults source'.faults
   pub written : ¬ Rose sink.faults sink'.faults
 
--- the text of the input was written, and found room in the sink
+-- the text that was asked for was written, and found room in the sink
 pub record HasRoomForText (output : Output) (source source' : SourceView) (sink sink' : SinkView) (book : BookState) (nodes : List (Node MemDisk)) (room : ℕ) : Type 0 where
   pub text : List ℕ
   pub of_input : IsTextOfInput output source source' book nodes text
   pub gained : HasGained sink sink' text
   pub taken : HasTakenAll room sink sink' text
 
--- the text of the input is longer than the sink's room, and a front of it was written
+-- the text that was asked for is longer than the sink's room, and a front of it was written
 pub record LacksRoomForText (output : Output) (source source' : SourceView) (sink sink' : SinkView) (book : BookState) (nodes : List (Node MemDisk)) (room : ℕ) : Type 0 where
   pub text : List ℕ
   pub of_input : IsTextOfInput output source source' book nodes text

@@ -11,8 +11,9 @@ use Rattle.cron_serve.specs.declared.words.Output.{Output}
 
 -- how the program ended that was asked for this, by what is seen of the source and the sink before and after it
 pub record Ends (output : Output) (source source' : SourceView) (sink sink' : SinkView) (end : RunEnd) : Type 0 where
-  -- Status 0: the input was read to its end, and the sink gained its text. Of a report the book and the nodes are those of the input's
-  -- run: replicas agree, what is held fits their log, and nothing is left to do.
+  -- Status 0: the input was read to its end, or for a summary nothing was read, and the sink gained the text that was asked for. Of
+  -- a report, a journal and a summary the book and the nodes are those of the run that was read or made: replicas agree, what is held
+  -- fits their log, and nothing is left to do.
   pub text : end.status ≡ 0 → WritesText output source source' sink sink' end.book end.nodes.items
   -- Status 2: the input is too large, or was read to its end and is refused, for this.
   pub refused : end.status ≡ 2 → IsSomeAnd end.refusal (IsRefused output source source')

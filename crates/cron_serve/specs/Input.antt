@@ -29,7 +29,8 @@ abbrev pub IsOfInput : Output → Type 0
 IsOfInput (Summary seed) = ⊥
 IsOfInput output = ⊤
 
--- the input is one of which this can be written: of a run with a table, and the check of any run; a summary is of none
+-- the input is one of which this can be written: of a run with a table, and the check of any run; and a summary of whatever
+-- stands there, since nothing is read for it
 abbrev pub Suits : Output → List ℕ → Type 0
 Suits Report bytes = (run : Run) × (table : Table) × IsTaken bytes run table
 Suits Journal bytes = (run : Run) × (table : Table) × IsTaken bytes run table

@@ -114,12 +114,12 @@ pub record IsTextOfInput (output : Output) (old new : SourceView) (book : BookSt
   pub given : IsGiven output old new bytes
   pub is : IsTextOf output bytes book nodes text
 
--- the text of the input was written
+-- the text that was asked for was written, of the input or of the run that was made
 abbrev pub WritesText : Output → (source source' : SourceView) (sink sink' : SinkView) → BookState → List (Node MemDisk) → Type 0
 WritesText output source source' sink sink' book nodes =
     (text : List ℕ) × IsTextOfInput output source source' book nodes text × HasGained sink sink' text
 
--- a front of the text of the input was written
+-- a front of the text that was asked for was written
 abbrev pub WritesSome : Output → (source source' : SourceView) (sink sink' : SinkView) → BookState → List (Node MemDisk) → Type 0
 WritesSome output source source' sink sink' book nodes =
     (text : List ℕ) × IsTextOfInput output source source' book nodes text × HasGainedPrefix sink sink' text

@@ -1,4 +1,4 @@
-//! What is written of an input that was read.
+//! What is written of an input that was read, and how its run, or one that was made, is played.
 ghost use Rattle.std.specs.Prelude.{◌≡◌, ◌⊎◌, ◌++◌, ◌<◌, ◌≤◌, List, ℕ, length, None, IfOk, IfErr};
 ghost use Rattle.due_set.specs.Table.{IsSound};
 ghost use Rattle.journal_text.specs.Starts.{AreStarts};

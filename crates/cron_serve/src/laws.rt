@@ -184,7 +184,7 @@ pub fn an_early_end_leaves_nothing()
         → (book.turns ≡ []) × (book.letters ≡ []) × (book.ledger.held ≡ []) × (book.ledger.late ≡ []) × (nodes ≡ []) }
 {}
 
-/// At status 4 and 5 a front of the input's text was written at most, and nothing else.
+/// At status 4 and 5 a front of the text that was asked for was written at most, and nothing else.
 pub fn a_late_end_leaves_a_front()
     ensures { (output : Output) (source source' : SourceView) (sink sink' : SinkView) (end : RunEnd)
         → Ends output source source' sink sink' end
