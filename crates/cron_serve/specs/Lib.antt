@@ -2,6 +2,7 @@ pub mod Words
 pub mod Text
 pub mod Input
 pub mod Serve
+pub mod Played
 pub mod Stop
 pub mod Written
 pub mod Complete

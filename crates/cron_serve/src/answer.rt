@@ -1,14 +1,12 @@
 //! What is written of an input that was read, and how its run, or one that was made, is played.
 ghost use Rattle.std.specs.Prelude.{◌≡◌, ◌⊎◌, ◌++◌, ◌<◌, ◌≤◌, List, ℕ, length, None, IfOk, IfErr};
-ghost use Rattle.due_set.specs.Table.{IsSound};
-ghost use Rattle.journal_text.specs.Starts.{AreStarts};
 ghost use Rattle.journal_text.specs.Journal.{journal_text};
 ghost use Rattle.report_text.specs.Book.{IsBookReport};
 ghost use Rattle.report_text.specs.Writes.{Writes};
 ghost use Rattle.run_text.specs.Steps.{IfRefused};
-ghost use Rattle.world_law.specs.Book.{IsLegalBook};
 ghost use Rattle.world_play.specs.Play.{HasStarts};
 ghost use Rattle.cron_serve.specs.Input.{IsOfInput, IsRefusedAsFrame, IsRefusedAsRun, IsRefusedBytes};
+ghost use Rattle.cron_serve.specs.Played.{IsPlayed};
 ghost use Rattle.cron_serve.specs.Serve.{IsRunOf, LeavesNoRun};
 ghost use Rattle.cron_serve.specs.Written.{EndsWriting, WritesAtStatus, status_of_listing, status_of_writing};
 
@@ -122,9 +120,7 @@ pub fn play<R: Threads + Sync>(
     requires short { length bytes.now ≤ 1_048_576 }
     requires lanes { 0 < lanes }
     ensures run { IfOk result (λ played. IsRunOf bytes.now played.table played.book played.nodes.items) }
-    ensures members { IfOk result (λ played. played.book.members ≡ played.members) }
-    ensures few { IfOk result (λ played. played.members ≤ 7) }
-    ensures sound { IfOk result (λ played. IsSound played.table) }
+    ensures played { IfOk result IsPlayed }
     ensures starts { IfOk result (λ played. (run : IsRunOf bytes.now played.table played.book played.nodes.items)
         → HasStarts played.table run.run.commands played.book played.starts.items) }
     ensures refused { IfErr result (λ fault. IfRefused fault (IsRefusedAsRun bytes.now)) }
@@ -144,10 +140,7 @@ pub fn play<R: Threads + Sync>(
 
 // Writes the report of a run.
 fn report<K: Sink>(alloc: Global, sink: &mut K, played: Played) -> RunEnd
-    requires few { played.members ≤ 7 }
-    requires members { played.book.members ≡ played.members }
-    requires legal { IsLegalBook played.table played.book }
-    requires rest { played.book.pending ≡ None }
+    requires played { IsPlayed played }
     ensures text { (text : List ℕ) × IsBookReport played.table played.book text
         × WritesAtStatus (K.seen sink.old) (K.seen sink.new) result.status text }
     ensures book { result.book ≡ played.book }
@@ -161,12 +154,7 @@ fn report<K: Sink>(alloc: Global, sink: &mut K, played: Played) -> RunEnd
 
 // Writes the report of a run, and its journal behind it.
 fn journal<K: Sink>(alloc: Global, sink: &mut K, played: Played) -> RunEnd
-    requires few { played.members ≤ 7 }
-    requires members { played.book.members ≡ played.members }
-    requires sound { IsSound played.table }
-    requires legal { IsLegalBook played.table played.book }
-    requires rest { played.book.pending ≡ None }
-    requires starts { AreStarts (length played.book.turns) played.starts.items }
+    requires played { IsPlayed played }
     ensures text { (front : List ℕ) × IsBookReport played.table played.book front
         × WritesAtStatus (K.seen sink.old) (K.seen sink.new) result.status
         (front ++ journal_text played.table played.book.turns played.starts.items) }
@@ -181,12 +169,7 @@ fn journal<K: Sink>(alloc: Global, sink: &mut K, played: Played) -> RunEnd
 
 // Writes a report, and a journal behind it.
 fn write_both<K: Sink>(alloc: Global, sink: &mut K, played: &Played) -> Result<(), ReportFault>
-    requires few { played.now.members ≤ 7 }
-    requires members { played.now.book.members ≡ played.now.members }
-    requires sound { IsSound played.now.table }
-    requires legal { IsLegalBook played.now.table played.now.book }
-    requires rest { played.now.book.pending ≡ None }
-    requires starts { AreStarts (length played.now.book.turns) played.now.starts.items }
+    requires played { IsPlayed played.now }
     ensures { (front : List ℕ) × IsBookReport played.now.table played.now.book front
         × Writes (K.seen sink.old) (K.seen sink.new) result
         (front ++ journal_text played.now.table played.now.book.turns played.now.starts.items) }

@@ -1,11 +1,11 @@
 //! The summary of a run that is made from a seed.
 ghost use Rattle.std.specs.Prelude.{◌≡◌, ◌⊎◌, ◌<◌, ◌≤◌, ℕ, List, None, IfOk, IfErr, string_bytes};
+ghost use Rattle.cron_serve.specs.Played.{IsPlayed};
 ghost use Rattle.cron_serve.specs.Serve.{IsRunOf};
 ghost use Rattle.cron_serve.specs.Written.{EndsWriting, WritesAtStatus};
 ghost use Rattle.cron_serve.specs.declared.words.Output.{Output};
 ghost use Rattle.journal_text.specs.Summary.{IsBookSummary};
 ghost use Rattle.made_run.specs.Made.{made_text};
-ghost use Rattle.world_law.specs.Book.{IsLegalBook};
 
 use crate::answer::{Played, play, written_end};
 use crate::run_end::RunEnd;
@@ -45,6 +45,7 @@ fn play_made<R: Threads + Sync>(
 ) -> Result<Played, OutOfMemory>
     requires lanes { 0 < lanes }
     ensures run { IfOk result (λ played. IsRunOf (made_text seed) played.table played.book played.nodes.items) }
+    ensures played { IfOk result IsPlayed }
 {
     let text = make_run(alloc, seed)?;
     match play(rt, alloc, lanes, text.as_bytes()) {
@@ -56,8 +57,7 @@ fn play_made<R: Threads + Sync>(
 
 // Writes the summary of the run of a seed.
 fn summarize<K: Sink>(alloc: Global, sink: &mut K, seed: u32, played: Played) -> RunEnd
-    requires legal { IsLegalBook played.table played.book }
-    requires rest { played.book.pending ≡ None }
+    requires played { IsPlayed played }
     ensures text { (text : List ℕ) × IsBookSummary played.table seed played.book text
         × WritesAtStatus (K.seen sink.old) (K.seen sink.new) result.status text }
     ensures book { result.book ≡ played.book }

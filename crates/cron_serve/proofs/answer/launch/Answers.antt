@@ -1,12 +1,6 @@
 use Rattle.cron_serve.proofs.ServeLemmas.{ends_launches}
 use Rattle.cron_serve.proofs.answer.launch.Goals as goal
 
-pub report-requires-clause-legal : goal.report-requires-clause-legal
-report-requires-clause-legal g c = (c.in_ok-played.ensures.run.rows, c.in_ok-played.ensures.run.behind)
-
-pub report-requires-clause-rest : goal.report-requires-clause-rest
-report-requires-clause-rest g c = c.in_ok-played.ensures.run.rest
-
 pub returns-clause-end : goal.returns-clause-end
 returns-clause-end g c =
     let text = c.report.ensures.text in

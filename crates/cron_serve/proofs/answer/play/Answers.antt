@@ -7,6 +7,7 @@ use Rattle.world_rounds.specs.World.{book_of}
 use Rattle.world_play.specs.Play.{AreMemNodesOf, HasRun, HasStarts}
 use Rattle.cron_serve.specs.Serve.{IsRunOf}
 use Rattle.cron_serve.proofs.PlayLemmas.{few_members, left_by_world, playable, some_members}
+use Rattle.cron_serve.proofs.ServeLemmas.{may_start}
 use Rattle.cron_serve.proofs.VerdictLemmas.{one_taken}
 use Rattle.cron_serve.proofs.answer.play.Goals as goal
 
@@ -33,12 +34,6 @@ returns-clause-run g c =
     subst (λ (b : BookState). IsRunOf c.args.bytes.now table b nodes) (sym c.into_book-book.ensures.book)
     (left_by_world c.args.bytes.now run table c.in_ok-run.ensures.taken world nodes has kept)
 
-pub returns-clause-members : goal.returns-clause-members
-returns-clause-members g c = ap (λ (b : BookState). b.members) c.into_book-book.ensures.book ∙ c.in_ok-world.ensures.run.count
-
-pub returns-clause-sound : goal.returns-clause-sound
-returns-clause-sound g c = c.in_ok-world.ensures.run.is.ahead.at.sound
-
 pub returns-clause-starts : goal.returns-clause-starts
 returns-clause-starts g c = λ left.
     let run = run_of c.in_ok-run.run' in
@@ -49,3 +44,16 @@ returns-clause-starts g c = λ left.
     subst (λ (l : List Command). HasStarts table l (book_of c.in_ok-world.world) starts) c.as_slice-commands.ensures.value c.in_ok-world.ensures.starts in
     subst (λ (r : Run). HasStarts table r.commands c.into_book-book.result.0 starts) same
     (subst (λ (b : BookState). HasStarts table run.commands b starts) (sym c.into_book-book.ensures.book) has)
+
+pub returns-clause-played : goal.returns-clause-played
+returns-clause-played g c =
+    let run = returns-clause-run g c in
+    let starts = may_start c.args.bytes.now _ _ _ c.in_ok-world.starts.items run (returns-clause-starts g c run) in
+    record {
+      members = ap (λ (b : BookState). b.members) c.into_book-book.ensures.book ∙ c.in_ok-world.ensures.run.count;
+      few = few_members c.args.bytes.now (run_of c.in_ok-run.run') c.in_ok-run.table c.in_ok-run.ensures.taken;
+      sound = c.in_ok-world.ensures.run.is.ahead.at.sound;
+      legal = (run.rows, run.behind);
+      rest = run.rest;
+      starts = starts.0;
+    }

@@ -1,16 +1,5 @@
-use Rattle.cron_serve.proofs.ServeLemmas.{ends_journal, may_start}
+use Rattle.cron_serve.proofs.ServeLemmas.{ends_journal}
 use Rattle.cron_serve.proofs.answer.tell.Goals as goal
-
-pub journal-requires-clause-legal : goal.journal-requires-clause-legal
-journal-requires-clause-legal g c = (c.in_ok-played.ensures.run.rows, c.in_ok-played.ensures.run.behind)
-
-pub journal-requires-clause-rest : goal.journal-requires-clause-rest
-journal-requires-clause-rest g c = c.in_ok-played.ensures.run.rest
-
-pub journal-requires-clause-starts : goal.journal-requires-clause-starts
-journal-requires-clause-starts g c =
-    let run = c.in_ok-played.ensures.run in
-    (may_start c.args.bytes.now _ _ _ c.in_ok-played.played.starts.items run (c.in_ok-played.ensures.starts run)).0
 
 pub returns-clause-end : goal.returns-clause-end
 returns-clause-end g c =

@@ -2,12 +2,6 @@ use Rattle.made_run.specs.Made.{made_text}
 use Rattle.cron_serve.proofs.ServeLemmas.{ends_summary}
 use Rattle.cron_serve.proofs.made.write_made.Goals as goal
 
-pub summarize-requires-clause-legal : goal.summarize-requires-clause-legal
-summarize-requires-clause-legal g c = (c.in_ok-played.ensures.run.rows, c.in_ok-played.ensures.run.behind)
-
-pub summarize-requires-clause-rest : goal.summarize-requires-clause-rest
-summarize-requires-clause-rest g c = c.in_ok-played.ensures.run.rest
-
 pub returns-clause-end : goal.returns-clause-end
 returns-clause-end g c =
     let text = c.summarize.ensures.text in
