@@ -6,7 +6,7 @@ use std::sync::atomic::{AtomicBool, AtomicU64, Ordering};
 use std::thread;
 
 // How often a disk looks whether the other has come. Where their replicas don't run at once, this ends the wait.
-const LOOKS: u32 = 1_000_000;
+const LOOKS: u32 = 100_000_000;
 
 /// Where two disks meet.
 #[derive(Drop)]
