@@ -1,5 +1,5 @@
 //! The journals and the summaries of worlds that have played a run.
-use crate::worlds::{write_journal_of, write_summary_of};
+use crate::worlds::{starts_of, write_journal_of, write_summary_of};
 use cron_io::MemSink;
 use report_text::ReportFault;
 use std::test::*;
@@ -208,8 +208,10 @@ end
 #[test]
 fn journals_have_their_lines(rt: HostRuntime) -> Result<(), Fail> {
     for journal in JOURNALS {
+        let starts = starts_of(&rt, rt.alloc(), journal.file)?;
+        assert_eq!(rt; starts.as_slice(), journal.starts);
         let mut sink = MemSink::new(rt.alloc(), 10_000, Vec::new(rt.alloc()))?;
-        let written = write_journal_of(&rt, rt.alloc(), journal.file, journal.starts, &mut sink)?;
+        let written = write_journal_of(&rt, rt.alloc(), journal.file, &mut sink)?;
         assert!(rt; written.is_ok());
         assert_eq!(rt; std::str::from_utf8(sink.bytes())?, journal.text);
     }
@@ -221,7 +223,7 @@ fn a_fault_leaves_a_front_of_the_journal(rt: HostRuntime) -> Result<(), Fail> {
     // The third write fails.
     let fails = vec![in rt.alloc(); 2]?;
     let mut sink = MemSink::new(rt.alloc(), 10_000, fails)?;
-    let written = write_journal_of(&rt, rt.alloc(), ALONE, &[0], &mut sink)?;
+    let written = write_journal_of(&rt, rt.alloc(), ALONE, &mut sink)?;
     assert!(rt; written == Err(ReportFault::WriteFault));
     assert_eq!(rt;
         std::str::from_utf8(sink.bytes())?,
@@ -229,7 +231,7 @@ fn a_fault_leaves_a_front_of_the_journal(rt: HostRuntime) -> Result<(), Fail> {
     );
     // The room is a byte too small for the second line.
     let mut small = MemSink::new(rt.alloc(), 26, Vec::new(rt.alloc()))?;
-    let cut = write_journal_of(&rt, rt.alloc(), ALONE, &[0], &mut small)?;
+    let cut = write_journal_of(&rt, rt.alloc(), ALONE, &mut small)?;
     assert!(rt; cut == Err(ReportFault::WriteFault));
     assert_eq!(rt; std::str::from_utf8(small.bytes())?, "cron journal 1\n");
     Ok(())

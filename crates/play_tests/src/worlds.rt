@@ -1,5 +1,5 @@
 //! The run of a file, the world that has played it, and the texts of its book.
-ghost use Rattle.std.specs.Prelude.{◌≡◌, ◌<◌, ◌≤◌, ◌^◌, All, IfOk, IsTrue, None, length};
+ghost use Rattle.std.specs.Prelude.{◌≡◌, ◌<◌, ◌≤◌, ◌^◌, IfOk, None, length};
 ghost use Rattle.due_set.specs.Table.{IsSound};
 ghost use Rattle.journal_text.specs.Starts.{AreStarts};
 ghost use Rattle.world_law.specs.Book.{IsLegalBook};
@@ -16,12 +16,14 @@ use std::thread::Threads;
 use world_law::Book;
 use world_play::play_run;
 
-// A run that was played: the table of its jobs, its number of replicas, and the book that it left.
+// A run that was played: the table of its jobs, its number of replicas, the book that it left, and the numbers of the
+// turns at which the parts of its script begin.
 #[derive(Drop)]
 struct Played {
     table: JobTable,
     members: u8,
     book: Book,
+    starts: Vec<u64>,
 }
 
 // The text, which is short enough to be read.
@@ -42,6 +44,8 @@ fn play<R: Threads + Sync>(rt: &R, alloc: Global, text: &str, lanes: u8) -> Resu
     ensures members { IfOk result (λ played. played.book.members ≡ played.members) }
     ensures legal { IfOk result (λ played. IsLegalBook played.table played.book) }
     ensures rest { IfOk result (λ played. played.book.pending ≡ None) }
+    ensures sound { IfOk result (λ played. IsSound played.table) }
+    ensures starts { IfOk result (λ played. AreStarts (length played.book.turns) played.starts.items) }
 {
     let Ok(run) = read_run(alloc, short(text)?) else {
         return Err(Fail::from("no run"));
@@ -50,7 +54,7 @@ fn play<R: Threads + Sync>(rt: &R, alloc: Global, text: &str, lanes: u8) -> Resu
         return Err(Fail::from("no table"));
     };
     let commands = run.commands.as_slice();
-    let Ok((world, _starts)) = play_run(rt, alloc, &table, run.members, commands, lanes) else {
+    let Ok((world, starts)) = play_run(rt, alloc, &table, run.members, commands, lanes) else {
         return Err(Fail::from("no world"));
     };
     let (book, _nodes) = world.into_book();
@@ -58,6 +62,7 @@ fn play<R: Threads + Sync>(rt: &R, alloc: Global, text: &str, lanes: u8) -> Resu
         table,
         members: run.members,
         book,
+        starts,
     })
 }
 
@@ -76,6 +81,7 @@ pub fn report_of<R: Threads + Sync>(
         table,
         members,
         book,
+        ..
     } = &played;
     if write_book_report(alloc, &mut sink, table, *members, book).is_err() {
         return Err(Fail::from("no report"));
@@ -84,47 +90,21 @@ pub fn report_of<R: Threads + Sync>(
     Ok(String::from_str(alloc, report)?)
 }
 
-// Whether the window of the table is a day at most; a longer run takes too much time.
-fn is_short(table: &JobTable) -> bool
-    ensures { IsSound table.now }
-{
-    let window = table.window();
-    window.until.0 <= window.from.0 + 1440
+/// The numbers of the turns at which the parts of a run's script begin, in the world that has played it.
+pub fn starts_of<R: Threads + Sync>(rt: &R, alloc: Global, text: &str) -> Result<Vec<u64>, Fail> {
+    let played = play(rt, alloc, text, 1)?;
+    Ok(played.starts)
 }
 
-// Whether none of the numbers lies behind so many turns.
-fn are_within(turns: usize, starts: &[u64]) -> bool
-    ensures { IsTrue result → All (λ start. start ≤ turns) starts.now }
-{
-    starts.iter().all(|start| *start <= turns as u64)
-}
-
-// Whether parts may begin at these of so many turns.
-fn may_begin(turns: usize, starts: &[u64]) -> bool
-    ensures { IsTrue result → AreStarts turns starts.now }
-{
-    if starts.is_empty() || starts[0] != 0 || !starts.is_sorted() {
-        return false;
-    }
-    are_within(turns, starts)
-}
-
-/// Plays the run of a file, and writes the journal of the world's book, whose parts begin at these numbers of turns.
+/// Plays the run of a file, and writes the journal of the world's book.
 pub fn write_journal_of<R: Threads + Sync>(
     rt: &R,
     alloc: Global,
     text: &str,
-    starts: &[u64],
     sink: &mut MemSink,
 ) -> Result<Result<(), ReportFault>, Fail> {
     let played = play(rt, alloc, text, 1)?;
-    if !is_short(&played.table) {
-        return Err(Fail::from("a long window"));
-    }
-    if !may_begin(played.book.turns().len(), starts) {
-        return Err(Fail::from("no parts"));
-    }
-    Ok(write_journal(alloc, sink, &played.table, &played.book, starts))
+    Ok(write_journal(alloc, sink, &played.table, &played.book, &played.starts))
 }
 
 /// Plays the run of a file, and writes the summary of the world's book, as if the run were made from a seed.

@@ -1,7 +1,9 @@
-use Rattle.std.proofs.Common.{List, All, sym, ap, ◌∙◌, subst, arith}
+use Rattle.std.proofs.Common.{List, All, length, sym, ap, ◌∙◌, subst, arith}
 use Rattle.script_text.specs.declared.command.Command.{Command}
 use Rattle.run_text.specs.Run.{run_of}
 use Rattle.run_text.proofs.SoundLemmas.{sound_run}
+use Rattle.journal_text.specs.Starts.{AreStarts}
+use Rattle.journal_text.proofs.StartLemmas.{book_starts}
 use Rattle.world_law.specs.Book.{BookState, IsLegalBook}
 use Rattle.world_rounds.specs.Commands.{IsTaken}
 use Rattle.world_play.proofs.Taken.{script_taken}
@@ -44,3 +46,12 @@ returns-clause-legal g c =
 pub returns-clause-rest : goal.returns-clause-rest
 returns-clause-rest g c =
     ap (λ (b : BookState). b.pending) c.into_book-book.ensures.book ∙ at_rest _ _ _ _ c.in-Ok-play_run.ensures.run
+
+pub returns-clause-sound : goal.returns-clause-sound
+returns-clause-sound g c = c.in-Ok-play_run.ensures.run.is.ahead.at.sound
+
+pub returns-clause-starts : goal.returns-clause-starts
+returns-clause-starts g c =
+    let has = c.in-Ok-play_run.ensures.starts in
+    subst (λ (b : BookState). AreStarts (length b.turns) c.in-Ok-play_run.starts.items) (sym c.into_book-book.ensures.book)
+    (book_starts _ _ _ has.rows _ has.behind has.begin).0
