@@ -1,5 +1,6 @@
 //! The journal behind a report, through the whole program.
 use crate::program::{args_of, play};
+use crate::runs::{THREE_LAUNCHES, THREE_LAUNCHES_REPORT};
 use std::test::Fail;
 
 // A launch whose first call is lost, and whose second one arrives late.
@@ -64,18 +65,43 @@ const JOURNAL: &[&[&str]] = &[
 
 #[test]
 fn a_journal_stands_behind_the_report(rt: HostRuntime) -> Result<(), Fail> {
-    let mut ok = true;
     for words in JOURNAL {
         let args = args_of(rt.alloc(), words)?;
         let left = play(&rt, rt.alloc(), Ok(args), TWO_CALLS, &[])?;
-        ok &= left.status == 0 && left.report.bytes() == TWO_CALLS_TOLD.as_bytes();
-        ok &= left.notes.bytes().is_empty();
+        assert!(rt; left.status == 0, "{words:?}");
+        let told = left.report.bytes() == TWO_CALLS_TOLD.as_bytes();
+        assert!(rt; told, "{words:?}");
+        assert!(rt; left.notes.bytes().is_empty(), "{words:?}");
     }
-    assert_eq!(rt; ok, true);
+    Ok(())
+}
+
+// How the journal of a run without commands begins: its one part is the walk.
+const WALK: &str = "\
+cron journal 1
+command end
+0 0 campaign
+1 0 tick 2024-03-31T00:00Z
+2 0 tick 2024-03-31T00:00Z done alice:1@20240331T0000Z launch
+3 0 answer
+4 0 tick 2024-03-31T00:00Z
+";
+
+#[test]
+fn a_walk_is_the_last_part(rt: HostRuntime) -> Result<(), Fail> {
+    let args = args_of(rt.alloc(), &["--journal"])?;
+    let left = play(&rt, rt.alloc(), Ok(args), THREE_LAUNCHES, &[])?;
+    assert_eq!(rt; left.status, 0);
+    let told = std::str::from_utf8(left.report.bytes())?;
+    let Some(journal) = told.strip_prefix(THREE_LAUNCHES_REPORT) else {
+        return Err(Fail::from("no report"));
+    };
+    assert!(rt; journal.starts_with(WALK), "{journal}");
     Ok(())
 }
 
 // A write that fails, by its number from 0, and how many lines are written then. The report has seven.
+#[derive(Debug)]
 struct Cut {
     write: u64,
     lines: usize,
@@ -89,15 +115,15 @@ const CUTS: &[Cut] = &[
 
 #[test]
 fn a_fault_leaves_the_lines_before_it(rt: HostRuntime) -> Result<(), Fail> {
-    let mut ok = true;
     for cut in CUTS {
         let args = args_of(rt.alloc(), &["--journal"])?;
         let left = play(&rt, rt.alloc(), Ok(args), TWO_CALLS, &[cut.write])?;
         let written = std::str::from_utf8(left.report.bytes())?;
-        ok &= left.status == 4 && TWO_CALLS_TOLD.starts_with(written);
-        ok &= written.lines().count() == cut.lines;
-        ok &= left.notes.bytes() == "cron_cluster: write fault\n".as_bytes();
+        assert!(rt; left.status == 4, "{cut:?}");
+        assert!(rt; TWO_CALLS_TOLD.starts_with(written), "{cut:?}");
+        assert!(rt; written.lines().count() == cut.lines, "{cut:?}");
+        let noted = left.notes.bytes() == "cron_cluster: write fault\n".as_bytes();
+        assert!(rt; noted, "{cut:?}");
     }
-    assert_eq!(rt; ok, true);
     Ok(())
 }

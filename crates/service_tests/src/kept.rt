@@ -1,12 +1,8 @@
 //! What a run leaves beside its report: the disks of its replicas, and the letters that they sent.
-use crate::play::{Left, NO_FAULTS, play};
-use cron_io::{MemSink, MemSource};
-use cron_serve::cron_cluster;
+use crate::play::{NO_FAULTS, play, play_words};
 use paxos_base::{Ballot, Entry, Kind, Vote};
 use replica_store::Store;
-use std::alloc::Global;
 use std::test::*;
-use std::thread::Threads;
 use world_law::LetterRow;
 
 const ONE: &str = "\
@@ -83,24 +79,6 @@ round 2024-03-31T01:59Z 600
 end
 ";
 
-// What a run leaves whose rounds are shared out among three lanes.
-fn play_in_lanes<R: Threads + Sync>(rt: &R, alloc: Global, input: &[u8]) -> Result<Left, Fail> {
-    let mut words = Vec::new(alloc);
-    words.push(String::from_str(alloc, "--lanes=3")?)?;
-    let mut source = MemSource::new(input.to_vec(alloc)?, Vec::new(alloc));
-    let mut report = MemSink::new(alloc, 1 << 20, Vec::new(alloc))?;
-    let mut notes = MemSink::new(alloc, 100, Vec::new(alloc))?;
-    let end = cron_cluster(
-        rt,
-        alloc,
-        words.into_iter(),
-        &mut source,
-        &mut report,
-        &mut notes,
-    );
-    Ok(Left { end, report, notes })
-}
-
 // Whether a packet of the letter says that it is a launch table, by its first byte.
 fn has_snapshot(letter: &LetterRow) -> bool {
     let (packets, _) = letter.bytes.bytes().as_chunks::<56>();
@@ -119,7 +97,7 @@ fn a_replica_that_was_away_is_sent_a_snapshot(rt: HostRuntime) -> Result<(), Fai
     let left = play(&rt, rt.alloc(), AWAY.as_bytes(), &NO_FAULTS)?;
     assert_eq!(rt; left.end.status, 0);
     assert!(rt; sends_snapshot(left.end.book.letters()));
-    let shared = play_in_lanes(&rt, rt.alloc(), AWAY.as_bytes())?;
+    let shared = play_words(&rt, rt.alloc(), &["--lanes=3"], AWAY.as_bytes(), &NO_FAULTS)?;
     assert!(rt; sends_snapshot(shared.end.book.letters()));
     assert_eq!(rt; shared.report.bytes(), left.report.bytes());
     Ok(())

@@ -14,6 +14,8 @@ mod kept;
 #[cfg(test)]
 mod limit_tests;
 #[cfg(test)]
+mod made_tests;
+#[cfg(test)]
 mod over_memory;
 #[cfg(test)]
 mod play;

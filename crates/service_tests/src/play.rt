@@ -1,4 +1,5 @@
 //! A run over memory.
+use crate::program::args_of;
 use cron_io::{MemSink, MemSource};
 use cron_serve::{RunEnd, cron_cluster};
 use std::alloc::{AllocError, Global};
@@ -34,11 +35,23 @@ pub fn play<R: Threads + Sync>(
     input: &[u8],
     faults: &Faults,
 ) -> Result<Left, Fail> {
+    play_words(rt, alloc, &[], input, faults)
+}
+
+/// What the program leaves of these bytes, with these words behind its name.
+pub fn play_words<R: Threads + Sync>(
+    rt: &R,
+    alloc: Global,
+    words: &[&str],
+    input: &[u8],
+    faults: &Faults,
+) -> Result<Left, Fail> {
+    let mut args = args_of(alloc, words)?;
+    let _name = args.next();
     let mut source = MemSource::new(input.to_vec(alloc)?, faults.reads.to_vec(alloc)?);
     let mut report = MemSink::new(alloc, 1 << 20, faults.writes.to_vec(alloc)?)?;
     let mut notes = MemSink::new(alloc, 100, faults.notes.to_vec(alloc)?)?;
-    let words = Vec::new(alloc).into_iter();
-    let end = cron_cluster(rt, alloc, words, &mut source, &mut report, &mut notes);
+    let end = cron_cluster(rt, alloc, args, &mut source, &mut report, &mut notes);
     Ok(Left { end, report, notes })
 }
 
