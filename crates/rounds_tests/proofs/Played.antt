@@ -1,5 +1,5 @@
 -- Worlds that take commands one after another.
-use Rattle.std.proofs.Common.{◌≡◌, ℕ, zero, suc, ◌+◌, List, [], ◌∷◌, ◌++◌, ◌<◌, length, Option, Some, refl, sym, ap, ◌∙◌, subst, inl, inr, arith}
+use Rattle.std.proofs.Common.{◌≡◌, ℕ, zero, suc, ◌+◌, List, [], ◌∷◌, ◌++◌, ◌<◌, length, take, drop, Option, Some, refl, sym, ap, ◌∙◌, subst, inl, inr, arith}
 use Rattle.std.specs.Bool.{⊤}
 use Rattle.std.proofs.lemmas.Int.{ints}
 use Rattle.std.specs.List.{Contains}
@@ -79,6 +79,18 @@ pub taken_at : (window : Window) (count members : ℕ) (commands : List Command)
     → AreTaken window count commands → IsTaken window members (get_or commands index default)
 taken_at window count members commands index default below is taken =
     subst (λ members. IsTaken window members (get_or commands index default)) (sym is) (at_place window count commands index default below taken)
+
+pub taken_front : (window : Window) (members : ℕ) (commands : List Command) (place : ℕ) → AreTaken window members commands → AreTaken window members (take place commands)
+taken_front window members [] zero taken = tt
+taken_front window members [] (suc place) taken = tt
+taken_front window members (first ∷ rest) zero taken = tt
+taken_front window members (first ∷ rest) (suc place) taken = (taken.0, taken_front window members rest place taken.1)
+
+pub taken_back : (window : Window) (members : ℕ) (commands : List Command) (place : ℕ) → AreTaken window members commands → AreTaken window members (drop place commands)
+taken_back window members [] zero taken = tt
+taken_back window members [] (suc place) taken = tt
+taken_back window members (first ∷ rest) zero taken = taken
+taken_back window members (first ∷ rest) (suc place) taken = taken_back window members rest place taken.1
 
 pub first_in : (window : Window) → IsHour window → IsInWindow window (pos 28_530_720)
 first_in window is = let from = is.from in let until = is.until in record { since = omega (arith, ints, from); before = omega (arith, ints, until) }

@@ -4,18 +4,21 @@ ghost use Rattle.std.specs.Prelude.{◌≡◌};
 ghost use Rattle.disk_model.specs.MemDisk.{left_by, seen_of, told_of};
 ghost use Rattle.due_set.specs.Table.{Table};
 ghost use Rattle.world_rounds.specs.World.{IsWorld, book_of};
-ghost use Rattle.zone_minutes.specs.declared.minute.Window.{Window};
-ghost use Rattle.rounds_tests.specs.Plays.{AreTaken, IsHour};
+ghost use Rattle.rounds_tests.specs.Plays.{AreTaken};
 
 use crate::hour::{LATER, table_of_one};
 use crate::lanes::is_same_book;
 use crate::worlds::{play_on, world_after};
+use book_law::Turn;
+use cluster_sched::Fate;
 use disk_model::MemDisk;
+use due_set::JobTable;
 use script_text::{Command, FateWord};
 use std::alloc::Global;
 use std::process::Abort;
 use std::test::*;
 use std::thread::Threads;
+use world_law::Book;
 use world_rounds::World;
 
 // Takes a world apart, and puts it together again.
@@ -27,45 +30,83 @@ fn put_together(world: World<MemDisk>) -> World<MemDisk>
     World::from_parts(world.take_parts())
 }
 
-// Whether three replicas have the same book after some commands and some more, also where they are in parts between these.
-fn is_same_from_parts<R: Threads + Sync>(
+// Whether three replicas that are in parts behind so many of the commands have this book after all of them.
+fn is_book_from_parts<R: Threads + Sync>(
     rt: &R,
     alloc: Global,
-    first: &[Command],
-    then: &[Command],
+    table: &JobTable,
+    commands: &[Command],
+    place: usize,
+    book: &Book,
 ) -> Result<bool, Fail>
-    requires first { (window : Window) → IsHour window → AreTaken window 3 first.now }
-    requires then { (window : Window) → IsHour window → AreTaken window 3 then.now }
+    requires taken { AreTaken table.now.window 3 commands.now }
 {
-    let table = table_of_one(alloc)?;
-    let whole = world_after(rt, alloc, &table, 3, first, 1)?;
-    let whole = play_on(rt, whole, &table, then, 1)?;
-    let parted = world_after(rt, alloc, &table, 3, first, 1)?;
-    let parted = play_on(rt, put_together(parted), &table, then, 1)?;
-    Ok(is_same_book(whole.book(), parted.book()))
+    let Some((first, then)) = commands.split_at_checked(place) else {
+        return Err(Fail::from("too few commands"));
+    };
+    let world = world_after(rt, alloc, table, 3, first, 1)?;
+    let world = play_on(rt, put_together(world), table, then, 1)?;
+    Ok(is_same_book(world.book(), book))
 }
 
-// Letters and an answer wait, letters are lost, a clock is ahead, a fate is set and a replica is stopped.
+// Behind how many of the commands three replicas that are in parts have another book than this after all of them.
+fn other_place<R: Threads + Sync>(
+    rt: &R,
+    alloc: Global,
+    table: &JobTable,
+    commands: &[Command],
+    book: &Book,
+) -> Result<Option<usize>, Fail>
+    requires taken { AreTaken table.now.window 3 commands.now }
+{
+    for place in 0..=commands.len() {
+        if !is_book_from_parts(rt, alloc, table, commands, place, book)? {
+            return Ok(Some(place));
+        }
+    }
+    Ok(None)
+}
+
+// Whether the turn's call is late.
+fn is_late(turn: &Turn) -> bool {
+    match turn {
+        Turn::Did {
+            call: Some(call),
+            ..
+        } => call.fate == Fate::Late,
+        _ => false,
+    }
+}
+
+// A fate is set, and spent by a call, which arrives later. Letters and an answer wait, letters are lost, a clock is ahead,
+// and a replica is stopped.
 #[test]
 fn a_world_plays_on_from_its_parts(rt: HostRuntime) -> Result<(), Fail> {
-    let first = [
+    let commands = [
         Command::Campaign { member: 0 },
         Command::Round {
             at: LATER,
-            rounds: 4,
-        },
-        Command::Cut { from: 0, to: 1 },
-        Command::Skew {
-            member: 0,
-            minutes: 3,
+            rounds: 3,
         },
         Command::Fate {
             member: 0,
             fate: FateWord::Late,
         },
+        Command::Skew {
+            member: 0,
+            minutes: 3,
+        },
+        Command::Round {
+            at: LATER,
+            rounds: 1,
+        },
+        Command::Round {
+            at: LATER,
+            rounds: 1,
+        },
+        Command::Cut { from: 0, to: 1 },
         Command::Stop { member: 2 },
-    ];
-    let then = [
+        Command::Arrive { late: 0 },
         Command::Round {
             at: LATER,
             rounds: 2,
@@ -74,7 +115,10 @@ fn a_world_plays_on_from_its_parts(rt: HostRuntime) -> Result<(), Fail> {
         Command::Heal,
         Command::Walk { to: LATER },
     ];
-    let same = is_same_from_parts(&rt, rt.alloc(), &first, &then)?;
-    assert!(rt; same);
+    let table = table_of_one(rt.alloc())?;
+    let whole = world_after(&rt, rt.alloc(), &table, 3, &commands, 1)?;
+    assert!(rt; whole.book().turns().iter().any(is_late));
+    let place = other_place(&rt, rt.alloc(), &table, &commands, whole.book())?;
+    assert!(rt; place.is_none(), "{place:?}");
     Ok(())
 }

@@ -3,9 +3,12 @@ use Rattle.std.proofs.lemmas.Int.{ints}
 use Rattle.rounds_tests.proofs.Played.{later_in}
 use Rattle.rounds_tests.proofs.parts.a_world_plays_on_from_its_parts.Goals as goal
 
-pub is_same_from_parts-requires-clause-first : goal.is_same_from_parts-requires-clause-first
-is_same_from_parts-requires-clause-first c = λ after borrowed window is.
-    (omega arith, (later_in window is, (tt, ((omega arith, (omega (arith, ints), omega (arith, ints))), (omega arith, (omega arith, tt))))))
+pub world_after-requires-clause-taken : goal.world_after-requires-clause-taken
+world_after-requires-clause-taken g c = λ borrowed.
+    let later = later_in c.in_ok-table.table.window c.in_ok-table.ensures in
+    (omega arith, (later, (omega arith, ((omega arith, (omega (arith, ints), omega (arith, ints))), (later, (later, (tt, (omega arith, (tt, (later, (omega arith, (tt, ((omega arith, later), tt)))))))))))))
 
-pub is_same_from_parts-requires-clause-then : goal.is_same_from_parts-requires-clause-then
-is_same_from_parts-requires-clause-then c = λ after borrowed window is. (later_in window is, (omega arith, (tt, ((omega arith, later_in window is), tt))))
+pub other_place-requires-clause-taken : goal.other_place-requires-clause-taken
+other_place-requires-clause-taken g c = λ borrowed.
+    let later = later_in c.in_ok-table.table.window c.in_ok-table.ensures in
+    (omega arith, (later, (omega arith, ((omega arith, (omega (arith, ints), omega (arith, ints))), (later, (later, (tt, (omega arith, (tt, (later, (omega arith, (tt, ((omega arith, later), tt)))))))))))))
