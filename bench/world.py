@@ -9,7 +9,7 @@ with three replicas, 200 jobs and a script in which one replica after another st
 launches each; and one replica that walks through 20,000 launches of one job. A line has the turns and the launches, the best
 rate of some runs, in turns a second of the processor, and the most bytes that a run was resident in, by the turn; then the same
 of bench/plain_world, which rustc builds, and which has to write the same report in as many turns. How many turns a run has was
-worked out by small_world (.ci/small_world), which the gate compares with the program.
+worked out by small_world (tools/small_world), which the gate compares with the program.
 
 Then comes the first run once more, as the program makes it with the word --make, and a run of some 1,000,000 turns: the seconds
 of the processor that it takes without and with its journal, and those in which `cat` copies what was written.
@@ -21,8 +21,8 @@ import sys
 import tempfile
 
 ROOT = os.path.dirname(os.path.dirname(os.path.abspath(__file__)))
-sys.dont_write_bytecode = True  # .ci/ is to have no files but its own
-sys.path.insert(0, os.path.join(ROOT, ".ci"))
+sys.dont_write_bytecode = True  # tools/ is to have no files but its own
+sys.path.insert(0, os.path.join(ROOT, "tools"))
 from small_world.texts import made_run
 
 PROGRAM = os.path.join(ROOT, "crates", "cron_cluster", "out", "cron_cluster")

@@ -7,19 +7,16 @@ import json
 import os
 import re
 import subprocess
-import sys
 import tempfile
 import unittest
 from xml.etree import ElementTree
 
-ROOT = os.path.dirname(os.path.dirname(os.path.abspath(__file__)))
-TOOL = os.path.join(ROOT, "tools", "timeline")
-sys.dont_write_bytecode = True
-sys.path.insert(0, os.path.join(ROOT, ".ci"))
 from small_world.run_file import RunFile
 from small_world.texts import journal_of, report_of
 from small_world.world import World
 
+ROOT = os.path.dirname(os.path.dirname(os.path.abspath(__file__)))
+TOOL = os.path.join(ROOT, "tools", "timeline")
 SVG = "{http://www.w3.org/2000/svg}"
 # Two replicas that make a launch in each minute of a day.
 MANY = """\
@@ -187,6 +184,12 @@ class Timeline(unittest.TestCase):
             decided = [text for _, text in way if text.endswith(": it is decided")]
             ends = "its start", "its end as a launch"
             self.assertEqual(decided, [f"a majority has voted for {end}: it is decided" for end in ends])
+
+    def test_a_link_on_the_path(self):
+        link = os.path.join(self.folder.name, "timeline")
+        os.symlink(TOOL, link)
+        done = subprocess.run([link, example("takeover"), "--alone"], capture_output=True, text=True, check=False)
+        self.assertEqual((done.returncode, done.stdout, done.stderr), self.ran(example("takeover"), "--alone"))
 
     def test_refusals(self):
         world = world_of("takeover")

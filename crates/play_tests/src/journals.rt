@@ -4,7 +4,7 @@ use cron_io::MemSink;
 use report_text::ReportFault;
 use std::test::*;
 
-// A run file, the numbers of the turns at which its parts begin, and its journal, as `.ci/small_world` works it out.
+// A run file, the numbers of the turns at which its parts begin, and its journal, by `tools/small_world`.
 struct Journal {
     file: &'static str,
     starts: &'static [u64],

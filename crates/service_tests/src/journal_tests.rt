@@ -23,7 +23,7 @@ restart 0
 end
 ";
 
-// Its report, and its journal as `.ci/small_world` works it out.
+// Its report, and its journal as `tools/small_world` works it out.
 const TWO_CALLS_TOLD: &str = "\
 cron report 1
 window 2024-03-31T00:00Z 2024-03-31T01:00Z
