@@ -195,10 +195,10 @@ class Timeline(unittest.TestCase):
         world = world_of("takeover")
         self.write(report_of(world) + journal_of(world))
         for name, words, note in (
-            ("late_call", [], "line 49 of the journal is no line of this run: command end"),
+            ("late_call", [], "line 58 of the journal is no line of this run: command end"),
             ("takeover", ["--jobs", "bob:1"], "the run has no job bob:1"),
             ("takeover", ["--from", "113"], "the journal has turns 0 to 112"),
-            ("five_replicas", [], "line 2 of the journal is no line of this run: command 1"),
+            ("five_replicas", [], "line 11 of the journal is no line of this run: command 1"),
             ("takeover.stdout", [], "is no run file that the program takes"),
         ):
             status, output, notes = self.ran(example(name), self.journal, *words)

@@ -25,8 +25,8 @@ def claim(holds, law):
 
 
 class WatchedWorld(World):
-    def __init__(self, run):
-        super().__init__(run)
+    def __init__(self, run, seed=0):
+        super().__init__(run, seed)
         self.seen = Counter()
         self.voters = defaultdict(set)
         self.chosen = {}
@@ -90,6 +90,14 @@ class WatchedWorld(World):
         claim(tuple(replica.launches) == self.tables[replica.prefix], "a launch table is that of the log up to the prefix")
         claim(tuple(replica.rows) == self.tables[replica.base], "what is kept of it is that up to the base")
 
+    # Free turns.
+
+    def free(self, stamp, turns):
+        before = self.seen.copy()
+        super().free(stamp, turns)
+        for word, count in (self.seen - before).items():
+            self.seen[f"free {word}"] += count
+
     # Draining.
 
     def settle(self, at):
@@ -140,7 +148,7 @@ class WatchedWorld(World):
         for words in self.run.script:
             self.command(*words)
         by_script = self.run.first - 1 if self.latest is None else self.latest
-        self.parts.append(len(self.turns))
+        self.begin_part()
         self.walk(self.run.end - 1)
         self.check_ends(by_script)
         return self

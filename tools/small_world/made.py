@@ -10,12 +10,18 @@ SELDOM = ["0,20,40 * * * *", "7 * * * *", "30 1-3 * * *", "15 0 * * *", "0 */2 3
 PERIODS = ["1 5", "2 30", "7 25", "@monthly 45", "@weekly 0", "@yearly 600"]
 FATES = ["done", "done", "lost-before", "lost-after", "late", "late"]
 MEMBERS = [1, 2, 3, 3, 3, 4, 5, 5, 6, 7]
+FREE_TURNS = [1, 2, 3, 5, 8, 12, 20, 30, 70, 130]
+# How often a command is made, by the order of the commands in Script.add.
+WEIGHTS = [16, 4, 3, 4, 2, 2, 2, 2, 2, 2, 1, 6, 3, 0.3, 0.3, 0]
+FREE_WEIGHTS = [4, 3, 3, 5, 2, 2, 2, 2, 2, 2, 1, 12, 4, 0.3, 0.3, 16]
 
 
 class Script:
-    """A script in the making: the clock that its rounds go by mostly rises."""
+    """A script in the making: the clock that its rounds go by mostly rises. Where it is free, replicas run by themselves more
+    often than in rounds."""
 
-    def __init__(self, chance, members, minutes):
+    def __init__(self, chance, members, minutes, is_free=False):
+        self.weights = FREE_WEIGHTS if is_free else WEIGHTS
         self.chance = chance
         self.members = members
         self.minutes = minutes
@@ -46,12 +52,12 @@ class Script:
     def skew(self):
         return self.chance.choice([-10000, -61, -2, 0, 0, 1, 5, 60, 10000])
 
-    def leave_behind(self):
+    def leave_behind(self, rounds=160):
         """Has a replica miss so many entries that it needs a snapshot, where there are as many."""
         leader, missed = self.candidate(), self.members - 1
         last = stamp_of(FIRST + self.minutes - 1)
-        self.lines += [f"campaign {leader}", f"round {last} 5", f"stop {missed}", f"round {last} 160"]
-        self.lines += [f"restart {missed}", f"round {last} 6"]
+        self.lines += [f"campaign {leader}", f"round {last} 5", f"stop {missed}", f"round {last} {rounds}"]
+        self.lines += [f"restart {missed}", f"round {last} 6" if self.weights is WEIGHTS else f"free {last} 40"]
 
     def add(self):
         """Adds a command, rounds more often than any other."""
@@ -71,9 +77,9 @@ class Script:
             "arrive": lambda: self.chance.randrange(3),
             "settle": self.stamp,
             "walk": self.stamp,
+            "free": lambda: f"{self.stamp()} {self.chance.choice(FREE_TURNS)}",
         }
-        weights = [16, 4, 3, 4, 2, 2, 2, 2, 2, 2, 1, 6, 3, 0.3, 0.3]
-        word = self.chance.choices(list(makers), weights)[0]
+        word = self.chance.choices(list(makers), self.weights)[0]
         self.lines.append(f"{word} {makers[word]()}".rstrip())
 
 
@@ -89,7 +95,7 @@ def tables_of(chance, with_dates):
 
 
 def script_run(seed):
-    """The run file of a seed."""
+    """The run file of a seed, in rounds."""
     chance = random.Random(seed)
     members = chance.choice(MEMBERS)
     with_dates = chance.random() < 0.25
@@ -102,3 +108,21 @@ def script_run(seed):
         script.leave_behind()
     head = ["cronrun 1", f"replicas {members}", window, f"grace {chance.choice([0, 1, 5, 60, minutes])}"]
     return "\n".join([*head, *tables_of(chance, with_dates), "script", *script.lines, "end", ""])
+
+
+def free_run(seed):
+    """The run file of a seed, in whose script replicas run by themselves; in a few of them one that needs a snapshot."""
+    chance = random.Random(seed)
+    is_left_behind = chance.random() < 0.06
+    members, minutes = (3, 60) if is_left_behind else (chance.choice(MEMBERS), chance.choice([15, 20, 30]))
+    tables = ["crontab alice UTC 1", "* * * * * job"] if is_left_behind else tables_of(chance, chance.random() < 0.2)
+    script = Script(chance, members, minutes, is_free=True)
+    for _ in range(chance.choice([2, 4, 6, 9, 14])):
+        script.add()
+    if is_left_behind:
+        script.leave_behind(400)
+    elif not any(line.startswith("free ") for line in script.lines):
+        script.lines.append(f"free {stamp_of(FIRST + minutes - 1)} 40")
+    window = f"window {stamp_of(FIRST)} {stamp_of(FIRST + minutes)}"
+    head = ["cronrun 1", f"replicas {members}", window, f"grace {chance.choice([0, 1, 5, minutes])}"]
+    return "\n".join([*head, *tables, "script", *script.lines, "end", ""])

@@ -2,7 +2,8 @@
 import re
 
 from .instants import minute_of
-from .texts import journal_lines, turn_line
+from .texts import turn_line
+from .verdict import Judged, Refused
 from .words import role_words
 from .world import World
 
@@ -17,8 +18,8 @@ class Recorded(World):
     """A world that keeps the step of each turn, where there is one, and what the replica is after it; and of each letter the
     turns in which it was heard."""
 
-    def __init__(self, run):
-        super().__init__(run)
+    def __init__(self, run, seed=0):
+        super().__init__(run, seed)
         self.steps = []
         self.roles = []
         self.heard = {}
@@ -32,14 +33,19 @@ class Recorded(World):
         super().add(turn, step)
 
 
-class Replay(Recorded):
-    """A world whose turns are those of a journal. What the journal doesn't say of a turn is worked out."""
+class Followed(Judged, Recorded):
+    """A world whose turns are those of a journal that may be one of its run."""
 
-    def play_lines(self, lines):
-        """Plays the lines between the first and the last one."""
-        for number, line in enumerate(lines, 2):
+
+class Replay(Recorded):
+    """A world whose turns are those of a journal, be they those of its script or others. What the journal doesn't say of a turn
+    is worked out."""
+
+    def play_lines(self, lines, first=2):
+        """Plays the lines between the first and the last one, of which the first has that number."""
+        for number, line in enumerate(lines, first):
             if line.startswith("command "):
-                self.begin_part(number, line)
+                self.take_part(number, line)
                 continue
             try:
                 self.play_line(line)
@@ -51,12 +57,12 @@ class Replay(Recorded):
             raise BadJournal("the journal lacks a command of the script")
         return self
 
-    def begin_part(self, number, line):
+    def take_part(self, number, line):
         """Begins the part of the next command, or that of the walk at the end."""
         place = len(self.parts) + 1
         if line != (f"command {place}" if place <= len(self.run.script) else "command end") or place > len(self.run.script) + 1:
             raise BadJournal(f"line {number} of the journal is no line of this run: {line}")
-        self.parts.append(len(self.turns))
+        self.begin_part()
 
     def play_line(self, line):
         """Plays the turn of a line."""
@@ -90,18 +96,17 @@ class Replay(Recorded):
 
 
 def journal_in(text):
-    """The lines of the journal in what the program wrote, between its first and its last one."""
+    """The lines of the journal in what the program wrote, between its first and its last one, and the number of the first."""
     lines = text.split("\n")
     if "cron journal 1" not in lines or lines[-2:] != ["end", ""]:
         raise BadJournal("there is no whole journal")
-    return lines[lines.index("cron journal 1") + 1 : -2]
+    begin = lines.index("cron journal 1") + 1
+    return lines[begin:-2], begin + 1
 
 
-def first_difference(run, lines):
-    """Where a journal has another line than what is worked out of the run; none where it has the same ones."""
-    own = journal_lines(World(run).play())
-    for number, told in enumerate([*lines, "end"], 2):
-        wanted = next(own, "end")
-        if told != wanted:
-            return f"line {number} of the journal is {told!r}, and worked out here it is {wanted!r}"
-    return None
+def followed(run, lines, first):
+    """The world of a journal's turns, and which line of it can't be one of the run; none where each may be."""
+    try:
+        return Followed(run, lines, first).play(), None
+    except Refused as refused:
+        return Replay(run).play_lines(lines, first), str(refused)

@@ -2,6 +2,7 @@
 turn is a step of a replica, a stop, a start, or the arrival of a late call."""
 from typing import NamedTuple, Optional
 
+from .free import FreePart, Order
 from .instants import minute_of
 from .launches import Call, Ledger
 from .replica import Follower, Replica
@@ -27,8 +28,11 @@ class Letter(NamedTuple):
 
 
 class World:
-    def __init__(self, run):
+    """A world of a run file. The order in which free turns come is drawn from a seed."""
+
+    def __init__(self, run, seed=0):
         self.run = run
+        self.order = Order(seed)
         self.members = range(run.members)
         self.replicas = [Replica(who, run) for who in self.members]
         self.runs = [True] * run.members
@@ -121,6 +125,19 @@ class World:
         self.take(who, "campaign")
         self.deliver(first)
 
+    # Free turns.
+
+    def free(self, stamp, turns):
+        """Each replica that runs takes so many turns by itself."""
+        part = FreePart(self, minute_of(stamp), int(turns))
+        self.order.begin()
+        while part.left():
+            part.take(self.whose_turn(part))
+
+    def whose_turn(self, part):
+        """The replica whose turn comes next in a free part."""
+        return self.order.whose(part)
+
     # Settling and walking.
 
     def coordinator(self):
@@ -165,14 +182,18 @@ class World:
     # Commands.
 
     def command(self, word, *operands):
-        self.parts.append(len(self.turns))
+        self.begin_part()
         COMMANDS[word](self, *operands)
+
+    def begin_part(self):
+        """The turns from here on are of the next command, or of the walk at the end."""
+        self.parts.append(len(self.turns))
 
     def play(self):
         """Plays the script, and walks to the window's last minute."""
         for words in self.run.script:
             self.command(*words)
-        self.parts.append(len(self.turns))
+        self.begin_part()
         self.walk(self.run.end - 1)
         return self
 
@@ -238,6 +259,7 @@ COMMANDS = {
     "skew": World.skew,
     "fate": World.set_fate,
     "arrive": World.arrive_if_late,
+    "free": lambda world, stamp, turns: world.free(stamp, turns),
     "settle": lambda world, stamp: world.settle(minute_of(stamp)),
     "walk": lambda world, stamp: world.walk(minute_of(stamp)),
 }

@@ -4,7 +4,7 @@ import os
 import subprocess
 import sys
 
-from small_world.replay import BadJournal, Recorded, Replay, first_difference, journal_in
+from small_world.replay import BadJournal, Recorded, followed, journal_in
 from small_world.run_file import RunFile
 
 from .page import page_of
@@ -58,11 +58,11 @@ def played(options, run):
     """The run as it was played, and where its journal differs from what is worked out."""
     if options.alone:
         return Recorded(run).play(), None
-    lines = journal_in(read(options.journal) if options.journal else written(options.program, options.run))
-    difference = first_difference(run, lines)
+    lines, first = journal_in(read(options.journal) if options.journal else written(options.program, options.run))
+    world, difference = followed(run, lines, first)
     if difference:
         print(f"timeline: {difference}", file=sys.stderr)
-    return Replay(run).play_lines(lines), difference
+    return world, difference
 
 
 def jobs_of(options, run):
