@@ -214,13 +214,22 @@ class Timeline(unittest.TestCase):
         os.chmod(path, 0o755)
         return ["--program", path]
 
+    def test_comments_of_a_script(self):
+        with open(example("takeover"), encoding="utf-8") as file:
+            text = file.read()
+        path = self.write(text.replace("stop 0\n", "\n# It stops before anybody hears of it.\nstop 0\n"), "run")
+        self.assertEqual(self.ran(path, "--alone")[1], self.ran(example("takeover"), "--alone")[1])
+        words = self.program(f"cmp - {example('takeover')} >&2; exit 3")
+        self.assertEqual(self.ran(path, *words), (1, "", "timeline: the program ends with status 3: \n"))
+
     def test_a_program_that_is_asked(self):
         world = world_of("takeover")
         self.write(report_of(world) + journal_of(world))
         words = self.program(f'[ "$*" = --journal ] && cmp -s - {example("takeover")} && cat {self.journal}')
         self.assertEqual(self.ran(example("takeover"), *words), self.ran(example("takeover"), "--alone"))
         words = self.program("echo 'cron_cluster: line 6: cause 3 at 0' >&2; exit 2")
-        note = "timeline: the program ends with status 2: cron_cluster: line 6: cause 3 at 0\n"
+        more = f"; `tools/explain {example('takeover')}` tells what is wrong with a script"
+        note = f"timeline: the program ends with status 2: cron_cluster: line 6: cause 3 at 0{more}\n"
         self.assertEqual(self.ran(example("takeover"), *words), (1, "", note))
         status, output, notes = self.ran(example("takeover"), "--program", os.path.join(self.folder.name, "none"))
         self.assertEqual((status, output), (1, ""))

@@ -6,6 +6,7 @@ import sys
 
 from small_world.replay import BadJournal, Recorded, followed, journal_in
 from small_world.run_file import RunFile
+from script_lib.run_lines import plain_run
 
 from .page import page_of
 from .picture import Picture
@@ -21,6 +22,8 @@ docs/FORMATS.md is the manual.
 """
 ROOT = os.path.dirname(os.path.dirname(os.path.dirname(os.path.abspath(__file__))))
 PROGRAM = os.path.join(ROOT, "crates", "cron_cluster", "out", "cron_cluster")
+# The status with which it refuses a run file.
+REFUSED = 2
 # So many turns are drawn at most.
 MOST_DRAWN = {"picture": 1_000, "page": 20_000}
 
@@ -44,21 +47,21 @@ def read(path):
         return file.read()
 
 
-def written(program, path):
+def written(program, path, text):
     """What the program writes of a run file, with its journal."""
-    with open(path, "rb") as file:
-        done = subprocess.run([program, "--journal"], stdin=file, stdout=subprocess.PIPE, stderr=subprocess.PIPE, check=False)
+    done = subprocess.run([program, "--journal"], input=text.encode(), stdout=subprocess.PIPE, stderr=subprocess.PIPE, check=False)
     if done.returncode != 0:
         note = done.stderr.decode(errors="replace").strip()
-        raise BadJournal(f"the program ends with status {done.returncode}: {note}")
+        more = f"; `tools/explain {path}` tells what is wrong with a script" if done.returncode == REFUSED else ""
+        raise BadJournal(f"the program ends with status {done.returncode}: {note}{more}")
     return done.stdout.decode()
 
 
-def played(options, run):
+def played(options, run, text):
     """The run as it was played, and where its journal differs from what is worked out."""
     if options.alone:
         return Recorded(run).play(), None
-    lines, first = journal_in(read(options.journal) if options.journal else written(options.program, options.run))
+    lines, first = journal_in(read(options.journal) if options.journal else written(options.program, options.run, text))
     world, difference = followed(run, lines, first)
     if difference:
         print(f"timeline: {difference}", file=sys.stderr)
@@ -76,9 +79,10 @@ def jobs_of(options, run):
 
 def drawn(options):
     """The text that the words ask for."""
-    run = RunFile(read(options.run))
+    text = plain_run(read(options.run))
+    run = RunFile(text)
     jobs = jobs_of(options, run)
-    world, difference = played(options, run)
+    world, difference = played(options, run, text)
     count = len(world.turns)
     most = options.first + MOST_DRAWN["page" if options.page else "picture"]
     until = min(most, count if options.until is None else options.until, count)
@@ -100,6 +104,7 @@ def run(words):
         print(f"timeline: {fault}", file=sys.stderr)
         return 1
     except (IndexError, KeyError, ValueError):
-        print(f"timeline: {options.run} is no run file that the program takes", file=sys.stderr)
+        more = f"; `tools/explain {options.run}` tells what is wrong with a script"
+        print(f"timeline: {options.run} is no run file that the program takes{more}", file=sys.stderr)
         return 1
     return 0
