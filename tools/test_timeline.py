@@ -3,30 +3,45 @@
 
 Usage: tools/test_timeline.py [NAME..]
 """
+import io
 import json
 import os
 import re
 import subprocess
 import tempfile
 import unittest
+from contextlib import redirect_stderr, redirect_stdout
 from xml.etree import ElementTree
 
 from small_world.run_file import RunFile
 from small_world.texts import journal_of, report_of
 from small_world.world import World
+from timeline_lib.command import run
 
 ROOT = os.path.dirname(os.path.dirname(os.path.abspath(__file__)))
 TOOL = os.path.join(ROOT, "tools", "timeline")
 SVG = "{http://www.w3.org/2000/svg}"
-# Two replicas that make a launch in each minute of a day.
+# Two replicas that make a launch in each minute of most of a day.
 MANY = """\
 cronrun 1
 replicas 2
-window 2024-03-31T00:00Z 2024-04-01T00:00Z
+window 2024-03-31T00:00Z 2024-03-31T16:00Z
 grace 1440
 crontab alice UTC 1
 * * * * * poll the mail
 script
+end
+"""# Three replicas, of which one stands for leader, and all go on by themselves.
+FREE = """\
+cronrun 1
+replicas 3
+window 2024-03-31T00:00Z 2024-03-31T02:00Z
+grace 5
+crontab alice UTC 1
+0 1 * * * make a backup
+script
+campaign 0
+free 2024-03-31T01:00Z 8
 end
 """
 
@@ -53,8 +68,14 @@ class Timeline(unittest.TestCase):
         return path
 
     def ran(self, *words):
-        done = subprocess.run([TOOL, *words], capture_output=True, text=True, check=False)
-        return done.returncode, done.stdout, done.stderr
+        """The status, the output and the notes of the tool, which runs in this process."""
+        output, notes = io.StringIO(), io.StringIO()
+        with redirect_stdout(output), redirect_stderr(notes):
+            try:
+                status = run(list(words))
+            except SystemExit as end:
+                status = end.code
+        return status, output.getvalue(), notes.getvalue()
 
     def picture(self, name, *words):
         status, output, notes = self.ran(example(name), *words)
@@ -62,9 +83,19 @@ class Timeline(unittest.TestCase):
         return ElementTree.fromstring(output)
 
     def titles(self, picture, form, kind):
-        """The titles of the marks of a form and a kind, but for those of the legend, which have none."""
-        marks = [mark for mark in picture.iter(SVG + form) if mark.get("class") == kind]
-        return [title.text for title in (mark.find(SVG + "title") for mark in marks) if title is not None]
+        """The titles of the marks of a form and a kind, or of the groups that they stand in, but for those of the legend, which
+        have none."""
+        found = []
+        for group in picture.iter():
+            own = group.find(SVG + "title") if group.tag == SVG + "g" else None
+            for mark in group:
+                title = mark.find(SVG + "title") if own is None else own
+                found += [title.text] if (mark.tag, mark.get("class")) == (SVG + form, kind) and title is not None else []
+        return found
+
+    def texts(self, picture, kind=None):
+        """The texts of a picture, or those of a kind."""
+        return ["".join(text.itertext()) for text in picture.iter(SVG + "text") if kind in (None, text.get("class"))]
 
     def letters(self, picture):
         return self.titles(picture, "line", "letter") + self.titles(picture, "path", "letter")
@@ -81,16 +112,37 @@ class Timeline(unittest.TestCase):
         self.assertEqual(len(self.titles(picture, "line", "lost")), len(world.letters) - len(set(heard)))
         name = "calls for alice:1@20240331T0100Z, a launch: the answer is a launch"
         self.assertEqual(self.titles(picture, "circle", "launch")[0], f"turn 18: replica 0 {name}")
-        self.assertEqual(self.titles(picture, "circle", "found"), [f"turn 29: replica 1 {name}"])
+        self.assertEqual(self.titles(picture, "circle", "found"), [f"turn 29: replica 1 {name} that was made before"])
         bands = self.titles(picture, "rect", "leader")
         told = ["0: leader 1.0, turns 6 to 20", "1: leader 2.1, turns 28 to 40", "1: leader 3.1, turns 48 to 112"]
         self.assertEqual(bands, [f"replica {band}" for band in told])
         self.assertEqual(self.titles(picture, "rect", "stopped"), ["replica 0: stopped, turns 21 to 39"])
         self.assertEqual(self.titles(picture, "rect", "stop"), ["turn 21: replica 0 stops"])
+        labels = ["stands 1.0", "leads 1.0", "stopped", "stands 2.1", "leads 2.1", "stands 3.1", "leads 3.1"]
+        names = ["alice:1 01:00", "alice:1 01:00", "alice:2 02:30"]
+        self.assertEqual(self.texts(picture, "label"), [*labels, *names])
+
+    def test_what_is_read_of_a_picture(self):
+        picture = self.picture("takeover", "--alone", "--until", "30")
+        self.assertEqual(picture.find(SVG + "title").text, "takeover: turns 0 to 29 of 113 of a run of 3 replicas")
+        said = picture.find(SVG + "desc").text.split(". ")
+        self.assertEqual(said[:3], [
+            "Turn 0: replica 0 stands for leader in ballot 1.0",
+            "Turn 6: replica 0 leads in ballot 1.0",
+            "Turn 18: replica 0 calls for alice:1@20240331T0100Z, a launch: the answer is a launch",
+        ])
+        self.assertIn("Turn 21: replica 0 stops", said)
+
+    def test_lost_letters_end_near_their_sender(self):
+        for path in self.picture("leader_cut_off", "--alone", "--from", "34", "--until", "74").iter(SVG + "line"):
+            if path.get("class") == "lost":
+                self.assertLess(abs(float(path.get("y2")) - float(path.get("y1"))), 30)
 
     def test_late_call_behind_a_void(self):
         picture = self.picture("late_call", "--alone")
-        self.assertEqual(len(self.titles(picture, "path", "void")), 1)
+        why = "since its clock reads 2024-03-31T01:10Z, and the grace of 5 minutes ended at 2024-03-31T01:05Z"
+        told = f"turn 29: replica 1 calls for alice:1@20240331T0100Z, a void, {why}: the answer is a void"
+        self.assertEqual(self.titles(picture, "path", "void"), [told])
         waiting = self.titles(picture, "circle", "waiting")
         self.assertEqual([title.split(": ")[0] for title in waiting], ["turn 18", "turn 40"])
         self.assertTrue(waiting[1].endswith("; something stands there already"))
@@ -115,10 +167,41 @@ class Timeline(unittest.TestCase):
         self.assertEqual(self.titles(earlier, "polygon", "vote") + self.titles(earlier, "circle", "launch"), [])
 
     def test_a_long_run_is_cut(self):
-        texts = ["".join(text.itertext()) for text in self.picture("snapshot", "--alone").iter(SVG + "text")]
-        self.assertIn("turns 0 to 999 of 1420 are drawn", texts)
-        whole = ["".join(text.itertext()) for text in self.picture("takeover", "--alone").iter(SVG + "text")]
-        self.assertFalse(any("drawn" in text for text in whole))
+        self.assertIn("turns 0 to 999 of 1420 are drawn", self.texts(self.picture("snapshot", "--alone")))
+        self.assertFalse(any("drawn" in text for text in self.texts(self.picture("takeover", "--alone"))))
+
+    def test_a_launch_alone(self):
+        words = ["--alone", "--launch", "alice:2@20240331T0230Z"]
+        picture = self.picture("takeover", *words)
+        self.assertEqual(self.texts(picture, "label")[-1:], ["alice:2 02:30"])
+        self.assertIn("turns 71 to 112 of 113", picture.find(SVG + "title").text)
+        lines = self.ran(example("takeover"), *words, "--text")[1].split("\n")
+        self.assertEqual(lines[0], "alice:2@20240331T0230Z")
+        self.assertEqual(lines[1], "  turn 76: replica 1 proposes its start at slot 2 in ballot 3.1, and votes for it")
+        page = self.data(self.ran(example("takeover"), *words, "--page")[1])
+        self.assertEqual((page["launches"][page["chosen"]], page["first"]), ("alice:2@20240331T0230Z", 71))
+        note = "timeline: no turn is about a launch alice:9@20240331T0230Z\n"
+        self.assertEqual(self.ran(example("takeover"), "--alone", "--launch", "alice:9@20240331T0230Z"), (1, "", note))
+
+    def test_each_launch_as_text(self):
+        lines = self.ran(example("late_call"), "--alone", "--text", "--from", "29", "--until", "41")[1].split("\n")
+        self.assertEqual((lines[0], len(lines)), ("alice:1@20240331T0100Z", 9))
+        with open(os.path.join(ROOT, "docs", "FORMATS.md"), encoding="utf-8") as file:
+            self.assertIn("".join(f"    {line}\n" for line in lines[:-1]), file.read())
+        self.assertEqual(lines[-2], "  turn 40: late call 0 arrives at the scheduler, and finds what was made before")
+
+    def test_free_turns(self):
+        run = self.write(FREE, "free")
+        note = "timeline: in which order free turns come nothing settles: this is one of many, and --seed draws another\n"
+        status, output, notes = self.ran(run, "--alone", "--seed", "4")
+        self.assertEqual((status, notes), (0, note))
+        picture = ElementTree.fromstring(output)
+        self.assertEqual(self.titles(picture, "rect", "free"), ["replicas run by themselves, turns 1 to 24"])
+        self.assertIn("free", self.texts(picture, "small"))
+        world = World(RunFile(FREE), 4).play()
+        self.write(report_of(world) + journal_of(world))
+        self.assertEqual(self.ran(run, self.journal), (0, output, ""))
+        self.assertNotEqual(self.ran(run, "--alone", "--seed", "5")[1], output)
 
     def test_a_journal_has_the_same_picture(self):
         world = world_of("leader_cut_off")
@@ -132,8 +215,8 @@ class Timeline(unittest.TestCase):
         self.write(text.replace(f"{last}\n", ""))
         status, output, notes = self.ran(example("takeover"), self.journal)
         note = f"line {text.count(chr(10)) - 1} of the journal is 'end', and worked out here it is '{last}'"
-        self.assertEqual((status, notes), (0, f"timeline: {note}\n"))
-        self.assertIn(note, ["".join(text.itertext()) for text in ElementTree.fromstring(output).iter(SVG + "text")])
+        self.assertEqual((status, notes), (1, f"timeline: {note}\n"))
+        self.assertIn(note, self.texts(ElementTree.fromstring(output)))
 
     def test_turns_that_cannot_be(self):
         text = journal_of(world_of("takeover"))
@@ -170,16 +253,16 @@ class Timeline(unittest.TestCase):
             [12, "a majority has voted for its start: it is decided"],
             [31, "replica 1 takes the answer"],
             [35, "a majority has voted for its end as a void: it is decided"],
-            [40, "late call 0 arrives at the scheduler"],
+            [40, "late call 0 arrives at the scheduler, and finds what was made before"],
         ]
         self.assertEqual([event for event in way if event in told], told)
 
     def test_page_of_many_turns(self):
         page = self.ran(self.write(MANY, "many"), "--alone", "--page")[1]
         data = self.data(page)
-        self.assertRegex(page, "This page has turns 0 to 19999 of 3[0-9]{4}[.]")
+        self.assertRegex(page[:9000], "This page has turns 0 to 19999 of 2[0-9]{4}[.]")
         drawn = [way for way in data["ways"] if way]
-        self.assertTrue(800 < len(drawn) < len(data["launches"]) == 1440)
+        self.assertTrue(800 < len(drawn) < len(data["launches"]) == 960)
         for way in drawn:
             decided = [text for _, text in way if text.endswith(": it is decided")]
             ends = "its start", "its end as a launch"
@@ -217,7 +300,7 @@ class Timeline(unittest.TestCase):
     def test_comments_of_a_script(self):
         with open(example("takeover"), encoding="utf-8") as file:
             text = file.read()
-        path = self.write(text.replace("stop 0\n", "\n# It stops before anybody hears of it.\nstop 0\n"), "run")
+        path = self.write(text.replace("stop 0\n", "\n# It stops before anybody hears of it.\nstop 0\n"), "takeover")
         self.assertEqual(self.ran(path, "--alone")[1], self.ran(example("takeover"), "--alone")[1])
         words = self.program(f"cmp - {example('takeover')} >&2; exit 3")
         self.assertEqual(self.ran(path, *words), (1, "", "timeline: the program ends with status 3: \n"))

@@ -4,10 +4,11 @@ import os
 import subprocess
 import sys
 
+from script_lib.run_lines import plain_run
 from small_world.replay import BadJournal, Recorded, followed, journal_in
 from small_world.run_file import RunFile
-from script_lib.run_lines import plain_run
 
+from .launches import Launches
 from .page import page_of
 from .picture import Picture
 
@@ -24,7 +25,8 @@ ROOT = os.path.dirname(os.path.dirname(os.path.dirname(os.path.abspath(__file__)
 PROGRAM = os.path.join(ROOT, "crates", "cron_cluster", "out", "cron_cluster")
 # The status with which it refuses a run file.
 REFUSED = 2
-# So many turns are drawn at most.
+# So many turns are drawn around a launch, and so many at most.
+AROUND = 5
 MOST_DRAWN = {"picture": 1_000, "page": 20_000}
 
 
@@ -35,9 +37,12 @@ def parser():
     made.add_argument("journal", metavar="JOURNAL", nargs="?", help=journal)
     made.add_argument("--program", metavar="PATH", default=PROGRAM, help="the program; the built one by default")
     made.add_argument("--alone", action="store_true", help="work the journal out, without the program")
-    made.add_argument("--from", dest="first", type=int, default=0, metavar="TURN", help="the first turn that is drawn")
+    made.add_argument("--seed", type=int, default=0, metavar="N", help="the order of free turns that --alone draws; 0 by default")
+    made.add_argument("--from", dest="first", type=int, metavar="TURN", help="the first turn that is drawn")
     made.add_argument("--until", type=int, metavar="TURN", help="the turn behind the last one that is drawn")
     made.add_argument("--jobs", action="append", metavar="NAME", help="draw what is about this job alone, or these")
+    made.add_argument("--launch", metavar="NAME", help="draw the turns of this launch and some around, as alice:1@20240331T0100Z")
+    made.add_argument("--text", action="store_true", help="write what became of each launch, or of this one, as sentences")
     made.add_argument("--page", action="store_true", help="write a page, to be scrolled and asked")
     return made
 
@@ -60,12 +65,18 @@ def written(program, path, text):
 def played(options, run, text):
     """The run as it was played, and where its journal differs from what is worked out."""
     if options.alone:
-        return Recorded(run).play(), None
+        if any(command[0] == "free" for command in run.script):
+            note("in which order free turns come nothing settles: this is one of many, and --seed draws another")
+        return Recorded(run, options.seed).play(), None
     lines, first = journal_in(read(options.journal) if options.journal else written(options.program, options.run, text))
     world, difference = followed(run, lines, first)
     if difference:
-        print(f"timeline: {difference}", file=sys.stderr)
+        note(difference)
     return world, difference
+
+
+def note(text):
+    print(f"timeline: {text}", file=sys.stderr)
 
 
 def jobs_of(options, run):
@@ -77,34 +88,71 @@ def jobs_of(options, run):
     return {names.index(name) for name in options.jobs} if options.jobs else None
 
 
+def launch_of(options, launches):
+    """The number of the launch that is asked for; none where none is."""
+    if options.launch is None:
+        return None
+    if options.launch not in launches.titles():
+        raise BadJournal(f"no turn is about a launch {options.launch}")
+    return launches.titles().index(options.launch)
+
+
+def turns_of(options, launches, launch):
+    """The turns that are drawn: from one on and before another. Of a launch they are its own and some around."""
+    count, first, until = len(launches.world.turns), options.first, options.until
+    if launch is not None:
+        own = [turn for turn, _ in launches.events[launch]]
+        first = max(0, own[0] - AROUND) if first is None else first
+        until = own[-1] + AROUND + 1 if until is None else until
+    first = first or 0
+    most = count if options.text else first + MOST_DRAWN["page" if options.page else "picture"]
+    until = min(most, count if until is None else until, count)
+    if not 0 <= first < until:
+        raise BadJournal(f"the journal has turns 0 to {count - 1}")
+    return first, until
+
+
+def ways(launches, launch, first, until, jobs):
+    """The ways of launches, as sentences."""
+    numbers = range(len(launches.numbers)) if launch is None else [launch]
+    for number, (name, title) in enumerate(zip(launches.numbers, launches.titles())):
+        events = [(turn, text) for turn, text in launches.events[number] if first <= turn < until]
+        if number in numbers and events and (jobs is None or name[0] in jobs):
+            yield title
+            yield from (f"  turn {turn}: {text}" for turn, text in events)
+
+
 def drawn(options):
-    """The text that the words ask for."""
+    """The text that the words ask for, and where the journal differs from what is worked out."""
     text = plain_run(read(options.run))
     run = RunFile(text)
     jobs = jobs_of(options, run)
     world, difference = played(options, run, text)
-    count = len(world.turns)
-    most = options.first + MOST_DRAWN["page" if options.page else "picture"]
-    until = min(most, count if options.until is None else options.until, count)
-    if not 0 <= options.first < until:
-        raise BadJournal(f"the journal has turns 0 to {count - 1}")
-    picture = Picture(world, options.first, until)
-    return page_of(picture, options.run, jobs, difference) if options.page else picture.text(jobs, difference)
+    launches = Launches(world)
+    launch = launch_of(options, launches)
+    turns = turns_of(options, launches, launch)
+    if options.text:
+        return "".join(f"{line}\n" for line in ways(launches, launch, *turns, jobs)), difference
+    picture = Picture(launches, *turns, os.path.basename(options.run))
+    return page_of(picture, jobs, launch, difference) if options.page else picture.text(jobs, difference), difference
 
 
 def run(words):
-    """Writes the picture, and gives the status: 1 where a word or a file is at fault."""
+    """Writes the picture, and gives the status: 1 where a word or a file is at fault, or a journal isn't what is worked out."""
     options = parser().parse_args(words)
     if options.alone and options.journal:
         parser().error("either a journal or --alone")
+    if options.page and options.text:
+        parser().error("either --page or --text")
     try:
-        sys.stdout.write(drawn(options))
+        output, difference = drawn(options)
+        sys.stdout.write(output)
         sys.stdout.flush()
     except (BadJournal, OSError, UnicodeDecodeError) as fault:
-        print(f"timeline: {fault}", file=sys.stderr)
+        note(fault)
         return 1
     except (IndexError, KeyError, ValueError):
         more = f"; `tools/explain {options.run}` tells what is wrong with a script"
-        print(f"timeline: {options.run} is no run file that the program takes{more}", file=sys.stderr)
+        note(f"{options.run} is no run file that the program takes{more}")
         return 1
-    return 0
+    return 1 if difference else 0

@@ -29,6 +29,7 @@ class Launches:
         self.called = {}
         self.answers = {}
         self.late = []
+        self.held = set()
         for number, turn in enumerate(world.turns):
             self.take(number, turn)
 
@@ -57,14 +58,19 @@ class Launches:
         if turn.call:
             self.call(number, turn)
         if turn.word == "arrive":
-            self.tell(number, self.late[turn.operand], f"late call {turn.operand} arrives at the scheduler")
+            name = self.late[turn.operand]
+            told = "finds what was made before" if name in self.held else "makes what it calls for"
+            self.tell(number, name, f"late call {turn.operand} arrives at the scheduler, and {told}")
+            self.held.add(name)
 
     def call(self, number, turn):
         name = turn.call.job, turn.call.at
-        self.tell(number, name, call_words(self.run, number, turn).split(": ", 1)[1])
+        self.tell(number, name, call_words(self.run, number, turn, name in self.held).split(": ", 1)[1])
         self.called[turn.who] = name
         if turn.fate == "late" and not turn.answer:
             self.late.append(name)
+        elif turn.fate != "lost-before":
+            self.held.add(name)
 
     def vote(self, number, who, slot, ballot, entry):
         """Takes a vote: the first one of a ballot is a proposal, and that with which there is a majority decides."""

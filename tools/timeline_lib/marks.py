@@ -4,14 +4,14 @@ from typing import NamedTuple, Optional
 from small_world.launches import LAUNCH
 
 from .launches import launch_of
-from .layout import COLUMN
-from .svg import bent, box, cross, diamond, disc, line, shape
-from .words import call_words, letter_words, turn_words
+from .layout import COLUMN, TRACK
+from .svg import LETTER, bent, box, cross, diamond, disc, group_of, line, shape, words
+from .words import call_words, letter_words, term_label, turn_words
 
 # Layers, from the one that lies behind the others.
 FRAME, BANDS, LETTERS, TRACKS, CALLS, TURNS = range(6)
-# A letter that nobody hears ends after so many columns.
-LOST = 1.6
+# A letter that nobody hears ends after so many columns, between two marks, and so much of the way to the next track.
+LOST, LOST_DOWN, LOST_APART = 0.5, 0.27, 7
 HALF_BAND = 24
 # How far letters may be bent, and how near to a mark they are taken to touch it.
 BENDS = (0, 12, -12, 20, -20)
@@ -70,15 +70,26 @@ class Marks:
         return Mark(TRACKS, "track", left, right, line(left, y, right, y, "track"))
 
     def bands(self):
-        """The terms of each replica, and when it is stopped."""
+        """The terms of each replica, and when it is stopped. A label that finds no room before the next one is left out."""
         for who in self.world.members:
-            began, role = self.layout.first, "follower"
-            for number, after in [*self.states(who), (self.layout.until, None)]:
-                if after == role:
-                    continue
-                if role != "follower" and number > began:
-                    yield self.band(who, role, began, number)
-                began, role = number, after
+            terms = self.terms(who)
+            for place, (role, began, until) in enumerate(terms):
+                label = term_label(role)
+                after = terms[place + 1][1] if place + 1 < len(terms) else self.layout.until
+                room = self.layout.edge(after) - self.layout.edge(began) if place + 1 < len(terms) else None
+                is_told = room is None or len(label) * LETTER + 4 <= room
+                yield self.band(who, role, began, until, label if is_told else None)
+
+    def terms(self, who):
+        """The terms of a replica but that of a follower: what it is, from which turn on, and before which."""
+        found, began, role = [], self.layout.first, "follower"
+        for number, after in [*self.states(who), (self.layout.until, None)]:
+            if after == role:
+                continue
+            if role != "follower" and number > began:
+                found.append((role, began, number))
+            began, role = number, after
+        return found
 
     def states(self, who):
         """From which turn on a replica is what, as far as it is drawn."""
@@ -88,11 +99,15 @@ class Marks:
             if number >= self.layout.first:
                 yield number, role
 
-    def band(self, who, role, began, until):
+    def band(self, who, role, began, until, label):
         left, right = self.layout.edge(began), self.layout.edge(until)
         kind, title = role.split(" ")[0], f"replica {who}: {role}, turns {began} to {until - 1}"
-        text = box(left, self.layout.y(who) - HALF_BAND, right - left, 2 * HALF_BAND, kind, title)
-        return Mark(BANDS, kind, left, right, text, (who,))
+        top = self.layout.y(who) - HALF_BAND
+        text = box(left, top, right - left, 2 * HALF_BAND, kind, title)
+        if label is None:
+            return Mark(BANDS, kind, left, right, text, (who,))
+        told = words(min(left + 2, self.layout.width - len(label) * LETTER), top - 4, label, "label")
+        return Mark(BANDS, kind, left, max(right, left + len(label) * LETTER), text + told, (who,))
 
     # What goes between the tracks.
 
@@ -143,10 +158,11 @@ class Marks:
         return any(self.world.turns[number].who == who and abs(self.layout.x(number) - x) < NEAR for number in turns)
 
     def lost(self, letter, title, more):
+        """A letter that nobody hears. It ends near its sender, and so on no other's track; one that goes farther ends behind."""
         x, top = self.layout.x(letter.turn), self.layout.y(letter.sender)
-        right, y = x + LOST * COLUMN, top + 0.45 * (self.layout.y(letter.to) - top)
-        title += "; nobody hears it"
-        text = line(x, top, right, y, "lost", title) + cross(right, y, 3, "lost", title)
+        far = LOST_DOWN * TRACK + (abs(letter.to - letter.sender) - 1) * LOST_APART
+        right, y = x + LOST * COLUMN, top + (far if letter.to > letter.sender else -far)
+        text = group_of(line(x, top, right, y, "lost") + cross(right, y, 3, "lost"), f"{title}; nobody hears it")
         return Mark(LETTERS, "lost", x, right, text, **more)
 
     # The scheduler.
@@ -175,16 +191,16 @@ class Marks:
         return self.call(number, turn, is_held, {**more, "who": (turn.who,)})
 
     def call(self, number, turn, is_held, more):
-        x, said = self.layout.x(number), call_words(self.run, number, turn)
+        x, said = self.layout.x(number), call_words(self.run, number, turn, is_held)
         top, bottom = self.layout.y(turn.who), self.layout.scheduler
         if turn.fate == "lost-before":
-            middle = (top + bottom) / 2
-            text = line(x, top, x, middle, "lost", said) + cross(x, middle, 4, "lost", said)
+            middle = (max(top, self.layout.y(self.run.members - 1)) + bottom) / 2
+            text = group_of(line(x, top, x, middle, "lost") + cross(x, middle, 4, "lost"), said)
             return [Mark(CALLS, "lost", x, x, text, **more)]
         waits = turn.fate == "late" and not turn.answer
-        stroke = line(x, top, x, bottom, "late" if waits else "call", said)
         kind = "waiting" if waits else ending((turn.answer or turn.call).kind, is_held)
-        return [Mark(CALLS, kind, x - 6, x + 6, stroke + self.sign(x, kind, said), **more)]
+        stroke = line(x, top, x, bottom, "late" if waits else "call")
+        return [self.ended(number, x, kind, stroke, said, more)]
 
     def arrival(self, number, turn, call, called, is_held, more):
         x, y, title = self.layout.x(number), self.layout.scheduler, self.run.jobs[call.job].title(call.at)
@@ -192,12 +208,16 @@ class Marks:
         said = f"turn {number}: late call {turn.operand} arrives, for {title}; {told}"
         left = max(self.layout.x(called), self.layout.left)
         kind = "waiting" if is_held else ending(call.kind, False)
-        yield Mark(CALLS, kind, left, x + 6, line(left, y, x, y, "late", said) + self.sign(x, kind, said), **more)
+        yield self.ended(number, left, kind, line(left, y, x, y, "late"), said, more)
 
-    def sign(self, x, kind, said):
-        """The sign of a call on the scheduler's track."""
-        y = self.layout.scheduler
-        return cross(x, y, 5, kind, said) if kind == "void" else disc(x, y, 6, kind, said)
+    def ended(self, number, left, kind, stroke, said, more):
+        """A call with its sign on the scheduler's track, and the launch's name below where there is room for it."""
+        x, y = self.layout.x(number), self.layout.scheduler
+        text = stroke + (cross(x, y, 5, kind) if kind == "void" else disc(x, y, 6, kind))
+        row, place, told = self.layout.names.get(number, (None, x, ""))
+        text += words(place, self.layout.name_y(row), told, "label") if told else ""
+        right = max(x + 6, place + len(told) * LETTER)
+        return Mark(CALLS, kind, min(left, x - 6, place), right, group_of(text, said), **more)
 
     # The tracks' turns.
 

@@ -75,7 +75,15 @@ function drawSoon() {
   requestAnimationFrame(() => {
     waits = false;
     draw();
+    tellTurn();
   });
+}
+
+// The turn in the middle of what is in view, unless another one is being asked for.
+function tellTurn() {
+  if (document.activeElement === find("turn")) return;
+  const turn = Math.floor(data.first + (middle() - data.left) / data.column);
+  find("turn").value = Math.min(data.until - 1, Math.max(data.first, turn));
 }
 
 function placeOf(turn) {
@@ -189,4 +197,10 @@ function listen() {
 
 prepare();
 listen();
-showMiddle(0);
+if (data.chosen === null) {
+  showMiddle(0);
+} else {
+  find("launch").value = String(data.chosen);
+  choose(data.chosen);
+  showMiddle(placeOf(data.ways[data.chosen][0][0]));
+}

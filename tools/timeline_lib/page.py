@@ -6,8 +6,9 @@ from string import Template
 
 from small_world.texts import report_of
 
-from .picture import ARROW, SIGNS, STYLE
 from .layout import COLUMN, LEFT
+from .palette import STYLE, style_of
+from .picture import ARROW, SIGNS
 from .svg import element, group
 
 FOLDER = os.path.dirname(os.path.abspath(__file__))
@@ -18,20 +19,20 @@ def read(name):
         return file.read()
 
 
-def page_of(picture, name, jobs, note):
-    """The page of a run file of that name: the picture, what is asked of it, and the report of the run beneath it. Where there
-    are jobs, what is about these alone is shown."""
+def page_of(picture, jobs, launch, note):
+    """The page of a run: the picture, what is asked of it, and the report of the run beneath it. Where there are jobs, what is
+    about these alone is shown, and where there is a launch, it is chosen."""
     kinds = {mark.kind for mark in picture.marks}
     values = {
-        "title": escape(os.path.basename(name)),
+        "title": escape(picture.name),
         "extent": escape(picture.extent()),
         "note": f'<p class="note">{escape(note)}</p>' if note else "",
-        "style": STYLE + read("page.css"),
+        "style": STYLE + style_of(*read("page.css").split("/* colours */\n")),
         "legend": "".join(sign_of(sign, told) for kind, sign, told in SIGNS if kind in kinds),
         "arrow": ARROW,
         "names": "\n".join(picture.names()),
         "report": escape(report_of(picture.world)),
-        "data": json.dumps(data_of(picture, jobs), separators=(",", ":")).replace("</", "<\\/"),
+        "data": json.dumps(data_of(picture, jobs, launch), separators=(",", ":")).replace("</", "<\\/"),
         "script": read("page.js"),
     }
     return Template(read("page.html")).substitute(values)
@@ -43,7 +44,7 @@ def sign_of(sign, told):
     return f"<li>{drawn} {escape(told)}</li>\n"
 
 
-def data_of(picture, jobs):
+def data_of(picture, jobs, launch):
     """What the page's script draws from."""
     layout, shown = picture.layout, picture.launches
     is_drawn = {number for mark in picture.marks for number in mark.launches}
@@ -58,6 +59,7 @@ def data_of(picture, jobs):
         "members": layout.members,
         "jobs": [job.name for job in picture.run.jobs],
         "asked": sorted(jobs or []),
+        "chosen": launch,
         "launches": shown.titles(),
         "ways": ways,
         "marks": [packed(mark) for mark in picture.marks],

@@ -1,37 +1,30 @@
 """The picture: its tracks with their marks, and what stands around them."""
+from xml.sax.saxutils import escape
+
 from small_world.instants import stamp_of
 
-from .launches import Launches
 from .layout import LEFT, ROW, Layout
 from .marks import FRAME, Mark, Marks, turn_sign
+from .palette import STYLE
+from .story import calls_of, told
 from .svg import LETTER, box, cross, diamond, disc, element, group, line, words
-from .words import words_of
+from .words import launch_label, words_of
 
 # Clocks are told at least that far apart.
 APART = 80
 LEGEND_ROW = 20
 # A picture whose marks have titles of their own, and not one image.
 ROLE = "graphics-document document"
-STYLE = """
-text{font:11px sans-serif;fill:#333}.name{font-weight:bold;font-size:12px}.small{fill:#555}.note{fill:#b03020}
-line{stroke:#999}.track{stroke:#aaa}.part{stroke:#ccc;stroke-dasharray:2 2}.letter{stroke:#6b7c93;fill:none}
-.lost{stroke:#c0392b;stroke-dasharray:3 2;fill:none}path.lost,path.void{stroke-dasharray:none;stroke-width:2;fill:none}
-.call{stroke:#1e8449;stroke-width:1.5}.late{stroke:#b9770e;stroke-width:1.5;stroke-dasharray:4 3}
-.candidate{fill:#fdebb3}.leader{fill:#cdeac0}.stopped{fill:#dedede}
-.tick,.hear{fill:#445}.campaign{fill:#b9770e}.stop{fill:#222}.restart{fill:#2471a3}.answer{fill:#1e8449}
-.vote{fill:#8e44ad}.learned{fill:#2471a3}.base{fill:#fff;stroke:#8e44ad;stroke-width:2}
-.launch{fill:#1e8449}.void{stroke:#c0392b}
-.found,.waiting{fill:#fff;stroke-width:2.5}.found{stroke:#1e8449}.waiting{stroke:#b9770e;stroke-dasharray:3 2}
-"""
 ARROW = """
 <defs><marker id="arrow" viewBox="0 0 8 8" refX="8" refY="4" markerWidth="7" markerHeight="7" orient="auto"
-markerUnits="userSpaceOnUse"><path d="M0,0L8,4L0,8z" fill="#6b7c93"/></marker></defs>
+markerUnits="userSpaceOnUse"><path d="M0,0L8,4L0,8z" class="arrow"/></marker></defs>
 """
 # The kinds of marks: the sign of each, from its left edge and its middle on, and what it is.
 SIGNS = [
     ("candidate", box(0, -7, 16, 14, "candidate"), "candidate"),
     ("leader", box(0, -7, 16, 14, "leader"), "leader"),
     ("stopped", box(0, -7, 16, 14, "stopped"), "stopped"),
+    ("free", box(0, -7, 16, 14, "free"), "free turns"),
     ("campaign", turn_sign(8, 0, "campaign"), "stands for leader"),
     ("tick", turn_sign(8, 0, "tick"), "clock ticks"),
     ("hear", turn_sign(8, 0, "hear"), "hears a letter"),
@@ -51,30 +44,41 @@ SIGNS = [
 
 
 class Picture:
-    """A picture of the turns from one on and before another."""
+    """A picture of the turns of a run, which has a name, from one turn on and before another."""
 
-    def __init__(self, world, first, until):
-        self.world = world
+    def __init__(self, launches, first, until, name):
+        self.launches = launches
+        self.world = world = launches.world
         self.run = world.run
-        self.layout = Layout(self.run.members, first, until, self.commands(first))
-        self.launches = Launches(world)
-        marks = Marks(world, self.launches, words_of(world.run), self.layout).all()
-        self.marks = sorted([*self.parts(), *self.axis(), *marks], key=lambda mark: mark.layer)
+        self.name = name
+        labels = [(turn, launch_label(self.run, call)) for turn, call, _ in calls_of(world, first, until)]
+        is_free = any(begin < until and end > first for begin, end in self.free_parts())
+        self.layout = Layout(self.run.members, first, until, self.commands(first), labels, is_free)
+        marks = Marks(world, launches, words_of(world.run), self.layout).all()
+        self.marks = sorted([*self.free(), *self.parts(), *self.axis(), *marks], key=lambda mark: mark.layer)
 
     def text(self, jobs=None, note=None):
         """The whole picture, with what is about these jobs alone where there are some, and with a note where there is one."""
         layout = self.layout
         marks = [mark for mark in self.marks if jobs is None or mark.jobs is None or mark.jobs & jobs]
         legend, top = self.legend({mark.kind for mark in marks})
-        told = [words(8, top + 12, note, "note")] if note else []
+        said = [words(8, top + 12, note, "note")] if note else []
         top += 20 if note else 0
-        told += [words(LEFT, top + layout.bottom + 44, f"{self.extent()} are drawn", "small")] if self.is_cut() else []
-        inside = [box(0, 0, layout.width, top + layout.height, "paper"), *legend, *told]
+        said += [words(LEFT, top + layout.bottom + 44, f"{self.extent()} are drawn", "small")] if self.is_cut() else []
+        inside = [box(0, 0, layout.width, top + layout.height, "paper"), *legend, *said]
         inside.append(group("\n".join([*(mark.text for mark in marks), *self.names()]), 0, top))
         size = {"width": layout.width, "height": top + layout.height, "viewBox": f"0 0 {layout.width} {top + layout.height}"}
-        title = f"{self.extent()} of a run of {self.run.members} replicas"
-        style = f"<style>.paper{{fill:#fff}}{STYLE}</style>{ARROW}"
-        return element("svg", title, style + "\n".join(inside), xmlns="http://www.w3.org/2000/svg", role=ROLE, **size) + "\n"
+        style = f"{self.description()}<style>{STYLE}</style>{ARROW}"
+        drawn = style + "\n".join(inside)
+        return element("svg", self.title(), drawn, xmlns="http://www.w3.org/2000/svg", role=ROLE, **size) + "\n"
+
+    def title(self):
+        count = self.run.members
+        return f"{self.name}: {self.extent()} of a run of {count} replica{'' if count == 1 else 's'}"
+
+    def description(self):
+        """What happens, for those who don't see the picture."""
+        return element("desc", inside=escape(told(self.world, self.layout.first, self.layout.until)))
 
     def is_cut(self):
         """Whether some turns aren't drawn."""
@@ -108,6 +112,24 @@ class Picture:
         before = [turn for turn in told if turn < first]
         goes_on = [(first, f".. {told[before[-1]][-1]}")] if before and first not in told else []
         return goes_on + [(turn, "; ".join(names)) for turn, names in told.items()]
+
+    def free_parts(self):
+        """The turns from which on and before which replicas run by themselves."""
+        ends = [*self.world.parts[1:], len(self.world.turns)]
+        parts = zip(self.world.parts, ends, self.run.script)
+        return [(begin, end) for begin, end, command in parts if command[0] == "free"]
+
+    def free(self):
+        """The parts in which replicas run by themselves."""
+        layout = self.layout
+        for begin, end in self.free_parts():
+            first, until = max(begin, layout.first), min(end, layout.until)
+            if first < until:
+                left, right = layout.edge(first), layout.edge(until)
+                title = f"replicas run by themselves, turns {begin} to {end - 1}"
+                paper = box(left, layout.top, right - left, layout.bottom - layout.top, "free", title)
+                told_as = [words(x, layout.top + 11, "free", "small") for x in range(int(left) + 4, int(right), APART * 8)]
+                yield Mark(FRAME, "free", left, right, paper + "".join(told_as))
 
     def parts(self):
         """The commands, each above the turn with which its part begins."""

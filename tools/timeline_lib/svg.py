@@ -57,6 +57,11 @@ def group(inside, x, y):
     return element("g", inside=inside, transform=f"translate({short(x)} {short(y)})")
 
 
+def group_of(inside, title):
+    """Elements that have one title."""
+    return element("g", title, inside)
+
+
 def words(x, y, text, kind="", **attributes):
     classes = {"class_": kind} if kind else {}
     return element("text", inside=escape(text), x=x, y=y, **classes, **attributes)

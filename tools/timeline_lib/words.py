@@ -1,5 +1,7 @@
 """What marks of a picture say."""
-from small_world.instants import stamp_of
+from small_world.instants import DAY, date_of, stamp_of
+from small_world.jobs import Entry
+from small_world.launches import VOID
 from small_world.words import Words
 
 # A letter that says more is cut there.
@@ -10,6 +12,7 @@ SAID = {
     "stop": "stops",
     "restart": "starts again",
 }
+TERMS = {"candidate": "stands", "leader": "leads", "stopped": "stopped"}
 COMES_BACK = {
     "lost-before": "it is lost on its way",
     "lost-after": "it is made, and the answer is lost",
@@ -38,8 +41,34 @@ def turn_words(number, turn):
     return f"turn {number}: replica {turn.who} {SAID[turn.word]}"
 
 
-def call_words(run, number, turn):
-    """What is called for in a turn, and what comes back."""
+def term_label(role):
+    """What a replica is, shortly."""
+    kind, _, ballot = role.partition(" ")
+    return f"{TERMS[kind]} {ballot}".strip()
+
+
+def call_words(run, number, turn, is_held=False):
+    """What is called for in a turn, and what comes back: of what is made then, or of what was held before."""
     title = run.jobs[turn.call.job].title(turn.call.at)
-    told = f"the answer is a {turn.answer.kind}" if turn.answer else COMES_BACK[turn.fate]
-    return f"turn {number}: replica {turn.who} calls for {title}, a {turn.call.kind}: {told}"
+    before = " that was made before" if is_held else ""
+    told = f"the answer is a {turn.answer.kind}{before}" if turn.answer else COMES_BACK[turn.fate]
+    why = f", since {why_void(run, turn.call)}" if turn.call.kind == VOID else ""
+    return f"turn {number}: replica {turn.who} calls for {title}, a {turn.call.kind}{why}: {told}"
+
+
+def why_void(run, call):
+    """Why a launch is given up, by the clock of who calls."""
+    job, read = run.jobs[call.job], f"its clock reads {stamp_of(call.now)}"
+    if not isinstance(job, Entry):
+        return f"{read}, and the launch's date is over"
+    grace = f"the grace of {run.grace:,} minute{'' if run.grace == 1 else 's'} ended at {stamp_of(call.at + run.grace)}"
+    return f"{read}, and {grace if run.grace else 'there is no grace'}"
+
+
+def launch_label(run, call):
+    """A launch's name, shortly: its job, and when it is due in UTC. The day stands there where the window has several."""
+    job = run.jobs[call.job]
+    if not isinstance(job, Entry):
+        return f"{job.name} {date_of(call.at):%m-%d}"
+    is_long = (run.end - 1) // DAY > run.first // DAY
+    return f"{job.name} {stamp_of(call.at)[5 if is_long else 11 : 16].replace('T', ' ')}"
