@@ -55,8 +55,9 @@ COLOURS = """
 .paper,.base,.found,.waiting{fill:PAPER}text{fill:INK}.small{fill:SMALL}.note{fill:NOTE}.label{stroke:PAPER}
 line,.track,.part{stroke:FRAME}.letter{stroke:LETTER}.arrow{fill:LETTER}.lost,.void{stroke:LOST}
 .call,.found{stroke:CALL}.launch,.answer{fill:CALL}.late,.waiting{stroke:LATE}.campaign{fill:LATE}
-.candidate{fill:CANDIDATE_FILL;stroke:LATE}.leader{fill:LEADER_FILL;stroke:LEADER}.stopped{fill:STOPPED_FILL;stroke:STOPPED}
-.free{fill:FREE_FILL;stroke:FRAME}.tick,.hear{fill:TICK}.stop{fill:STOP}.restart,.learned{fill:LEARNED}.vote{fill:VOTE}.base{stroke:VOTE}
+.candidate{fill:CANDIDATE_FILL;stroke:LATE}.leader{fill:LEADER_FILL;stroke:LEADER}
+.stopped{fill:STOPPED_FILL;stroke:STOPPED}.free{fill:FREE_FILL;stroke:FRAME}
+.tick,.hear{fill:TICK}.stop{fill:STOP}.restart,.learned{fill:LEARNED}.vote{fill:VOTE}.base{stroke:VOTE}
 """
 
 

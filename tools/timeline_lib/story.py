@@ -34,7 +34,8 @@ def sentence(number, who, role, before):
     if kind in TERMS:
         verb = {"candidate": "stands for leader", "leader": "leads", "stopped": "stops"}[kind]
         return f"turn {number}: replica {who} {verb}{f' in ballot {ballot}' if ballot else ''}"
-    return f"turn {number}: replica {who} {'starts again' if before == 'stopped' else 'leads no more' if 'leader' in before else 'follows'}"
+    ends = {"stopped": "starts again", "leader": "leads no more", "candidate": "stands for leader no more"}
+    return f"turn {number}: replica {who} {ends[before.split(' ')[0]]}"
 
 
 def called(world, number, call, late):

@@ -1,0 +1,114 @@
+"""The entries of a machine's tables, and when the program says that each is due."""
+import os
+import re
+from collections import namedtuple
+from datetime import datetime, timedelta
+
+from run_file_lib.command import Command
+from run_file_lib.faults import NoAnswer, Stop, cause_of
+from run_file_lib.options import options_of, stamp_of
+from run_file_lib.program import answer_of
+from run_file_lib.rules import EPOCH
+from run_file_lib.tzif import clock_at
+from run_file_lib.users import split_users
+
+# An entry: its name in the report, its file and line, its user, where that is known, its command, whether it is one of `@reboot`,
+# and the minutes since 1970 at which it is due.
+Entry = namedtuple("Entry", "name file line user command is_at_start dues")
+DUE = re.compile(r"due (.+)@(\d{4})(\d\d)(\d\d)T(\d\d)(\d\d)Z \S+")
+# What stands before the user in a system table: five fields or a nickname.
+USER = re.compile(r"[ \t]*(?:@\S+|(?:\S+[ \t]+){4}\S+)[ \t]+(\S+)")
+MINUTE = timedelta(minutes=1)
+TOO_MANY = 24
+
+
+class Silent:
+    """Streams that keep nothing."""
+
+    def output(self, data):
+        pass
+
+    def note(self, text):
+        pass
+
+
+class Tables:
+    """The tables that the words of tools/run_file name."""
+
+    def __init__(self, words, environment, streams):
+        self.words = words
+        self.environment = environment
+        self.streams = streams
+        silent = Command(options_of(words), environment, Silent())
+        self.zone = silent.zones.local_times[silent.zone_of_the_tables()]
+
+    def are_all(self):
+        """Whether these are all tables of a machine, and not some that are named."""
+        options = options_of(self.words)
+        return not (options.system or options.user or options.anacron)
+
+    def clock(self, minute):
+        """What the clock of the tables' zone shows at a minute since 1970."""
+        return clock_at(self.zone, EPOCH + minute * MINUTE)
+
+    def entries(self, first, end):
+        """The entries of crontabs and system tables, each with when it is due from one minute on and before another; and how many
+        jobs of anacrontabs there are."""
+        window = ["--from", stamp_of(EPOCH + first * MINUTE), "--until", stamp_of(EPOCH + end * MINUTE)]
+        options = options_of([*self.words, *window])
+        made = Command(options, self.environment, self.streams).run_file(EPOCH)
+        dues = dues_of(options.program, made)
+        users = {file: user for user, file in split_users(options.user)}
+        found, dates = [], 0
+        for section in made.sections:
+            for job in section.jobs:
+                if section.kind == "anacrontab":
+                    dates += 1
+                else:
+                    name = section.label + job.ending
+                    text = section.lines[job.line - 1].lstrip(" \t")
+                    user = user_of(section, text, users)
+                    at_start = text.split()[0] == "@reboot"
+                    found.append(Entry(name, section.file, job.line, user, job.command, at_start, dues.get(name, [])))
+        return found, dates
+
+
+def user_of(section, text, users):
+    """Whose entry a line is; none where nothing tells it."""
+    if section.kind == "system":
+        return USER.match(text)[1]
+    return users[section.file] if section.file in users else os.path.basename(section.file)
+
+
+def dues_of(program, made):
+    """The minutes at which each job is due, by its name. Where a window has too many for one answer, its halves are asked for."""
+    try:
+        lines = answer_of(program, "--list", made, "cron due 1")
+    except Stop as stop:
+        if cause_of(str(stop)) != TOO_MANY:
+            raise
+        return joined(*(dues_of(program, half) for half in halves_of(made)))
+    found = {}
+    for line in lines:
+        if line.startswith("due "):
+            due = DUE.fullmatch(line)
+            if not due:
+                raise NoAnswer(f"ran: the program's answer has a line `{line}`")
+            instant = datetime(*map(int, due.groups()[1:]))
+            found.setdefault(due[1], []).append((instant - EPOCH) // MINUTE)
+    return found
+
+
+def joined(early, late):
+    """Two answers in one."""
+    return {name: early.get(name, []) + late.get(name, []) for name in {**early, **late}}
+
+
+def halves_of(made):
+    """The run file over each half of its window."""
+    head = made.data.split(b"\n", 3)
+    first, end = (datetime.strptime(word, "%Y-%m-%dT%H:%MZ") for word in head[2].decode().split(" ")[1:])
+    middle = first + (end - first) // MINUTE // 2 * MINUTE
+    for begin, until in ((first, middle), (middle, end)):
+        window = f"window {stamp_of(begin)} {stamp_of(until)}".encode()
+        yield made._replace(data=b"\n".join([*head[:2], window, head[3]]))
