@@ -14,10 +14,11 @@ from calendar import timegm
 from datetime import datetime
 from unittest import mock
 
+from ran_lib.clock import Clock
 from ran_lib.command import run
 from ran_lib.commands import forms_of
 from ran_lib.lines import log_of
-from ran_lib.stamps import iso_second, seconds_of_clock
+from ran_lib.stamps import iso_second
 from run_file_lib.faults import Stop
 from run_file_lib.tzif import UTC, read_zone
 from small_world.run_file import RunFile
@@ -120,19 +121,20 @@ class Logs(RanTest):
     def test_years(self):
         cron = "host CRON[1]: (bob) CMD (x)"
         lines = ["Dec 31 23:59:30 host x: y", f"Jan  1 00:00:01 {cron}", f"Feb 29 00:00:01 {cron}"]
-        stamps = [event.stamp for event in log_of(lines, UTC, None, NOW).events]
+        clock = Clock(UTC)
+        stamps = [event.stamp for event in log_of(lines, clock, None, NOW).events]
         self.assertEqual(stamps, [timegm((2024, 1, 1, 0, 0, 1)), timegm((2024, 2, 29, 0, 0, 1))])
         now = timegm((2024, 2, 1, 0, 0, 0))
-        self.assertEqual(log_of(lines, UTC, None, now).events[1].stamp, timegm((2020, 2, 29, 0, 0, 1)))
-        self.assertEqual(log_of(lines[:2], UTC, 1999, now).events[0].stamp, timegm((2000, 1, 1, 0, 0, 1)))
+        self.assertEqual(log_of(lines, clock, None, now).events[1].stamp, timegm((2020, 2, 29, 0, 0, 1)))
+        self.assertEqual(log_of(lines[:2], clock, 1999, now).events[0].stamp, timegm((2000, 1, 1, 0, 0, 1)))
 
     def test_hours_that_come_twice_or_not(self):
-        zone = read_zone(PARIS)
+        clock = Clock(read_zone(PARIS))
         twice, never = timegm((2024, 10, 27, 2, 30, 0)), timegm((2024, 3, 31, 2, 30, 0))
-        self.assertEqual(seconds_of_clock(zone, twice), [twice - 7200, twice - 3600])
-        self.assertEqual(seconds_of_clock(zone, never), [])
+        self.assertEqual(clock.seconds_of(twice), [twice - 7200, twice - 3600])
+        self.assertEqual(clock.seconds_of(never), [])
         times = ["02:30:01", "02:45:01", "02:15:01", "03:00:01"]
-        log = log_of([f"Oct 27 {time} h CRON[1]: (bob) CMD (x)" for time in times], zone, 2024, NOW)
+        log = log_of([f"Oct 27 {time} h CRON[1]: (bob) CMD (x)" for time in times], clock, 2024, NOW)
         self.assertEqual([event.stamp - log.first for event in log.events], [0, 900, 2700, 5400])
 
     def test_stamps(self):

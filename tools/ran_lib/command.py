@@ -7,7 +7,6 @@ from itertools import chain
 from run_file_lib.faults import Stop, counted, shown, why
 from run_file_lib.options import LISTS, OPTIONS, Parser, instant_of, layout, number_of
 from run_file_lib.rules import EPOCH
-from run_file_lib.tzif import beginning_of, clock_at
 
 from .lines import log_of
 from .rows import json_lines, summary, text_lines
@@ -93,25 +92,25 @@ def lines_in(names):
             raise Stop(f"ran: {shown(name)}: it can't be read: {why(fault) if isinstance(fault, OSError) else fault}") from fault
 
 
-def day_of(text, zone, now):
-    """The minutes of a day by the clock of a zone: from one on and before another."""
-    today = clock_at(zone, EPOCH + timedelta(seconds=now)).date()
+def day_of(text, clock, now):
+    """The minutes of a day: from one on and before another."""
+    today = clock.shown(now).date()
     known = {"today": today, "yesterday": today - timedelta(days=1)}
     try:
         day = known[text] if text in known else datetime.strptime(text, "%Y-%m-%d").date()
     except ValueError as fault:
         raise Stop(f"ran: --day: `{shown(text)}` is no date; write it as 2024-03-31, or `today` or `yesterday`") from fault
-    return tuple((beginning_of(zone, it) - EPOCH) // MINUTE for it in (day, day + timedelta(days=1)))
+    return tuple(clock.begin_of(it) // 60 for it in (day, day + timedelta(days=1)))
 
 
-def window_of(options, log, zone, now):
+def window_of(options, log, clock, now):
     """The minutes that are judged: from one on and before another."""
     if log.first is None and (options.day or (options.first and options.until)) is None:
         raise Stop("ran: the log has no line with a stamp")
     if options.day is not None:
         if options.first is not None or options.until is not None:
             raise Stop("ran: --day says both ends; take it, or --from and --until")
-        return day_of(options.day, zone, now)
+        return day_of(options.day, clock, now)
     first, end = (0, 0) if log.first is None else (-(-log.first // 60), log.last // 60 + (0 if log.has_seconds else 1))
     if options.first is not None:
         first = (instant_of("--from", options.first) - EPOCH) // MINUTE
@@ -126,8 +125,8 @@ def judged(options, tables, now):
     """What is found: the lines that tell it, and whether something is wrong."""
     year = None if options.year is None else number_of("--year", options.year, 1971, 2199)
     grace, near = (number_of(f"--{word}", getattr(options, word), 0, MOST_LATE) for word in ("grace", "late"))
-    log = log_of(lines_in(options.logs), tables.zone, year, now)
-    first, end = window_of(options, log, tables.zone, now)
+    log = log_of(lines_in(options.logs), tables.clock, year, now)
+    first, end = window_of(options, log, tables.clock, now)
     entries, dates = tables.entries(first - near, end)
     tables.streams.note(f"# {counted(log.lines, 'line')} of the log with {len(log.events):,} launches")
     if dates:

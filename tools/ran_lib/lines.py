@@ -111,13 +111,13 @@ def event_of_entry(entry):
     return Event(stamp, found[1], found[2], None) if found and is_of_cron and stamp is not None else None
 
 
-def log_of(lines, zone, year, now):
-    """The log of lines. Stamps that lack them have the clock of a zone, and years from one on; where the year is none, the last
-    stamp isn't ahead of `now`."""
+def log_of(lines, clock, year, now):
+    """The log of lines. Stamps that lack a zone have that clock, and those that lack a year have years from one on; where the year
+    is none, the last stamp isn't ahead of `now`."""
     reader = Reader().read(lines)
     stamps = [reader.first, *(event.stamp for event in reader.events), reader.last()]
     stamps = [stamp for stamp in stamps if stamp is not None]
-    years = Years(zone, first_year(stamps, zone, now) if year is None else year)
+    years = Years(clock, first_year(stamps, clock, now) if year is None else year)
     seconds = [years.second(stamp) for stamp in stamps]
     if not stamps or None in seconds:
         return Log([], None, None, True, reader.count)

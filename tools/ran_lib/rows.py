@@ -32,7 +32,7 @@ def text_lines(findings, clock):
     rows = []
     for finding in findings:
         minute = minute_of(finding)
-        local, utc = f"{clock(minute):%Y-%m-%d %H:%M}", stamp_of(EPOCH + minute * MINUTE)
+        local, utc = f"{clock.shown(60 * minute):%Y-%m-%d %H:%M}", stamp_of(EPOCH + minute * MINUTE)
         kind = f"late {late_by(finding)}" if finding.kind == LATE else finding.kind
         entry, event = finding.entry, finding.event
         source = place(entry.file, entry.line) if entry else f"({shown(event.user)})" if event.user else "-"

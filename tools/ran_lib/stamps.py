@@ -3,12 +3,11 @@ import re
 from calendar import timegm
 from datetime import datetime
 
-from run_file_lib.tzif import offset_at
+from .clock import DAY
 
 MONTHS = {name: place for place, name in enumerate("Jan Feb Mar Apr May Jun Jul Aug Sep Oct Nov Dec".split(), 1)}
 ISO = re.compile(r"(\d{4})-(\d\d)-(\d\d)[T ](\d\d):(\d\d)(?::(\d\d))?(?:[.,]\d+)?(?:(Z)|([+-])(\d\d):?(\d\d))")
 OLD = re.compile(r"([A-Z][a-z]{2}) +(\d{1,2}) (\d\d):(\d\d):(\d\d)")
-DAY = 86_400
 # A clock that goes back by less, from one line to the next, was set; one that goes back by more shows an hour twice.
 SET_BACK = 300
 # A stamp without a year is at most so far ahead of the clock of this machine.
@@ -37,17 +36,11 @@ def old_parts(text):
     return (MONTHS[found[1]], *map(int, found.groups()[1:]))
 
 
-def seconds_of_clock(zone, local):
-    """The seconds at which the clock of a zone shows a time, which is given in seconds as if it were of UTC: none, one or two."""
-    offsets = {offset_at(zone, local + near) for near in (-DAY, 0, DAY)}
-    return sorted(local - offset for offset in offsets if offset_at(zone, local - offset) == offset)
-
-
 class Years:
     """Turns the stamps of a log into seconds. Those that lack the year and the zone follow one another."""
 
-    def __init__(self, zone, year):
-        self.zone = zone
+    def __init__(self, clock, year):
+        self.clock = clock
         self.year = year
         self.month = None
         self.last = None
@@ -77,16 +70,16 @@ class Years:
             local = timegm(datetime(*parts).timetuple())
         except ValueError:
             return []
-        return seconds_of_clock(self.zone, local) or [local - offset_at(self.zone, local - DAY)]
+        return self.clock.seconds_of(local) or [self.clock.second_before(local)]
 
 
-def first_year(stamps, zone, now):
+def first_year(stamps, clock, now):
     """The year of the first stamp, where stamps have none: the latest one by which none is ahead of this machine's clock, which
     shows `now`, in seconds."""
     parts = [stamp for stamp in stamps if isinstance(stamp, tuple)]
-    year = datetime.utcfromtimestamp(now).year
+    year = clock.shown(now).year
     while parts and year > 1971:
-        years = Years(zone, year)
+        years = Years(clock, year)
         seconds = [years.second(stamp) for stamp in parts]
         if None not in seconds and seconds[-1] <= now + AHEAD:
             break

@@ -9,8 +9,9 @@ from run_file_lib.faults import NoAnswer, Stop, cause_of
 from run_file_lib.options import options_of, stamp_of
 from run_file_lib.program import answer_of
 from run_file_lib.rules import EPOCH
-from run_file_lib.tzif import clock_at
 from run_file_lib.users import split_users
+
+from .clock import Clock
 
 # An entry: its name in the report, its file and line, its user, where that is known, its command, whether it is one of `@reboot`,
 # and the minutes since 1970 at which it is due.
@@ -40,16 +41,12 @@ class Tables:
         self.environment = environment
         self.streams = streams
         silent = Command(options_of(words), environment, Silent())
-        self.zone = silent.zones.local_times[silent.zone_of_the_tables()]
+        self.clock = Clock(silent.zones.local_times[silent.zone_of_the_tables()])
 
     def are_all(self):
         """Whether these are all tables of a machine, and not some that are named."""
         options = options_of(self.words)
         return not (options.system or options.user or options.anacron)
-
-    def clock(self, minute):
-        """What the clock of the tables' zone shows at a minute since 1970."""
-        return clock_at(self.zone, EPOCH + minute * MINUTE)
 
     def entries(self, first, end):
         """The entries of crontabs and system tables, each with when it is due from one minute on and before another; and how many

@@ -104,6 +104,11 @@ def journal_in(text):
     return lines[begin:-2], begin + 1
 
 
+def is_free(run):
+    """Whether replicas run by themselves in a run, so that its turns may come in another order each time."""
+    return any(command[0] == "free" for command in run.script)
+
+
 def followed(run, lines, first):
     """The world of a journal's turns, and which line of it can't be one of the run; none where each may be."""
     try:

@@ -5,7 +5,7 @@ import subprocess
 import sys
 
 from script_lib.run_lines import plain_run
-from small_world.replay import BadJournal, Recorded, followed, journal_in
+from small_world.replay import BadJournal, Recorded, followed, is_free, journal_in
 from small_world.run_file import RunFile
 
 from .launches import Launches
@@ -65,7 +65,7 @@ def written(program, path, text):
 def played(options, run, text):
     """The run as it was played, and where its journal differs from what is worked out."""
     if options.alone:
-        if any(command[0] == "free" for command in run.script):
+        if is_free(run):
             note("in which order free turns come nothing settles: this is one of many, and --seed draws another")
         return Recorded(run, options.seed).play(), None
     lines, first = journal_in(read(options.journal) if options.journal else written(options.program, options.run, text))
