@@ -15,7 +15,8 @@ from datetime import datetime
 from pathlib import Path
 from unittest import mock
 
-from run_file_lib.command import Command, run
+from run_file_lib.command import run
+from run_file_lib.gather import Gatherer
 from run_file_lib.options import OPTIONS
 from run_file_lib.tables import JobCount, TableReader, lines_of
 
@@ -25,6 +26,7 @@ DOCUMENTS = os.path.join(os.path.dirname(HERE), "docs")
 NOW = datetime(2024, 3, 30, 17, 45)
 LOOP = "Too many levels of symbolic links"
 NO_FILE = "No such file or directory"
+OWN_RULES = "# the cron is Hevtsora, by --cron"
 NOTHING = "run_file: nothing is written, for {}; --skip leaves out what is at fault"
 
 
@@ -58,6 +60,9 @@ class Memory:
 class RunFileTest(unittest.TestCase):
     """A test with a file system of its own, below the folder `root`."""
 
+    # Whether the file system tells which cron it has.
+    tells_cron = False
+
     def setUp(self):
         room = tempfile.TemporaryDirectory()
         self.addCleanup(room.cleanup)
@@ -85,8 +90,10 @@ class RunFileTest(unittest.TestCase):
     def ran(self, *words, environment=None):
         """The status of a run, the lines that it wrote, and its notes."""
         streams = Memory()
-        status = run(["--root", self.root, *words], environment or {}, NOW, streams)
-        return status, streams.written.decode().split("\n")[:-1], streams.notes
+        # Most tests are of the program's own rules, whatever their root looks like.
+        rules = [] if "--cron" in words or self.tells_cron else ["--cron", "hevtsora"]
+        status = run(["--root", self.root, *rules, *words], environment or {}, NOW, streams)
+        return status, streams.written.decode().split("\n")[:-1], [note for note in streams.notes if note != OWN_RULES]
 
     def lines(self, *words):
         """The lines of a run that ends well."""
@@ -451,7 +458,7 @@ class Ends(RunFileTest):
 
     def test_stops(self):
         for fault, message in ((KeyboardInterrupt, "interrupted"), (MemoryError, "out of memory")):
-            with mock.patch.object(Command, "tables", side_effect=fault):
+            with mock.patch.object(Gatherer, "tables", side_effect=fault):
                 self.assertEqual(self.faults(), [f"run_file: {message}"])
 
 

@@ -9,7 +9,7 @@ import re
 import unittest
 from pathlib import Path
 
-from run_file_lib.command import Command
+from run_file_lib.gather import Gatherer
 from run_file_lib.faults import lines_told
 from run_file_lib.options import parser
 from run_file_lib.origins import Job, jobs_of, origin_of
@@ -136,7 +136,7 @@ class Origins(RunFileTest):
 
     def run_file(self):
         """The run file of the root, with its origins."""
-        return Command(parser().parse_args(["--root", self.root, "--skip"]), {}, Memory()).run_file(NOW)
+        return Gatherer(parser().parse_args(["--root", self.root, "--skip"]), {}, Memory()).run_file(NOW)
 
     def test_jobs(self):
         expected = {

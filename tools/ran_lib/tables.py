@@ -4,8 +4,8 @@ import re
 from collections import namedtuple
 from datetime import datetime, timedelta
 
-from run_file_lib.command import Command
 from run_file_lib.faults import NoAnswer, Stop, cause_of
+from run_file_lib.gather import Gatherer
 from run_file_lib.options import options_of, stamp_of
 from run_file_lib.program import answer_of
 from run_file_lib.rules import EPOCH
@@ -40,7 +40,7 @@ class Tables:
         self.words = words
         self.environment = environment
         self.streams = streams
-        silent = Command(options_of(words), environment, Silent())
+        silent = Gatherer(options_of(words), environment, Silent())
         self.clock = Clock(silent.zones.local_times[silent.zone_of_the_tables()])
 
     def are_all(self):
@@ -53,7 +53,7 @@ class Tables:
         jobs of anacrontabs there are."""
         window = ["--from", stamp_of(EPOCH + first * MINUTE), "--until", stamp_of(EPOCH + end * MINUTE)]
         options = options_of([*self.words, *window])
-        made = Command(options, self.environment, self.streams).run_file(EPOCH)
+        made = Gatherer(options, self.environment, self.streams).run_file(EPOCH)
         dues = dues_of(options.program, made)
         users = {file: user for user, file in split_users(options.user)}
         found, dates = [], 0

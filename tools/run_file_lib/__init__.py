@@ -1,6 +1,9 @@
 """The parts of tools/run_file, which writes a run file from the tables of a machine.
 
-command      reads the words, the tables and the zones, and writes the run file, or what the program answers to it
+command      writes the run file, or what the program answers to it
+gather       reads the zones, the tables and the script of a run file
+daemons      which tables the machine's own cron ignores, and what it takes otherwise
+cron_lines   how Debian's cron and cronie read a line
 options      the words of the command line, and the limits of the first lines of a run file
 places       where a machine has its tables, and how files below a root are read
 users        the users of a machine, and what in a spool is no user's table

@@ -20,7 +20,7 @@ KINDS = [
 def field_fault(kind, text):
     """What is wrong with a field; none where nothing is."""
     if "~" in text:
-        return caused(8, f"the {kind.name} has a `~`; write `?` for one value that is picked")
+        return caused(8, f"the {kind.name} has a `~`; here `?` picks one value, and cron takes none")
     if text == "?":
         return None
     faults = (item_fault(kind, item) for item in text.split(","))

@@ -3,6 +3,7 @@ import argparse
 import re
 from datetime import datetime, timedelta
 
+from .daemons import CRONS
 from .faults import Stop, counted, shown
 from .tzif import beginning_of, clock_at
 
@@ -52,6 +53,8 @@ OPTIONS = [
     ),
     ("--system", "FILE", "the same of a system table, whose entries have a user", "--system /etc/cron.d/php"),
     ("--anacron", "FILE", "the same of an anacrontab", "--anacron /etc/anacrontab"),
+    ("--cron", "NAME", "whose rules the machine has: debian, cronie or hevtsora; told from the root by default", "--cron debian"),
+    ("--modes", None, "look at the owner, the mode and the names of files below --root, too, as for /", "--modes"),
     ("--skip", None, "leave out each line that can't be taken, and tell it, and each job's line", "--skip"),
     ("--list", None, "in place of the run file: when each entry is due, with its line and its command", "--list --days 7"),
     ("--check", None, "in place of the run file: each line at fault, as the program finds it", "--check"),
@@ -96,6 +99,8 @@ def parser():
 def options_of(words):
     """The options that words are."""
     options = parser().parse_args(words)
+    if options.cron not in (None, *CRONS):
+        raise Stop(f"run_file: --cron: `{shown(options.cron)}` is none of {', '.join(CRONS)}")
     if options.check and options.list:
         raise Stop("run_file: --list and --check are two answers; take one of them")
     if options.check and options.skip:

@@ -4,8 +4,9 @@ from collections import namedtuple
 # A run file: its bytes, and its sections in order.
 RunFile = namedtuple("RunFile", "data sections")
 # A section: its kind, label and zone, the file of its table, the line of the run file that is the table's first one, the lines
-# of the table as the run file has them, and its jobs. A table has as many lines in the run file as in its own.
-Section = namedtuple("Section", "kind label zone file first lines jobs")
+# of the table as the run file has them, its jobs, and how many bytes a line lacks at its front, by the line. A table has as many
+# lines in the run file as in its own.
+Section = namedtuple("Section", "kind label zone file first lines jobs fronts", defaults=[{}])
 # A job: what its name has behind the label, `:K` or `/IDENTIFIER`, the line of its table, its command, and for one of an
 # anacrontab when it is launched, in words.
 Job = namedtuple("Job", "ending line command when", defaults=[""])
@@ -50,4 +51,4 @@ def place_of(section, line, before):
             break
         before -= size
         line += 1
-    return line, before + 1
+    return line, before + 1 + section.fronts.get(line, 0)

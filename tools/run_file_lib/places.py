@@ -1,22 +1,21 @@
 """Where a machine has its tables, and how the files below a root are read."""
 import errno
 import os
-import re
 import stat
 from collections import namedtuple
 
+from .daemons import DEBIAN, DEBIAN_SPOOL, HEVTSORA, called, why_no_name
 from .faults import Stop, shown, why
-from .users import orphan_note, users_of, why_passed_over
+from .users import orphan_note, why_passed_over
 
 # A table: its kind, its path in the file system that it is of, the file on this machine, and what it is named by: an option, a
-# usual place, or a spool of users' crontabs. An option's path is the file, or the place in a spool that the file is meant for.
-Table = namedtuple("Table", "kind path file origin")
+# usual place, or a spool of users' crontabs; and whose it is, where it is a user's. An option's path is the file, or the place in a
+# spool that the file is meant for.
+Table = namedtuple("Table", "kind path file origin user", defaults=[None])
 OPTION, PLACE, SPOOL = "option", "place", "spool"
 
 MOST_BYTES = 1_048_576
 MOST_LINKS = 40
-# Names of the files in /etc/cron.d that cron takes (cron(8)).
-TAKEN_NAME = re.compile("[A-Za-z0-9_-]+")
 # The folders of users' crontabs: of Debian, of SUSE, and of Red Hat, where the two above may stand too.
 SPOOLS = ["/var/spool/cron/crontabs", "/var/spool/cron/tabs", "/var/spool/cron"]
 NULL = "/dev/null"
@@ -45,6 +44,8 @@ class Root:
         self.folder = folder
         if not os.path.isdir(folder):
             raise Stop(f"run_file: --root: `{shown(folder)}` is no folder")
+        # Whether it is this machine's own, and no copy.
+        self.is_own = os.path.realpath(folder) == "/"
 
     def shown(self, path):
         """Where a path of the file system is on this machine."""
@@ -86,6 +87,10 @@ class Root:
         """The bytes of a regular file."""
         return read_regular(self.real(path))
 
+    def states(self, path):
+        """What is known of the file at a path, and of what stands there itself, be it a link."""
+        return os.stat(self.real(path)), os.lstat(self.place(path))
+
     def names_in(self, path):
         """The names in a folder, in order; none where there is no such folder."""
         try:
@@ -109,13 +114,14 @@ class Root:
 
 
 class Finder:
-    """Looks for the tables of a file system. What it passes over is told."""
+    """Looks for the tables of a file system, as a cron does. What it passes over is told."""
 
-    def __init__(self, root, tell, tell_unreadable):
+    def __init__(self, root, cron, users, tell, tell_unreadable):
         self.root = root
+        self.cron = cron
+        self.users = users
         self.tell = tell
         self.tell_unreadable = tell_unreadable
-        self.users = users_of(root)
 
     def tables(self):
         """Each table, in order: of the system, of users, and of anacron."""
@@ -134,8 +140,9 @@ class Finder:
         """The system tables in a folder whose names cron takes."""
         for name in self.names_in(folder, PLACE):
             path = f"{folder}/{name}"
-            if not TAKEN_NAME.fullmatch(name):
-                self.pass_over(path, "cron takes names of letters, digits, `_` and `-`")
+            reason = why_no_name(self.cron, name)
+            if reason:
+                self.pass_over(path, reason)
             elif self.is_file(path) and not self.is_masked(path):
                 yield Table("system", path, self.root.shown(path), PLACE)
 
@@ -145,14 +152,16 @@ class Finder:
             path = f"{folder}/{name}"
             if path in SPOOLS:
                 continue
-            is_user = self.users is not None and name in self.users
+            is_user = self.users.knows(name)
             reason = why_passed_over(name, is_user)
+            if not reason and self.cron == DEBIAN and folder != DEBIAN_SPOOL:
+                reason = f"{called(DEBIAN)} reads {DEBIAN_SPOOL} alone"
             if reason:
                 self.pass_over(path, reason)
             elif self.is_file(path) and not self.is_masked(path):
-                if self.users is not None and not is_user:
+                if self.cron == HEVTSORA and is_user is False:
                     self.tell(self.root.shown(path), orphan_note(self.root, name))
-                yield Table("crontab", path, self.root.shown(path), SPOOL)
+                yield Table("crontab", path, self.root.shown(path), SPOOL, name)
 
     def names_in(self, folder, origin):
         """The names in a folder; none where it can't be read, which is told."""

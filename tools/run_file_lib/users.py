@@ -1,5 +1,6 @@
 """The users of a machine, and the files in a spool that are no user's table."""
 import os
+import pwd
 import re
 
 from .faults import Stop, shown
@@ -10,13 +11,34 @@ COPY = re.compile(r".*~|#.*#", re.DOTALL)
 TEMPORARY = re.compile(r"tmp\.[A-Za-z0-9]+")
 
 
-def users_of(root):
-    """The names of the users in the passwd of a root; none where it can't be read."""
-    try:
-        lines = root.read(PASSWD).split(b"\n")
-    except OSError:
-        return None
-    return {os.fsdecode(line.split(b":")[0]) for line in lines if b":" in line}
+class Users:
+    """The users in the passwd of a root. Of this machine those are known, too, whom it knows by another way."""
+
+    def __init__(self, root):
+        self.is_own = root.is_own
+        try:
+            rows = [line.split(b":") for line in root.read(PASSWD).split(b"\n") if b":" in line]
+        except OSError:
+            rows = []
+            self.are_known = self.is_own
+        else:
+            self.are_known = True
+        self.numbers = {os.fsdecode(row[0]): int(row[2]) if len(row) > 2 and row[2].isdigit() else None for row in rows}
+
+    def knows(self, name):
+        """Whether a name is a user's; none where that can't be told."""
+        if not self.are_known:
+            return None
+        return name in self.numbers or self.uid_of(name) is not None
+
+    def uid_of(self, name):
+        """The number of a user; none where it isn't known."""
+        if name in self.numbers or not self.is_own:
+            return self.numbers.get(name)
+        try:
+            return pwd.getpwnam(name).pw_uid
+        except (KeyError, ValueError):
+            return None
 
 
 def why_passed_over(name, is_user):
