@@ -19,8 +19,8 @@ from ran_lib.command import run
 from ran_lib.commands import forms_of
 from ran_lib.lines import log_of
 from ran_lib.stamps import iso_second
+from run_file_lib.clocks import UTC, read_zone
 from run_file_lib.faults import Stop
-from run_file_lib.tzif import UTC, read_zone
 from small_world.run_file import RunFile
 from test_run_file import DOCUMENTS, HERE, PARIS, Memory, RunFileTest
 
@@ -129,7 +129,7 @@ class Logs(RanTest):
         self.assertEqual(log_of(lines[:2], clock, 1999, now).events[0].stamp, timegm((2000, 1, 1, 0, 0, 1)))
 
     def test_hours_that_come_twice_or_not(self):
-        clock = Clock(read_zone(PARIS))
+        clock = Clock(read_zone("Here", PARIS))
         twice, never = timegm((2024, 10, 27, 2, 30, 0)), timegm((2024, 3, 31, 2, 30, 0))
         self.assertEqual(clock.seconds_of(twice), [twice - 7200, twice - 3600])
         self.assertEqual(clock.seconds_of(never), [])
@@ -258,6 +258,14 @@ class Verdicts(RanTest):
 class Ends(RanTest):
     """What is told of faults."""
 
+    def test_stamps_by_the_clock(self):
+        """In Paris the hour is one later in winter."""
+        self.write("var/spool/cron/bob", "*/20 * * * * a\n")
+        log = self.write("log", logged("short-iso", ("01:00:01", "a"), ("01:20:01", "a")))
+        hour = ["--from", "2024-03-01 01:00", "--until", "2024-03-01T02:00"]
+        self.assertEqual(self.judged(log, *hour), self.judged(log, *HOUR))
+        self.assertEqual(self.judged(log, *hour)[0], 1)
+
     def test_faults(self):
         log = self.write("log", logged("3164", ("01:00:01", "one")))
         bad = self.write("bad", "no stamp\n")
@@ -266,7 +274,7 @@ class Ends(RanTest):
             ([bad], "ran: the log has no line with a stamp"),
             ([log], "ran: no whole minute is judged; --from and --until say which are"),
             ([log, "--year", "24"], "ran: --year: `24` is no number from 1971 to 2199"),
-            ([log, "--from", "today"], "ran: --from: `today` is no stamp; write it as 2024-03-31T00:00Z"),
+            ([log, "--from", "today"], "ran: --from: `today` is no stamp; write it as 2024-03-31, '2024-03-31 02:00' or 2024-03-31T00:00Z"),
             ([log, "--day", "31.3."], f"ran: --day: `31.3.` is no date; {AS}"),
             ([log, "--day", "today", "--from", "x"], "ran: --day says both ends; take it, or --from and --until"),
             ([f"{log}.none"], f"ran: {log}.none: it can't be read: No such file or directory"),

@@ -126,10 +126,32 @@ class Words(RunFileTest):
 
     def test_from(self):
         self.assertEqual(self.head("--from", "2024-02-29T12:30Z")[1], "window 2024-02-29T12:30Z 2024-03-01T12:30Z")
-        wrong = ["2024-02-30T00:00Z", "2024-02-03", "2024-2-3T00:00Z", "2024-02-03T24:00Z", "0000-01-01T00:00Z"]
+        self.assertEqual(self.head("--from", "2024-02-29T12:30+02:00")[1], "window 2024-02-29T10:30Z 2024-03-01T10:30Z")
+        wrong = ["2024-02-30T00:00Z", "2024-2-3T00:00Z", "2024-02-03T24:00Z", "0000-01-01T00:00Z", "2024-02-03Z", "tomorrow"]
         for text in [*wrong, "\u0662024-02-03T00:00Z"]:
-            message = f"run_file: --from: `{text}` is no stamp; write it as 2024-03-31T00:00Z"
+            message = f"run_file: --from: `{text}` is no stamp; write it as 2024-03-31, '2024-03-31 02:00' or 2024-03-31T00:00Z"
             self.assertEqual(self.faults("--from", text), [message])
+
+    def test_from_by_the_clock(self):
+        """Stamps of the tables' zone, in which days are those of its clock."""
+        words = ["--zone", "Europe/Paris", "--from"]
+        for text, window in (
+            ("2024-03-31", "2024-03-30T23:00Z 2024-03-31T22:00Z"),
+            ("2024-10-27", "2024-10-26T22:00Z 2024-10-27T23:00Z"),
+            ("2024-03-31 04:00", "2024-03-31T02:00Z 2024-04-01T02:00Z"),
+            ("2024-03-30T04:00", "2024-03-30T03:00Z 2024-03-31T02:00Z"),
+        ):
+            self.assertEqual(self.head(*words, text)[1], f"window {window}")
+        self.assertEqual(self.head(*words, "2024-03-31", "--until", "2024-04-01")[1], "window 2024-03-30T23:00Z 2024-03-31T22:00Z")
+
+    def test_times_that_the_clock_skips_or_shows_twice(self):
+        words = ["--zone", "Europe/Paris", "--from"]
+        skipped = "--from: 2024-03-31 02:10 is skipped in Europe/Paris, whose clock goes from 02:00 to 03:00 is taken, at 2024-03-31T01:00Z"
+        skipped = skipped.replace("to 03:00 is", "to 03:00; 03:00 is")
+        twice = "--from: 2024-10-27 02:10 comes twice in Europe/Paris, at 2024-10-27T00:10Z and 2024-10-27T01:10Z; the first is taken"
+        for text, first, note in (("2024-03-31 02:10", "2024-03-31T01:00Z", skipped), ("2024-10-27 02:10", "2024-10-27T00:10Z", twice)):
+            self.assertEqual(self.head(*words, text)[1][7:24], first)
+            self.assertIn(note, self.comments(*words, text))
 
     def test_years(self):
         for year in ("1970", "2200", "9999"):
@@ -150,8 +172,8 @@ class Words(RunFileTest):
         for text, message in (
             ("2024-03-30T00:00Z", "the window is empty: --until isn't behind --from"),
             ("2025-05-04T00:01Z", "the window is longer than 400 days of 24 hours"),
-            ("2200-01-01T00:01Z", "the window ends behind 2200-01-01T00:00Z"),
-            ("tomorrow", "--until: `tomorrow` is no stamp; write it as 2024-03-31T00:00Z"),
+            ("2200-01-01T00:01Z", "--until: 2200 isn't within the years 1971 to 2199"),
+            ("tomorrow", "--until: `tomorrow` is no stamp; write it as 2024-03-31, '2024-03-31 02:00' or 2024-03-31T00:00Z"),
         ):
             self.assertEqual(self.faults("--until", text), [f"run_file: {message}"])
         both = self.faults("--until", "2024-04-01T00:00Z", "--days", "1")

@@ -3,6 +3,8 @@
 
 Usage: tools/test_run_file_list.py [NAME..]
 """
+import csv
+import json
 import os
 import re
 import subprocess
@@ -11,6 +13,7 @@ from pathlib import Path
 
 from run_file_lib.anacrontabs import AnacronLines
 from run_file_lib.causes import CAUSES
+from run_file_lib.formats import FIELDS
 from run_file_lib.origins import Section, place_of
 from run_file_lib.program import PROGRAM
 from test_run_file import DOCUMENTS, HERE, TOOL, RunFileTest
@@ -80,17 +83,77 @@ end
         hours = "from 03:05 on and before 22:00"
         never = "never, since its first minute would be 22:00, and its hours end at 22:00"
         rows = [
-            ("2024-03-30 01:00  -               ", f"{user}:3", "b\\tc"),
-            ("2024-03-30 02:30  2024-03-30T01:30Z", f"{system}:2", "make a backup "),
-            ("2024-03-31 03:00  2024-03-31T01:00Z", f"{system}:2", "make a backup "),
-            ("2024-03-31 03:00  2024-03-31T01:00Z", f"{user}:1", "a"),
-            ("anacron    -      -               ", f"{slow}:2", f"once in 7 days, {hours}: x"),
-            ("anacron    -      -               ", f"{slow}:3", f"{never}: y"),
+            ("Sat 2024-03-30 02:00  2024-03-30T01:00Z", f"{user}:3", "bob", "[01:00 UTC] b\\tc"),
+            ("Sat 2024-03-30 02:30  2024-03-30T01:30Z", f"{system}:2", "root", "make a backup "),
+            ("Sun 2024-03-31 03:00  2024-03-31T01:00Z", "-", "-", "-- Europe/Paris goes from 02:00 to 03:00 --"),
+            ("Sun 2024-03-31 03:00  2024-03-31T01:00Z", f"{system}:2", "root", "[moved from 02:30] make a backup "),
+            ("Sun 2024-03-31 03:00  2024-03-31T01:00Z", f"{user}:1", "bob", "a"),
+            ("@reboot -      -      -                ", f"{system}:3", "root", "start"),
+            ("anacron -      -      -                ", f"{slow}:2", "root", f"once in 7 days, {hours}: x"),
+            ("anacron -      -      -                ", f"{slow}:3", "root", f"{never}: y"),
         ]
         width = len(f"{user}:3")
-        expected = [f"{times:35}  {place:{width}}  {text}" for times, place, text in rows]
-        self.assertEqual(self.answered("--list"), (0, expected, []))
-        self.assertEqual([line.split()[3] for line in expected], [place for _, place, _ in rows])
+        expected = [f"{times}  {place:{width}}  {name:4}  {text}" for times, place, name, text in rows]
+        self.assertEqual(self.answered("--list", "--days", "2"), (0, expected, []))
+        self.assertEqual([line.split()[4] for line in expected], [place for _, place, _, _ in rows])
+
+    def test_forms(self):
+        """The same rows as objects of JSON and as comma-separated values."""
+        system, user, _ = self.machine()
+        self.program(self.ANSWER)
+        _, lines, _ = self.answered("--list", "--json", "--days", "2")
+        objects = [json.loads(line) for line in lines]
+        self.assertEqual([list(it) for it in objects], [FIELDS] * 8)
+        kinds = ["launch", "launch", "clock", "launch", "launch", "reboot", "anacron", "anacron"]
+        self.assertEqual([it["kind"] for it in objects], kinds)
+        first = [1, "launch", "2024-03-30T02:00", "Sat", "Europe/Paris", "2024-03-30T01:00Z", "2024-03-30T01:00", "UTC", None, "bob"]
+        self.assertEqual(list(objects[0].values()), [*first, user, 3, "spool-bob:2", "b\tc", None])
+        self.assertEqual((objects[3]["moved_from"], objects[3]["file"]), ("2024-03-31T02:30", system))
+        self.assertEqual((objects[2]["entry_zone"], objects[2]["text"]), ("Europe/Paris", "Europe/Paris goes from 02:00 to 03:00"))
+        self.assertIsNone(objects[5]["utc"])
+        _, lines, _ = self.answered("--list", "--csv", "--days", "2")
+        rows = list(csv.reader(lines))
+        self.assertEqual(rows[0], FIELDS)
+        self.assertEqual(rows[1:], [["" if value is None else str(value) for value in it.values()] for it in objects])
+
+    def test_words_of_forms(self):
+        for words, message in (
+            (["--list", "--json", "--csv"], "--json and --csv are two forms; take one of them"),
+            (["--json"], "--json and --csv are forms of --list"),
+            (["--check", "--csv"], "--json and --csv are forms of --list"),
+        ):
+            self.assertEqual(self.faults(*words), [f"run_file: {message}"])
+
+    def test_windows(self):
+        """The program is asked about 400 days at most."""
+        self.write("var/spool/cron/bob", "0 0 1 1 * x\n")
+        self.write("room/program", f"#!/bin/sh\ncd '{self.file('room')}' && sed -n 3p >> windows; cat answer\n")
+        self.write("room/windows", "")
+        self.assertEqual(self.answered("--list", "--from", "2024-01-01T00:00Z", "--days", "1000"), (0, [], []))
+        ends = ["2024-01-01", "2025-02-04", "2026-03-11", "2026-09-27"]
+        windows = [f"window {first}T00:00Z {last}T00:00Z" for first, last in zip(ends, ends[1:])]
+        self.assertEqual(self.kept("windows").split("\n")[:-1], windows)
+
+    def test_a_minute_that_is_refused(self):
+        """A run has at most 1,000 jobs, so the program takes each minute: a refusal of one is told."""
+        self.write("var/spool/cron/bob", "0 0 1 1 * x\n")
+        self.program("", "cron_cluster: line 0: cause 24 at 0\n", 2)
+        status, lines, notes = self.answered("--list", "--until", "2024-03-30T00:01Z")
+        message = "run_file: the program refuses the run file: more than 20,000 due instants (cause 24)"
+        self.assertEqual((status, lines, notes), (1, [], [message]))
+
+    def test_halves(self):
+        """The parts follow each other, and each is taken at half its length where it is refused."""
+        self.write("var/spool/cron/bob", "0 0 1 1 * x\n")
+        longest = "test $(( $(date -ud $last +%s) - $(date -ud $first +%s) )) -gt 21600"
+        refuse = "echo 'cron_cluster: line 0: cause 24 at 0' >&2; exit 2"
+        body = f"set -- $(sed -n 3p run); first=$2 last=$3; if {longest}; then {refuse}; fi; echo $first $last >> windows; cat answer"
+        self.write("room/program", f"#!/bin/sh\ncd '{self.file('room')}' && cat > run\n{body}\n")
+        self.write("room/windows", "")
+        self.assertEqual(self.answered("--list", "--from", "2024-01-01T00:00Z"), (0, [], []))
+        windows = [line.split() for line in self.kept("windows").split("\n")[:-1]]
+        self.assertEqual([windows[0][0], *(last for _, last in windows)], [f"2024-01-0{1 + hour // 24}T{hour % 24:02}:00Z" for hour in range(0, 25, 6)])
+        self.assertTrue(all(one[1] == other[0] for one, other in zip(windows, windows[1:])))
 
     def test_what_the_program_gets(self):
         self.machine()
@@ -109,7 +172,7 @@ end
         self.program("cron due 1\njob spool-bob:1 version 0 count 1\ndue spool-bob:1@20240330T0100Z 2024-03-30T01:00\nend\n")
         status, lines, notes = self.answered("--list", "--skip")
         self.assertEqual((status, len(notes)), (0, 1))
-        self.assertEqual(lines, [f"2024-03-30 01:00  {'-':17}  {self.file('var/spool/cron/bob')}:2  b"])
+        self.assertEqual(lines, [f"Sat 2024-03-30 01:00  {'-':17}  {self.file('var/spool/cron/bob')}:2  bob  b"])
 
     def test_together(self):
         message = "run_file: --list and --check are two answers; take one of them"

@@ -5,12 +5,11 @@ from datetime import datetime, timedelta
 from itertools import chain
 
 from run_file_lib.faults import Stop, counted, shown, why
-from run_file_lib.options import LISTS, OPTIONS, Parser, instant_of, layout, number_of
-from run_file_lib.rules import EPOCH
+from run_file_lib.options import LISTS, OPTIONS, Parser, layout, number_of
 
 from .lines import log_of
 from .rows import json_lines, summary, text_lines
-from .tables import MINUTE, Tables
+from .tables import Tables
 from .verdicts import LATE, MISSING, NO_TABLE, NOT_DUE, TWICE, counts_of, findings_of
 
 ABOUT = """\
@@ -33,8 +32,8 @@ FOUND, FAULT = 1, 2
 MOST_LATE = 525_600
 # The other options: each with what stands behind it, what it is by default, and what it does.
 OWN = [
-    ("--from", "STAMP", None, "the first minute that is judged, in UTC; by default the log's first whole one"),
-    ("--until", "STAMP", None, "the minute behind the last one, in UTC; by default the log's last one"),
+    ("--from", "STAMP", None, "the first minute that is judged, by the tables' clock or in UTC; by default the log's first whole one"),
+    ("--until", "STAMP", None, "the minute behind the last one; by default the log's last one"),
     ("--day", "DATE", None, "in place of these: a whole day by the tables' clock, as 2024-03-31, or today, or yesterday"),
     ("--grace", "MINUTES", "0", "how late a launch may be without being told; 0 by default"),
     ("--late", "MINUTES", "5", "how late a launch may be taken to be where its entry was due again since; 5 by default"),
@@ -103,19 +102,19 @@ def day_of(text, clock, now):
     return tuple(clock.begin_of(it) // 60 for it in (day, day + timedelta(days=1)))
 
 
-def window_of(options, log, clock, now):
+def window_of(options, log, tables, now):
     """The minutes that are judged: from one on and before another."""
     if log.first is None and (options.day or (options.first and options.until)) is None:
         raise Stop("ran: the log has no line with a stamp")
     if options.day is not None:
         if options.first is not None or options.until is not None:
             raise Stop("ran: --day says both ends; take it, or --from and --until")
-        return day_of(options.day, clock, now)
+        return day_of(options.day, tables.clock, now)
     first, end = (0, 0) if log.first is None else (-(-log.first // 60), log.last // 60 + (0 if log.has_seconds else 1))
     if options.first is not None:
-        first = (instant_of("--from", options.first) - EPOCH) // MINUTE
+        first = tables.minute_of("--from", options.first)
     if options.until is not None:
-        end = (instant_of("--until", options.until) - EPOCH) // MINUTE
+        end = tables.minute_of("--until", options.until)
     if first >= end:
         raise Stop("ran: no whole minute is judged; --from and --until say which are")
     return first, end
@@ -126,7 +125,7 @@ def judged(options, tables, now):
     year = None if options.year is None else number_of("--year", options.year, 1971, 2199)
     grace, near = (number_of(f"--{word}", getattr(options, word), 0, MOST_LATE) for word in ("grace", "late"))
     log = log_of(lines_in(options.logs), tables.clock, year, now)
-    first, end = window_of(options, log, tables.clock, now)
+    first, end = window_of(options, log, tables, now)
     entries, dates = tables.entries(first - near, end)
     tables.streams.note(f"# {counted(log.lines, 'line')} of the log with {len(log.events):,} launches")
     if dates:

@@ -1,9 +1,9 @@
 """What is told of findings: a line each, and a summary; as text, or as objects of JSON."""
 import json
 
+from run_file_lib.clocks import EPOCH
 from run_file_lib.faults import counted, place, shown
-from run_file_lib.options import stamp_of
-from run_file_lib.rules import EPOCH
+from run_file_lib.stamps import stamp_of
 
 from .tables import MINUTE
 from .verdicts import AT_START, LATE, MISSING, NOT_DUE, NO_TABLE, ON_TIME, TWICE, counts_of

@@ -4,11 +4,13 @@ import re
 from collections import namedtuple
 from datetime import datetime, timedelta
 
+from run_file_lib import stamps
+from run_file_lib.clocks import EPOCH
 from run_file_lib.faults import NoAnswer, Stop, cause_of
 from run_file_lib.gather import Gatherer
-from run_file_lib.options import options_of, stamp_of
+from run_file_lib.options import options_of
 from run_file_lib.program import answer_of
-from run_file_lib.rules import EPOCH
+from run_file_lib.stamps import stamp_of
 from run_file_lib.users import split_users
 
 from .clock import Clock
@@ -41,7 +43,17 @@ class Tables:
         self.environment = environment
         self.streams = streams
         silent = Gatherer(options_of(words), environment, Silent())
-        self.clock = Clock(silent.zones.local_times[silent.zone_of_the_tables()])
+        name = silent.zone_of_the_tables()
+        zone = silent.zones.local_times[name]
+        self.clock = Clock(zone)
+        self.stamps = stamps.Clock(name, zone)
+
+    def minute_of(self, word, text):
+        """The minute since 1970 of a stamp behind a word. What is to be told of it is told."""
+        minute = (self.stamps.moment(word, text).instant - EPOCH) // MINUTE
+        while self.stamps.notes:
+            self.streams.note(f"# {self.stamps.notes.pop(0)}")
+        return minute
 
     def are_all(self):
         """Whether these are all tables of a machine, and not some that are named."""

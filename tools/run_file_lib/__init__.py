@@ -13,12 +13,15 @@ crontabs     what is wrong with a line of a crontab or of a system table
 anacrontabs  the same of an anacrontab
 fields       the same of a field of an entry
 zones        the zones that are named, and their files
-tzif         what the clock of a zone shows, by its file
-rules        the same by the rule at the file's end
+clocks       what the clock of a zone shows, and its changes, by Python's zoneinfo
+stamps       the stamps of the command line, and the window
 machine_zone the zone of a machine
 origins      where the jobs and the lines of a run file come from
 program      the built program, and its refusals
-due_list     the due list of the program, with where each line comes from
+windows      the due list of the program, over a window of any length
+due_list     its rows, with where each comes from
+matching     when an entry is due by its fields
+formats      the rows as text, as JSON and as comma-separated values
 findings     what is wrong with the tables, by the script and by the program
 causes       the causes for which the program refuses a line or a run file
 faults       what is told: a fault that ends the command, and the words of a fault

@@ -3,6 +3,7 @@ import re
 
 from .crontabs import assignment_of, command_fault, quoted_name_fault, split_word
 from .faults import caused, shown
+from .origins import Job
 
 # The periods that have names, in words.
 PERIODS = {
@@ -44,12 +45,12 @@ class AnacronLines:
         """Whether a line that is no comment is a job."""
         return assignment_of(text) is None
 
-    def job_of(self, text, _place):
-        """What the name of a job has behind the label, and its command. The line is good."""
+    def job_of(self, number, text, _place):
+        """The job of a line. The line is good."""
         _, rest = split_word(text)
         _, rest = split_word(rest)
         identifier, command = split_word(rest)
-        return f"/{identifier}", command
+        return Job(f"/{identifier}", number, command, self.when_of(text), "root", None, text)
 
     def when_of(self, text):
         """When a job is launched, in words. The line is good."""

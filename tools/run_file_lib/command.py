@@ -1,6 +1,7 @@
 """The command: it reads the words, the tables and the zones, and writes the run file, or what the program answers to it."""
-from .due_list import due_lines
+from .due_list import DueList
 from .faults import Stop
+from .formats import Csv, Json, Text
 from .gather import Gatherer
 from .options import options_of, parser
 
@@ -35,12 +36,30 @@ class Command:
         """Writes what the options ask for, and gives the status."""
         made = self.gatherer.run_file(now)
         if self.options.list:
-            self.output_lines(due_lines(self.options.program, made))
-        elif self.options.check:
+            return self.list(made)
+        if self.options.check:
             return self.check(made)
-        else:
-            self.streams.output(made.data)
+        self.streams.output(made.data)
         return 0
+
+    def list(self, made):
+        """Writes the due list, part by part, and gives the status. Where nobody reads on, nothing is at fault."""
+        gatherer = self.gatherer
+        due = DueList(self.options.program, made, gatherer.zone, gatherer.zones.local_times)
+        form = self.form()(due)
+        head = list(form.head)
+        try:
+            for rows in due.rows():
+                self.output_lines([*head, *map(form.line, rows)])
+                head = []
+        except Stop as stop:
+            if not isinstance(stop.__cause__, BrokenPipeError):
+                raise
+        return 0
+
+    def form(self):
+        """The form of rows that the options ask for."""
+        return Json if self.options.json else Csv if self.options.csv else Text
 
     def check(self, made):
         """Writes what is wrong with the tables, and gives the status."""

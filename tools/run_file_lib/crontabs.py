@@ -3,6 +3,7 @@ import re
 
 from .faults import caused, shown
 from .fields import KINDS, field_fault
+from .origins import Job
 
 BLANKS = re.compile("[ \t]+")
 ASSIGNMENT = re.compile("([A-Za-z_][A-Za-z0-9_]*)[ \t]*=(.*)", re.DOTALL)
@@ -49,9 +50,12 @@ def command_fault(command):
 class CrontabLines:
     """The lines of one crontab, judged from the first one on. In a system table each entry has a user."""
 
-    def __init__(self, is_system, zones):
+    def __init__(self, is_system, zones, owner=None):
         self.is_system = is_system
         self.zones = zones
+        # Whose entries these are, and the zone that a CRON_TZ names; none where it is the table's.
+        self.owner = owner
+        self.zone = None
 
     def group(self, lines):
         """The lines that are read together: each by itself."""
@@ -65,16 +69,13 @@ class CrontabLines:
         """Whether a line that is no comment is an entry."""
         return assignment_of(text) is None
 
-    def job_of(self, text, place):
-        """What the name of a job has behind the label, and its command. The entry is good, and that place is its own."""
+    def job_of(self, number, text, place):
+        """The job of a line, which is the entry of that place. The line is good."""
         rest = text
         for _ in [None] if text.startswith("@") else KINDS:
             _, rest = split_word(rest)
-        return f":{place}", split_word(rest)[1] if self.is_system else rest
-
-    def when_of(self, _text):
-        """When a job is launched, in words: of an entry the program tells it."""
-        return ""
+        user, command = split_word(rest) if self.is_system else (self.owner, rest)
+        return Job(f":{place}", number, command, "", user, self.zone, text)
 
     def is_picked_by_label(self, text):
         """Whether an entry has a `?`, whose value the label of the table picks. In a system table the user picks it."""
@@ -95,7 +96,10 @@ class CrontabLines:
         if assignment is None:
             return self.entry_fault(text)
         name, value = assignment
-        return self.zones.fault_of(value) if name == "CRON_TZ" else None
+        if name != "CRON_TZ":
+            return None
+        self.zone = value
+        return self.zones.fault_of(value)
 
     def nickname_fault(self, text):
         """What is wrong with an entry of a nickname."""

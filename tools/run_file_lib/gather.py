@@ -6,12 +6,16 @@ from .faults import Stop, at, caused, counted, lines_told, same_in, shown, why
 from .findings import Findings
 from .labels import label_of
 from .machine_zone import MachineZone, machine_zone, other_zones
-from .options import head_of
+from .options import head_of, number_of
 from .origins import RunFile, Section, lines_of_sections, placed
 from .places import MOST_BYTES, OPTION, SPOOL, Finder, Root, Table, read_file, read_regular
+from .stamps import MOST_DAYS, Clock, judge_length
 from .tables import LEFT_OUT, JobCount, TableReader, end_fault, lines_of, text_fault, told_once
 from .users import PASSWD, Users, orphan_note, split_users
 from .zones import Zones
+
+# As many days as there are in the years of the program.
+MOST_DAYS_OF_A_LIST = 83_644
 
 
 class Gatherer:
@@ -25,6 +29,7 @@ class Gatherer:
         self.users = Users(self.root)
         self.cron = Cron(options.cron, "--cron") if options.cron else cron_of(self.root)
         self.zones = self.zones_of_the_run()
+        self.zone = "UTC"
         self.count = JobCount()
         self.labels = set()
         self.files = {}
@@ -33,9 +38,10 @@ class Gatherer:
 
     def run_file(self, now):
         """The run file, with the origins of its sections."""
-        zone = self.zone_of_the_tables()
+        self.zone = zone = self.zone_of_the_tables()
         self.comment(f"the cron is {called(self.cron.name)}, by {self.cron.source}")
-        head = head_of(self.options, now, self.zones.local_times[zone])
+        window = self.window_of_the_run(zone, now)
+        head = head_of(self.options, window)
         read = [self.section(table, zone) for table in self.tables()]
         script = self.script()
         if self.faults:
@@ -48,7 +54,7 @@ class Gatherer:
         if len(data) > MOST_BYTES:
             size = f"the run file would have {len(data):,} bytes, and the program takes {MOST_BYTES:,}"
             raise Stop(f"run_file: {caused(33, size)}")
-        return RunFile(data, sections)
+        return RunFile(data, sections, window)
 
     def comment(self, text):
         """Tells what is no fault."""
@@ -85,6 +91,18 @@ class Gatherer:
             return Zones(folder, lambda name: read_regular(os.path.join(folder, name)))
         usual = "/usr/share/zoneinfo"
         return Zones(self.root.shown(usual), lambda name: self.root.read(f"{usual}/{name}"))
+
+    def window_of_the_run(self, zone, now):
+        """The window, which may be a long one where the program isn't asked about all of it at once."""
+        clock = Clock(zone, self.zones.local_times[zone])
+        options = self.options
+        most = MOST_DAYS_OF_A_LIST if options.list else MOST_DAYS
+        window = clock.window(options, now, 1 if options.days is None else number_of("--days", options.days, 1, most))
+        if not options.list:
+            judge_length(window)
+        for text in window.notes:
+            self.comment(text)
+        return window
 
     def zone_of_the_tables(self):
         """The name of the zone of all sections."""
@@ -167,7 +185,7 @@ class Gatherer:
         label = label_of(table.path, self.labels)
         self.labels.add(label)
         lines = self.lines_for_the_program(table.file, lines_of(data), verdict)
-        reader = TableReader(table.kind, self.zones, self.count, keeps_faults=self.options.check)
+        reader = TableReader(table.kind, self.zones, self.count, table.user, self.options.check)
         reader.read(lines)
         fronts = {number: size for number, (_, size) in verdict.changed.items() if size}
         section = Section(table.kind, label, zone, table.file, 0, reader.kept, reader.jobs, fronts)

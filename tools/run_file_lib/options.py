@@ -1,18 +1,14 @@
 """The words of the command line, and the limits of the first lines of a run file."""
 import argparse
 import re
-from datetime import datetime, timedelta
+from datetime import timedelta
 
 from .daemons import CRONS
-from .faults import Stop, counted, shown
-from .tzif import beginning_of, clock_at
+from .faults import Stop, shown
+from .stamps import MOST_DAYS, MOST_MINUTES, stamp_of
 
 MOST_REPLICAS = 7
 MOST_GRACE = 525_600
-MOST_MINUTES = 576_000
-MOST_DAYS = MOST_MINUTES // 1440
-FIRST, LAST = datetime(1971, 1, 1), datetime(2200, 1, 1)
-STAMP = re.compile("([0-9]{4})-([0-9]{2})-([0-9]{2})T([0-9]{2}):([0-9]{2})Z")
 NUMBER = re.compile("0|[1-9][0-9]{0,8}")
 
 ABOUT = """\
@@ -37,9 +33,9 @@ unless the output failed in the midst. It is 2 where the program can't be run or
 # Each option: its word, what stands behind it, what it does, and an example.
 OPTIONS = [
     ("--root", "DIR", "the file system whose tables are read; the machine's own, /, by default", "--root /mnt/copy"),
-    ("--from", "STAMP", "the first minute, in UTC; by default that of today in the tables' zone", "--from 2024-03-31T00:00Z"),
-    ("--days", "N", f"how many days from there on, 1 to {MOST_DAYS}; 1 by default", "--days 3"),
-    ("--until", "STAMP", "in place of --days: the minute behind the last one, in UTC", "--until 2024-04-01T12:00Z"),
+    ("--from", "STAMP", "the first minute, by the tables' clock or in UTC; by default that of today", "--from 2027-03-28"),
+    ("--days", "N", f"how many days from there on, 1 to {MOST_DAYS}, and more with --list; 1 by default", "--days 3"),
+    ("--until", "STAMP", "in place of --days: the minute behind the last one", "--until '2027-03-29 12:00'"),
     ("--grace", "MINUTES", f"how late a launch may be, 0 to {MOST_GRACE} minutes; 0 by default", "--grace 60"),
     ("--replicas", "N", f"how many replicas there are, 1 to {MOST_REPLICAS}; 1 by default", "--replicas 3"),
     ("--script", "FILE", "the lines between `script` and `end`; none by default", "--script duel.script"),
@@ -57,6 +53,8 @@ OPTIONS = [
     ("--modes", None, "look at the owner, the mode and the names of files below --root, too, as for /", "--modes"),
     ("--skip", None, "leave out each line that can't be taken, and tell it, and each job's line", "--skip"),
     ("--list", None, "in place of the run file: when each entry is due, with its line and its command", "--list --days 7"),
+    ("--json", None, "with --list: each row as an object of JSON, one a line", "--list --json"),
+    ("--csv", None, "with --list: the rows as comma-separated values, with their names first", "--list --csv"),
     ("--check", None, "in place of the run file: each line at fault, as the program finds it", "--check"),
     ("--program", "PATH", "the program of --list and --check; the built one by default", "--program ~/bin/cron_cluster"),
     ("--help", None, "print this text", "--help"),
@@ -105,6 +103,10 @@ def options_of(words):
         raise Stop("run_file: --list and --check are two answers; take one of them")
     if options.check and options.skip:
         raise Stop("run_file: --check tells each line at fault, and --skip leaves it out; take one of them")
+    if options.json and options.csv:
+        raise Stop("run_file: --json and --csv are two forms; take one of them")
+    if (options.json or options.csv) and not options.list:
+        raise Stop("run_file: --json and --csv are forms of --list")
     return options
 
 
@@ -115,47 +117,9 @@ def number_of(word, text, least, most):
     return int(text)
 
 
-def instant_of(word, text):
-    """The instant of a stamp behind a word."""
-    found = STAMP.fullmatch(text)
-    try:
-        instant = datetime(*map(int, found.groups())) if found else None
-    except ValueError:
-        instant = None
-    if instant is None:
-        raise Stop(f"run_file: {word}: `{shown(text)}` is no stamp; write it as 2024-03-31T00:00Z")
-    return instant
-
-
-def stamp_of(instant):
-    """The stamp of an instant."""
-    return instant.strftime("%Y-%m-%dT%H:%MZ")
-
-
-def window_of(options, now, zone):
-    """The line of the window. Without --from its days are those of a zone, from today on."""
-    if options.days is not None and options.until is not None:
-        raise Stop("run_file: --days and --until say the same; take one of them")
-    today = clock_at(zone, now).date()
-    first = beginning_of(zone, today) if options.first is None else instant_of("--from", options.first)
-    if not FIRST <= first < LAST:
-        raise Stop(f"run_file: --from: {first.year} isn't within the years 1971 to 2199")
-    days = timedelta(days=1 if options.days is None else number_of("--days", options.days, 1, MOST_DAYS))
-    if options.until is not None:
-        last = instant_of("--until", options.until)
-    else:
-        last = beginning_of(zone, today + days) if options.first is None else first + days
-    if last > LAST:
-        raise Stop(f"run_file: the window ends behind {stamp_of(LAST)}")
-    if last <= first:
-        raise Stop("run_file: the window is empty: --until isn't behind --from")
-    if last - first > timedelta(minutes=MOST_MINUTES):
-        raise Stop(f"run_file: the window is longer than {counted(MOST_DAYS, 'day')} of 24 hours")
-    return f"window {stamp_of(first)} {stamp_of(last)}"
-
-
-def head_of(options, now, zone):
-    """The first four lines of the run file. `now` is in UTC, and the zone is that of the tables."""
+def head_of(options, window):
+    """The first four lines of the run file. The program is given no more than the longest window that it takes."""
     replicas = number_of("--replicas", options.replicas, 1, MOST_REPLICAS)
     grace = number_of("--grace", options.grace, 0, MOST_GRACE)
-    return ["cronrun 1", f"replicas {replicas}", window_of(options, now, zone), f"grace {grace}"]
+    last = min(window.last, window.first + timedelta(minutes=MOST_MINUTES))
+    return ["cronrun 1", f"replicas {replicas}", f"window {stamp_of(window.first)} {stamp_of(last)}", f"grace {grace}"]

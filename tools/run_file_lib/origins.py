@@ -1,15 +1,15 @@
 """Where the jobs and the lines of a run file come from."""
 from collections import namedtuple
 
-# A run file: its bytes, and its sections in order.
-RunFile = namedtuple("RunFile", "data sections")
+# A run file: its bytes, its sections in order, and its window.
+RunFile = namedtuple("RunFile", "data sections window", defaults=[None])
 # A section: its kind, label and zone, the file of its table, the line of the run file that is the table's first one, the lines
 # of the table as the run file has them, its jobs, and how many bytes a line lacks at its front, by the line. A table has as many
 # lines in the run file as in its own.
 Section = namedtuple("Section", "kind label zone file first lines jobs fronts", defaults=[{}])
-# A job: what its name has behind the label, `:K` or `/IDENTIFIER`, the line of its table, its command, and for one of an
-# anacrontab when it is launched, in words.
-Job = namedtuple("Job", "ending line command when", defaults=[""])
+# A job: what its name has behind the label, `:K` or `/IDENTIFIER`, the line of its table, its command, for one of an anacrontab when
+# it is launched, in words, whose it is, where that is known, the zone that a CRON_TZ names, where one does, and its text.
+Job = namedtuple("Job", "ending line command when user zone text", defaults=["", None, None, ""])
 
 
 def placed(sections, first):
@@ -27,8 +27,15 @@ def lines_of_sections(sections):
 
 
 def jobs_of(sections):
-    """Each job's file and the job, by its name in the report."""
-    return {section.label + job.ending: (section.file, job) for section in sections for job in section.jobs}
+    """Each job's section and the job, by its name in the report."""
+    return {section.label + job.ending: (section, job) for section in sections for job in section.jobs}
+
+
+def of_window(made, first, last):
+    """The same run file, but for its window."""
+    head = made.data.split(b"\n", 3)
+    head[2] = f"window {first:%Y-%m-%dT%H:%M}Z {last:%Y-%m-%dT%H:%M}Z".encode()
+    return made._replace(data=b"\n".join(head))
 
 
 def origin_of(sections, line):

@@ -4,7 +4,6 @@ from collections import namedtuple
 from .anacrontabs import AnacronLines
 from .crontabs import CrontabLines
 from .faults import caused
-from .origins import Job
 
 # What is wrong at a line. Where the line itself is good but stands on another one that isn't, it follows from that.
 Trouble = namedtuple("Trouble", "line text follows")
@@ -62,8 +61,8 @@ class TableReader:
     """Reads one table. `kept` are its lines, with a comment in place of each that can't be taken; where the lines at fault are
     kept too, in place of each that is no text. `picked` are the lines of entries with a value that the label picks."""
 
-    def __init__(self, kind, zones, count, keeps_faults=False):
-        self.judge = AnacronLines() if kind == "anacrontab" else CrontabLines(kind == "system", zones)
+    def __init__(self, kind, zones, count, owner=None, keeps_faults=False):
+        self.judge = AnacronLines() if kind == "anacrontab" else CrontabLines(kind == "system", zones, owner)
         self.count = count
         self.keeps_faults = keeps_faults
         self.kept = []
@@ -117,7 +116,6 @@ class TableReader:
 
     def add_job(self, number, text):
         """Adds the job of a line."""
-        ending, command = self.judge.job_of(text, len(self.jobs) + 1)
-        self.jobs.append(Job(ending, number, command, self.judge.when_of(text)))
+        self.jobs.append(self.judge.job_of(number, text, len(self.jobs) + 1))
         if self.judge.is_picked_by_label(text):
             self.picked.append(number)

@@ -3,8 +3,8 @@ import errno
 import os
 import re
 
+from .clocks import UTC, ZoneFault, read_zone
 from .faults import caused, shown, why
-from .tzif import UTC, ZoneFault, read_zone
 
 NAME = re.compile("[A-Za-z0-9/_+-]{1,64}")
 MOST_ZONES = 32
@@ -41,7 +41,7 @@ class Zones:
         if name in self.local_times:
             return None
         try:
-            local_time = read_zone(data)
+            local_time = read_zone(name, data)
         except ZoneFault as fault:
             return caused(32, f"the zone {name} can't be taken: {shown(file)} {fault}")
         if len(self.files) == MOST_ZONES:

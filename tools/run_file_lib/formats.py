@@ -1,0 +1,117 @@
+"""The forms of a due list's rows: as text, as objects of JSON, and as comma-separated values. docs/MACHINE.md tells each field."""
+import csv
+import io
+import json
+from datetime import date
+
+from .due_list import ANACRON_JOB, CLOCK, LAUNCH, REBOOT
+from .faults import place, shown
+
+VERSION = 1
+FIELDS = "version kind local weekday zone utc entry_local entry_zone moved_from user file line job command text".split()
+WEEK_DAYS = "Mon Tue Wed Thu Fri Sat Sun".split()
+# What stands where there is nothing to tell.
+NOTHING = "-"
+WORDS = {REBOOT: "@reboot", ANACRON_JOB: "anacron"}
+
+
+class WeekDays(dict):
+    """The day of the week of each date, as `2024-03-31`."""
+
+    def __missing__(self, day):
+        self[day] = WEEK_DAYS[date.fromisoformat(day).weekday()]
+        return self[day]
+
+
+def utc_of(at):
+    """An instant as a stamp without its `Z`."""
+    return f"{at[:4]}-{at[4:6]}-{at[6:8]}T{at[9:11]}:{at[11:]}"
+
+
+class Text:
+    """Rows as lines of columns."""
+
+    head = ()
+
+    def __init__(self, due):
+        origins = due.origins.values()
+        places = {origin.name: place(origin.section.file, origin.job.line) for origin in origins}
+        width = max(map(len, places.values()), default=1)
+        users = {origin.name: shown(origin.job.user or NOTHING) for origin in origins}
+        most = max(map(len, users.values()), default=1)
+        self.fronts = {name: f"{where:{width}}  {users[name]:{most}}  " for name, where in places.items()}
+        self.commands = {origin.name: shown(origin.job.command) for origin in origins}
+        self.ends = {name: front + self.commands[name] for name, front in self.fronts.items()}
+        # The front of the last line, which is often that of the next one.
+        self.last, self.stamp = None, ""
+        self.nowhere = f"{NOTHING:{width}}  {NOTHING:{most}}  "
+        self.days = WeekDays()
+
+    def line(self, row):
+        """The line of a row."""
+        if row.instant is None:
+            name = row.origin.name
+            word = f"{WORDS[row.kind]:8}{NOTHING:7}{NOTHING:5}  {NOTHING:17}"
+            return f"{word}  {self.fronts[name]}{self.when(row)}{self.commands[name]}"
+        if row.instant != self.last:
+            self.last, self.stamp = row.instant, self.stamp_of(row)
+        if row.kind == CLOCK:
+            return f"{self.stamp}{self.nowhere}-- {row.text} --"
+        if not row.other and not row.moved:
+            return self.stamp + self.ends[row.origin.name]
+        return f"{self.stamp}{self.fronts[row.origin.name]}{self.remarks(row)} {self.commands[row.origin.name]}"
+
+    def stamp_of(self, row):
+        """The columns of a row's time."""
+        day, time, utc = row.local[:10], row.local[11:], utc_of(row.instant)
+        return f"{self.days[day]} {day} {time}  {NOTHING if utc == row.local else utc + 'Z':17}  "
+
+    def when(self, row):
+        """When a row without an instant is launched."""
+        return f"{row.origin.job.when}: " if row.kind == ANACRON_JOB else ""
+
+    def remarks(self, row):
+        """What is told of a row before its command: the clock of another zone, and from when it was moved."""
+        told = []
+        if row.other:
+            day = "" if row.other[:10] == row.local[:10] else f"{self.days[row.other[:10]]} {row.other[:10]} "
+            told.append(f"{day}{row.other[11:]} {row.origin.zone}")
+        if row.moved:
+            told.append(f"moved from {row.moved:%H:%M}")
+        return f"[{', '.join(told)}]"
+
+
+class Json:
+    """Rows as objects of JSON, one a line."""
+
+    head = ()
+
+    def __init__(self, due):
+        self.zone = due.zone
+        self.days = WeekDays()
+
+    def line(self, row):
+        """The line of a row."""
+        return json.dumps(dict(zip(FIELDS, self.values(row))), ensure_ascii=False)
+
+    def values(self, row):
+        """The values of a row's fields; none where a field says nothing."""
+        at = (row.local, row.local and self.days[row.local[:10]], self.zone, row.instant and utc_of(row.instant) + "Z")
+        if row.kind == CLOCK:
+            return (VERSION, CLOCK, *at, None, row.other, *(None,) * 6, row.text)
+        origin, job = row.origin, row.origin.job
+        entry = (row.other or row.local, origin.zone, row.moved and f"{row.moved:%Y-%m-%dT%H:%M}")
+        source = (job.user, origin.section.file, job.line, origin.name, job.command)
+        return (VERSION, row.kind, *at, *(entry if row.kind == LAUNCH else (None,) * 3), *source, job.when or None)
+
+
+class Csv(Json):
+    """Rows as comma-separated values."""
+
+    head = (",".join(FIELDS),)
+
+    def line(self, row):
+        """The line of a row, which may hold line ends of its own in quotes."""
+        written = io.StringIO()
+        csv.writer(written, lineterminator="").writerow(["" if value is None else value for value in self.values(row)])
+        return written.getvalue()
