@@ -119,8 +119,8 @@ end
     def test_words_of_forms(self):
         for words, message in (
             (["--list", "--json", "--csv"], "--json and --csv are two forms; take one of them"),
-            (["--json"], "--json and --csv are forms of --list"),
-            (["--check", "--csv"], "--json and --csv are forms of --list"),
+            (["--json"], "--json and --csv are forms of --list and of --next"),
+            (["--check", "--csv"], "--json and --csv are forms of --list and of --next"),
         ):
             self.assertEqual(self.faults(*words), [f"run_file: {message}"])
 

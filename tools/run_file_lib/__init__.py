@@ -21,6 +21,9 @@ program      the built program, and its refusals
 windows      the due list of the program, over a window of any length
 due_list     its rows, with where each comes from
 matching     when an entry is due by its fields
+explain      why an entry is due at a minute, or isn't
+changes      what a new table changes
+hints        what a table says and its writer hardly means
 formats      the rows as text, as JSON and as comma-separated values
 findings     what is wrong with the tables, by the script and by the program
 causes       the causes for which the program refuses a line or a run file

@@ -48,9 +48,9 @@ def why(fault):
     return fault.strerror or str(fault)
 
 
-def counted(number, word):
-    """A number of things."""
-    return f"{number:,} {word}" if number == 1 else f"{number:,} {word}s"
+def counted(number, word, words=None):
+    """A number of things, of which several have other words."""
+    return f"{number:,} {word}" if number == 1 else f"{number:,} {words or word + 's'}"
 
 
 def same_in(lines):

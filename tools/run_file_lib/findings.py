@@ -65,10 +65,13 @@ class Findings:
             return caused(cause, meaning(cause))
         return words if cause_of(words) else caused(cause, words)
 
-    def lines(self):
-        """The lines that show the faults, table by table, and then how many there are."""
+    def lines(self, hints=None):
+        """The lines that show the faults, table by table, then the hints where they are asked for, and how many there are."""
         told = [line for file in self.faults for line in self.lines_of(file)]
-        return [*told, counted(len(told), "fault")]
+        if hints is None:
+            return [*told, counted(len(told), "fault")]
+        hinted = list(hints)
+        return [*told, *hinted, f"{counted(len(told), 'fault')}, {counted(len(hinted), 'hint')}"]
 
     def lines_of(self, file):
         """The lines that show the faults of a file. A line at fault that its cron ignores, or for which it ignores the file, is told

@@ -47,19 +47,19 @@ class Text:
         self.nowhere = f"{NOTHING:{width}}  {NOTHING:{most}}  "
         self.days = WeekDays()
 
-    def line(self, row):
-        """The line of a row."""
+    def line(self, row, more=None):
+        """The line of a row. More may be told of it before its command."""
         if row.instant is None:
             name = row.origin.name
             word = f"{WORDS[row.kind]:8}{NOTHING:7}{NOTHING:5}  {NOTHING:17}"
-            return f"{word}  {self.fronts[name]}{self.when(row)}{self.commands[name]}"
+            return f"{word}  {self.fronts[name]}{f'[{more}] ' if more else ''}{self.when(row)}{self.commands[name]}"
         if row.instant != self.last:
             self.last, self.stamp = row.instant, self.stamp_of(row)
         if row.kind == CLOCK:
             return f"{self.stamp}{self.nowhere}-- {row.text} --"
-        if not row.other and not row.moved:
+        if not row.other and not row.moved and not more:
             return self.stamp + self.ends[row.origin.name]
-        return f"{self.stamp}{self.fronts[row.origin.name]}{self.remarks(row)} {self.commands[row.origin.name]}"
+        return f"{self.stamp}{self.fronts[row.origin.name]}{self.remarks(row, more)} {self.commands[row.origin.name]}"
 
     def stamp_of(self, row):
         """The columns of a row's time."""
@@ -70,9 +70,9 @@ class Text:
         """When a row without an instant is launched."""
         return f"{row.origin.job.when}: " if row.kind == ANACRON_JOB else ""
 
-    def remarks(self, row):
-        """What is told of a row before its command: the clock of another zone, and from when it was moved."""
-        told = []
+    def remarks(self, row, more):
+        """What is told of a row before its command: the clock of another zone, from when it was moved, and what more there is."""
+        told = [more] if more else []
         if row.other:
             day = "" if row.other[:10] == row.local[:10] else f"{self.days[row.other[:10]]} {row.other[:10]} "
             told.append(f"{day}{row.other[11:]} {row.origin.zone}")

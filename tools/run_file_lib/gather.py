@@ -38,11 +38,15 @@ class Gatherer:
 
     def run_file(self, now):
         """The run file, with the origins of its sections."""
+        return self.run_file_of(None, now)
+
+    def run_file_of(self, tables, now):
+        """The run file of tables, or of those that the options and the root have."""
         self.zone = zone = self.zone_of_the_tables()
         self.comment(f"the cron is {called(self.cron.name)}, by {self.cron.source}")
         window = self.window_of_the_run(zone, now)
         head = head_of(self.options, window)
-        read = [self.section(table, zone) for table in self.tables()]
+        read = [self.section(table, zone) for table in (self.tables() if tables is None else tables)]
         script = self.script()
         if self.faults:
             raise Stop(f"run_file: nothing is written, for {counted(self.faults, 'fault')}; --skip leaves out what is at fault")
@@ -96,9 +100,10 @@ class Gatherer:
         """The window, which may be a long one where the program isn't asked about all of it at once."""
         clock = Clock(zone, self.zones.local_times[zone])
         options = self.options
-        most = MOST_DAYS_OF_A_LIST if options.list else MOST_DAYS
+        is_long = options.list or options.change
+        most = MOST_DAYS_OF_A_LIST if is_long else MOST_DAYS
         window = clock.window(options, now, 1 if options.days is None else number_of("--days", options.days, 1, most))
-        if not options.list:
+        if not is_long:
             judge_length(window)
         for text in window.notes:
             self.comment(text)

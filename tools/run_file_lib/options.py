@@ -34,7 +34,7 @@ unless the output failed in the midst. It is 2 where the program can't be run or
 OPTIONS = [
     ("--root", "DIR", "the file system whose tables are read; the machine's own, /, by default", "--root /mnt/copy"),
     ("--from", "STAMP", "the first minute, by the tables' clock or in UTC; by default that of today", "--from 2027-03-28"),
-    ("--days", "N", f"how many days from there on, 1 to {MOST_DAYS}, and more with --list; 1 by default", "--days 3"),
+    ("--days", "N", f"how many days from there on, 1 to {MOST_DAYS}, and more with --list and --change; 1 by default", "--days 3"),
     ("--until", "STAMP", "in place of --days: the minute behind the last one", "--until '2027-03-29 12:00'"),
     ("--grace", "MINUTES", f"how late a launch may be, 0 to {MOST_GRACE} minutes; 0 by default", "--grace 60"),
     ("--replicas", "N", f"how many replicas there are, 1 to {MOST_REPLICAS}; 1 by default", "--replicas 3"),
@@ -53,12 +53,18 @@ OPTIONS = [
     ("--modes", None, "look at the owner, the mode and the names of files below --root, too, as for /", "--modes"),
     ("--skip", None, "leave out each line that can't be taken, and tell it, and each job's line", "--skip"),
     ("--list", None, "in place of the run file: when each entry is due, with its line and its command", "--list --days 7"),
-    ("--json", None, "with --list: each row as an object of JSON, one a line", "--list --json"),
-    ("--csv", None, "with --list: the rows as comma-separated values, with their names first", "--list --csv"),
+    ("--why", "PLACE STAMP", "why the entry of a place, as --list shows it, is due then or isn't", "--why /etc/crontab:17 '2027-03-28 03:00'"),
+    ("--next", "N PLACE", "the next N launches of the entry of a place, from --from or now on", "--next 5 /etc/crontab:17"),
+    ("--change", "FILE=NEWFILE", "what is launched more, less and at another time once FILE has the lines of NEWFILE", "--change /etc/crontab=new"),
+    ("--hints", None, "with --check: what a table says and hardly means, too, which is no fault", "--check --hints"),
+    ("--json", None, "with --list or --next: each row as an object of JSON, one a line", "--list --json"),
+    ("--csv", None, "with --list or --next: the rows as comma-separated values, with their names first", "--list --csv"),
     ("--check", None, "in place of the run file: each line at fault, as the program finds it", "--check"),
     ("--program", "PATH", "the program of --list and --check; the built one by default", "--program ~/bin/cron_cluster"),
     ("--help", None, "print this text", "--help"),
 ]
+# The options that ask for something in place of the run file.
+ANSWERS = ("list", "check", "why", "next", "change")
 LISTS = ("--user", "--system", "--anacron")
 DEFAULTS = {"--root": "/", "--grace": "0", "--replicas": "1"}
 
@@ -72,7 +78,7 @@ class Parser(argparse.ArgumentParser):
 
 def layout(prog):
     """The layout of the help, whatever the width of the terminal is."""
-    return argparse.RawTextHelpFormatter(prog, max_help_position=20, width=110)
+    return argparse.RawTextHelpFormatter(prog, max_help_position=26, width=120)
 
 
 def parser():
@@ -85,6 +91,8 @@ def parser():
         text = f"{text}\nfor example: {example}"
         if value is None:
             group.add_argument(word, action="store_true", help=text)
+        elif " " in value:
+            group.add_argument(word, nargs=2, metavar=tuple(value.split()), help=text)
         elif word in LISTS:
             group.add_argument(word, action="append", default=[], metavar=value, help=text)
         else:
@@ -99,14 +107,17 @@ def options_of(words):
     options = parser().parse_args(words)
     if options.cron not in (None, *CRONS):
         raise Stop(f"run_file: --cron: `{shown(options.cron)}` is none of {', '.join(CRONS)}")
-    if options.check and options.list:
-        raise Stop("run_file: --list and --check are two answers; take one of them")
+    asked = [f"--{name}" for name in ANSWERS if getattr(options, name)]
+    if len(asked) > 1:
+        raise Stop(f"run_file: {asked[0]} and {asked[1]} are two answers; take one of them")
+    if options.hints and not options.check:
+        raise Stop("run_file: --hints are a part of --check")
     if options.check and options.skip:
         raise Stop("run_file: --check tells each line at fault, and --skip leaves it out; take one of them")
     if options.json and options.csv:
         raise Stop("run_file: --json and --csv are two forms; take one of them")
-    if (options.json or options.csv) and not options.list:
-        raise Stop("run_file: --json and --csv are forms of --list")
+    if (options.json or options.csv) and not options.list and not options.next:
+        raise Stop("run_file: --json and --csv are forms of --list and of --next")
     return options
 
 

@@ -10,6 +10,8 @@ Section = namedtuple("Section", "kind label zone file first lines jobs fronts", 
 # A job: what its name has behind the label, `:K` or `/IDENTIFIER`, the line of its table, its command, for one of an anacrontab when
 # it is launched, in words, whose it is, where that is known, the zone that a CRON_TZ names, where one does, and its text.
 Job = namedtuple("Job", "ending line command when user zone text", defaults=["", None, None, ""])
+# What stands in place of a job that is left out.
+COMMENT = "#"
 
 
 def placed(sections, first):
@@ -29,6 +31,17 @@ def lines_of_sections(sections):
 def jobs_of(sections):
     """Each job's section and the job, by its name in the report."""
     return {section.label + job.ending: (section, job) for section in sections for job in section.jobs}
+
+
+def alone(made, section, job):
+    """A run file of one job alone, which is the first one of its section: comments stand in place of the other jobs."""
+    others = {other.line for other in section.jobs} - {job.line}
+    lines = [COMMENT if number in others else line for number, line in enumerate(section.lines, 1)]
+    front = made.data.decode().split("\n")[: made.sections[0].first - 2]
+    ending = job.ending if section.kind == "anacrontab" else ":1"
+    [placed_alone] = placed([section._replace(lines=lines, jobs=[job._replace(ending=ending)])], len(front) + 1)
+    text = "\n".join([*front, *lines_of_sections([placed_alone]), "script", "end", ""])
+    return made._replace(data=text.encode(), sections=[placed_alone])
 
 
 def of_window(made, first, last):

@@ -29,3 +29,21 @@ class Streams:
             write_all(NOTES, text.encode("utf-8", "backslashreplace") + b"\n")
         except OSError:
             pass
+
+
+class Once:
+    """Streams on which no note is told twice."""
+
+    def __init__(self, streams):
+        self.streams = streams
+        self.told = set()
+
+    def output(self, data):
+        """Writes to standard output."""
+        self.streams.output(data)
+
+    def note(self, text):
+        """Writes a line to standard error, where it wasn't written before."""
+        if text not in self.told:
+            self.told.add(text)
+            self.streams.note(text)
