@@ -66,7 +66,8 @@ WORDS += "? 0~30 ~ L 1W 5#3 5:30 *x ** */5x 1-2-3 - -5 +5 05 0000000005 99999999
 FRONTS = ["", " ", "\t", "-", "#", "@"]
 NICKNAMES = ["@daily", "@reboot", "@Hourly", "@every", "@weekly ", "@monthly\t", "@"]
 ENDS = ["x", "", " ", "* x", "*", "x % y", "x # y", "-n x", "root x", "X=1 x", "'"]
-SETTINGS = ["A=b", "A =b", "A = b c ", "A=", "A= ", "'A'=b", '"A B"=c', "A='b'", "A='b' ", "A='b' c", 'A="b', "A=b'c", "A B=c", "1A=b", "=b"]
+SETTINGS = ["A=b", "A =b", "A = b c ", "A=", "A= ", "'A'=b", '"A B"=c', "A='b'", "A='b' ", "A='b' c", 'A="b']
+SETTINGS += ["A=b'c", "A B=c", "1A=b", "=b"]
 
 
 def made_lines():
@@ -101,7 +102,8 @@ def crontab():
 
 def asked(file):
     """What `crontab -n` answers to each table: the words of its first fault, or none. A fault of the file has no line."""
-    script = 'mount -t tmpfs none /var/spool && mkdir -p /var/spool/cron/crontabs && for f in "$1"/*; do echo "== $("$0" -n "$f" 2>&1)"; done'
+    script = "mount -t tmpfs none /var/spool && mkdir -p /var/spool/cron/crontabs"
+    script += ' && for file in "$1"/*; do echo "== $("$0" -n "$file" 2>&1)"; done'
     with tempfile.TemporaryDirectory() as folder:
         for number, data in enumerate(cases()):
             Path(folder, f"{number:04}").write_bytes(data)

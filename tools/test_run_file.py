@@ -146,8 +146,8 @@ class Words(RunFileTest):
 
     def test_times_that_the_clock_skips_or_shows_twice(self):
         words = ["--zone", "Europe/Paris", "--from"]
-        skipped = "--from: 2024-03-31 02:10 is skipped in Europe/Paris, whose clock goes from 02:00 to 03:00 is taken, at 2024-03-31T01:00Z"
-        skipped = skipped.replace("to 03:00 is", "to 03:00; 03:00 is")
+        skipped = "--from: 2024-03-31 02:10 is skipped in Europe/Paris, whose clock goes from 02:00 to 03:00; "
+        skipped += "03:00 is taken, at 2024-03-31T01:00Z"
         twice = "--from: 2024-10-27 02:10 comes twice in Europe/Paris, at 2024-10-27T00:10Z and 2024-10-27T01:10Z; the first is taken"
         for text, first, note in (("2024-03-31 02:10", "2024-03-31T01:00Z", skipped), ("2024-10-27 02:10", "2024-10-27T00:10Z", twice)):
             self.assertEqual(self.head(*words, text)[1][7:24], first)

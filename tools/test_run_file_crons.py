@@ -96,7 +96,11 @@ class Ignored(ProgramTest):
     # The rows of the note: a table, what Debian's cron says of it, and what cronie says.
     CASES = [
         ("* * * * * root x", [" {} file: its last line has no newline"], ["1: {} line: missing newline before EOF"]),
-        ("* * * * * root x\n* * * * * no y\n", ["2: {} file: bad username: no user has that name"], ["2: {} line: getpwnam() failed - user unknown"]),
+        (
+            "* * * * * root x\n* * * * * no y\n",
+            ["2: {} file: bad username: no user has that name"],
+            ["2: {} line: getpwnam() failed - user unknown"],
+        ),
         ("MAILTO=\n* * * * * root x\n", ['1: {} file: bad minute: a variable without a value; write `NAME=""`'], []),
         ('A="b c" d\n* * * * * root x\n', *[["1: {} WHAT: bad minute: the quotes don't stand round the whole value"]] * 2),
         ("A='b\n* * * * * root x\n", *[["1: {} WHAT: bad minute: the quotes don't stand round the whole value"]] * 2),
@@ -123,7 +127,8 @@ class Ignored(ProgramTest):
     def test_lines_that_cronie_ignores(self):
         """The others of the table are taken."""
         told, kept = self.told(CRONIE, "etc/cron.d/a", "* * * * * root x\n5#1 * * * * root y\n* * * * * root z\n")
-        self.assertEqual((told, kept), (["2: cronie ignores this line: bad minute"], ["* * * * * root x", "# left out by run_file", "* * * * * root z"]))
+        self.assertEqual(told, ["2: cronie ignores this line: bad minute"])
+        self.assertEqual(kept, ["* * * * * root x", "# left out by run_file", "* * * * * root z"])
 
     def test_a_line_without_its_minus(self):
         """As openSUSE's /etc/crontab has one. Columns are those of the table."""
@@ -141,7 +146,8 @@ class Ignored(ProgramTest):
 
     def test_zone_that_is_a_plain_variable(self):
         self.write("etc/cron.d/a", "CRON_TZ=Mars/Base\n* * * * * root x\n")
-        self.assertEqual(self.lines("--cron", "debian")[4:7], ["system cron-d-a UTC 2", "# CRON_TZ is a plain variable here", "* * * * * root x"])
+        expected = ["system cron-d-a UTC 2", "# CRON_TZ is a plain variable here", "* * * * * root x"]
+        self.assertEqual(self.lines("--cron", "debian")[4:7], expected)
         note = f"{self.file('etc/cron.d/a')} has CRON_TZ in 1 line (1), a plain variable to Debian's cron"
         self.assertIn(note, self.comments("--cron", "debian"))
         self.assertIn("there is no zone Mars/Base", self.faults("--cron", "cronie")[0])

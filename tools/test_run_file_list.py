@@ -152,7 +152,8 @@ end
         self.write("room/windows", "")
         self.assertEqual(self.answered("--list", "--from", "2024-01-01T00:00Z"), (0, [], []))
         windows = [line.split() for line in self.kept("windows").split("\n")[:-1]]
-        self.assertEqual([windows[0][0], *(last for _, last in windows)], [f"2024-01-0{1 + hour // 24}T{hour % 24:02}:00Z" for hour in range(0, 25, 6)])
+        hours = ["01T00", "01T06", "01T12", "01T18", "02T00"]
+        self.assertEqual([windows[0][0], *(last for _, last in windows)], [f"2024-01-{hour}:00Z" for hour in hours])
         self.assertTrue(all(one[1] == other[0] for one, other in zip(windows, windows[1:])))
 
     def test_what_the_program_gets(self):

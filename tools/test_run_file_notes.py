@@ -139,12 +139,12 @@ class Origins(RunFileTest):
         return Gatherer(parser().parse_args(["--root", self.root, "--skip"]), {}, Memory()).run_file(NOW)
 
     def test_jobs(self):
-        when = "once a day, from 00:05 on and before 24:00"
+        when, text = "once a day, from 00:05 on and before 24:00", "@daily 5    disks    make a backup"
         expected = {
             "etc-crontab:1": (self.all, Job(":1", 4, "echo b ", "", "root", "Europe/Paris", "0 8 * * * root  echo b ")),
             "spool-bob:1": (self.mine, Job(":1", 2, "water the plants", "", "bob", None, "@daily   water the plants")),
             "spool-bob:2": (self.mine, Job(":2", 3, "mail%Joe", "", "bob", None, "0 9 * * mon mail%Joe")),
-            "etc-anacrontab/disks": (self.slow, Job("/disks", 2, "make a backup", when, "root", None, "@daily 5    disks    make a backup")),
+            "etc-anacrontab/disks": (self.slow, Job("/disks", 2, "make a backup", when, "root", None, text)),
         }
         found = {name: (section.file, job) for name, (section, job) in jobs_of(self.run_file().sections).items()}
         self.assertEqual(found, expected)
