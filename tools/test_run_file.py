@@ -154,9 +154,10 @@ class Words(RunFileTest):
             self.assertIn(note, self.comments(*words, text))
 
     def test_years(self):
-        for year in ("1970", "2200", "9999"):
-            message = f"run_file: --from: {year} isn't within the years 1971 to 2199"
-            self.assertEqual(self.faults("--from", f"{year}-01-01T00:00Z"), [message])
+        for year in ("0001", "1970", "2200", "9999"):
+            message = f"run_file: --from: {int(year)} isn't within the years 1971 to 2199"
+            for stamp in ("01-01T00:00Z", "01-01", "12-31 23:59"):
+                self.assertEqual(self.faults("--from", f"{year}-{stamp}"), [message])
         self.assertEqual(self.head("--from", "2199-12-31T00:00Z")[1], "window 2199-12-31T00:00Z 2200-01-01T00:00Z")
         message = "run_file: the window ends behind 2200-01-01T00:00Z"
         self.assertEqual(self.faults("--from", "2199-12-31T00:01Z"), [message])

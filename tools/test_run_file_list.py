@@ -179,6 +179,17 @@ end
         message = "run_file: --list and --check are two answers; take one of them"
         self.assertEqual(self.faults("--list", "--check"), [message])
 
+    def test_output_that_nobody_reads(self):
+        """As with `--list | head`: nothing is at fault."""
+        self.program("cron due 1\nanacron etc-anacrontab/a version 0\nend\n")
+        self.write("etc/anacrontab", "1 5 a x\n")
+        reading, writing = os.pipe()
+        os.close(reading)
+        words = [TOOL, "--root", self.root, "--program", self.made, "--list"]
+        done = subprocess.run(words, stdout=writing, stderr=subprocess.PIPE, check=False)
+        os.close(writing)
+        self.assertEqual((done.returncode, [line for line in done.stderr.split(b"\n")[:-1] if not line.startswith(b"# ")]), (0, []))
+
     def test_output_that_fails(self):
         self.program("cron due 1\nanacron etc-anacrontab/a version 0\nend\n")
         self.write("etc/anacrontab", "1 5 a x\n")

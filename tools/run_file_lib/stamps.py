@@ -39,6 +39,9 @@ class Clock:
             read = datetime.fromisoformat(f"{date}T{time or '00:00'}{(offset or '').replace('Z', '+00:00')}")
         except ValueError as fault:
             raise Stop(f"run_file: {word}: `{shown(text)}` is no stamp; write it as {FORM}") from fault
+        # Near the ends of Python's calendar no offset could be added.
+        if not FIRST.year <= read.year <= LAST.year:
+            raise Stop(f"run_file: {word}: {read.year} isn't within the years 1971 to 2199")
         if offset:
             return self.within(word, Moment(read.astimezone(UTC).replace(tzinfo=None), None))
         return self.within(word, Moment(self.instant_of(word, read) if time else beginning_of(self.zone, read), read))
