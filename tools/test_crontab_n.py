@@ -1,13 +1,15 @@
 #!/usr/bin/env python3
-"""Tests that tools/run_file tells what Debian's cron refuses, beside that cron's own `crontab -n`: of each table of a note, and of
-lines that are made from a seed. What `crontab -n` answered is kept in tools/testdata/crontab_n.answers, so that the tests need no
-package. Where it can be had it is asked again: as CRONTAB names it, or as /usr/bin/crontab of Debian's package.
+"""Tests that tools/run_file tells what Debian's cron and cronie refuse, beside their own `crontab -n` and `crontab -T`: of each table
+of a note, and of lines that are made from a seed. What these answered is kept in tools/testdata/crontab_n.answers and
+crontab_t.answers, so that the tests need no package. Debian's is asked again where it can be had: as CRONTAB names it, or as
+/usr/bin/crontab of Debian's package.
 
-Usage: tools/test_crontab_n.py [--write] [NAME..]
+Usage: tools/test_crontab_n.py [--write FILE] [NAME..]
 
-It asks in a name space of its own, since `crontab -n` writes a file in the spool. With --write the answers are written anew:
+It asks in a name space of its own, since `crontab -n` writes a file in the spool. With --write the answers are written anew, those of
+cronie where FILE is its crontab:
 
-  apt-get download cron && dpkg-deb -x cron_*.deb cron && CRONTAB=$PWD/cron/usr/bin/crontab tools/test_crontab_n.py --write
+  apt-get download cron && dpkg-deb -x cron_*.deb cron && tools/test_crontab_n.py --write cron/usr/bin/crontab
 """
 import os
 import random
@@ -19,10 +21,13 @@ import unittest
 from pathlib import Path
 
 from run_file_lib.cron_lines import Owner
-from run_file_lib.daemons import DEBIAN, verdict_of
+from run_file_lib.daemons import CRONIE, DEBIAN, verdict_of
 from test_run_file import HERE
 
 ANSWERS = os.path.join(HERE, "testdata", "crontab_n.answers")
+CRONIE_ANSWERS = os.path.join(HERE, "testdata", "crontab_t.answers")
+# cronie draws such a value, so it may take a line at one time and refuse it at another.
+AT_RANDOM = b"~"
 SEED, LINES = 49, 600
 # The tables of the note, by what they are tables of, each but for its last newline where it says so.
 TABLES = {
@@ -100,16 +105,26 @@ def crontab():
     return os.path.abspath(file) if b"successfully checked" in Path(file).read_bytes() else None
 
 
-def asked(file):
-    """What `crontab -n` answers to each table: the words of its first fault, or none. A fault of the file has no line."""
+def asked(file, option="-n"):
+    """What a crontab answers to each table, as text."""
     script = "mount -t tmpfs none /var/spool && mkdir -p /var/spool/cron/crontabs"
-    script += ' && for file in "$1"/*; do echo "== $("$0" -n "$file" 2>&1)"; done'
+    script += f' && for file in "$1"/*; do echo "== $("$0" {option} "$file" 2>&1)"; done'
     with tempfile.TemporaryDirectory() as folder:
         for number, data in enumerate(cases()):
             Path(folder, f"{number:04}").write_bytes(data)
         words = ["unshare", "-rm", "sh", "-c", script, file, folder]
         done = subprocess.run(words, stdout=subprocess.PIPE, stderr=subprocess.DEVNULL, check=False)
-    return [answer_of(text) for text in re.split(r"(?m)^== ", done.stdout.decode("utf-8", "replace"))[1:]]
+    return re.split(r"(?m)^== ", done.stdout.decode("utf-8", "replace"))[1:]
+
+
+def debian_answers(file):
+    """What `crontab -n` of Debian answers to each table: the words of its first fault, or that there is none."""
+    return [answer_of(text) for text in asked(file)]
+
+
+def cronie_answers(file):
+    """What `crontab -T` of cronie answers to each table: the words of its faults."""
+    return [", ".join(re.findall(r'(?m)^".*":-?\d+: (.*)', text)) for text in asked(file, "-T")]
 
 
 def answer_of(text):
@@ -150,14 +165,31 @@ class CrontabN(unittest.TestCase):
         file = crontab()
         if file is None:
             self.skipTest("there is no crontab of Debian's package: CRONTAB names one")
-        answers = asked(file)
+        answers = debian_answers(file)
         if not answers:
             self.skipTest(f"{file} can't be run in a name space of its own")
         self.assertEqual(answers, Path(ANSWERS).read_text(encoding="utf-8").split("\n")[:-1])
 
+    def test_answers_of_cronie(self):
+        kept = Path(CRONIE_ANSWERS).read_text(encoding="utf-8").split("\n")[:-1]
+        self.assertEqual(len(kept), len(cases()))
+        for data, answer in zip(cases(), kept):
+            lines = verdict_of(CRONIE, data, Owner(False, lambda name: None, True), False).lines
+            words = [text.split(": ")[0].replace("missing newline before EOF", "premature EOF") for text in lines.values()]
+            if AT_RANDOM not in data:
+                with self.subTest(data[:80]):
+                    self.assertEqual(", ".join(words), answer)
+
+
+def write(file):
+    """Writes the answers of a crontab anew."""
+    is_debian = b"successfully checked" in Path(file).read_bytes()
+    answers = debian_answers(file) if is_debian else cronie_answers(file)
+    Path(ANSWERS if is_debian else CRONIE_ANSWERS).write_text("".join(f"{answer}\n" for answer in answers), encoding="utf-8")
+
 
 if __name__ == "__main__":
     if sys.argv[1:2] == ["--write"]:
-        Path(ANSWERS).write_text("".join(f"{answer}\n" for answer in asked(crontab())), encoding="utf-8")
-        del sys.argv[1]
+        write(os.path.abspath(sys.argv[2]))
+        del sys.argv[1:3]
     unittest.main()
