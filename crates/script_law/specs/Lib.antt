@@ -1,4 +1,5 @@
 pub mod Commands
+pub mod Free
 pub mod Parts
 pub mod Round
 pub mod Script

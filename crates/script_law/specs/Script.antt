@@ -5,18 +5,19 @@ use Rattle.script_text.specs.declared.command.Command.{Command}
 use Rattle.script_text.specs.declared.command.Command.TheVariants.{Round, Settle, Walk, Break, Free}
 use Rattle.book_law.specs.Book.{Row}
 use Rattle.script_law.specs.Commands.{Plain, set_by, tasks_for}
+use Rattle.script_law.specs.Free.{IsFreePart}
 use Rattle.script_law.specs.Parts.{Stays, Then}
 use Rattle.script_law.specs.Round.{AreRounds}
 use Rattle.script_law.specs.Settling.{Settles, Walks}
 use Rattle.script_law.specs.Situation.{Situation, first_situation}
 
--- The part of a command. A disk that is to stop within a call, and turns in no order, have no part yet: no book obeys them.
+-- The part of a command. A disk that is to stop within a call has no part yet: no book obeys it.
 abbrev pub IsPartOf : ℕ → Table → Command → Situation → List Row → Situation → Type 0
 IsPartOf members table (Round at rounds) = AreRounds members table.window at.0 rounds
 IsPartOf members table (Settle at) = Settles members table at.0
 IsPartOf members table (Walk to) = Walks members table to.0
 IsPartOf members table (Break who pass image) = λ situation rows after. ⊥
-IsPartOf members table (Free at turns) = λ situation rows after. ⊥
+IsPartOf members table (Free at turns) = IsFreePart members table.window at.0 turns
 IsPartOf members table command = Plain members (tasks_for command) (set_by command)
 
 -- the parts of commands, one after another

@@ -213,7 +213,7 @@ pub fn an_arrival_is_of_a_call_that_is_late()
     ensures none { (late : ℕ) (situation : Situation) → (IsLate situation.standing late → ⊥) → arrival_tasks late situation ≡ [] }
 {}
 
-/// Commands that set something have no turn. No book obeys a script that has a disk stop within a call, or turns in no order.
+/// Commands that set something have no turn. No book obeys a script that has a disk stop within a call.
 pub fn commands_without_a_turn_have_none()
     ensures cut { (members : ℕ) (table : Table) (from to : ℕ) (situation after : Situation) (rows : List Row)
         → IsPartOf members table (command.Cut from to) situation rows after → rows ≡ [] }
@@ -233,8 +233,6 @@ pub fn commands_without_a_turn_have_none()
         → IsPartOf members table (command.Fate who word) situation rows after → rows ≡ [] }
     ensures broken { (members : ℕ) (table : Table) (who pass image : ℕ) (situation after : Situation) (rows : List Row)
         → IsPartOf members table (command.Break who pass image) situation rows after → ⊥ }
-    ensures free { (members : ℕ) (table : Table) (at : Minute) (turns : ℕ) (situation after : Situation) (rows : List Row)
-        → IsPartOf members table (command.Free at turns) situation rows after → ⊥ }
 {}
 
 /// The coordinator is the replica of the greatest prefix, and of those the one with the lowest number.
