@@ -3,8 +3,7 @@ use Rattle.std.specs.Prelude.{◌≡◌, ℕ, ◌+◌, ◌*◌, ◌%◌, ◌==�
 use Rattle.std.specs.List.{fold}
 use Rattle.zone_minutes.specs.declared.minute.Window.{Window}
 use Rattle.cluster_sched.specs.declared.row.SchedRow.{SchedRow}
-use Rattle.term_core.specs.declared.term.Term.{Term}
-use Rattle.term_core.specs.declared.term.Term.TheVariants.{Leader}
+use Rattle.term_core.specs.Term.{is_leader}
 use Rattle.book_law.specs.Book.{Row}
 use Rattle.book_law.specs.declared.turn.Cause.{Cause}
 use Rattle.book_law.specs.declared.turn.Cause.TheVariants.{Campaign, Tick, Hear, Answer}
@@ -54,11 +53,6 @@ course_of members who situation rows = fold (after_row_of members who) (begun si
 
 -- ---- what a replica does next
 
--- the replica leads
-abbrev pub leads : Term → Bool
-leads (Leader ballot best flight) = true
-leads term = false
-
 -- it is time to stand for leader: in each 64 of a replica's turns at one, which is another for each replica
 abbrev pub is_time_to_stand : (who taken : ℕ) → Bool
 is_time_to_stand who taken = taken % 64 == 8 * who
@@ -66,7 +60,9 @@ is_time_to_stand who taken = taken % 64 == 8 * who
 -- with no answer and no letter a replica stands for leader, where it is time to and it doesn't lead; else its clock ticks
 abbrev pub idle_cause : Window → (at : ℤ) → (who taken : ℕ) → Situation → Cause
 idle_cause window at who taken situation =
-    if is_time_to_stand who taken && not (leads (situation.standing.replicas who).term) then Campaign else Tick (clock_reading window at (situation.skews who))
+    if is_time_to_stand who taken && not (is_leader (situation.standing.replicas who).term)
+    then Campaign
+    else Tick (clock_reading window at (situation.skews who))
 
 -- a replica takes an answer that waits for it, or else hears the first letter of its mail
 abbrev pub next_cause_by : Option SchedRow → List ℕ → Cause → Cause

@@ -1,0 +1,12 @@
+//! Turns in no order: what a replica finds at its next turn, whatever others do meanwhile, and how the part of a script is put together
+//! from what each replica has of it.
+#![tactic(auto)]
+
+mod laws;
+
+pub use laws::{
+    a_free_part_shows_its_end, a_replica_hears_its_mail_in_order, a_replica_takes_what_waits_first,
+    each_replica_has_all_its_turns, letters_come_while_others_take_turns,
+    turns_of_one_are_put_together, turns_of_others_leave_a_replica,
+    what_a_replica_saw_last_still_stands, which_turn_comes_first_is_free,
+};
