@@ -6,6 +6,7 @@ use Rattle.std.proofs.lemmas.Bool.{cases_Bool}
 use Rattle.std.proofs.lemmas.Int.{ints, clamps}
 use Rattle.std.proofs.lemmas.List.Elements.{All-cons, All-head, All-nil, All-tail}
 use Rattle.std.proofs.lemmas.List.Sums.{fold-append}
+use Rattle.zone_minutes.specs.declared.minute.Window.{Window}
 use Rattle.due_set.specs.Table.{Table}
 use Rattle.script_text.specs.declared.command.Command.{Command}
 use Rattle.script_text.specs.declared.command.Command.TheVariants as command
@@ -16,6 +17,7 @@ use Rattle.book_law.specs.declared.turn.Turn.{Turn}
 use Rattle.book_law.specs.declared.turn.Turn.TheVariants.{Did, Stopped, Restarted, Arrived}
 use Rattle.book_law.proofs.Turns.{after_rows}
 use Rattle.script_law.specs.Commands.{Plain, set_by, tasks_for, with_letter}
+use Rattle.script_law.specs.Free.{IsFreePart, after_all_posted, after_posted}
 use Rattle.script_law.specs.Parts.{Plays, Sets, Stays, Then}
 use Rattle.script_law.specs.Round.{AreRounds, IsRound, round_tasks}
 use Rattle.script_law.specs.Script.{ArePartsOf, IsPartOf}
@@ -150,12 +152,22 @@ set_keeps other = record { standing = λ situation. refl; latest = λ situation.
 command_plain : (members : ℕ) (given : Command) → Goes members (Plain members (tasks_for given) (set_by given))
 command_plain members given = plain members (tasks_for given) (set_by given) (set_keeps given)
 
+-- letters that join the mails at once leave what stands
+posted_come : (members : ℕ) (situation : Situation) (rows : List Row) → Comes members situation rows (after_all_posted members situation rows)
+posted_come members situation [] = record { standing = refl; latest = refl }
+posted_come members situation (row ∷ rows) =
+    (let more = posted_come members (after_posted members situation row) rows in record { standing = more.standing; latest = more.latest })
+
+free_comes : (members : ℕ) (window : Window) (at : ℤ) (turns : ℕ) → Goes members (IsFreePart members window at turns)
+free_comes members window at turns situation rows after part =
+    subst (λ some. Comes members situation rows some) (sym part.is) (posted_come members situation rows)
+
 part_comes : (members : ℕ) (table : Table) (given : Command) → Goes members (IsPartOf members table given)
 part_comes members table (command.Round at rounds) situation rows after part = rounds_come members table at.0 rounds situation rows after part
 part_comes members table (command.Settle at) situation rows after part = settles_come members table at.0 situation rows after part
 part_comes members table (command.Walk to) situation rows after part = walks_come members table to.0 situation rows after part
 part_comes members table (command.Break who pass image) situation rows after part = absurd part
-part_comes members table (command.Free at turns) situation rows after part = absurd part
+part_comes members table (command.Free at turns) situation rows after part = free_comes members table.window at.0 turns situation rows after part
 part_comes members table given situation rows after part = command_plain members given situation rows after part
 
 -- the parts of a script do
