@@ -14,7 +14,8 @@ use Rattle.script_law.specs.Commands.{Plain, arrival_tasks, has_number}
 use Rattle.script_law.specs.Situation.{Arrive, Situation}
 use Rattle.script_law.proofs.MailLemmas.{no_arrival}
 use Rattle.world_law.specs.Book.{standing_behind}
-use Rattle.world_rounds.proofs.AfterTurn.{leaves_all, member_stays}
+use Rattle.world_steps.proofs.AfterTurn.{leaves_all}
+use Rattle.world_rounds.proofs.AfterTurn.{member_stays}
 use Rattle.world_rounds.proofs.Halts.{goes_alone, has_same}
 use Rattle.world_rounds.specs.Alone.{HasJoinedAlone, IsAlone}
 use Rattle.world_rounds.specs.World.{GoesOnBy, IsWorld, IsWorldAt}

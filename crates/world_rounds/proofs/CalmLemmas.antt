@@ -1,6 +1,5 @@
 -- What settling begins with, in a world.
-use Rattle.std.proofs.Common.{◌≡◌, ◌≢◌, ◌⊎◌, ℕ, zero, suc, ◌+◌, ◌-◌, ◌<◌, ◌≤◌, nat_lt, Bool, true, false, if◌then◌else◌, List, [], ◌∷◌, ◌++◌, length, drop, pos, Some, refl, sym, ap, ◌∙◌, ap₂, subst, inl, inr, arith, append_assoc, Option}
-use Rattle.std.proofs.Common.{append-nil as append_nil}
+use Rattle.std.proofs.Common.{Bool, List, Option, Some, [], ap, append-nil as append_nil, append_assoc, ap₂, arith, drop, false, if◌then◌else◌, inl, inr, length, nat_lt, pos, refl, subst, suc, sym, true, zero, ℕ, ◌++◌, ◌+◌, ◌-◌, ◌<◌, ◌∙◌, ◌∷◌, ◌≡◌, ◌≢◌, ◌≤◌, ◌⊎◌}
 use Rattle.std.specs.List.{Contains, flat_map, range_with_len, slice_get}
 use Rattle.std.proofs.lemmas.Int.{ints}
 use Rattle.std.specs.Vec.{with_items}
@@ -23,7 +22,7 @@ use Rattle.script_law.specs.Situation.{AreTurnsFor, Restart, Situation, Task, af
 use Rattle.script_text.specs.Command.{IsSkew}
 use Rattle.script_text.specs.declared.command.Command.TheVariants as command
 use Rattle.world_law.specs.Book.{BookState}
-use Rattle.world_rounds.proofs.AfterTurn.{fact_there}
+use Rattle.world_steps.proofs.AfterTurn.{fact_there}
 use Rattle.world_rounds.proofs.Chains.{after_append, turns_append}
 use Rattle.world_rounds.proofs.Delivery.{range_next}
 use Rattle.world_rounds.proofs.QuietLemmas.{found_at, node_state}

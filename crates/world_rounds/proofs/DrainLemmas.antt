@@ -1,6 +1,5 @@
 -- Rounds of a drain, in a world.
-use Rattle.std.proofs.Common.{◌≡◌, ℕ, zero, suc, ◌-◌, ◌<◌, Bool, true, false, List, [], ◌∷◌, ◌++◌, length, ℤ, Result, Ok, Err, OnOk, Option, None, Some, refl, sym, ap, ◌∙◌, subst, inl, inr, arith, append_assoc}
-use Rattle.std.proofs.Common.{append-nil as append_nil}
+use Rattle.std.proofs.Common.{Bool, Err, List, None, Ok, OnOk, Option, Result, Some, [], ap, append-nil as append_nil, append_assoc, arith, false, inl, inr, length, refl, subst, suc, sym, true, zero, ℕ, ℤ, ◌++◌, ◌-◌, ◌<◌, ◌∙◌, ◌∷◌, ◌≡◌}
 use Rattle.std.specs.List.{Contains}
 use Rattle.std.proofs.lemmas.Option.{slice_get_within}
 use Rattle.disk_model.specs.Images.{Image}
@@ -25,7 +24,7 @@ use Rattle.script_law.specs.Script.{IsPartOf}
 use Rattle.script_law.specs.Settling.{Drains, IsDrainRound, IsQuiet, Settles, calmed, campaign_tasks, coordinator, restart_tasks}
 use Rattle.script_law.specs.Situation.{AreTurnsFor, Do, Does, IsTurnFor, Performs, Situation, Task, after_turn, after_turns, delivered, fates_after, letters_for}
 use Rattle.script_text.specs.declared.command.Command.TheVariants as command
-use Rattle.world_rounds.proofs.AfterTurn.{fact_here, fact_there}
+use Rattle.world_steps.proofs.AfterTurn.{fact_here, fact_there}
 use Rattle.world_rounds.proofs.Delivery.{same_mails}
 use Rattle.world_rounds.proofs.StepsAt.{cases_number}
 use Rattle.world_rounds.proofs.QuietLemmas.{found_at}

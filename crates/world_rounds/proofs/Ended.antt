@@ -21,8 +21,8 @@ use Rattle.script_law.specs.Situation.{Situation}
 use Rattle.world_law.specs.Book.{BookState, standing_behind}
 use Rattle.world_parts.specs.Nodes.{AreNodesOf, IsNodeOf}
 use Rattle.world_rounds.specs.Nodes.{nodes_of}
-use Rattle.world_rounds.specs.Steps.{IsNodeAhead}
-use Rattle.world_rounds.specs.World.{IsMemberAhead, IsNodeStopped, IsWorldAt}
+use Rattle.world_steps.proofs.Ended.{running_node, stopped_node}
+use Rattle.world_rounds.specs.World.{IsMemberAhead, IsWorldAt}
 use Rattle.world_rounds.specs.declared.member.Member.{Member}
 use Rattle.world_rounds.specs.declared.world.World.{World}
 
@@ -33,52 +33,10 @@ found_node (member ∷ members) zero node is = (member, refl, same_Some member.n
 found_node (member ∷ members) (suc who) node is = found_node members who node is
 
 module _ {D : Type 0} (seen : D → Image) (may_leave : D → Image → Type 0) (honest : D → Type 0) (told_of : D → Option Told) (table : Table) where
-  -- the files of a node at rest stand for what its replica keeps
-  files_of : (node : Node D) (kept : Durable) → IsNodeAtRest seen may_leave honest table node → (replica_of node).state.kept ≡ kept → FilesStand (length table.jobs) kept (seen (disk_of node))
-  files_of node kept rest is =
-      stands_in (length table.jobs) kept (seen (disk_of node)) (area_of (store_of node)) (records_of (store_of node)) rest.settled.selects
-      (has_at_rest (file_of (area_of (store_of node)) (seen (disk_of node))) (records_of (store_of node)) rest.settled.gates.at_rest)
-      (subst (λ (kept : Durable). BodiesStand (length table.jobs) (records_of (store_of node)) kept) is
-      (subst (λ (jobs : ℕ). BodiesStand jobs (records_of (store_of node)) (replica_of node).state.kept) rest.jobs rest.keeps))
-
-  running_node : (rows : List Row) (book : BookState) (who : ℕ) (node : Node D) → IsNodeAhead seen may_leave honest told_of table rows book who [] node
-      → IsNodeOf seen may_leave honest told_of table rows book who node
-  running_node rows book who node ahead = record {
-    at_rest = ahead.at_rest;
-    trusted = ahead.trusted;
-    reliable = ahead.reliable;
-    identity = ap (λ (r : ReplicaState). r.identity) ahead.took ∙ ahead.stands.identity ∙ ap (identity_of book.members) ahead.me;
-    state = λ runs. state_is;
-    kept = kept_is;
-    stand = files_of node ((standing_behind table rows book).replicas who).kept ahead.at_rest kept_is;
-  }
-    where
-      state_is : (replica_of node).state ≡ (standing_behind table rows book).replicas who
-      state_is = ap (λ (r : ReplicaState). r.state) ahead.took ∙ ahead.stands.state ∙ ap (standing_behind table rows book).replicas ahead.me
-
-      kept_is : (replica_of node).state.kept ≡ ((standing_behind table rows book).replicas who).kept
-      kept_is = ap (λ (s : State). s.kept) state_is
-
-  stopped_node : (rows : List Row) (book : BookState) (who : ℕ) (node : Node D) → (standing_behind table rows book).runs who ≡ false
-      → IsNodeStopped seen may_leave honest told_of table book.members (standing_behind table rows book) who [] node
-      → IsNodeOf seen may_leave honest told_of table rows book who node
-  stopped_node rows book who node ended stopped = record {
-    at_rest = stopped.at_rest;
-    trusted = stopped.trusted;
-    reliable = stopped.reliable;
-    identity = stopped.identity;
-    state = λ runs. absurd (let both : true ≡ false = sym runs ∙ ended in cc);
-    kept = kept_is;
-    stand = files_of node ((standing_behind table rows book).replicas who).kept stopped.at_rest kept_is;
-  }
-    where
-      kept_is : (replica_of node).state.kept ≡ ((standing_behind table rows book).replicas who).kept
-      kept_is = sym (ap (λ (s : State). s.kept) stopped.kept)
-
   node_of : (rows : List Row) (book : BookState) (situation : Situation) (who : ℕ) (member : Member D) (runs : Bool) → (standing_behind table rows book).runs who ≡ runs
       → IsMemberAhead seen may_leave honest told_of table rows book situation who [] member → IsNodeOf seen may_leave honest told_of table rows book who member.node
-  node_of rows book situation who member true is ahead = running_node rows book who member.node (ahead.running is)
-  node_of rows book situation who member false is ahead = stopped_node rows book who member.node is (ahead.stopped is)
+  node_of rows book situation who member true is ahead = running_node seen may_leave honest told_of table rows book who member.node (ahead.running is)
+  node_of rows book situation who member false is ahead = stopped_node seen may_leave honest told_of table rows book who member.node is (ahead.stopped is)
 
   pub few_members : (rows : List Row) (world : World D) (situation : Situation) → IsWorldAt seen may_leave honest told_of table rows world situation → length world.members.items ≤ 7
   few_members rows world situation is =

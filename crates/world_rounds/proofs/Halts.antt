@@ -1,6 +1,5 @@
 -- Turns that are no steps.
-use Rattle.std.proofs.Common.{◌≡◌, ℕ, ◌-◌, true, false, List, [], ◌∷◌, ◌++◌, length, None, Some, refl, sym, ap, ◌∙◌, subst, inl, inr, arith, if◌then◌else◌, Option}
-use Rattle.std.proofs.Common.{append-nil as append_nil}
+use Rattle.std.proofs.Common.{List, None, Option, Some, [], ap, append-nil as append_nil, arith, false, if◌then◌else◌, inl, inr, length, refl, subst, sym, true, ℕ, ◌++◌, ◌-◌, ◌∙◌, ◌∷◌, ◌≡◌}
 use Rattle.std.specs.List.{Contains, slice_get}
 use Rattle.std.proofs.Math.ListN.{set}
 use Rattle.std.proofs.lemmas.List.{length-set}
@@ -24,14 +23,15 @@ use Rattle.world_law.specs.Book.{BookState, Commits, IsAlike, IsNext, IsRowOf, S
 use Rattle.book_law.specs.Legal.{MayFollow}
 use Rattle.step_law.specs.declared.out.LearntRow.{LearntRow}
 use Rattle.world_law.specs.Replicas.{IsStopOf}
-use Rattle.world_rounds.proofs.AfterTurn.{fact_here, leaves_other, member_stays}
+use Rattle.world_steps.proofs.AfterTurn.{fact_here, leaves_other}
+use Rattle.world_rounds.proofs.AfterTurn.{member_stays}
 use Rattle.world_rounds.proofs.Delivery.{same_mails}
 use Rattle.world_rounds.proofs.RoundsOfAll.{posted_so_far}
 use Rattle.world_rounds.proofs.Worlds.{set_cases, world_on}
 use Rattle.world_rounds.specs.Alone.{HasJoinedAlone, IsAlone}
-use Rattle.world_rounds.specs.Steps.{IsNodeAhead}
-use Rattle.world_rounds.specs.Turns.{HasLetters}
-use Rattle.world_rounds.specs.World.{GoesOnBy, IsMemberAhead, IsNodeStopped, IsWorld, IsWorldAt, none_taken}
+use Rattle.world_steps.specs.Steps.{IsNodeAhead, IsNodeStopped}
+use Rattle.world_steps.specs.Turns.{HasLetters}
+use Rattle.world_rounds.specs.World.{GoesOnBy, IsMemberAhead, IsWorld, IsWorldAt, none_taken}
 use Rattle.world_rounds.specs.declared.member.Member.{Member}
 use Rattle.world_rounds.specs.declared.world.World.{World}
 

@@ -1,9 +1,4 @@
-pub mod Foreseen
-pub mod StepLemmas
 pub mod HearLemmas
-pub mod MemoryLemmas
-pub mod Calls
-pub mod Joined
 pub mod AfterTurn
 pub mod Worlds
 pub mod Chains

@@ -26,7 +26,7 @@ use Rattle.world_rounds.proofs.StepsAt.{cases_number}
 use Rattle.world_rounds.proofs.Worlds.{some_same}
 use Rattle.drain_law.specs.Rest.{IsAtRest}
 use Rattle.world_rounds.specs.Quiet.{AllRun, Tells}
-use Rattle.world_rounds.specs.Steps.{IsNodeAhead}
+use Rattle.world_steps.specs.Steps.{IsNodeAhead}
 use Rattle.world_rounds.specs.World.{IsWorld, IsWorldAt}
 use Rattle.world_rounds.specs.declared.member.Member.{Member}
 use Rattle.world_rounds.specs.declared.world.World.{World}

@@ -1,6 +1,5 @@
 -- What a replica takes in a round.
-use Rattle.std.proofs.Common.{◌≡◌, ℕ, true, false, List, [], ◌∷◌, ◌++◌, Option, None, Some, ℤ, refl, sym, ap, ◌∙◌, subst, arith, append_assoc}
-use Rattle.std.proofs.Common.{append-nil as append_nil}
+use Rattle.std.proofs.Common.{List, None, Option, Some, [], ap, append-nil as append_nil, append_assoc, arith, false, refl, subst, sym, true, ℕ, ℤ, ◌++◌, ◌∙◌, ◌∷◌, ◌≡◌}
 use Rattle.std.specs.Prelude.{◌<ℤ◌}
 use Rattle.std.specs.List.{Contains}
 use Rattle.std.proofs.lemmas.Int.{clamps, ints}
@@ -22,12 +21,13 @@ use Rattle.script_law.specs.Round.{answer_tasks, clock_reading, hear_tasks, task
 use Rattle.script_law.specs.Situation.{Do, Situation}
 use Rattle.world_law.specs.Book.{BookState, standing_behind}
 use Rattle.world_rounds.specs.Rounds.{HasTakenRound, IsMemberIdle}
-use Rattle.world_rounds.specs.Steps.{IsBeside, MayHear, MayTakeAnswer, WasToldOf, answer_causes, causes_of, hear_causes}
+use Rattle.world_steps.specs.Steps.{IsBeside, WasToldOf, causes_of, heard_in}
+use Rattle.world_rounds.specs.Hearing.{MayHear, MayTakeAnswer, answer_causes, hear_causes}
 use Rattle.world_rounds.specs.Taking.{tasks_by}
 use Rattle.script_text.specs.Command.{IsSkew}
-use Rattle.world_rounds.specs.World.{IsMemberAhead, heard_in}
+use Rattle.world_rounds.specs.World.{IsMemberAhead}
 use Rattle.world_rounds.specs.declared.member.Member.{Member}
-use Rattle.world_rounds.specs.declared.steps.Taken.{Taken}
+use Rattle.world_steps.specs.declared.steps.Taken.{Taken}
 
 pub clock_inside : (window : Window) (at skew : ℤ) → window.from.0 <ℤ window.until.0 → IsInWindow window (clock_reading window at skew).0
 clock_inside window at skew ordered = record { since = omega (arith, ints, clamps); before = omega (arith, ints, clamps) }

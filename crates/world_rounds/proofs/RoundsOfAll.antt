@@ -1,10 +1,9 @@
 -- Rounds of a world.
-use Rattle.std.proofs.Common.{◌≡◌, ◌≢◌, ℕ, zero, suc, ◌+◌, ◌<◌, ◌≤◌, List, [], ◌∷◌, ◌++◌, length, take, drop, ℤ, Result, Ok, Err, OnErr, OnOk, Option, Some, refl, sym, ap, ◌∙◌, subst, inl, inr, arith, append_assoc, add-one}
-use Rattle.std.proofs.Common.{append-nil as append_nil}
+use Rattle.std.proofs.Common.{Err, List, Ok, OnErr, OnOk, Option, Result, Some, [], add-one, ap, append-nil as append_nil, append_assoc, arith, drop, inl, inr, length, refl, subst, suc, sym, take, zero, ℕ, ℤ, ◌++◌, ◌+◌, ◌<◌, ◌∙◌, ◌∷◌, ◌≡◌, ◌≢◌, ◌≤◌}
 use Rattle.std.specs.List.{flat_map, range_with_len, slice_get}
 use Rattle.std.specs.Vec.{with_items}
 use Rattle.std.proofs.Math.ListN.{set}
-use Rattle.std.proofs.lemmas.List.{length-set}
+use Rattle.std.proofs.lemmas.List.{length-map, length-set}
 use Rattle.std.proofs.lemmas.List.Concat.{flat_map-append}
 use Rattle.std.proofs.lemmas.Option.{slice_get_past, slice_get_within}
 use Rattle.std.proofs.lemmas.Bool.{cases_lt}
@@ -16,14 +15,13 @@ use Rattle.book_law.specs.Book.{Row, Standing}
 use Rattle.script_law.specs.Round.{AreRounds, IsRound, round_tasks, tasks_of}
 use Rattle.script_law.specs.Situation.{Performs, Situation, Task, after_turns, delivered, is_cut}
 use Rattle.world_law.specs.Book.{BookState, IsLegalBook, posted_as}
-use Rattle.std.proofs.lemmas.List.{length-map}
 use Rattle.world_rounds.proofs.Chains.{taken_none, taken_then}
 use Rattle.world_rounds.proofs.Delivery.{range_next}
 use Rattle.world_rounds.proofs.StepsAt.{ahead_same, cases_number, get_set_there}
 use Rattle.world_rounds.proofs.Worlds.{set_cases}
 use Rattle.world_rounds.specs.Mails.{Changes}
 use Rattle.world_rounds.specs.Rounds.{AllTakeRounds, CommitsAll, HasTakenRound, MayTakeRound, TakesRound, tasks_at_hand}
-use Rattle.world_rounds.specs.Steps.{causes_of}
+use Rattle.world_steps.specs.Steps.{causes_of}
 use Rattle.world_rounds.specs.Taking.{CommitsOwn, HasTaken, IsAhead, MayCommitOwn, PutsDown, steps_at, steps_of, tasks_by}
 use Rattle.world_parts.specs.Parts.{IsBookAt}
 use Rattle.world_rounds.specs.World.{GoesOnBy, IsMemberAhead, IsWorld, IsWorldAt, book_of, none_taken}

@@ -1,6 +1,5 @@
 -- What a command sets in a world.
-use Rattle.std.proofs.Common.{◌≡◌, ◌≢◌, ℕ, ◌-◌, true, eqb, ◌&&◌, if◌then◌else◌, List, [], ◌∷◌, ◌++◌, length, ℤ, ◌≤ℤ◌, Some, refl, sym, ap, ◌∙◌, subst, inl, inr, arith, Option}
-use Rattle.std.proofs.Common.{append-nil as append_nil}
+use Rattle.std.proofs.Common.{List, Option, Some, [], ap, append-nil as append_nil, arith, eqb, if◌then◌else◌, inl, inr, length, refl, subst, sym, true, ℕ, ℤ, ◌&&◌, ◌++◌, ◌-◌, ◌∙◌, ◌∷◌, ◌≡◌, ◌≢◌, ◌≤ℤ◌}
 use Rattle.std.specs.List.{slice_get}
 use Rattle.std.proofs.Math.ListN.{set}
 use Rattle.std.proofs.lemmas.Bool.{cases_Bool}
@@ -13,7 +12,7 @@ use Rattle.book_law.specs.Book.{Row, Standing, with_fact}
 use Rattle.script_law.specs.Commands.{Plain}
 use Rattle.script_law.specs.Situation.{Situation, Task, delivered, is_cut, letters_for}
 use Rattle.world_law.specs.declared.letter.LetterRow.{LetterRow}
-use Rattle.world_rounds.proofs.AfterTurn.{fact_here, fact_there}
+use Rattle.world_steps.proofs.AfterTurn.{fact_here, fact_there}
 use Rattle.world_rounds.proofs.Delivery.{same_mails}
 use Rattle.world_rounds.proofs.Worlds.{set_cases}
 use Rattle.world_rounds.specs.Mails.{Changes}

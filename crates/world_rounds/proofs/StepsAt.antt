@@ -1,27 +1,23 @@
 -- The steps that the replicas of a world have at hand.
-use Rattle.std.proofs.Common.{◌≡◌, ◌≢◌, ◌⊎◌, ℕ, zero, suc, ◌+◌, ◌<◌, true, false, eqb, eq-eqb, List, [], ◌∷◌, ◌++◌, length, take, drop, get_or, Some, refl, sym, ap, ◌∙◌, subst, inl, inr, arith, Option}
-use Rattle.std.proofs.Common.{append-nil as append_nil}
+use Rattle.std.proofs.Common.{List, Option, Some, [], add-one, ap, append-nil as append_nil, arith, drop, drop-cons, eq-eqb, eqb, false, get_or, inl, inr, length, refl, subst, suc, sym, take, true, zero, ℕ, ◌++◌, ◌+◌, ◌<◌, ◌∙◌, ◌∷◌, ◌≡◌, ◌≢◌, ◌⊎◌}
 use Rattle.std.specs.List.{slice_get}
 use Rattle.std.proofs.Math.ListN.{set}
 use Rattle.std.proofs.lemmas.Bool.{cases_Bool, eqb-true}
-use Rattle.std.proofs.lemmas.List.{length-set}
+use Rattle.std.proofs.lemmas.List.{length-set, map-append}
 use Rattle.disk_model.specs.Images.{Image}
 use Rattle.disk_model.specs.Told.{Told}
 use Rattle.due_set.specs.Table.{Table}
 use Rattle.book_law.specs.Book.{Row, with_fact}
-use Rattle.script_law.specs.Situation.{Situation, Task, is_cut}
-use Rattle.world_rounds.proofs.AfterTurn.{fact_here, fact_there}
-use Rattle.std.proofs.Common.{add-one, drop-cons}
+use Rattle.script_law.specs.Situation.{Do, Situation, Task, after_turns, is_cut}
+use Rattle.world_steps.proofs.AfterTurn.{fact_here, fact_there}
 use Rattle.std.proofs.Math.Seq.{take-suc}
-use Rattle.std.proofs.lemmas.List.{map-append}
-use Rattle.script_law.specs.Situation.{Do, after_turns}
 use Rattle.world_rounds.proofs.Chains.{taken_none, taken_then}
 use Rattle.world_rounds.proofs.Worlds.{set_cases}
-use Rattle.world_rounds.specs.Steps.{causes_of}
+use Rattle.world_steps.specs.Steps.{causes_of}
 use Rattle.world_rounds.specs.Taking.{Commits, CommitsOwn, HasTaken, KeepsSteps, MayCommit, MayCommitOwn, PutsDown, steps_at, steps_of, tasks_by}
 use Rattle.world_rounds.specs.World.{IsMemberAhead, IsWorldAhead, book_of}
 use Rattle.world_rounds.specs.declared.member.Member.{Member}
-use Rattle.world_rounds.specs.declared.steps.Taken.{Taken}
+use Rattle.world_steps.specs.declared.steps.Taken.{Taken}
 use Rattle.world_rounds.specs.declared.world.World.{World}
 
 pub get_set_here : {X : Type 0} (xs : List X) (i : ℕ) (y : X) → i < length xs → slice_get (set xs i y) i ≡ Some y

@@ -16,7 +16,7 @@ use Rattle.script_text.specs.declared.command.Command.TheVariants as command
 use Rattle.step_law.proofs.Lists.{in_first, in_rest, cons_cases, nothing_in}
 use Rattle.world_law.specs.Book.{posted_as}
 use Rattle.world_law.specs.declared.letter.LetterRow.{LetterRow}
-use Rattle.world_rounds.proofs.AfterTurn.{fact_here, fact_there}
+use Rattle.world_steps.proofs.AfterTurn.{fact_here, fact_there}
 use Rattle.world_rounds.proofs.Setting.{member_set}
 use Rattle.world_rounds.specs.Mails.{Changes}
 use Rattle.world_parts.specs.Parts.{IsSentTo}
@@ -32,11 +32,6 @@ in_reverse (y ∷ xs) x has = elim (Contains-append_cases (reverse xs) (y ∷ []
   | inl more ↦ in_rest y xs x (in_reverse xs x more)
   | inr last ↦ elim (cons_cases y [] x last) [ inl same ↦ subst (Contains (y ∷ xs)) same (in_first y xs) | inr none ↦ nothing_in none ]
 ]
-
-pub there_is : {X : Type 0} (xs : List X) (k : ℕ) → k < length xs → IsSome (slice_get xs k)
-there_is [] k below = absurd (omega arith)
-there_is (x ∷ xs) zero below = refl
-there_is (x ∷ xs) (suc k) below = there_is xs k (omega arith)
 
 module _ {D : Type 0} (seen : D → Image) (may_leave : D → Image → Type 0) (honest : D → Type 0) (told_of : D → Option Told) where
   pub posted_are : (table : Table) (rows : List Row) (world : World D) (situation : Situation) → IsWorldAt seen may_leave honest told_of table rows world situation

@@ -16,13 +16,14 @@ use Rattle.book_law.specs.declared.turn.Turn.TheVariants.{Arrived, Did, Restarte
 use Rattle.replica_core.specs.Replica.{ReplicaState}
 use Rattle.script_law.specs.Situation.{Situation, after_turn, is_cut, latest_after, latest_with}
 use Rattle.world_law.specs.Book.{StandsBehind}
-use Rattle.world_rounds.proofs.AfterTurn.{fact_here, fact_there, leaves_other, member_did, member_stays, next_step, runs_ahead, stands_after}
-use Rattle.world_rounds.specs.Steps.{IsNodeAhead, causes_of}
+use Rattle.world_steps.proofs.AfterTurn.{fact_here, fact_there, leaves_other, next_step, stands_after}
+use Rattle.world_rounds.proofs.AfterTurn.{member_did, member_stays, runs_ahead}
+use Rattle.world_steps.specs.Steps.{IsNodeAhead, causes_of}
 use Rattle.world_rounds.specs.Taking.{HasTaken, tasks_by}
-use Rattle.world_rounds.specs.Turns.{HasJoinedAt, IsNextStep, MayJoin}
-use Rattle.world_rounds.specs.World.{IsMemberAhead, IsWorldAhead, noted}
+use Rattle.world_steps.specs.Turns.{HasJoinedAt, IsNextStep, MayJoin, noted}
+use Rattle.world_rounds.specs.World.{IsMemberAhead, IsWorldAhead}
 use Rattle.world_rounds.specs.declared.member.Member.{Member}
-use Rattle.world_rounds.specs.declared.steps.Taken.{Taken}
+use Rattle.world_steps.specs.declared.steps.Taken.{Taken}
 use Rattle.world_rounds.specs.declared.world.World.{World}
 
 -- what is found in a list with another element at one place

@@ -4,13 +4,12 @@ pub mod Calm
 pub mod Campaigns
 pub mod Commands
 pub mod Drains
+pub mod Hearing
 pub mod Mails
 pub mod Nodes
 pub mod Parts
 pub mod Start
-pub mod Steps
 pub mod Taking
-pub mod Turns
 pub mod Walking
 pub mod World
 pub mod Quiet

@@ -8,7 +8,7 @@ use Rattle.book_law.specs.Book.{Row}
 use Rattle.script_law.specs.Round.{tasks_of}
 use Rattle.script_law.specs.Situation.{Situation, Task}
 use Rattle.world_law.specs.Book.{BookState}
-use Rattle.world_rounds.specs.Steps.{causes_of}
+use Rattle.world_steps.specs.Steps.{causes_of}
 use Rattle.world_rounds.specs.Taking.{HasTaken, IsAhead, steps_at, tasks_by}
 use Rattle.world_parts.specs.Parts.{IsBookAt}
 use Rattle.world_rounds.specs.World.{IsMemberAhead, book_of}

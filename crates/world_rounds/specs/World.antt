@@ -19,29 +19,11 @@ use Rattle.script_law.specs.Situation.{Situation, is_cut}
 use Rattle.world_law.specs.Book.{BookState, standing_behind}
 use Rattle.world_parts.specs.Parts.{IsBookAt, IsMailOf}
 use Rattle.world_parts.specs.declared.mail.MemberMail.{MemberMail}
-use Rattle.world_rounds.specs.Steps.{IsNodeAhead, causes_of}
+use Rattle.world_steps.specs.Steps.{IsNodeAhead, causes_of}
 use Rattle.world_rounds.specs.declared.member.Member.{Member}
-use Rattle.world_rounds.specs.declared.steps.Taken.{Taken}
+use Rattle.world_steps.specs.declared.steps.Taken.{Taken}
 use Rattle.world_rounds.specs.declared.world.World.{World}
 use Rattle.zone_minutes.specs.declared.minute.Minute.{Minute}
-
--- the letter that is heard for a cause
-abbrev pub heard_for : Cause → List ℕ
-heard_for (Hear number) = number ∷ []
-heard_for cause = []
-
--- the letters that are heard for some causes
-abbrev pub heard_in : List Cause → List ℕ
-heard_in causes = flat_map heard_for causes
-
--- the node of a replica that is stopped: it keeps what the replica does, and has taken no step
-pub record IsNodeStopped {D : Type 0} (seen : D → Image) (may_leave : D → Image → Type 0) (honest : D → Type 0) (told_of : D → Option Told) (table : Table) (members : ℕ) (standing : Standing) (who : ℕ) (steps : List Taken) (node : Node D) : Type 0 where
-  pub at_rest : IsNodeAtRest seen may_leave honest table node
-  pub trusted : honest (disk_of node)
-  pub reliable : IsReliable (told_of (disk_of node))
-  pub identity : (replica_of node).identity ≡ identity_of members who
-  pub none : steps ≡ []
-  pub kept : standing.replicas who ≡ started who (replica_of node).state.kept
 
 -- a replica of the world, which may be some steps ahead of the book
 pub record IsMemberAhead {D : Type 0} (seen : D → Image) (may_leave : D → Image → Type 0) (honest : D → Type 0) (told_of : D → Option Told) (table : Table) (rows : List Row) (book : BookState) (situation : Situation) (who : ℕ) (steps : List Taken) (member : Member D) : Type 0 where
@@ -57,15 +39,6 @@ pub record IsWorldAhead {D : Type 0} (seen : D → Image) (may_leave : D → Ima
       → IsMemberAhead seen may_leave honest told_of table rows world.book situation who (steps who) member
   pub cuts : (from to : ℕ) → is_cut from to world.cuts.items ≡ is_cut from to situation.cuts
   pub latest : world.latest.0 ≡ situation.latest
-
--- the fate of the next call behind a step, which may have made one
-abbrev pub fate_then : Option CallRow → Fate → Fate
-fate_then None set = set
-fate_then (Some made) set = becomes.Done
-
--- what is set for a replica behind its step: an answer of the call that the step has made waits for it
-abbrev pub noted : Option CallRow → MemberMail → MemberMail
-noted made mail = record mail { waits = answer_to made; fate = fate_then made mail.fate }
 
 -- the book of a world
 abbrev pub book_of : {D : Type 0} → World D → BookState

@@ -10,7 +10,6 @@ ghost use Rattle.world_law.specs.Book.{IsLegalBook};
 ghost use Rattle.world_rounds.specs.Alone.{HasJoinedAlone, HasStartedAgain, IsAlone};
 ghost use Rattle.world_rounds.specs.World.{GoesOnBy, IsWorld, book_of};
 
-use crate::fault::memory_of;
 use crate::member::Member;
 use crate::world::World;
 use book_law::Turn;
@@ -22,6 +21,7 @@ use replica_draft::LetterList;
 use replica_node::Node;
 use std::alloc::Global;
 use world_law::Book;
+use world_steps::memory_of;
 
 // A turn that is no step joins the book.
 fn commit_alone(

@@ -7,12 +7,12 @@ ghost use Rattle.world_law.specs.Book.{posted_as};
 ghost use Rattle.world_rounds.specs.Mails.{Changes};
 ghost use Rattle.world_rounds.specs.World.{IsWorld, book_of};
 
-use crate::steps::letter_at;
 use crate::world::World;
 use cron_io::OutOfMemory;
 use disk_model::Disk;
 use std::alloc::Global;
 use world_law::Book;
+use world_steps::letter_at;
 
 // Whether the letter of a number is from a replica.
 fn is_from(book: &Book, who: u8, number: u64) -> bool

@@ -1,26 +1,14 @@
 //! Letters join the mails.
 ghost use Rattle.std.specs.Prelude.{◌≡◌, ◌<◌, OnOk, length};
 ghost use Rattle.due_set.specs.Table.{Table};
-ghost use Rattle.script_law.specs.Situation.{delivered, is_cut};
+ghost use Rattle.script_law.specs.Situation.{delivered};
 ghost use Rattle.world_rounds.specs.Mails.{Changes, arrived};
 ghost use Rattle.world_rounds.specs.World.{IsWorld, book_of};
 
-use crate::steps::letter_at;
 use crate::world::World;
 use cron_io::OutOfMemory;
 use disk_model::Disk;
-
-// Whether letters from the one to the other are lost.
-fn is_cut(cuts: &[(u8, u8)], from: u8, to: u8) -> bool
-    ensures { result ≡ is_cut from to cuts.now }
-{
-    'pairs: for pair in cuts {
-        if pair.0 == from && pair.1 == to {
-            return true;
-        }
-    }
-    false
-}
+use world_steps::{is_cut, letter_at};
 
 impl<D: Disk> World<D> {
     // The letter of a number joins the mail of its addressee, where that runs and the letter isn't lost.

@@ -1,14 +1,12 @@
 //! A replica of a world.
 ghost use Rattle.std.specs.Prelude.{◌≡◌, true, OnOk};
-ghost use Rattle.script_law.specs.Round.{clock_reading};
 ghost use Rattle.step_law.specs.State.{prefix_of};
 ghost use Rattle.replica_node.specs.Node.{replica_of};
-ghost use Rattle.zone_minutes.specs.Window.{IsInWindow, IsWithinLimits};
+ghost use Rattle.zone_minutes.specs.Window.{IsInWindow};
 ghost use Rattle.world_rounds.specs.Campaigns.{TakesCampaign};
 ghost use Rattle.world_rounds.specs.Rounds.{MayTakeRound, RunsRound, TakesRound};
-ghost use Rattle.script_text.specs.Command.{IsSkew};
 
-use crate::steps::{Taken, hear_letters, take_answer, take_step};
+use crate::steps::{hear_letters, keep_step, take_answer};
 use book_law::Cause;
 use cron_io::OutOfMemory;
 use disk_model::Disk;
@@ -17,7 +15,8 @@ use replica_core::Input;
 use replica_node::Node;
 use world_law::Book;
 use world_parts::MemberMail;
-use zone_minutes::{Minute, Window};
+use world_steps::{Taken, reading_of};
+use zone_minutes::Minute;
 
 /// A replica: its node, also while it is stopped, its mail, the steps that it has taken since its last turn, and whether want
 /// of memory has ended its steps in lanes.
@@ -27,17 +26,6 @@ pub(crate) struct Member<D> {
     pub(crate) mail: MemberMail,
     pub(crate) steps: Vec<Taken>,
     pub(crate) short: bool,
-}
-
-// What a replica's clock reads at an instant, held within the window.
-fn reading_of(mail: &MemberMail, window: Window, at: Minute) -> Minute
-    requires limits { IsWithinLimits window }
-    requires inside { IsInWindow window at.0 }
-    requires small { IsSkew mail.now.skew }
-    ensures { result ≡ clock_reading window at.0 mail.now.skew }
-{
-    let last = window.until.0 - 1;
-    Minute((at.0 + mail.skew).min(last).max(window.from.0))
 }
 
 impl<D: Disk> Member<D> {
@@ -54,7 +42,7 @@ impl<D: Disk> Member<D> {
         requires may { MayTakeRound D.seen D.may_leave D.honest D.told table.now book.now self.old }
         ensures takes { OnOk result (TakesCampaign D.seen D.may_leave D.honest D.told table.now book.now self.old self.new) }
     {
-        take_step(
+        keep_step(
             &mut self.node,
             &mut self.steps,
             table,
@@ -95,7 +83,7 @@ impl<D: Disk> Member<D> {
         )?;
         self.mail.letters.clear();
         let now = reading_of(&self.mail, table.window(), at);
-        take_step(
+        keep_step(
             &mut self.node,
             &mut self.steps,
             table,

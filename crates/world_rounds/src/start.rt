@@ -8,7 +8,6 @@ ghost use Rattle.world_parts.specs.Nodes.{AreNodesOf};
 ghost use Rattle.world_rounds.specs.Start.{IsFreshMember, IsFreshDisk};
 ghost use Rattle.world_rounds.specs.World.{IsWorldAt, book_of};
 
-use crate::fault::memory_of;
 use crate::member::Member;
 use crate::rooms::PartsRoom;
 use crate::world::World;
@@ -20,6 +19,7 @@ use replica_node::Node;
 use std::alloc::Global;
 use world_law::Book;
 use world_parts::MemberMail;
+use world_steps::memory_of;
 
 // A replica that starts on an empty disk.
 fn start_member<D: Disk>(

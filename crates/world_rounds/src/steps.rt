@@ -1,32 +1,24 @@
-//! The steps that a replica takes beside a book, before their turns join it.
-ghost use Rattle.std.specs.Prelude.{◌≡◌, ◌++◌, ◌∷◌, [], ℕ, List, OnOk, Some, IsSome, slice_get};
+//! The steps that a replica takes of a round, before their turns join the book.
+ghost use Rattle.std.specs.Prelude.{◌≡◌, ◌++◌, ◌∷◌, [], ℕ, List, OnOk};
 ghost use Rattle.book_law.specs.Book.{Row};
-ghost use Rattle.book_law.specs.declared.turn.Cause.TheVariants as cause;
-ghost use Rattle.replica_core.specs.declared.out.StepOut.{StepOut as Out};
-ghost use Rattle.world_rounds.specs.Steps.{IsBeside, MayHear, MayTakeAnswer, WasToldOf, answer_causes, causes_of, hear_causes};
+ghost use Rattle.world_rounds.specs.Hearing.{MayHear, MayTakeAnswer, answer_causes, hear_causes};
+ghost use Rattle.world_steps.specs.Steps.{IsBeside, WasToldOf, causes_of};
 
-use crate::fault::memory_of;
 use book_law::Cause;
 use cluster_sched::SchedRow;
 use cron_io::OutOfMemory;
 use disk_model::Disk;
 use due_set::JobTable;
-use replica_core::{Input, StepOut};
+use replica_core::Input;
 use replica_node::Node;
-use world_law::{Book, LetterRow};
+use world_law::Book;
+use world_steps::{Taken, letter_at, take_step};
 
-// The turns that a book has at most, and the steps beside it.
-const MOST_TURNS: usize = 1 << 31;
-
-/// A step that was taken, and what it was taken for.
-#[derive(Debug, Drop)]
-pub struct Taken {
-    pub cause: Cause,
-    pub out: StepOut,
-}
+// The steps that a replica has beside a book at most.
+const MOST_STEPS: usize = 1 << 31;
 
 // Lets a node take its step for a cause, and keeps what comes of it.
-pub(crate) fn take_step<D: Disk>(
+pub(crate) fn keep_step<D: Disk>(
     node: &mut Node<D>,
     steps: &mut Vec<Taken>,
     table: &JobTable,
@@ -39,14 +31,11 @@ pub(crate) fn take_step<D: Disk>(
     ensures beside { (rows : List Row) (who : ℕ) → WasToldOf D.seen D.may_leave D.honest D.told table.now rows book.now who steps.old.items node.old cause input.entry
         → OnOk result (IsBeside D.seen D.may_leave D.honest D.told table.now rows book.now who steps.new.items node.new) }
 {
-    if book.turns().len() >= MOST_TURNS || steps.len() >= MOST_TURNS {
+    if steps.len() >= MOST_STEPS {
         return Err(OutOfMemory);
     }
-    let out = match node.handle(table, input) {
-        Ok(out) => out,
-        Err(fault) => return Err(memory_of(fault)),
-    };
-    steps.push(Taken { cause, out })?;
+    let taken = take_step(node, table, book.turns().len(), cause, input)?;
+    steps.push(taken)?;
     Ok(())
 }
 
@@ -72,18 +61,7 @@ pub(crate) fn take_answer<D: Disk>(
         at: row.name.at,
         kind: row.kind,
     };
-    take_step(node, steps, table, book, Cause::Answer, input)
-}
-
-// The letter of a number.
-pub(crate) fn letter_at(book: &Book, number: u64) -> &LetterRow
-    requires { IsSome (slice_get book.now.letters number) }
-    ensures { slice_get book.now.letters number ≡ Some result.now }
-{
-    match book.letters().get(number as usize) {
-        Some(letter) => letter,
-        None => unreachable!(),
-    }
+    keep_step(node, steps, table, book, Cause::Answer, input)
 }
 
 // Lets it hear letters that go to it.
@@ -102,7 +80,7 @@ pub(crate) fn hear_letters<D: Disk>(
     'letters: for letter in letters {
         let letter = *letter;
         let bytes = letter_at(book, letter).bytes.bytes();
-        take_step(
+        keep_step(
             node,
             steps,
             table,

@@ -4,7 +4,7 @@ use Rattle.replica_node.specs.Node.{fault_of, replica_of}
 use Rattle.replica_node.specs.Reliable.{IsReliable}
 use Rattle.replica_node.proofs.RestLemmas.{recoverable_at_rest}
 use Rattle.step_law.specs.State.{started}
-use Rattle.world_rounds.proofs.MemoryLemmas.{memory_alone}
+use Rattle.world_steps.proofs.MemoryLemmas.{memory_alone}
 use Rattle.world_rounds.proofs.Starting.{either_way}
 use Rattle.world_rounds.proofs.alone.start_again.Goals as goal
 

@@ -4,7 +4,7 @@ use Rattle.step_law.specs.State.{started}
 use Rattle.agree_law.specs.World.{fresh}
 use Rattle.replica_store.proofs.FileLemmas.{empty_recoverable}
 use Rattle.replica_node.specs.Node.{fault_of}
-use Rattle.world_rounds.proofs.MemoryLemmas.{memory_alone}
+use Rattle.world_steps.proofs.MemoryLemmas.{memory_alone}
 use Rattle.world_rounds.proofs.Starting.{either_way}
 use Rattle.world_rounds.proofs.start.start_member.Goals as goal
 

@@ -6,8 +6,8 @@ letter_at-requires g c =
     letter_there g.D.Disk.seen g.D.Disk.may_leave g.D.Disk.honest g.D.Disk.told c.args.table.now c.args.book.now c.requires.may.0 c.requires.may.1 c.args.steps.now.items c.args.node.now
     c.args.letters.now c.letters.letter-index c.requires.may.2 c.letters-test.true
 
-pub take_step-requires : goal.take_step-requires
-take_step-requires g c = record {
+pub keep_step-requires : goal.keep_step-requires
+keep_step-requires g c = record {
   told = (
     c.requires.may.0,
     c.requires.may.1,
@@ -20,8 +20,8 @@ take_step-requires g c = record {
 pub letters-preserved : goal.letters-preserved
 letters-preserved g c =
     heard_more g.D.Disk.seen g.D.Disk.may_leave g.D.Disk.honest g.D.Disk.told c.args.table.now c.args.book.now c.args.letters.now c.letters.letter-index c.args.steps.now.items c.letters.steps.items
-    c.take_step.new.steps.items c.args.node.now c.letters.node c.take_step.new.node c.letters-test.true c.letters.invariant c.in_ok-take_step.ensures.causes
-    (λ rows who may. c.in_ok-take_step.ensures.beside rows who
+    c.keep_step.new.steps.items c.args.node.now c.letters.node c.keep_step.new.node c.letters-test.true c.letters.invariant c.in_ok-keep_step.ensures.causes
+    (λ rows who may. c.in_ok-keep_step.ensures.beside rows who
     (told_letter g.D.Disk.seen g.D.Disk.may_leave g.D.Disk.honest g.D.Disk.told c.args.table.now c.args.book.now rows who c.args.steps.now.items c.letters.steps.items
     c.args.node.now c.letters.node c.args.letters.now c.letters.letter-index c.letter_at.result.now _ may c.letters-test.true
     (c.letters.invariant.beside rows who may) c.letter_at.ensures c.bytes-bytes.ensures tt))

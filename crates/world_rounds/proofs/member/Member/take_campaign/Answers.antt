@@ -2,8 +2,8 @@ use Rattle.std.proofs.Common.{refl}
 use Rattle.world_rounds.proofs.Campaigns.{campaign_taken, told_campaign}
 use Rattle.world_rounds.proofs.member.Member.take_campaign.Goals as goal
 
-pub take_step-requires : goal.take_step-requires
-take_step-requires g c =
+pub keep_step-requires : goal.keep_step-requires
+keep_step-requires g c =
     let may = c.requires.may in
     record {
       told = (
@@ -17,7 +17,7 @@ pub returns : goal.returns
 returns g c = record {
   takes = λ rows situation who idle.
       campaign_taken g.D.Disk.seen g.D.Disk.may_leave g.D.Disk.honest g.D.Disk.told c.args.table.now rows c.args.book.now situation who c.args.self.now _ idle c.requires.runs
-      (c.in_ok-take_step.ensures.beside rows who
+      (c.in_ok-keep_step.ensures.beside rows who
       (told_campaign g.D.Disk.seen g.D.Disk.may_leave g.D.Disk.honest g.D.Disk.told c.args.table.now rows c.args.book.now situation who c.args.self.now idle c.requires.runs))
-      refl c.in_ok-take_step.ensures.causes;
+      refl c.in_ok-keep_step.ensures.causes;
 }

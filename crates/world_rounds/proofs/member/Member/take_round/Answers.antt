@@ -3,8 +3,8 @@ use Rattle.book_law.specs.declared.turn.Cause.TheVariants.{Tick}
 use Rattle.world_rounds.proofs.RoundLemmas.{may_answer, may_hear, round_skipped, round_taken, told_tick}
 use Rattle.world_rounds.proofs.member.Member.take_round.Goals as goal
 
-pub take_step-requires : goal.take_step-requires
-take_step-requires g c =
+pub keep_step-requires : goal.keep_step-requires
+keep_step-requires g c =
     let may = c.requires.may in
     let answered = c.in_ok-take_answer.ensures.beside may.rows may.who (may_answer g.D.Disk.seen g.D.Disk.may_leave g.D.Disk.honest g.D.Disk.told c.args.table.now c.args.book.now may.rows may.situation may.who c.args.self.now may.idle c.if-not-self.false) in
     let hears = may_hear g.D.Disk.seen g.D.Disk.may_leave g.D.Disk.honest g.D.Disk.told c.args.table.now c.args.book.now may.rows may.situation may.who c.args.self.now c.take_answer.new.steps.items c.take_answer.new.node may.idle answered in
@@ -27,8 +27,8 @@ returns g c = record {
       let told = told_tick g.D.Disk.seen g.D.Disk.may_leave g.D.Disk.honest g.D.Disk.told c.args.table.now c.args.book.now rows who c.hear_letters.new.steps.items c.hear_letters.new.node c.reading_of-now.result
       c.args.at.0 c.args.self.now.mail.skew (rw (sym c.window.ensures.window) c.window.ensures.limits.ordered) heard (rw (sym c.window.ensures.window) c.reading_of-now.ensures) in
       round_taken g.D.Disk.seen g.D.Disk.may_leave g.D.Disk.honest g.D.Disk.told c.args.table.now c.args.book.now rows situation who c.args.at.0 c.reading_of-now.result c.args.self.now _ idle c.if-not-self.false
-      (c.in_ok-take_step.ensures.beside rows who told)
-      (c.in_ok-take_step.ensures.causes ∙ ap (λ causes. causes ++ Tick c.reading_of-now.result ∷ []) (c.in_ok-hear_letters.ensures.causes ∙ rw (c.in_ok-take_answer.ensures.causes, c.deref.ensures.value) refl))
+      (c.in_ok-keep_step.ensures.beside rows who told)
+      (c.in_ok-keep_step.ensures.causes ∙ ap (λ causes. causes ++ Tick c.reading_of-now.result ∷ []) (c.in_ok-hear_letters.ensures.causes ∙ rw (c.in_ok-take_answer.ensures.causes, c.deref.ensures.value) refl))
       (rw (sym c.window.ensures.window) c.reading_of-now.ensures) c.clear.ensures.items refl refl refl refl;
 }
 

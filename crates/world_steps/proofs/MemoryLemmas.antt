@@ -26,8 +26,8 @@ use Rattle.replica_node.specs.declared.node.Node.{Node as Seat}
 use Rattle.world_law.specs.Book.{BookState, StandsBehind, posted_as}
 use Rattle.world_law.specs.Replicas.{IsLetterInput}
 use Rattle.world_law.specs.declared.letter.LetterRow.{LetterRow}
-use Rattle.world_rounds.specs.Steps.{IsToldOf, TookSteps, WasToldOf, waits_behind, waits_in}
-use Rattle.world_rounds.specs.declared.steps.Taken.{Taken}
+use Rattle.world_steps.specs.Steps.{IsToldOf, TookSteps, WasToldOf, waits_behind, waits_in}
+use Rattle.world_steps.specs.declared.steps.Taken.{Taken}
 
 -- ---- an answer that tells of no disk and of no letter
 

@@ -1,16 +1,18 @@
 -- A step that becomes a turn of a book.
 use Rattle.std.specs.Prelude.{◌≡◌, ℕ, ◌≤◌, List, [], ◌∷◌, ◌++◌, Option, None, Some, IfSome, slice_get}
 use Rattle.cluster_sched.specs.declared.fate.Fate.{Fate}
+use Rattle.cluster_sched.specs.declared.fate.Fate.TheVariants as becomes
 use Rattle.due_set.specs.Table.{Table}
-use Rattle.book_law.specs.Book.{Row}
+use Rattle.book_law.specs.Book.{Row, answer_to}
 use Rattle.book_law.specs.declared.turn.CallRow.{CallRow}
 use Rattle.book_law.specs.declared.turn.Turn.TheVariants.{Did}
 use Rattle.replica_core.specs.Replica.{ReplicaState}
 use Rattle.world_law.specs.Book.{BookState, StandsBehind}
 use Rattle.world_law.specs.Replicas.{StandsAt}
 use Rattle.world_law.specs.declared.letter.LetterRow.{LetterRow}
-use Rattle.world_rounds.specs.Steps.{TookStep, waits_in}
-use Rattle.world_rounds.specs.declared.steps.Taken.{Taken}
+use Rattle.world_parts.specs.declared.mail.MemberMail.{MemberMail}
+use Rattle.world_steps.specs.Steps.{TookStep, waits_in}
+use Rattle.world_steps.specs.declared.steps.Taken.{Taken}
 
 -- a book has these letters, each at its number
 abbrev pub HasLetters : List LetterRow → BookState → Type 0
@@ -47,3 +49,14 @@ pub record HasJoinedAt (table : Table) (rows : List Row) (old new : BookState) (
   pub row : Row
   pub joined : HasJoined table rows old new who taken fate made row
   pub stands : StandsAt table (rows ++ row ∷ []) new replica
+
+-- ---- what is set for the replica
+
+-- the fate of the next call behind a step, which may have made one
+abbrev pub fate_then : Option CallRow → Fate → Fate
+fate_then None set = set
+fate_then (Some made) set = becomes.Done
+
+-- what is set for a replica behind its step: an answer of the call that the step has made waits for it
+abbrev pub noted : Option CallRow → MemberMail → MemberMail
+noted made mail = record mail { waits = answer_to made; fate = fate_then made mail.fate }

@@ -3,7 +3,7 @@ use Rattle.std.specs.Prelude.{◌+ℤ◌, ◌-ℤ◌}
 use Rattle.std.specs.Int.{w64, int_max, int_min}
 use Rattle.std.proofs.lemmas.Int.{clamps, ints, to_z-of_z}
 use Rattle.zone_minutes.specs.declared.minute.Minute.{Minute}
-use Rattle.world_rounds.proofs.member.reading_of.Goals as goal
+use Rattle.world_steps.proofs.mails.reading_of.Goals as goal
 
 minute : ℤ → Minute
 minute m = record { 0 = m }

@@ -1,6 +1,6 @@
 use Rattle.std.proofs.Common.{◌≡◌, drop}
 use Rattle.script_law.specs.Situation.{is_cut}
-use Rattle.world_rounds.proofs.mails.is_cut.Given as goal
+use Rattle.world_steps.proofs.mails.is_cut.Given as goal
 
 abbrev pub invariant-pairs : goal.invariant-pairs
 invariant-pairs l = is_cut l.from l.to l.cuts ≡ is_cut l.from l.to (drop l.pair-index l.cuts)

@@ -1,6 +1,6 @@
 use Rattle.std.proofs.Common.{◌∙◌, refl}
-use Rattle.world_rounds.proofs.Joined.{has_joined, may_call, next_alike, turn_may_come}
-use Rattle.world_rounds.proofs.turns.commit_step.Goals as goal
+use Rattle.world_steps.proofs.Joined.{has_joined, may_call, next_alike, turn_may_come}
+use Rattle.world_steps.proofs.turns.commit_step.Goals as goal
 
 pub call_for-requires-clause-rest : goal.call_for-requires-clause-rest
 call_for-requires-clause-rest c = c.reserve.ensures.same.pending ∙ c.requires.may.next.rest

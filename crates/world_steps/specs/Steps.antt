@@ -1,10 +1,13 @@
 -- The steps that a replica has taken beside a book, which has no turns of them yet.
-use Rattle.std.specs.Prelude.{◌≡◌, ℕ, ◌≤◌, List, [], ◌∷◌, Option, None, Some, Contains, map}
+use Rattle.std.specs.Prelude.{◌≡◌, ℕ, ◌<◌, ◌≤◌, ◌^◌, List, [], ◌∷◌, Option, None, Some, length, map}
+use Rattle.std.specs.List.{flat_map}
 use Rattle.cluster_sched.specs.declared.row.SchedRow.{SchedRow}
 use Rattle.disk_model.specs.Images.{Image}
 use Rattle.disk_model.specs.Told.{Told}
 use Rattle.due_set.specs.Table.{IsSound, Table}
-use Rattle.book_law.specs.Book.{Row}
+use Rattle.step_law.specs.State.{started}
+use Rattle.agree_law.specs.Transition.{identity_of}
+use Rattle.book_law.specs.Book.{Row, Standing}
 use Rattle.book_law.specs.declared.turn.Cause.{Cause}
 use Rattle.book_law.specs.declared.turn.Cause.TheVariants.{Campaign, Tick, Hear, Answer}
 use Rattle.replica_core.specs.Replica.{ReplicaState}
@@ -18,7 +21,7 @@ use Rattle.world_law.specs.Book.{BookState, StandsBehind, standing_behind}
 use Rattle.world_law.specs.Replicas.{IsLetterInput, StandsAt}
 use Rattle.world_law.specs.declared.letter.LetterRow.{LetterRow}
 use Rattle.world_parts.specs.Parts.{IsSentTo}
-use Rattle.world_rounds.specs.declared.steps.Taken.{Taken}
+use Rattle.world_steps.specs.declared.steps.Taken.{Taken}
 
 -- the input is a letter of that number, which goes to the replica
 pub record IsLetterOf (letters : List LetterRow) (who number : ℕ) (input : Input) : Type 0 where
@@ -71,6 +74,15 @@ pub record IsNodeAhead {D : Type 0} (seen : D → Image) (may_leave : D → Imag
   pub me : first.identity.me ≡ who
   pub took : TookSteps table book.letters (waits_in table rows book who) who steps first (replica_of node)
 
+-- the node of a replica that is stopped: it keeps what the replica does, and has taken no step
+pub record IsNodeStopped {D : Type 0} (seen : D → Image) (may_leave : D → Image → Type 0) (honest : D → Type 0) (told_of : D → Option Told) (table : Table) (members : ℕ) (standing : Standing) (who : ℕ) (steps : List Taken) (node : Node D) : Type 0 where
+  pub at_rest : IsNodeAtRest seen may_leave honest table node
+  pub trusted : honest (disk_of node)
+  pub reliable : IsReliable (told_of (disk_of node))
+  pub identity : (replica_of node).identity ≡ identity_of members who
+  pub none : steps ≡ []
+  pub kept : standing.replicas who ≡ started who (replica_of node).state.kept
+
 -- the node is so many steps ahead of a book at rest, behind which these rows stand
 pub record IsBeside {D : Type 0} (seen : D → Image) (may_leave : D → Image → Type 0) (honest : D → Type 0) (told_of : D → Option Told) (table : Table) (rows : List Row) (book : BookState) (who : ℕ) (steps : List Taken) (node : Node D) : Type 0 where
   pub sound : IsSound table
@@ -85,15 +97,15 @@ pub record WasToldOf {D : Type 0} (seen : D → Image) (may_leave : D → Image 
   pub is_told : IsToldOf book.letters (waits_behind steps (waits_in table rows book who)) who cause input
   pub inside : IsInputInside table input
 
--- it takes the answer that waits for it, where one does
-pub record MayTakeAnswer {D : Type 0} (seen : D → Image) (may_leave : D → Image → Type 0) (honest : D → Type 0) (told_of : D → Option Told) (table : Table) (rows : List Row) (book : BookState) (who : ℕ) (waits : Option SchedRow) (node : Node D) : Type 0 where
-  pub beside : IsBeside seen may_leave honest told_of table rows book who [] node
-  pub waiting : waits ≡ waits_in table rows book who
-
--- it hears letters that go to it
-pub record MayHear {D : Type 0} (seen : D → Image) (may_leave : D → Image → Type 0) (honest : D → Type 0) (told_of : D → Option Told) (table : Table) (rows : List Row) (book : BookState) (who : ℕ) (steps : List Taken) (node : Node D) (letters : List ℕ) : Type 0 where
-  pub beside : IsBeside seen may_leave honest told_of table rows book who steps node
-  pub sent : (number : ℕ) → Contains letters number → IsSentTo book.letters who number
+-- it may step for the cause: it is told of it beside a book of at most so many turns, and is few steps ahead
+pub record MayStep {D : Type 0} (seen : D → Image) (may_leave : D → Image → Type 0) (honest : D → Type 0) (told_of : D → Option Told) (table : Table) (turns : ℕ) (node : Node D) (cause : Cause) (input : Input) : Type 0 where
+  pub rows : List Row
+  pub book : BookState
+  pub who : ℕ
+  pub steps : List Taken
+  pub told : WasToldOf seen may_leave honest told_of table rows book who steps node cause input
+  pub counted : length book.turns ≤ turns
+  pub few : length steps < 2 ^ 31
 
 -- ---- what steps were taken for
 
@@ -101,11 +113,11 @@ pub record MayHear {D : Type 0} (seen : D → Image) (may_leave : D → Image �
 abbrev pub causes_of : List Taken → List Cause
 causes_of steps = map (λ taken. taken.cause) steps
 
--- an answer that waits is taken
-abbrev pub answer_causes : Option SchedRow → List Cause
-answer_causes None = []
-answer_causes (Some row) = Answer ∷ []
+-- the letter that is heard for a cause
+abbrev pub heard_for : Cause → List ℕ
+heard_for (Hear number) = number ∷ []
+heard_for cause = []
 
--- the letters of these numbers are heard
-abbrev pub hear_causes : List ℕ → List Cause
-hear_causes letters = map Hear letters
+-- the letters that are heard for some causes
+abbrev pub heard_in : List Cause → List ℕ
+heard_in causes = flat_map heard_for causes

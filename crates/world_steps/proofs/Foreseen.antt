@@ -1,5 +1,5 @@
 -- What stands behind a book once the steps of a replica that is ahead of it are turns.
-use Rattle.std.proofs.Common.{◌≡◌, ℕ, zero, suc, ◌+◌, ◌≤◌, List, [], ◌∷◌, ◌++◌, length, Option, None, Some, Result, Ok, refl, sym, ap, ◌∙◌, subst, arith, length-append}
+use Rattle.std.proofs.Common.{◌≡◌, ℕ, zero, suc, ◌+◌, ◌<◌, ◌≤◌, List, [], ◌∷◌, ◌++◌, length, Option, None, Some, IsSome, Result, Ok, refl, sym, ap, ◌∙◌, subst, arith, length-append}
 use Rattle.std.specs.List.{slice_get}
 use Rattle.std.specs.Option.{option_to_list}
 use Rattle.cron_io.specs.declared.out_of_memory.OutOfMemory.{OutOfMemory}
@@ -24,16 +24,21 @@ use Rattle.world_law.specs.declared.letter.LetterRow.{LetterRow}
 use Rattle.world_law.proofs.Behind.{turn_is_added}
 use Rattle.world_law.proofs.Called.{called_stands, held_at_rest}
 use Rattle.world_law.proofs.Steps.{step_is_turn}
-use Rattle.world_rounds.specs.Steps.{IsToldOf, TookStep, TookSteps}
-use Rattle.world_rounds.specs.Turns.{HasLetters}
-use Rattle.world_rounds.specs.declared.steps.Taken.{Taken}
+use Rattle.world_steps.specs.Steps.{IsToldOf, TookStep, TookSteps}
+use Rattle.world_steps.specs.Turns.{HasLetters}
+use Rattle.world_steps.specs.declared.steps.Taken.{Taken}
 
--- ---- a letter stays where it is
+-- ---- a letter is there, and stays where it is
 
 pub found_more : {X : Type 0} (xs ys : List X) (k : ℕ) (x : X) → slice_get xs k ≡ Some x → slice_get (xs ++ ys) k ≡ Some x
 found_more [] ys k x is = absurd cc
 found_more (z ∷ xs) ys zero x is = is
 found_more (z ∷ xs) ys (suc k) x is = found_more xs ys k x is
+
+pub there_is : {X : Type 0} (xs : List X) (k : ℕ) → k < length xs → IsSome (slice_get xs k)
+there_is [] k below = absurd (omega arith)
+there_is (x ∷ xs) zero below = refl
+there_is (x ∷ xs) (suc k) below = there_is xs k (omega arith)
 
 -- the book tells the replica so
 pub is_input : (standing : Standing) (book : BookState) (letters : List LetterRow) (waits : Option SchedRow) (who : ℕ) (cause : Cause) (input : Input) → HasLetters letters book

@@ -19,9 +19,9 @@ use Rattle.replica_node.specs.Reliable.{IsReliable}
 use Rattle.replica_node.specs.declared.node.Node.{Node}
 use Rattle.world_law.specs.Book.{BookState, standing_behind}
 use Rattle.world_law.specs.declared.letter.LetterRow.{LetterRow}
-use Rattle.world_rounds.proofs.Foreseen.{Foreseen, foresee}
-use Rattle.world_rounds.specs.Steps.{IsBeside, TookStep, TookSteps, WasToldOf, waits_behind, waits_in}
-use Rattle.world_rounds.specs.declared.steps.Taken.{Taken}
+use Rattle.world_steps.proofs.Foreseen.{Foreseen, foresee}
+use Rattle.world_steps.specs.Steps.{IsBeside, TookStep, TookSteps, WasToldOf, waits_behind, waits_in}
+use Rattle.world_steps.specs.declared.steps.Taken.{Taken}
 
 none_behind : (steps : List Taken) → waits_behind steps None ≡ None
 none_behind [] = refl

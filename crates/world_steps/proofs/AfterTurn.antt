@@ -1,0 +1,187 @@
+-- What a turn leaves of replicas, of their mails and of steps beside the book that are no turns yet.
+use Rattle.std.proofs.Common.{◌≡◌, ◌≢◌, ℕ, Bool, true, false, List, [], ◌∷◌, ◌++◌, drop, Option, None, Some, eq-eqb, refl, sym, ap, ◌∙◌, inl, inr, append_assoc}
+use Rattle.std.proofs.lemmas.Bool.{cases_Bool, ne_eqb}
+use Rattle.cluster_sched.specs.declared.fate.Fate.{Fate}
+use Rattle.cluster_sched.specs.declared.row.SchedRow.{SchedRow}
+use Rattle.disk_model.specs.Images.{Image}
+use Rattle.disk_model.specs.Told.{Told}
+use Rattle.due_set.specs.Table.{Table}
+use Rattle.launch_machine.specs.Clerk.{first_rows}
+use Rattle.step_law.specs.State.{Identity, State}
+use Rattle.step_law.specs.Step.{Event}
+use Rattle.step_law.specs.declared.out.OutLetter.{OutLetter}
+use Rattle.agree_law.specs.World.{with_replica}
+use Rattle.book_law.specs.Book.{Row, Standing, after_row, answer_to, standing_after, turn_of, with_fact}
+use Rattle.book_law.specs.declared.turn.CallRow.{CallRow}
+use Rattle.book_law.specs.declared.turn.Cause.{Cause}
+use Rattle.book_law.specs.declared.turn.Cause.TheVariants.{Campaign, Tick, Hear, Answer}
+use Rattle.book_law.specs.declared.turn.Turn.{Turn}
+use Rattle.book_law.specs.declared.turn.Turn.TheVariants.{Did, Stopped, Restarted, Arrived}
+use Rattle.bounds_law.proofs.Keeping.{stands_next}
+use Rattle.replica_core.specs.Replica.{ReplicaState}
+use Rattle.replica_node.specs.declared.node.Node.{Node}
+use Rattle.replica_node.specs.Node.{replica_of}
+use Rattle.script_law.specs.Situation.{Situation, after_turn, fates_after, mails_after}
+use Rattle.world_law.specs.Book.{BookState, standing_behind}
+use Rattle.world_law.specs.declared.letter.LetterRow.{LetterRow}
+use Rattle.world_parts.specs.Parts.{IsSentTo}
+use Rattle.world_steps.specs.Steps.{IsNodeAhead, IsToldOf, TookSteps, heard_for, waits_in}
+use Rattle.world_steps.specs.Turns.{HasLetters, IsNextStep, fate_then}
+use Rattle.world_parts.specs.Parts.{IsBookAt}
+use Rattle.world_steps.specs.declared.steps.Taken.{Taken}
+use Rattle.replica_core.specs.declared.input.Input.{Input}
+
+pub fact_there : {A : Type 0} (who : ℕ) (fact : A) (facts : ℕ → A) (other : ℕ) → other ≢ who → with_fact who fact facts other ≡ facts other
+fact_there who fact facts other differs = rw (ne_eqb other who differs) refl
+
+pub fact_here : {A : Type 0} (who : ℕ) (fact : A) (facts : ℕ → A) → with_fact who fact facts who ≡ fact
+fact_here who fact facts = rw (eq-eqb who who refl) refl
+
+replica_there : (who : ℕ) (state : State) (replicas : ℕ → State) (other : ℕ) → other ≢ who → with_replica who state replicas other ≡ replicas other
+replica_there who state replicas other differs = rw (ne_eqb other who differs) refl
+
+-- ---- the others
+
+-- A turn leaves a replica, its mail and the fate of its next call as they are, and what waits for it.
+pub record Leaves (n : ℕ) (situation : Situation) (row : Row) (other : ℕ) : Type 0 where
+  pub replica : (after_turn n situation row).standing.replicas other ≡ situation.standing.replicas other
+  pub runs : (after_turn n situation row).standing.runs other ≡ situation.standing.runs other
+  pub waits : (after_turn n situation row).standing.waits other ≡ situation.standing.waits other
+  pub mail : (after_turn n situation row).mails other ≡ situation.mails other
+  pub fate : (after_turn n situation row).fates other ≡ situation.fates other
+
+others_stay : (n : ℕ) (s : Standing) (turn : Turn) (event : Event) (letters : List OutLetter) (other : ℕ) → other ≢ turn_of turn
+    → (after_row n s turn event letters).replicas other ≡ s.replicas other
+unfolding after_row
+others_stay n s (Did who cause made) event letters other differs = replica_there who _ s.replicas other differs
+others_stay n s (Stopped who cause kept) event letters other differs = replica_there who _ s.replicas other differs
+others_stay n s (Restarted who) event letters other differs = refl
+others_stay n s (Arrived number) event letters other differs = refl
+
+others_run : (n : ℕ) (s : Standing) (turn : Turn) (event : Event) (letters : List OutLetter) (other : ℕ) → other ≢ turn_of turn
+    → (after_row n s turn event letters).runs other ≡ s.runs other
+unfolding after_row
+others_run n s (Did who cause made) event letters other differs = refl
+others_run n s (Stopped who cause kept) event letters other differs = fact_there who _ s.runs other differs
+others_run n s (Restarted who) event letters other differs = fact_there who _ s.runs other differs
+others_run n s (Arrived number) event letters other differs = refl
+
+others_wait : (n : ℕ) (s : Standing) (turn : Turn) (event : Event) (letters : List OutLetter) (other : ℕ) → other ≢ turn_of turn
+    → (after_row n s turn event letters).waits other ≡ s.waits other
+unfolding after_row
+others_wait n s (Did who cause made) event letters other differs = fact_there who _ s.waits other differs
+others_wait n s (Stopped who cause kept) event letters other differs = fact_there who _ s.waits other differs
+others_wait n s (Restarted who) event letters other differs = refl
+others_wait n s (Arrived number) event letters other differs = refl
+
+others_mail : (turn : Turn) (mails : ℕ → List ℕ) (other : ℕ) → other ≢ turn_of turn → mails_after turn mails other ≡ mails other
+others_mail (Did who Campaign made) mails other differs = refl
+others_mail (Did who (Tick now) made) mails other differs = refl
+others_mail (Did who (Hear number) made) mails other differs = fact_there who _ mails other differs
+others_mail (Did who Answer made) mails other differs = refl
+others_mail (Stopped who cause kept) mails other differs = fact_there who _ mails other differs
+others_mail (Restarted who) mails other differs = refl
+others_mail (Arrived number) mails other differs = refl
+
+others_fate : (turn : Turn) (fates : ℕ → Fate) (other : ℕ) → other ≢ turn_of turn → fates_after turn fates other ≡ fates other
+others_fate (Did who cause None) fates other differs = refl
+others_fate (Did who cause (Some made)) fates other differs = fact_there who _ fates other differs
+others_fate (Stopped who cause kept) fates other differs = refl
+others_fate (Restarted who) fates other differs = refl
+others_fate (Arrived number) fates other differs = refl
+
+pub leaves_other : (n : ℕ) (situation : Situation) (row : Row) (other : ℕ) → other ≢ turn_of row.turn → Leaves n situation row other
+leaves_other n situation row other differs = record {
+  replica = others_stay n situation.standing row.turn row.event row.letters other differs;
+  runs = others_run n situation.standing row.turn row.event row.letters other differs;
+  waits = others_wait n situation.standing row.turn row.event row.letters other differs;
+  mail = others_mail row.turn situation.mails other differs;
+  fate = others_fate row.turn situation.fates other differs;
+}
+
+-- an arrival leaves all
+pub leaves_all : (n : ℕ) (situation : Situation) (row : Row) (number other : ℕ) → row.turn ≡ Arrived number → Leaves n situation row other
+unfolding after_row
+leaves_all n situation row number other is = record { replica = rw is refl; runs = rw is refl; waits = rw is refl; mail = rw is refl; fate = rw is refl }
+
+-- ---- steps that aren't turns yet
+
+pub sent_later : (letters : List LetterRow) (after : BookState) (who number : ℕ) → HasLetters letters after → IsSentTo letters who number → IsSentTo after.letters who number
+sent_later letters after who number has sent = record { letter = sent.letter; there = has number sent.letter sent.there; to = sent.to }
+
+pub told_later : (letters : List LetterRow) (after : BookState) (waits later : Option SchedRow) (who : ℕ) (cause : Cause) (input : Input) → HasLetters letters after
+    → ((row : SchedRow) → waits ≡ Some row → later ≡ Some row) → IsToldOf letters waits who cause input → IsToldOf after.letters later who cause input
+unfolding sent_later
+told_later letters after waits later who Campaign input has waiting told = told
+told_later letters after waits later who (Tick now) input has waiting told = told
+told_later letters after waits later who (Hear number) input has waiting told = record { sent = sent_later letters after who number has told.sent; is = told.is }
+told_later letters after waits later who Answer input has waiting told = record { row = told.row; waiting = waiting told.row told.waiting; is = told.is }
+
+pub took_later : (table : Table) (letters : List LetterRow) (after : BookState) (waits later : Option SchedRow) (who : ℕ) (steps : List Taken) (old new : ReplicaState) → HasLetters letters after
+    → ((row : SchedRow) → waits ≡ Some row → later ≡ Some row) → TookSteps table letters waits who steps old new → TookSteps table after.letters later who steps old new
+took_later table letters after waits later who [] old new has waiting took = took
+took_later table letters after waits later who (taken ∷ more) old new has waiting took = (
+  took.0,
+  record { input = took.1.input; is_told = told_later letters after waits later who taken.cause took.1.input has waiting took.1.is_told; inside = took.1.inside; steps = took.1.steps },
+  took_later table letters after None None who more took.0 new has (λ row is. is) took.2,
+)
+
+-- ---- a replica after a turn
+
+-- what stands after one row more
+pub stands_after : (table : Table) (rows : List Row) (row : Row) (book after : BookState) (situation : Situation) → IsBookAt table rows book situation → after.members ≡ book.members
+    → standing_behind table (rows ++ row ∷ []) after ≡ (after_turn book.members situation row).standing
+stands_after table rows row book after situation at members =
+    ap (λ n. standing_after n (first_rows table) (rows ++ row ∷ [])) members ∙ stands_next book.members (first_rows table) rows row
+    ∙ ap (λ s. after_row book.members s row.turn row.event row.letters) (sym at.standing)
+
+module _ {D : Type 0} (seen : D → Image) (may_leave : D → Image → Type 0) (honest : D → Type 0) (told_of : D → Option Told) (table : Table) where
+  pub node_stays : (rows : List Row) (row : Row) (book after : BookState) (other : ℕ) (steps : List Taken) (node : Node D) → after.members ≡ book.members → HasLetters book.letters after
+      → (standing_behind table (rows ++ row ∷ []) after).replicas other ≡ (standing_behind table rows book).replicas other
+      → (standing_behind table (rows ++ row ∷ []) after).runs other ≡ true → (standing_behind table (rows ++ row ∷ []) after).waits other ≡ (standing_behind table rows book).waits other
+      → IsNodeAhead seen may_leave honest told_of table rows book other steps node → IsNodeAhead seen may_leave honest told_of table (rows ++ row ∷ []) after other steps node
+  node_stays rows row book after other steps node members has replica runs waits ahead = record {
+    at_rest = ahead.at_rest;
+    trusted = ahead.trusted;
+    reliable = ahead.reliable;
+    first = ahead.first;
+    stands = record {
+      identity = rw members ahead.stands.identity;
+      member = rw members ahead.stands.member;
+      runs = rw ahead.me runs;
+      state = ahead.stands.state ∙ ap (standing_behind table rows book).replicas ahead.me ∙ sym replica ∙ sym (ap (standing_behind table (rows ++ row ∷ []) after).replicas ahead.me);
+      of_table = ahead.stands.of_table;
+    };
+    me = ahead.me;
+    took = took_later table book.letters after (waits_in table rows book other) (waits_in table (rows ++ row ∷ []) after other) other steps ahead.first (replica_of node) has (λ row is. waits ∙ is) ahead.took;
+  }
+
+-- ---- the replica that took the turn
+
+pub did_runs : (n : ℕ) (s : Standing) (who : ℕ) (cause : Cause) (made : Option CallRow) (event : Event) (letters : List OutLetter) → (after_row n s (Did who cause made) event letters).runs ≡ s.runs
+unfolding after_row
+did_runs n s who cause made event letters = refl
+
+pub did_waits : (n : ℕ) (s : Standing) (who : ℕ) (cause : Cause) (made : Option CallRow) (event : Event) (letters : List OutLetter)
+    → (after_row n s (Did who cause made) event letters).waits who ≡ answer_to made
+unfolding after_row
+did_waits n s who cause made event letters = fact_here who (answer_to made) s.waits
+
+pub did_fate : (who : ℕ) (cause : Cause) (made : Option CallRow) (fates : ℕ → Fate) → fates_after (Did who cause made) fates who ≡ fate_then made (fates who)
+did_fate who cause None fates = refl
+did_fate who cause (Some made) fates = fact_here who _ fates
+
+-- the letter that is heard leaves the mail
+pub did_mail : (who : ℕ) (cause : Cause) (made : Option CallRow) (mails : ℕ → List ℕ) (rest : List ℕ) → mails who ≡ heard_for cause ++ rest
+    → mails_after (Did who cause made) mails who ≡ rest
+did_mail who Campaign made mails rest is = is
+did_mail who (Tick now) made mails rest is = is
+did_mail who (Hear number) made mails rest is = fact_here who (drop 1 (mails who)) mails ∙ ap (drop 1) is
+did_mail who Answer made mails rest is = is
+
+module _ {D : Type 0} (seen : D → Image) (may_leave : D → Image → Type 0) (honest : D → Type 0) (told_of : D → Option Told) (table : Table) where
+  -- its first step may become a turn
+  pub next_step : (rows : List Row) (book : BookState) (situation : Situation) (who : ℕ) (taken : Taken) (more : List Taken) (node : Node D) → IsBookAt table rows book situation
+      → (ahead : IsNodeAhead seen may_leave honest told_of table rows book who (taken ∷ more) node) → IsNextStep table rows book who taken ahead.first ahead.took.0
+  next_step rows book situation who taken more node at ahead =
+      record { behind = at.behind; rest = at.rest; few = at.few; stands = ahead.stands; me = ahead.me; step = ahead.took.1 }

@@ -1,0 +1,28 @@
+use Rattle.std.proofs.Common.{length, ◌<◌, ◌≤◌, ◌^◌, arith}
+use Rattle.world_steps.proofs.MemoryLemmas.{cause_breaks_none, memory_alone, no_letter}
+use Rattle.world_steps.proofs.StepLemmas.{ahead_small, beside_next}
+use Rattle.world_steps.proofs.steps.take_step.Goals as goal
+
+pub handle-requires : goal.handle-requires
+handle-requires g c =
+    let may = c.requires.may in
+    let counted : length may.book.turns ≤ c.args.turns = may.counted in
+    let turns : length may.book.turns < 2 ^ 31 = omega (arith, counted, c.if-turns-ge-MOST_TURNS.false) in
+    record {
+      at_rest = may.told.beside.ahead.at_rest;
+      small = ahead_small g.D.Disk.seen g.D.Disk.may_leave g.D.Disk.honest g.D.Disk.told c.args.table.now may.rows may.book may.who may.steps c.args.node.now may.told.beside turns may.few;
+      inside = may.told.inside;
+    }
+
+pub memory_of-requires : goal.memory_of-requires
+memory_of-requires g c =
+    let may = c.requires.may in
+    let none =
+    cause_breaks_none g.D.Disk.seen g.D.Disk.may_leave g.D.Disk.honest g.D.Disk.told c.args.table.now may.rows may.book may.who may.steps c.args.node.now c.args.cause c.args.input may.told in
+    memory_alone c.handle.result c.in-Err.fault c.in-Err.is (c.handle.ensures.unended may.told.beside.ahead.reliable) c.handle.ensures.undamaged (no_letter c.handle.result (c.handle.ensures.fault ∙ none))
+
+pub returns-clause-beside : goal.returns-clause-beside
+returns-clause-beside g c =
+    λ rows book who steps told.
+    beside_next g.D.Disk.seen g.D.Disk.may_leave g.D.Disk.honest g.D.Disk.told c.args.table.now rows book who steps c.args.node.now c.handle.new.self c.args.cause
+    c.args.input c.in-Ok.out told c.in-Ok.ensures.at_rest (c.handle.ensures.answer.honest_still.1 told.beside.ahead.trusted) (c.in-Ok.ensures.reliable told.beside.ahead.reliable) c.in-Ok.ensures.steps
