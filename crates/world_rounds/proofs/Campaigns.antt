@@ -12,6 +12,7 @@ use Rattle.replica_core.specs.declared.input.Input.TheVariants as told
 use Rattle.script_law.specs.Commands.{Plain}
 use Rattle.script_law.specs.Situation.{Do, Situation, after_turns, delivered, is_cut}
 use Rattle.world_law.specs.Book.{BookState}
+use Rattle.world_steps.specs.Steps.{IsBeside, WasToldOf, causes_of, heard_in}
 use Rattle.world_rounds.proofs.RoundLemmas.{idle_beside}
 use Rattle.world_rounds.proofs.RoundsOfAll.{performed, put_down}
 use Rattle.world_rounds.proofs.StepsAt.{cases_number, get_set_here, get_set_there}
@@ -19,7 +20,6 @@ use Rattle.world_rounds.proofs.Worlds.{set_cases}
 use Rattle.world_rounds.specs.Campaigns.{HasStood, TakesCampaign}
 use Rattle.world_rounds.specs.Mails.{Changes}
 use Rattle.world_rounds.specs.Rounds.{IsMemberIdle}
-use Rattle.world_steps.specs.Steps.{IsBeside, WasToldOf, causes_of, heard_in}
 use Rattle.world_rounds.specs.Taking.{CommitsOwn, HasTaken, IsAhead, MayCommitOwn, PutsDown, steps_at, steps_of, tasks_by}
 use Rattle.world_parts.specs.Parts.{IsBookAt}
 use Rattle.world_rounds.specs.World.{GoesOnBy, IsMemberAhead, IsWorld, IsWorldAt}

@@ -5,9 +5,9 @@ use Rattle.disk_model.specs.Told.{Told}
 use Rattle.due_set.specs.Table.{Table}
 use Rattle.book_law.specs.Book.{Row}
 use Rattle.script_law.specs.Situation.{AreTurnsFor, Situation, Task, after_turn, after_turns}
+use Rattle.world_steps.specs.declared.steps.Taken.{Taken}
 use Rattle.world_rounds.specs.Taking.{HasTaken}
 use Rattle.world_rounds.specs.World.{IsWorldAhead, book_of}
-use Rattle.world_steps.specs.declared.steps.Taken.{Taken}
 use Rattle.world_rounds.specs.declared.world.World.{World}
 
 pub after_append : (n : ℕ) (situation : Situation) (rows more : List Row) → after_turns n situation (rows ++ more) ≡ after_turns n (after_turns n situation rows) more

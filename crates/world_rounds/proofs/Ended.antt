@@ -1,27 +1,18 @@
 -- The nodes of a world, when no more of it is wanted.
-use Rattle.std.proofs.Common.{◌≡◌, ℕ, zero, suc, ◌≤◌, Bool, true, false, List, [], ◌∷◌, length, Option, Some, refl, sym, ap, ◌∙◌, subst, arith}
+use Rattle.std.proofs.Common.{◌≡◌, ℕ, zero, suc, ◌≤◌, Bool, true, false, List, [], ◌∷◌, length, Option, Some, refl, ap, ◌∙◌, subst, arith}
 use Rattle.std.specs.List.{slice_get}
 use Rattle.std.proofs.lemmas.List.{length-map}
 use Rattle.std.proofs.lemmas.Option.{same_Some}
-use Rattle.disk_model.specs.Images.{Image, file_of}
+use Rattle.disk_model.specs.Images.{Image}
 use Rattle.disk_model.specs.Told.{Told}
 use Rattle.due_set.specs.Table.{Table}
-use Rattle.paxos_base.specs.declared.durable.Durable.{Durable}
-use Rattle.gate_file.proofs.GateLemmas.{has_at_rest}
-use Rattle.step_law.specs.State.{State}
-use Rattle.agree_law.specs.Transition.{identity_of}
 use Rattle.book_law.specs.Book.{Row}
-use Rattle.replica_core.specs.Replica.{ReplicaState}
-use Rattle.replica_node.specs.Node.{IsNodeAtRest, disk_of, replica_of, store_of}
 use Rattle.replica_node.specs.declared.node.Node.{Node}
-use Rattle.replica_store.proofs.KeptLemmas.{stands_in}
-use Rattle.replica_store.specs.Files.{BodiesStand, FilesStand}
-use Rattle.replica_store.specs.Store.{area_of, records_of}
 use Rattle.script_law.specs.Situation.{Situation}
 use Rattle.world_law.specs.Book.{BookState, standing_behind}
 use Rattle.world_parts.specs.Nodes.{AreNodesOf, IsNodeOf}
-use Rattle.world_rounds.specs.Nodes.{nodes_of}
 use Rattle.world_steps.proofs.Ended.{running_node, stopped_node}
+use Rattle.world_rounds.specs.Nodes.{nodes_of}
 use Rattle.world_rounds.specs.World.{IsMemberAhead, IsWorldAt}
 use Rattle.world_rounds.specs.declared.member.Member.{Member}
 use Rattle.world_rounds.specs.declared.world.World.{World}

@@ -24,13 +24,13 @@ use Rattle.book_law.specs.Legal.{MayFollow}
 use Rattle.step_law.specs.declared.out.LearntRow.{LearntRow}
 use Rattle.world_law.specs.Replicas.{IsStopOf}
 use Rattle.world_steps.proofs.AfterTurn.{fact_here, leaves_other}
+use Rattle.world_steps.specs.Steps.{IsNodeAhead, IsNodeStopped}
+use Rattle.world_steps.specs.Turns.{HasLetters}
 use Rattle.world_rounds.proofs.AfterTurn.{member_stays}
 use Rattle.world_rounds.proofs.Delivery.{same_mails}
 use Rattle.world_rounds.proofs.RoundsOfAll.{posted_so_far}
 use Rattle.world_rounds.proofs.Worlds.{set_cases, world_on}
 use Rattle.world_rounds.specs.Alone.{HasJoinedAlone, IsAlone}
-use Rattle.world_steps.specs.Steps.{IsNodeAhead, IsNodeStopped}
-use Rattle.world_steps.specs.Turns.{HasLetters}
 use Rattle.world_rounds.specs.World.{GoesOnBy, IsMemberAhead, IsWorld, IsWorldAt, none_taken}
 use Rattle.world_rounds.specs.declared.member.Member.{Member}
 use Rattle.world_rounds.specs.declared.world.World.{World}

@@ -18,8 +18,8 @@ use Rattle.replica_node.specs.declared.node.Node.{Node}
 use Rattle.world_law.specs.Book.{BookState}
 use Rattle.world_parts.specs.Parts.{IsSentTo}
 use Rattle.world_steps.specs.Steps.{IsBeside, WasToldOf, causes_of}
-use Rattle.world_rounds.specs.Hearing.{MayHear, hear_causes}
 use Rattle.world_steps.specs.declared.steps.Taken.{Taken}
+use Rattle.world_rounds.specs.Hearing.{MayHear, hear_causes}
 
 -- so many of the letters are heard
 pub record HasHeard {D : Type 0} (seen : D → Image) (may_leave : D → Image → Type 0) (honest : D → Type 0) (told_of : D → Option Told) (table : Table) (book : BookState) (letters : List ℕ) (count : ℕ)

@@ -22,11 +22,11 @@ use Rattle.book_law.specs.Book.{Row, Standing}
 use Rattle.script_law.specs.Settling.{AsksNothing, IsFreeTerm, IsQuiet}
 use Rattle.script_law.specs.Situation.{Situation}
 use Rattle.world_law.specs.Book.{standing_behind}
+use Rattle.world_steps.specs.Steps.{IsNodeAhead}
 use Rattle.world_rounds.proofs.StepsAt.{cases_number}
 use Rattle.world_rounds.proofs.Worlds.{some_same}
 use Rattle.drain_law.specs.Rest.{IsAtRest}
 use Rattle.world_rounds.specs.Quiet.{AllRun, Tells}
-use Rattle.world_steps.specs.Steps.{IsNodeAhead}
 use Rattle.world_rounds.specs.World.{IsWorld, IsWorldAt}
 use Rattle.world_rounds.specs.declared.member.Member.{Member}
 use Rattle.world_rounds.specs.declared.world.World.{World}

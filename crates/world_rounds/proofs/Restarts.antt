@@ -21,13 +21,13 @@ use Rattle.world_law.proofs.Stops.{restarts}
 use Rattle.world_law.specs.Book.{BookState, IsRowOf, standing_behind}
 use Rattle.world_law.specs.Replicas.{IsRestartOf, StandsAt, StandsStopped, change_alone}
 use Rattle.world_steps.proofs.AfterTurn.{fact_here, leaves_other}
+use Rattle.world_steps.specs.Steps.{IsNodeStopped}
 use Rattle.world_rounds.proofs.AfterTurn.{member_stays}
 use Rattle.world_rounds.proofs.Halts.{goes_alone, has_same}
 use Rattle.world_rounds.proofs.Worlds.{set_cases}
 use Rattle.world_rounds.specs.Alone.{HasJoinedAlone, HasStartedAgain, IsAlone}
 use Rattle.world_parts.specs.Parts.{IsSentTo}
 use Rattle.world_rounds.specs.World.{GoesOnBy, IsMemberAhead, IsWorld, IsWorldAt}
-use Rattle.world_steps.specs.Steps.{IsNodeStopped}
 use Rattle.world_rounds.specs.declared.member.Member.{Member}
 use Rattle.world_rounds.specs.declared.world.World.{World}
 

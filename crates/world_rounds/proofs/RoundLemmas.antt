@@ -20,14 +20,14 @@ use Rattle.replica_node.specs.declared.node.Node.{Node}
 use Rattle.script_law.specs.Round.{answer_tasks, clock_reading, hear_tasks, tasks_of}
 use Rattle.script_law.specs.Situation.{Do, Situation}
 use Rattle.world_law.specs.Book.{BookState, standing_behind}
-use Rattle.world_rounds.specs.Rounds.{HasTakenRound, IsMemberIdle}
 use Rattle.world_steps.specs.Steps.{IsBeside, WasToldOf, causes_of, heard_in}
+use Rattle.world_steps.specs.declared.steps.Taken.{Taken}
+use Rattle.world_rounds.specs.Rounds.{HasTakenRound, IsMemberIdle}
 use Rattle.world_rounds.specs.Hearing.{MayHear, MayTakeAnswer, answer_causes, hear_causes}
 use Rattle.world_rounds.specs.Taking.{tasks_by}
 use Rattle.script_text.specs.Command.{IsSkew}
 use Rattle.world_rounds.specs.World.{IsMemberAhead}
 use Rattle.world_rounds.specs.declared.member.Member.{Member}
-use Rattle.world_steps.specs.declared.steps.Taken.{Taken}
 
 pub clock_inside : (window : Window) (at skew : ℤ) → window.from.0 <ℤ window.until.0 → IsInWindow window (clock_reading window at skew).0
 clock_inside window at skew ordered = record { since = omega (arith, ints, clamps); before = omega (arith, ints, clamps) }

@@ -15,13 +15,13 @@ use Rattle.book_law.specs.Book.{Row, Standing}
 use Rattle.script_law.specs.Round.{AreRounds, IsRound, round_tasks, tasks_of}
 use Rattle.script_law.specs.Situation.{Performs, Situation, Task, after_turns, delivered, is_cut}
 use Rattle.world_law.specs.Book.{BookState, IsLegalBook, posted_as}
+use Rattle.world_steps.specs.Steps.{causes_of}
 use Rattle.world_rounds.proofs.Chains.{taken_none, taken_then}
 use Rattle.world_rounds.proofs.Delivery.{range_next}
 use Rattle.world_rounds.proofs.StepsAt.{ahead_same, cases_number, get_set_there}
 use Rattle.world_rounds.proofs.Worlds.{set_cases}
 use Rattle.world_rounds.specs.Mails.{Changes}
 use Rattle.world_rounds.specs.Rounds.{AllTakeRounds, CommitsAll, HasTakenRound, MayTakeRound, TakesRound, tasks_at_hand}
-use Rattle.world_steps.specs.Steps.{causes_of}
 use Rattle.world_rounds.specs.Taking.{CommitsOwn, HasTaken, IsAhead, MayCommitOwn, PutsDown, steps_at, steps_of, tasks_by}
 use Rattle.world_parts.specs.Parts.{IsBookAt}
 use Rattle.world_rounds.specs.World.{GoesOnBy, IsMemberAhead, IsWorld, IsWorldAt, book_of, none_taken}

@@ -11,13 +11,13 @@ use Rattle.book_law.specs.Book.{Row, with_fact}
 use Rattle.script_law.specs.Situation.{Do, Situation, Task, after_turns, is_cut}
 use Rattle.world_steps.proofs.AfterTurn.{fact_here, fact_there}
 use Rattle.std.proofs.Math.Seq.{take-suc}
+use Rattle.world_steps.specs.Steps.{causes_of}
+use Rattle.world_steps.specs.declared.steps.Taken.{Taken}
 use Rattle.world_rounds.proofs.Chains.{taken_none, taken_then}
 use Rattle.world_rounds.proofs.Worlds.{set_cases}
-use Rattle.world_steps.specs.Steps.{causes_of}
 use Rattle.world_rounds.specs.Taking.{Commits, CommitsOwn, HasTaken, KeepsSteps, MayCommit, MayCommitOwn, PutsDown, steps_at, steps_of, tasks_by}
 use Rattle.world_rounds.specs.World.{IsMemberAhead, IsWorldAhead, book_of}
 use Rattle.world_rounds.specs.declared.member.Member.{Member}
-use Rattle.world_steps.specs.declared.steps.Taken.{Taken}
 use Rattle.world_rounds.specs.declared.world.World.{World}
 
 pub get_set_here : {X : Type 0} (xs : List X) (i : ℕ) (y : X) → i < length xs → slice_get (set xs i y) i ≡ Some y

@@ -19,8 +19,8 @@ use Rattle.world_parts.specs.Nodes.{IsNodeOf}
 use Rattle.world_parts.specs.Parts.{ArePartsAt, IsBookAt}
 use Rattle.world_parts.specs.declared.bundle.Bundle.{Bundle}
 use Rattle.world_parts.specs.declared.mail.MemberMail.{MemberMail}
-use Rattle.world_rounds.specs.Nodes.{AreNodesAndMails, mails_of, nodes_of}
 use Rattle.world_steps.specs.Steps.{IsNodeAhead, IsNodeStopped}
+use Rattle.world_rounds.specs.Nodes.{AreNodesAndMails, mails_of, nodes_of}
 use Rattle.world_rounds.specs.World.{IsMemberAhead, IsWorldAt}
 use Rattle.world_rounds.specs.declared.member.Member.{Member}
 use Rattle.world_rounds.specs.declared.rooms.MemberRoom.{MemberRoom}

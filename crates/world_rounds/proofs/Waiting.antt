@@ -1,5 +1,5 @@
 -- What commands do to the letters that wait.
-use Rattle.std.proofs.Common.{◌≡◌, ℕ, zero, suc, ◌<◌, true, false, if◌then◌else◌, List, [], ◌∷◌, ◌++◌, length, map, reverse, IsSome, None, Some, refl, sym, ap, ◌∙◌, subst, inl, inr, arith, Option}
+use Rattle.std.proofs.Common.{◌≡◌, ℕ, true, false, if◌then◌else◌, List, [], ◌∷◌, ◌++◌, map, reverse, None, Some, refl, sym, ap, ◌∙◌, subst, inl, inr, Option}
 use Rattle.std.specs.List.{Contains, slice_get}
 use Rattle.std.specs.Option.{option_map}
 use Rattle.std.proofs.Math.ListN.{set}

@@ -17,13 +17,13 @@ use Rattle.replica_core.specs.Replica.{ReplicaState}
 use Rattle.script_law.specs.Situation.{Situation, after_turn, is_cut, latest_after, latest_with}
 use Rattle.world_law.specs.Book.{StandsBehind}
 use Rattle.world_steps.proofs.AfterTurn.{fact_here, fact_there, leaves_other, next_step, stands_after}
-use Rattle.world_rounds.proofs.AfterTurn.{member_did, member_stays, runs_ahead}
 use Rattle.world_steps.specs.Steps.{IsNodeAhead, causes_of}
-use Rattle.world_rounds.specs.Taking.{HasTaken, tasks_by}
 use Rattle.world_steps.specs.Turns.{HasJoinedAt, IsNextStep, MayJoin, noted}
+use Rattle.world_steps.specs.declared.steps.Taken.{Taken}
+use Rattle.world_rounds.proofs.AfterTurn.{member_did, member_stays, runs_ahead}
+use Rattle.world_rounds.specs.Taking.{HasTaken, tasks_by}
 use Rattle.world_rounds.specs.World.{IsMemberAhead, IsWorldAhead}
 use Rattle.world_rounds.specs.declared.member.Member.{Member}
-use Rattle.world_steps.specs.declared.steps.Taken.{Taken}
 use Rattle.world_rounds.specs.declared.world.World.{World}
 
 -- what is found in a list with another element at one place
@@ -98,7 +98,7 @@ module _ {D : Type 0} (seen : D → Image) (may_leave : D → Image → Type 0) 
       node = ahead_mine.running (runs_ahead seen may_leave honest told_of table rows world.book situation who taken more member ahead_mine)
 
       joined : HasJoinedAt table rows world.book after.book who taken member.mail.fate made node.took.0
-      joined = joins rows node.first node.took.0 (next_step seen may_leave honest told_of table rows world.book situation who taken more member ahead.at node)
+      joined = joins rows node.first node.took.0 (next_step seen may_leave honest told_of table rows world.book situation who taken more member.node ahead.at node)
 
       here : (x : Member D) → x ≡ record member { mail = noted made member.mail }
           → IsMemberAhead seen may_leave honest told_of table (rows ++ joined.row ∷ []) after.book (after_turn world.book.members situation joined.row) who (with_fact who more ahead_by who) x
@@ -132,4 +132,4 @@ pub may_join : {D : Type 0} (seen : D → Image) (may_leave : D → Image → Ty
 may_join seen may_leave honest told_of table rows world situation ahead_by who taken more member ahead mine there =
     let mine_ahead = subst (λ steps. IsMemberAhead seen may_leave honest told_of table rows world.book situation who steps member) mine (ahead.each who member there) in
     let node = mine_ahead.running (runs_ahead seen may_leave honest told_of table rows world.book situation who taken more member mine_ahead) in
-    record { rows = rows; old = node.first; new = node.took.0; next = next_step seen may_leave honest told_of table rows world.book situation who taken more member ahead.at node }
+    record { rows = rows; old = node.first; new = node.took.0; next = next_step seen may_leave honest told_of table rows world.book situation who taken more member.node ahead.at node }

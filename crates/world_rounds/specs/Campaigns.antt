@@ -7,8 +7,8 @@ use Rattle.book_law.specs.Book.{Row}
 use Rattle.book_law.specs.declared.turn.Cause.TheVariants.{Campaign}
 use Rattle.script_law.specs.Situation.{Situation}
 use Rattle.world_law.specs.Book.{BookState}
-use Rattle.world_rounds.specs.Rounds.{IsMemberIdle}
 use Rattle.world_steps.specs.Steps.{causes_of}
+use Rattle.world_rounds.specs.Rounds.{IsMemberIdle}
 use Rattle.world_rounds.specs.World.{IsMemberAhead}
 use Rattle.world_rounds.specs.declared.member.Member.{Member}
 

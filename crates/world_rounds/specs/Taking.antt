@@ -7,9 +7,9 @@ use Rattle.book_law.specs.Book.{Row, with_fact}
 use Rattle.book_law.specs.declared.turn.Cause.{Cause}
 use Rattle.script_law.specs.Situation.{AreTurnsFor, Do, Situation, Task, after_turns}
 use Rattle.world_steps.specs.Steps.{causes_of}
+use Rattle.world_steps.specs.declared.steps.Taken.{Taken}
 use Rattle.world_rounds.specs.World.{IsWorldAhead, book_of}
 use Rattle.world_rounds.specs.declared.member.Member.{Member}
-use Rattle.world_steps.specs.declared.steps.Taken.{Taken}
 use Rattle.world_rounds.specs.declared.world.World.{World}
 
 -- what a replica is to do for some causes

@@ -1,27 +1,15 @@
 -- A world of replicas, by the situation in which they are.
-use Rattle.std.specs.Prelude.{◌≡◌, ℕ, true, false, List, [], ◌∷◌, ◌++◌, length, Option, None, Some, slice_get}
-use Rattle.std.specs.List.{flat_map}
-use Rattle.cluster_sched.specs.declared.fate.Fate.{Fate}
-use Rattle.cluster_sched.specs.declared.fate.Fate.TheVariants as becomes
+use Rattle.std.specs.Prelude.{◌≡◌, ℕ, true, false, List, [], ◌++◌, length, Option, Some, slice_get}
 use Rattle.disk_model.specs.Images.{Image}
 use Rattle.disk_model.specs.Told.{Told}
 use Rattle.due_set.specs.Table.{Table}
-use Rattle.step_law.specs.State.{started}
-use Rattle.agree_law.specs.Transition.{identity_of}
-use Rattle.book_law.specs.Book.{Row, Standing, answer_to}
-use Rattle.book_law.specs.declared.turn.CallRow.{CallRow}
-use Rattle.book_law.specs.declared.turn.Cause.{Cause}
-use Rattle.book_law.specs.declared.turn.Cause.TheVariants.{Hear}
-use Rattle.replica_node.specs.Node.{IsNodeAtRest, disk_of, replica_of}
-use Rattle.replica_node.specs.Reliable.{IsReliable}
-use Rattle.replica_node.specs.declared.node.Node.{Node}
+use Rattle.book_law.specs.Book.{Row}
 use Rattle.script_law.specs.Situation.{Situation, is_cut}
 use Rattle.world_law.specs.Book.{BookState, standing_behind}
 use Rattle.world_parts.specs.Parts.{IsBookAt, IsMailOf}
-use Rattle.world_parts.specs.declared.mail.MemberMail.{MemberMail}
-use Rattle.world_steps.specs.Steps.{IsNodeAhead, causes_of}
-use Rattle.world_rounds.specs.declared.member.Member.{Member}
+use Rattle.world_steps.specs.Steps.{IsNodeAhead, IsNodeStopped, causes_of, heard_in}
 use Rattle.world_steps.specs.declared.steps.Taken.{Taken}
+use Rattle.world_rounds.specs.declared.member.Member.{Member}
 use Rattle.world_rounds.specs.declared.world.World.{World}
 use Rattle.zone_minutes.specs.declared.minute.Minute.{Minute}
 

@@ -1,8 +1,8 @@
 //! The steps that a replica takes of a round, before their turns join the book.
 ghost use Rattle.std.specs.Prelude.{◌≡◌, ◌++◌, ◌∷◌, [], ℕ, List, OnOk};
 ghost use Rattle.book_law.specs.Book.{Row};
-ghost use Rattle.world_rounds.specs.Hearing.{MayHear, MayTakeAnswer, answer_causes, hear_causes};
 ghost use Rattle.world_steps.specs.Steps.{IsBeside, WasToldOf, causes_of};
+ghost use Rattle.world_rounds.specs.Hearing.{MayHear, MayTakeAnswer, answer_causes, hear_causes};
 
 use book_law::Cause;
 use cluster_sched::SchedRow;

@@ -1,9 +1,9 @@
 //! Turns join a book.
 ghost use Rattle.std.specs.Prelude.{◌≡◌, ◌<◌, ◌∷◌, List, [], OnOk, OnErr, length};
 ghost use Rattle.world_law.specs.Book.{IsLegalBook};
+ghost use Rattle.world_steps.specs.declared.steps.Taken.{Taken as Step};
 ghost use Rattle.world_rounds.specs.Taking.{Commits, CommitsOwn, KeepsSteps, MayCommit, MayCommitOwn, PutsDown};
 ghost use Rattle.world_rounds.specs.World.{book_of};
-ghost use Rattle.world_steps.specs.declared.steps.Taken.{Taken as Step};
 
 use crate::world::World;
 use cron_io::OutOfMemory;

@@ -1,6 +1,6 @@
 -- What a turn leaves of replicas, of their mails and of steps beside the book that are no turns yet.
-use Rattle.std.proofs.Common.{◌≡◌, ◌≢◌, ℕ, Bool, true, false, List, [], ◌∷◌, ◌++◌, drop, Option, None, Some, eq-eqb, refl, sym, ap, ◌∙◌, inl, inr, append_assoc}
-use Rattle.std.proofs.lemmas.Bool.{cases_Bool, ne_eqb}
+use Rattle.std.proofs.Common.{◌≡◌, ◌≢◌, ℕ, Bool, true, List, [], ◌∷◌, ◌++◌, drop, Option, None, Some, eq-eqb, refl, sym, ap, ◌∙◌, append_assoc}
+use Rattle.std.proofs.lemmas.Bool.{ne_eqb}
 use Rattle.cluster_sched.specs.declared.fate.Fate.{Fate}
 use Rattle.cluster_sched.specs.declared.row.SchedRow.{SchedRow}
 use Rattle.disk_model.specs.Images.{Image}
@@ -19,17 +19,17 @@ use Rattle.book_law.specs.declared.turn.Turn.{Turn}
 use Rattle.book_law.specs.declared.turn.Turn.TheVariants.{Did, Stopped, Restarted, Arrived}
 use Rattle.bounds_law.proofs.Keeping.{stands_next}
 use Rattle.replica_core.specs.Replica.{ReplicaState}
+use Rattle.replica_core.specs.declared.input.Input.{Input}
 use Rattle.replica_node.specs.declared.node.Node.{Node}
 use Rattle.replica_node.specs.Node.{replica_of}
 use Rattle.script_law.specs.Situation.{Situation, after_turn, fates_after, mails_after}
 use Rattle.world_law.specs.Book.{BookState, standing_behind}
 use Rattle.world_law.specs.declared.letter.LetterRow.{LetterRow}
-use Rattle.world_parts.specs.Parts.{IsSentTo}
-use Rattle.world_steps.specs.Steps.{IsNodeAhead, IsToldOf, TookSteps, heard_for, waits_in}
-use Rattle.world_steps.specs.Turns.{HasLetters, IsNextStep, fate_then}
-use Rattle.world_parts.specs.Parts.{IsBookAt}
+use Rattle.world_parts.specs.Parts.{IsBookAt, IsMailOf, IsSentTo}
+use Rattle.world_parts.specs.declared.mail.MemberMail.{MemberMail}
+use Rattle.world_steps.specs.Steps.{IsNodeAhead, IsNodeStopped, IsToldOf, TookSteps, causes_of, heard_for, heard_in, waits_in}
+use Rattle.world_steps.specs.Turns.{HasJoinedAt, HasLetters, IsNextStep, fate_then, noted}
 use Rattle.world_steps.specs.declared.steps.Taken.{Taken}
-use Rattle.replica_core.specs.declared.input.Input.{Input}
 
 pub fact_there : {A : Type 0} (who : ℕ) (fact : A) (facts : ℕ → A) (other : ℕ) → other ≢ who → with_fact who fact facts other ≡ facts other
 fact_there who fact facts other differs = rw (ne_eqb other who differs) refl
@@ -156,11 +156,39 @@ module _ {D : Type 0} (seen : D → Image) (may_leave : D → Image → Type 0) 
     took = took_later table book.letters after (waits_in table rows book other) (waits_in table (rows ++ row ∷ []) after other) other steps ahead.first (replica_of node) has (λ row is. waits ∙ is) ahead.took;
   }
 
+  -- the node of a replica that is stopped keeps what the replica does
+  pub stopped_stays : (members count other : ℕ) (old new : Standing) (steps : List Taken) (node : Node D) → count ≡ members → new.replicas other ≡ old.replicas other
+      → IsNodeStopped seen may_leave honest told_of table members old other steps node → IsNodeStopped seen may_leave honest told_of table count new other steps node
+  stopped_stays members count other old new steps node same replica was = record {
+    at_rest = was.at_rest;
+    trusted = was.trusted;
+    reliable = was.reliable;
+    identity = rw same was.identity;
+    none = was.none;
+    kept = replica ∙ was.kept;
+  }
+
+pub mail_stays : (n : ℕ) (situation : Situation) (row : Row) (other : ℕ) (heard : List ℕ) (letters : List LetterRow) (after : BookState) (mail : MemberMail) → HasLetters letters after
+    → Leaves n situation row other → IsMailOf letters situation other heard mail → IsMailOf after.letters (after_turn n situation row) other heard mail
+mail_stays n situation row other heard letters after mail has leaves is = record {
+  runs = is.runs ∙ sym leaves.runs;
+  letters_are = leaves.mail ∙ is.letters_are;
+  skew = is.skew;
+  small = is.small;
+  fate = is.fate ∙ sym leaves.fate;
+  waits = is.waits ∙ sym leaves.waits;
+  sent = λ number there. sent_later letters after other number has (is.sent number there);
+}
+
 -- ---- the replica that took the turn
 
 pub did_runs : (n : ℕ) (s : Standing) (who : ℕ) (cause : Cause) (made : Option CallRow) (event : Event) (letters : List OutLetter) → (after_row n s (Did who cause made) event letters).runs ≡ s.runs
 unfolding after_row
 did_runs n s who cause made event letters = refl
+
+pub row_runs : (n : ℕ) (s : Standing) (row : Row) (who : ℕ) (cause : Cause) (made : Option CallRow) → row.turn ≡ Did who cause made
+    → (after_row n s row.turn row.event row.letters).runs ≡ s.runs
+row_runs n s row who cause made turn = ap (λ turn. (after_row n s turn row.event row.letters).runs) turn ∙ did_runs n s who cause made row.event row.letters
 
 pub did_waits : (n : ℕ) (s : Standing) (who : ℕ) (cause : Cause) (made : Option CallRow) (event : Event) (letters : List OutLetter)
     → (after_row n s (Did who cause made) event letters).waits who ≡ answer_to made
@@ -179,9 +207,40 @@ did_mail who (Tick now) made mails rest is = is
 did_mail who (Hear number) made mails rest is = fact_here who (drop 1 (mails who)) mails ∙ ap (drop 1) is
 did_mail who Answer made mails rest is = is
 
+-- its mail has lost the letter that it heard, and an answer of its call waits for it
+pub mail_did : (n : ℕ) (situation : Situation) (row : Row) (who : ℕ) (taken : Taken) (more : List Taken) (made : Option CallRow) (letters : List LetterRow) (after : BookState) (mail : MemberMail)
+    → row.turn ≡ Did who taken.cause made → HasLetters letters after → IsMailOf letters situation who (heard_in (causes_of (taken ∷ more))) mail
+    → IsMailOf after.letters (after_turn n situation row) who (heard_in (causes_of more)) (noted made mail)
+mail_did n situation row who taken more made letters after mail turn has is = record {
+  runs = is.runs ∙ sym (ap (λ (runs : ℕ → Bool). runs who) (row_runs n situation.standing row who taken.cause made turn));
+  letters_are =
+      ap (λ turn. mails_after turn situation.mails who) turn
+      ∙ did_mail who taken.cause made situation.mails (heard_in (causes_of more) ++ mail.letters.items)
+      (is.letters_are ∙ append_assoc (heard_for taken.cause) (heard_in (causes_of more)) mail.letters.items);
+  skew = is.skew;
+  small = is.small;
+  fate = ap (fate_then made) is.fate ∙ sym (did_fate who taken.cause made situation.fates) ∙ sym (ap (λ turn. fates_after turn situation.fates who) turn);
+  waits = sym (ap (λ turn. (after_row n situation.standing turn row.event row.letters).waits who) turn ∙ did_waits n situation.standing who taken.cause made row.event row.letters);
+  sent = λ number there. sent_later letters after who number has (is.sent number there);
+}
+
 module _ {D : Type 0} (seen : D → Image) (may_leave : D → Image → Type 0) (honest : D → Type 0) (told_of : D → Option Told) (table : Table) where
   -- its first step may become a turn
   pub next_step : (rows : List Row) (book : BookState) (situation : Situation) (who : ℕ) (taken : Taken) (more : List Taken) (node : Node D) → IsBookAt table rows book situation
       → (ahead : IsNodeAhead seen may_leave honest told_of table rows book who (taken ∷ more) node) → IsNextStep table rows book who taken ahead.first ahead.took.0
   next_step rows book situation who taken more node at ahead =
       record { behind = at.behind; rest = at.rest; few = at.few; stands = ahead.stands; me = ahead.me; step = ahead.took.1 }
+
+  -- and is a turn then: the node is ahead by the other steps
+  pub node_did : (rows : List Row) (book after : BookState) (who : ℕ) (taken : Taken) (more : List Taken) (fate : Fate) (made : Option CallRow) (node : Node D)
+      → (ahead : IsNodeAhead seen may_leave honest told_of table rows book who (taken ∷ more) node) → (joined : HasJoinedAt table rows book after who taken fate made ahead.took.0)
+      → IsNodeAhead seen may_leave honest told_of table (rows ++ joined.row ∷ []) after who more node
+  node_did rows book after who taken more fate made node ahead joined = record {
+    at_rest = ahead.at_rest;
+    trusted = ahead.trusted;
+    reliable = ahead.reliable;
+    first = ahead.took.0;
+    stands = joined.stands;
+    me = ap (λ (self : Identity). self.me) ahead.took.1.steps.took.identity ∙ ahead.me;
+    took = took_later table book.letters after None (waits_in table (rows ++ joined.row ∷ []) after who) who more ahead.took.0 (replica_of node) joined.joined.has (λ row is. absurd cc) ahead.took.2;
+  }

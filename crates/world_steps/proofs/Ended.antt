@@ -1,8 +1,5 @@
 -- The node of a replica that has no step left beside the book: it is that of the book's replica, and its files stand for what it keeps.
-use Rattle.std.proofs.Common.{◌≡◌, ℕ, zero, suc, ◌≤◌, Bool, true, false, List, [], ◌∷◌, length, Option, Some, refl, sym, ap, ◌∙◌, subst, arith}
-use Rattle.std.specs.List.{slice_get}
-use Rattle.std.proofs.lemmas.List.{length-map}
-use Rattle.std.proofs.lemmas.Option.{same_Some}
+use Rattle.std.proofs.Common.{◌≡◌, ℕ, true, false, List, [], length, Option, sym, ap, ◌∙◌, subst}
 use Rattle.disk_model.specs.Images.{Image, file_of}
 use Rattle.disk_model.specs.Told.{Told}
 use Rattle.due_set.specs.Table.{Table}
@@ -17,9 +14,8 @@ use Rattle.replica_node.specs.declared.node.Node.{Node}
 use Rattle.replica_store.proofs.KeptLemmas.{stands_in}
 use Rattle.replica_store.specs.Files.{BodiesStand, FilesStand}
 use Rattle.replica_store.specs.Store.{area_of, records_of}
-use Rattle.script_law.specs.Situation.{Situation}
 use Rattle.world_law.specs.Book.{BookState, standing_behind}
-use Rattle.world_parts.specs.Nodes.{AreNodesOf, IsNodeOf}
+use Rattle.world_parts.specs.Nodes.{IsNodeOf}
 use Rattle.world_steps.specs.Steps.{IsNodeAhead, IsNodeStopped}
 
 module _ {D : Type 0} (seen : D → Image) (may_leave : D → Image → Type 0) (honest : D → Type 0) (told_of : D → Option Told) (table : Table) where

@@ -1,8 +1,8 @@
 use Rattle.std.proofs.Common.{◌≡◌, Some, length, refl, subst}
 use Rattle.std.specs.List.{slice_get}
 use Rattle.std.proofs.lemmas.Option.{slice_get_read}
-use Rattle.world_rounds.proofs.Worlds.{may_join, some_same, world_did}
 use Rattle.world_steps.specs.Turns.{HasJoinedAt}
+use Rattle.world_rounds.proofs.Worlds.{may_join, some_same, world_did}
 use Rattle.world_rounds.proofs.world.World.commit_taken.Goals as goal
 
 pub commit_step-requires : goal.commit_step-requires

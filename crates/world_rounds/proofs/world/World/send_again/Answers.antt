@@ -1,9 +1,9 @@
 use Rattle.std.proofs.Common.{◌≡◌, ◌<◌, ◌≤◌, Some, length, refl, sym, ap, ◌∙◌, arith}
 use Rattle.std.specs.List.{slice_get}
 use Rattle.std.proofs.lemmas.Option.{slice_get_past, slice_get_read}
+use Rattle.world_steps.proofs.Foreseen.{there_is}
 use Rattle.world_rounds.proofs.Delivery.{addressee}
 use Rattle.world_rounds.proofs.Waiting.{again_moved, again_none, again_stopped}
-use Rattle.world_steps.proofs.Foreseen.{there_is}
 use Rattle.world_rounds.proofs.Worlds.{some_same}
 use Rattle.world_rounds.proofs.world.World.send_again.Goals as goal
 
