@@ -41,7 +41,7 @@ last_numbered {X} xs x =
     let same : 0 + length xs ≡ length xs = omega arith in
     enumerated 0 xs x ∙ ap {B = List (ℕ × X)} (λ k. enumerate_from 0 xs ++ (k, x) ∷ []) same
 
-posting_next : (rows : List Row) (row : Row) → posting_turns (rows ++ row ∷ []) ≡ posting_turns rows ++ map (λ (letter : OutLetter). length rows) row.letters
+pub posting_next : (rows : List Row) (row : Row) → posting_turns (rows ++ row ∷ []) ≡ posting_turns rows ++ map (λ (letter : OutLetter). length rows) row.letters
 posting_next rows row =
     ap (flat_map numbers) (last_numbered rows row) ∙ flat_map-append numbers (enumerate_from 0 rows) ((length rows, row) ∷ [])
     ∙ ap (λ more. posting_turns rows ++ more) (append_nil (map (λ (letter : OutLetter). length rows) row.letters))

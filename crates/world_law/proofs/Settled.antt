@@ -1,7 +1,8 @@
 -- The turns of a book settle what else there is of its rows.
-use Rattle.std.proofs.Common.{◌≡◌, ℕ, List, [], ◌∷◌, ◌++◌, Some, None, refl, sym, ap, ◌∙◌, subst, length, take, map, append_assoc}
+use Rattle.std.proofs.Common.{◌≡◌, ℕ, List, [], ◌∷◌, ◌++◌, Some, None, refl, sym, ap, ◌∙◌, subst, length, take, map, append_assoc, arith}
 use Rattle.std.proofs.Common.{append-nil as append_nil}
 use Rattle.std.specs.List.{AllZip, slice_get}
+use Rattle.std.proofs.lemmas.List.{length-append}
 use Rattle.std.proofs.lemmas.List.Concat.{flat_map-append}
 use Rattle.paxos_base.specs.declared.durable.Delta.{Delta}
 use Rattle.paxos_base.specs.declared.entry.Vote.{Vote}
@@ -13,11 +14,13 @@ use Rattle.step_law.specs.declared.out.OutLetter.{OutLetter}
 use Rattle.launch_machine.specs.Clerk.{first_rows}
 use Rattle.agree_law.specs.World.{CastVote, Learning}
 use Rattle.agree_law.specs.Transition.{identity_of}
-use Rattle.book_law.specs.Book.{Row, Standing, acts_at, after_row, learned_in, standing_after, turn_of, votes_in}
+use Rattle.book_law.specs.Book.{Row, Standing, acts_at, after_row, held_after, late_after, learned_in, standing_after, turn_of, votes_in}
 use Rattle.book_law.specs.Legal.{IsLegal, MayFollow, kept_votes}
 use Rattle.book_law.specs.declared.turn.Turn.{Turn}
 use Rattle.book_law.specs.declared.turn.Turn.TheVariants.{Did, Stopped, Restarted, Arrived}
 use Rattle.bounds_law.proofs.Keeping.{one_event, stands_next}
+use Rattle.world_law.specs.Book.{BookState, StandsBehind, posting_turns, standing_behind}
+use Rattle.world_law.proofs.Behind.{posting_next}
 
 abbrev out_letter : ℕ → List ℕ → OutLetter
 out_letter to bytes = record { to = to; bytes = bytes }
@@ -95,6 +98,8 @@ pub record ComeToOne (n : ℕ) (table : Table) (one other : List Row) : Type 0 w
   pub stands : standing_after n (first_rows table) one ≡ standing_after n (first_rows table) other
   pub votes : votes_in one ≡ votes_in other
   pub learned : learned_in one ≡ learned_in other
+  pub posting : posting_turns one ≡ posting_turns other
+  pub count : length one ≡ length other
 
 there_next : (front back : List Row) (row : Row) → slice_get (front ++ row ∷ back) (length front) ≡ Some row
 there_next [] back row = refl
@@ -105,7 +110,7 @@ cut_next [] [] = refl
 cut_next [] (row ∷ back) = refl
 cut_next (first ∷ front) back = ap (λ rows. first ∷ rows) (cut_next front back)
 
-may_next : (n : ℕ) (table : Table) (front back : List Row) (row : Row) → IsLegal n table (front ++ row ∷ back)
+pub may_next : (n : ℕ) (table : Table) (front back : List Row) (row : Row) → IsLegal n table (front ++ row ∷ back)
     → MayFollow n table (standing_after n (first_rows table) front) row.turn row
 may_next n table front back row legal =
     subst (λ before. MayFollow n table (standing_after n (first_rows table) before) row.turn row) (cut_next front (row ∷ back))
@@ -138,6 +143,11 @@ come_on n table one other row second come turn alike = record {
       learned_next one row ∙ ap (λ before. before ++ learned_by row.turn row.learnt) come.learned
       ∙ ap (λ learnt. learned_in other ++ learned_by row.turn learnt) alike.learnt ∙ ap (λ turn. learned_in other ++ learned_by turn second.learnt) turn
       ∙ sym (learned_next other second);
+  posting =
+      posting_next one row ∙ ap (λ before. before ++ map (λ (letter : OutLetter). length one) row.letters) come.posting
+      ∙ ap (λ letters. posting_turns other ++ map (λ (letter : OutLetter). length one) letters) alike.letters
+      ∙ ap (λ n. posting_turns other ++ map (λ (letter : OutLetter). n) second.letters) come.count ∙ sym (posting_next other second);
+  count = omega (arith, length-append one (row ∷ []), length-append other (second ∷ []), come.count);
 }
 
 walk : (n : ℕ) (table : Table) (one other back behind : List Row) → IsLegal n table (one ++ back) → IsLegal n table (other ++ behind)
@@ -163,4 +173,26 @@ walk n table one other (row ∷ back) (second ∷ behind) legal lawful turns com
 -- legal rows with the same turns come to the same
 pub turns_settle : (n : ℕ) (table : Table) (one other : List Row) → IsLegal n table one → IsLegal n table other
     → map (λ (row : Row). row.turn) one ≡ map (λ (row : Row). row.turn) other → ComeToOne n table one other
-turns_settle n table one other legal lawful turns = walk n table [] [] one other legal lawful turns (record { stands = refl; votes = refl; learned = refl })
+turns_settle n table one other legal lawful turns = walk n table [] [] one other legal lawful turns (record { stands = refl; votes = refl; learned = refl; posting = refl; count = refl })
+
+-- ---- behind a book
+
+-- whichever rows stand behind a book, they come to the same
+pub come_here : (table : Table) (rows other : List Row) (book : BookState) → StandsBehind table rows book → StandsBehind table other book → ComeToOne book.members table rows other
+come_here table rows other book behind beside = turns_settle book.members table rows other behind.legal beside.legal (sym behind.turns ∙ beside.turns)
+
+-- legal rows that have the turns of a book stand behind it, as any others do
+pub stand_instead : (table : Table) (rows other : List Row) (book : BookState) → StandsBehind table rows book → IsLegal book.members table other
+    → book.turns ≡ map (λ (row : Row). row.turn) other → StandsBehind table other book
+stand_instead table rows other book behind legal turns =
+    let come = turns_settle book.members table rows other behind.legal legal (sym behind.turns ∙ turns) in
+    let stands : standing_behind table rows book ≡ standing_behind table other book = come.stands in
+    record {
+      legal = legal;
+      turns = turns;
+      letters = behind.letters ∙ ap (λ (s : Standing). s.posted) stands;
+      posting = behind.posting ∙ come.posting;
+      held = behind.held ∙ ap (λ (s : Standing). held_after book.pending s.held) stands;
+      late = behind.late ∙ ap (λ (s : Standing). late_after book.pending s.held s.late) stands;
+      arrived = behind.arrived ∙ ap (λ (s : Standing). s.arrived) stands;
+    }

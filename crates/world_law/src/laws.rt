@@ -1,5 +1,5 @@
 //! Laws of books that a program keeps. Each is the contract of a function that does nothing.
-ghost use Rattle.std.specs.Prelude.{◌≡◌, ◌≢◌, ◌⊎◌, ◌≤◌, ◌++◌, ◌∷◌, [], ℕ, List, length, take, Option, None, Some};
+ghost use Rattle.std.specs.Prelude.{◌≡◌, ◌≢◌, ◌⊎◌, ◌↔◌, ◌≤◌, ◌++◌, ◌∷◌, [], ℕ, List, length, map, take, Option, None, Some};
 ghost use Rattle.std.specs.Option.{option_to_list};
 ghost use Rattle.zone_minutes.specs.declared.minute.Minute.{Minute};
 ghost use Rattle.paxos_base.specs.declared.durable.Delta.{Delta};
@@ -15,7 +15,7 @@ ghost use Rattle.agree_law.specs.Log.{IsLog};
 ghost use Rattle.agree_law.specs.Transition.{identity_of};
 ghost use Rattle.book_law.specs.Agrees.{Agrees};
 ghost use Rattle.book_law.specs.Book.{Row, learned_in, turn_of, votes_in};
-ghost use Rattle.book_law.specs.Legal.{IsMade};
+ghost use Rattle.book_law.specs.Legal.{IsLegal, IsMade, MayFollow};
 ghost use Rattle.book_law.specs.declared.turn.CallRow.{CallRow};
 ghost use Rattle.book_law.specs.declared.turn.Cause.{Cause};
 ghost use Rattle.book_law.specs.declared.turn.Turn.{Turn};
@@ -27,8 +27,10 @@ ghost use Rattle.replica_core.specs.Step.{IsEventOf, IsInputInside, IsOfTable, S
 ghost use Rattle.replica_core.specs.declared.input.Input.{Input};
 ghost use Rattle.replica_core.specs.declared.input.Input.TheVariants.{Tick};
 ghost use Rattle.replica_core.specs.declared.out.StepOut.{StepOut};
-ghost use Rattle.world_law.specs.Book.{BookState, HasRoom, MayCall, StandsBehind, call_of, standing_behind};
+ghost use Rattle.world_law.specs.Book.{BookState, HasRoom, IsRowOf, MayCall, StandsBehind, call_of, standing_behind};
 ghost use Rattle.world_law.specs.Replicas.{IsInputOf, IsRestartOf, IsStopOf, IsTurnOf, StandsAt, StandsStopped};
+ghost use Rattle.world_law.specs.Rows.{HasRows, MayComeNext, seat_of};
+ghost use Rattle.world_law.specs.declared.row.BookRow.{BookRow};
 
 /// A legal book of one to seven replicas agrees and fits, after each of its turns; and at rest its ledger fits its log: no launch
 /// is held twice, each that is held was started, and each end says what is held.
@@ -42,7 +44,7 @@ pub fn a_legal_book_agrees_and_fits()
 {}
 
 /// A book settles what it does not keep: whichever rows stand behind it, the votes and the learned entries in them are the same, and
-/// so is what stands after them.
+/// so is what stands after them. All legal rows that have its turns stand behind it.
 pub fn a_book_settles_what_it_does_not_keep()
     ensures votes { (table : Table) (rows other : List Row) (book : BookState) → StandsBehind table rows book → StandsBehind table other book
         → votes_in rows ≡ votes_in other }
@@ -50,6 +52,23 @@ pub fn a_book_settles_what_it_does_not_keep()
         → learned_in rows ≡ learned_in other }
     ensures stands { (table : Table) (rows other : List Row) (book : BookState) → StandsBehind table rows book → StandsBehind table other book
         → standing_behind table rows book ≡ standing_behind table other book }
+    ensures instead { (table : Table) (rows other : List Row) (book : BookState) → StandsBehind table rows book → IsLegal book.members table other
+        → book.turns ≡ map (λ (row : Row). row.turn) other → StandsBehind table other book }
+{}
+
+/// The rows of a book that threads share have its turns, and a row that may come next after them may come next in the book,
+/// whichever rows stand behind it.
+pub fn rows_of_a_book_settle_what_may_come_next()
+    ensures turns { (table : Table) (rows : List BookRow) (book : BookState) → HasRows table rows book → map (λ (row : BookRow). row.turn) rows ≡ book.turns }
+    ensures next { (table : Table) (before : List BookRow) (row : BookRow) (behind : List Row) (book : BookState) → HasRows table before book
+        → MayComeNext book.members table before row → StandsBehind table behind book
+        → (next : Row) × IsRowOf row.turn row.out next × MayFollow book.members table (standing_behind table behind book) next.turn next }
+{}
+
+/// A turn names the seat of the replica that has it, and an arrival alone names none.
+pub fn a_turn_names_the_seat_of_its_replica()
+    ensures seat { (turn : Turn) (who : ℕ) → seat_of turn ≡ Some who → turn_of turn ≡ who }
+    ensures none { (turn : Turn) → (seat_of turn ≡ None) ↔ ((number : ℕ) × (turn ≡ Arrived number)) }
 {}
 
 /// A step that a replica takes beside a legal book is a turn that may come next in it, with what came of the step and the call that it

@@ -1,0 +1,37 @@
+-- The rows of a book that threads share, and the rows of book_law behind them.
+use Rattle.std.specs.Prelude.{ℕ, List, Option, None, Some}
+use Rattle.std.specs.List.{AllZip}
+use Rattle.due_set.specs.Table.{Table}
+use Rattle.launch_machine.specs.Clerk.{first_rows}
+use Rattle.book_law.specs.Book.{Row, standing_after}
+use Rattle.book_law.specs.Legal.{IsLegal, MayFollow}
+use Rattle.book_law.specs.declared.turn.Turn.{Turn}
+use Rattle.book_law.specs.declared.turn.Turn.TheVariants.{Did, Stopped, Restarted, Arrived}
+use Rattle.world_law.specs.Book.{BookState, IsRowOf, StandsBehind}
+use Rattle.world_law.specs.declared.row.BookRow.{BookRow}
+
+-- the seat that a turn names: its replica's, and of an arrival none
+abbrev pub seat_of : Turn → Option ℕ
+seat_of (Did who cause made) = Some who
+seat_of (Stopped who cause kept) = Some who
+seat_of (Restarted who) = Some who
+seat_of (Arrived number) = None
+
+-- the row of book_law has the turn of the other, and what came of it
+abbrev pub IsBehind : BookRow → Row → Type 0
+IsBehind row behind = IsRowOf row.turn row.out behind
+
+-- these are the rows of the book: row by row, the rows that stand behind it have what they have
+pub record HasRows (table : Table) (rows : List BookRow) (book : BookState) : Type 0 where
+  pub behind : List Row
+  pub stands : StandsBehind table behind book
+  pub each : AllZip IsBehind rows behind
+
+-- **The row may come next after these**: legal rows have what these have, and one that may follow them has what the row has.
+pub record MayComeNext (members : ℕ) (table : Table) (before : List BookRow) (row : BookRow) : Type 0 where
+  pub behind : List Row
+  pub legal : IsLegal members table behind
+  pub each : AllZip IsBehind before behind
+  pub next : Row
+  pub is : IsBehind row next
+  pub may : MayFollow members table (standing_after members (first_rows table) behind) next.turn next
