@@ -12,7 +12,7 @@ use Rattle.free_law.proofs.OtherLemmas.{fate_stays, mail_stays, posts, replica_s
 
 -- ---- numbers in a row
 
-split_range : (first one more : ℕ) → range_with_len first (one + more) ≡ range_with_len first one ++ range_with_len (first + one) more
+pub split_range : (first one more : ℕ) → range_with_len first (one + more) ≡ range_with_len first one ++ range_with_len (first + one) more
 split_range first zero more = (let same : first + zero ≡ first = omega arith in let all : zero + more ≡ more = omega arith in rw (same, all) refl)
 split_range first (suc one) more =
     let long : suc one + more ≡ suc (one + more) = omega arith in
@@ -21,7 +21,7 @@ split_range first (suc one) more =
     ∙ ap (λ n. (first ∷ range_with_len (first + 1) one) ++ range_with_len n more) next
 
 -- tests that agree on the numbers of a row pass the same of them
-same_passes : (p q : ℕ → Bool) (first count : ℕ) → ((n : ℕ) → n < first + count → p n ≡ q n)
+pub same_passes : (p q : ℕ → Bool) (first count : ℕ) → ((n : ℕ) → n < first + count → p n ≡ q n)
     → filter p (range_with_len first count) ≡ filter q (range_with_len first count)
 same_passes p q first zero same = refl
 same_passes p q first (suc count) same =
@@ -32,7 +32,7 @@ same_passes p q first (suc count) same =
       | inr isnt ↦ (let other : q first ≡ false = sym here ∙ isnt in rw (isnt, other) rest)
     ]
 
-found_still : {X : Type 0} (xs ys : List X) (n : ℕ) → n < length xs → slice_get (xs ++ ys) n ≡ slice_get xs n
+pub found_still : {X : Type 0} (xs ys : List X) (n : ℕ) → n < length xs → slice_get (xs ++ ys) n ≡ slice_get xs n
 found_still [] ys n below = absurd (omega arith)
 found_still (x ∷ xs) ys zero below = refl
 found_still (x ∷ xs) ys (suc n) below = found_still xs ys n (omega arith)

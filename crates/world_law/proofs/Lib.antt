@@ -1,5 +1,6 @@
 pub mod Behind
 pub mod Called
+pub mod Lawful
 pub mod Ledgers
 pub mod Others
 pub mod Rows

@@ -27,6 +27,7 @@ ghost use Rattle.replica_core.specs.Step.{IsEventOf, IsInputInside, IsOfTable, S
 ghost use Rattle.replica_core.specs.declared.input.Input.{Input};
 ghost use Rattle.replica_core.specs.declared.input.Input.TheVariants.{Tick};
 ghost use Rattle.replica_core.specs.declared.out.StepOut.{StepOut};
+ghost use Rattle.turn_book.specs.Rows.{HasLawful};
 ghost use Rattle.world_law.specs.Book.{BookState, HasRoom, IsRowOf, MayCall, StandsBehind, call_of, standing_behind};
 ghost use Rattle.world_law.specs.Replicas.{IsInputOf, IsRestartOf, IsStopOf, IsTurnOf, StandsAt, StandsStopped};
 ghost use Rattle.world_law.specs.Rows.{HasRows, MayComeNext, seat_of};
@@ -63,6 +64,13 @@ pub fn rows_of_a_book_settle_what_may_come_next()
     ensures next { (table : Table) (before : List BookRow) (row : BookRow) (behind : List Row) (book : BookState) → HasRows table before book
         → MayComeNext book.members table before row → StandsBehind table behind book
         → (next : Row) × IsRowOf row.turn row.out next × MayFollow book.members table (standing_behind table behind book) next.turn next }
+{}
+
+/// Threads may share a legal book: some rows as threads add them are those of the book, and each of them may come next after those
+/// before it.
+pub fn a_legal_book_has_lawful_rows()
+    ensures { (table : Table) (rows : List Row) (book : BookState) → StandsBehind table rows book
+        → HasLawful (λ before. HasRows table before book) (λ before row. MayComeNext book.members table before row) }
 {}
 
 /// A turn names the seat of the replica that has it, and an arrival alone names none.

@@ -68,7 +68,7 @@ called (Some made) book =
       pending = Some made;
     }
 
-abbrev added : Turn → List OutLetter → BookState → BookState
+abbrev pub added : Turn → List OutLetter → BookState → BookState
 added turn letters book =
     record book {
       turns = book.turns ++ turn ∷ [];
@@ -78,7 +78,7 @@ added turn letters book =
       pending = None;
     }
 
-adds : (turn : Turn) (letters : List OutLetter) (book : BookState) → Commits turn letters book (added turn letters book)
+pub adds : (turn : Turn) (letters : List OutLetter) (book : BookState) → Commits turn letters book (added turn letters book)
 adds turn letters book = record { members = refl; turns = refl; posted = refl; held = refl; late = refl; arrived = refl; pending = refl }
 
 answer_for : List SchedRow → SchedRow → Result CallRow OutOfMemory

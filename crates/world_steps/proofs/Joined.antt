@@ -101,7 +101,7 @@ may_call table rows book who taken old new next room (Some row) is = go taken.ca
         absurd (no (rw event tt))
 
 -- the turn of the step
-turn_of_step : (table : Table) (rows : List Row) (book : BookState) (who : ℕ) (taken : Taken) (old new : ReplicaState) (made : Option CallRow) → IsNextStep table rows book who taken old new
+pub turn_of_step : (table : Table) (rows : List Row) (book : BookState) (who : ℕ) (taken : Taken) (old new : ReplicaState) (made : Option CallRow) → IsNextStep table rows book who taken old new
     → IsMade (standing_behind table rows book).held (option_to_list taken.out.call) made → IsTurnOf table rows book who taken.cause made taken.out new
 turn_of_step table rows book who taken old new made next call =
     subst (λ who. IsTurnOf table rows book who taken.cause made taken.out new) next.me
