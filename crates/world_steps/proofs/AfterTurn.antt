@@ -232,10 +232,10 @@ module _ {D : Type 0} (seen : D → Image) (may_leave : D → Image → Type 0) 
       record { behind = at.behind; rest = at.rest; few = at.few; stands = ahead.stands; me = ahead.me; step = ahead.took.1 }
 
   -- and is a turn then: the node is ahead by the other steps
-  pub node_did : (rows : List Row) (book after : BookState) (who : ℕ) (taken : Taken) (more : List Taken) (fate : Fate) (made : Option CallRow) (node : Node D)
-      → (ahead : IsNodeAhead seen may_leave honest told_of table rows book who (taken ∷ more) node) → (joined : HasJoinedAt table rows book after who taken fate made ahead.took.0)
+  pub node_did : (rows : List Row) (book after : BookState) (who : ℕ) (taken : Taken) (more : List Taken) (set : Fate) (made : Option CallRow) (node : Node D)
+      → (ahead : IsNodeAhead seen may_leave honest told_of table rows book who (taken ∷ more) node) → (joined : HasJoinedAt table rows book after who taken set made ahead.took.0)
       → IsNodeAhead seen may_leave honest told_of table (rows ++ joined.row ∷ []) after who more node
-  node_did rows book after who taken more fate made node ahead joined = record {
+  node_did rows book after who taken more set made node ahead joined = record {
     at_rest = ahead.at_rest;
     trusted = ahead.trusted;
     reliable = ahead.reliable;

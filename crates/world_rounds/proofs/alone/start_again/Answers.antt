@@ -35,6 +35,8 @@ memory_of-requires g c =
     let trusted : g.D.Disk.honest c.into_disk.result = subst g.D.Disk.honest (sym c.into_disk.ensures) c.requires.trusted in
     let here = recoverable_at_rest g.D.Disk.seen g.D.Disk.may_leave g.D.Disk.honest c.args.table.now c.args.stopped.node c.requires.at_rest c.requires.trusted in
     let recoverable = subst (λ disk. IsRecoverable (length c.args.table.now.jobs) kept kept (g.D.Disk.may_leave disk)) (sym c.into_disk.ensures) here in
-    memory_alone (fault_of c.recover.result) c.in-Err.fault (ap fault_of c.in-Err.is)
-    (c.recover.ensures.unended (subst (λ disk. IsReliable (g.D.Disk.told disk)) (sym c.into_disk.ensures) c.requires.reliable))
-    (λ gate. c.recover.ensures.sound kept kept gate trusted recoverable) c.recover.ensures.no_letter
+    record {
+      alone = memory_alone (fault_of c.recover.result) c.in-Err.fault (ap fault_of c.in-Err.is)
+          (c.recover.ensures.unended (subst (λ disk. IsReliable (g.D.Disk.told disk)) (sym c.into_disk.ensures) c.requires.reliable))
+          (λ gate. c.recover.ensures.sound kept kept gate trusted recoverable) c.recover.ensures.no_letter;
+    }

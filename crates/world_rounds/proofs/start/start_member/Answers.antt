@@ -31,5 +31,7 @@ pub memory_of-requires : goal.memory_of-requires
 memory_of-requires g c =
     let start = fresh (first_rows c.args.table.now) in
     let empty = empty_recoverable (length c.args.table.now.jobs) (g.D.Disk.may_leave c.args.disk) c.requires.fresh.empty in
-    memory_alone (fault_of c.recover.result) c.in-Err.fault (ap fault_of c.in-Err.is) (c.recover.ensures.unended c.requires.fresh.reliable)
-    (λ gate. c.recover.ensures.sound start start gate c.requires.fresh.trusted empty) c.recover.ensures.no_letter
+    record {
+      alone = memory_alone (fault_of c.recover.result) c.in-Err.fault (ap fault_of c.in-Err.is) (c.recover.ensures.unended c.requires.fresh.reliable)
+          (λ gate. c.recover.ensures.sound start start gate c.requires.fresh.trusted empty) c.recover.ensures.no_letter;
+    }

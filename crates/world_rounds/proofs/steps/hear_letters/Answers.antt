@@ -2,9 +2,10 @@ use Rattle.world_rounds.proofs.HearLemmas.{heard_more, letter_there, told_letter
 use Rattle.world_rounds.proofs.steps.hear_letters.Goals as goal
 
 pub letter_at-requires : goal.letter_at-requires
-letter_at-requires g c =
-    letter_there g.D.Disk.seen g.D.Disk.may_leave g.D.Disk.honest g.D.Disk.told c.args.table.now c.args.book.now c.requires.may.0 c.requires.may.1 c.args.steps.now.items c.args.node.now
-    c.args.letters.now c.letters.letter-index c.requires.may.2 c.letters-test.true
+letter_at-requires g c = record {
+  there = letter_there g.D.Disk.seen g.D.Disk.may_leave g.D.Disk.honest g.D.Disk.told c.args.table.now c.args.book.now c.requires.may.0 c.requires.may.1 c.args.steps.now.items c.args.node.now
+      c.args.letters.now c.letters.letter-index c.requires.may.2 c.letters-test.true;
+}
 
 pub keep_step-requires : goal.keep_step-requires
 keep_step-requires g c = record {
@@ -13,7 +14,7 @@ keep_step-requires g c = record {
     c.requires.may.1,
     told_letter g.D.Disk.seen g.D.Disk.may_leave g.D.Disk.honest g.D.Disk.told c.args.table.now c.args.book.now c.requires.may.0 c.requires.may.1 c.args.steps.now.items c.letters.steps.items
         c.args.node.now c.letters.node c.args.letters.now c.letters.letter-index c.letter_at.result.now _ c.requires.may.2 c.letters-test.true
-        (c.letters.invariant.beside c.requires.may.0 c.requires.may.1 c.requires.may.2) c.letter_at.ensures c.bytes-bytes.ensures tt,
+        (c.letters.invariant.beside c.requires.may.0 c.requires.may.1 c.requires.may.2) c.letter_at.ensures.letter c.bytes-bytes.ensures tt,
   );
 }
 
@@ -24,4 +25,4 @@ letters-preserved g c =
     (λ rows who may. c.in_ok-keep_step.ensures.beside rows who
     (told_letter g.D.Disk.seen g.D.Disk.may_leave g.D.Disk.honest g.D.Disk.told c.args.table.now c.args.book.now rows who c.args.steps.now.items c.letters.steps.items
     c.args.node.now c.letters.node c.args.letters.now c.letters.letter-index c.letter_at.result.now _ may c.letters-test.true
-    (c.letters.invariant.beside rows who may) c.letter_at.ensures c.bytes-bytes.ensures tt))
+    (c.letters.invariant.beside rows who may) c.letter_at.ensures.letter c.bytes-bytes.ensures tt))

@@ -22,4 +22,4 @@ returns c =
     let low : c.min.result ≡ int_min (c.args.at.0 +ℤ c.args.mail.now.skew) (c.args.window.until.0 -ℤ pos 1) = rw (sum, last) at c.min.ensures.value in
     let held : to_z w64 (of_z w64 c.min.result) ≡ c.min.result = to_z-of_z w64 c.min.result (omega (arith, ints, clamps)) in
     let high : c.max.result ≡ int_max c.min.result c.args.window.from.0 = rw (held, from) at c.max.ensures.value in
-    ap minute (to_z-of_z w64 c.max.result (omega (arith, ints, clamps)) ∙ omega (arith, ints, clamps))
+    record { reading = ap minute (to_z-of_z w64 c.max.result (omega (arith, ints, clamps)) ∙ omega (arith, ints, clamps)) }

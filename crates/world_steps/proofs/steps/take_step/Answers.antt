@@ -1,4 +1,4 @@
-use Rattle.std.proofs.Common.{length, ◌<◌, ◌≤◌, ◌^◌, arith}
+use Rattle.std.proofs.Common.{length, ◌<◌, ◌≤◌, ◌^◌, ◌∙◌, arith}
 use Rattle.world_steps.proofs.MemoryLemmas.{cause_breaks_none, memory_alone, no_letter}
 use Rattle.world_steps.proofs.StepLemmas.{ahead_small, beside_next}
 use Rattle.world_steps.proofs.steps.take_step.Goals as goal
@@ -19,7 +19,10 @@ memory_of-requires g c =
     let may = c.requires.may in
     let none =
     cause_breaks_none g.D.Disk.seen g.D.Disk.may_leave g.D.Disk.honest g.D.Disk.told c.args.table.now may.rows may.book may.who may.steps c.args.node.now c.args.cause c.args.input may.told in
-    memory_alone c.handle.result c.in-Err.fault c.in-Err.is (c.handle.ensures.unended may.told.beside.ahead.reliable) c.handle.ensures.undamaged (no_letter c.handle.result (c.handle.ensures.fault ∙ none))
+    record {
+      alone = memory_alone c.handle.result c.in-Err.fault c.in-Err.is (c.handle.ensures.unended may.told.beside.ahead.reliable) c.handle.ensures.undamaged
+          (no_letter c.handle.result (c.handle.ensures.fault ∙ none));
+    }
 
 pub returns-clause-beside : goal.returns-clause-beside
 returns-clause-beside g c =

@@ -15,42 +15,42 @@ returns-then-number-letters-clause-sets g c =
 pub letter_at-requires : goal.letter_at-requires
 letter_at-requires g c =
     let below : c.args.number < length c.args.self.now.book.letters = (let same = ap length c.letters.ensures in omega (arith, same, c.if-number-letters.false)) in
-    there_is c.args.self.now.book.letters c.args.number below
+    record { there = there_is c.args.self.now.book.letters c.args.number below }
 
 pub index-requires : goal.index-requires
 index-requires g c =
     let world = c.requires.world.1 in
     let below =
     addressee g.D.Disk.seen g.D.Disk.may_leave g.D.Disk.honest g.D.Disk.told c.requires.world.0 world.rows c.args.self.now world.situation c.args.number c.letter_at.result.now world.is
-    c.letter_at.ensures in
+    c.letter_at.ensures.letter in
     omega (arith, c.args.self.now.members.ok.0, below)
 
 pub returns-then-not-index-clause-sets : goal.returns-then-not-index-clause-sets
 returns-then-not-index-clause-sets g c =
     let world = c.requires.world.1 in
     let below : c.letter_at.result.now.to < length c.args.self.now.members.items =
-    addressee g.D.Disk.seen g.D.Disk.may_leave g.D.Disk.honest g.D.Disk.told c.requires.world.0 world.rows c.args.self.now world.situation c.args.number c.letter_at.result.now world.is c.letter_at.ensures in
+    addressee g.D.Disk.seen g.D.Disk.may_leave g.D.Disk.honest g.D.Disk.told c.requires.world.0 world.rows c.args.self.now world.situation c.args.number c.letter_at.result.now world.is c.letter_at.ensures.letter in
     let one : slice_get c.args.self.now.members.items c.letter_at.result.now.to ≡ Some c.index.result.now =
     slice_get_read c.args.self.now.members.items (length c.args.self.now.members.items) c.letter_at.result.now.to c.index.result.now refl below c.index.ensures in
-    again_stopped g.D.Disk.seen g.D.Disk.may_leave g.D.Disk.honest g.D.Disk.told c.args.self.now c.args.number c.letter_at.result.now c.index.result.now c.letter_at.ensures one c.if-not-index.true
+    again_stopped g.D.Disk.seen g.D.Disk.may_leave g.D.Disk.honest g.D.Disk.told c.args.self.now c.args.number c.letter_at.result.now c.index.result.now c.letter_at.ensures.letter one c.if-not-index.true
 
 pub index_mut-requires : goal.index_mut-requires
 index_mut-requires g c =
     let world = c.requires.world.1 in
     let below =
     addressee g.D.Disk.seen g.D.Disk.may_leave g.D.Disk.honest g.D.Disk.told c.requires.world.0 world.rows c.args.self.now world.situation c.args.number c.letter_at.result.now world.is
-    c.letter_at.ensures in
+    c.letter_at.ensures.letter in
     omega (arith, c.args.self.now.members.ok.0, below)
 
 pub returns-clause-sets : goal.returns-clause-sets
 returns-clause-sets g c =
     let world = c.requires.world.1 in
     let below : c.letter_at.result.now.to < length c.args.self.now.members.items =
-    addressee g.D.Disk.seen g.D.Disk.may_leave g.D.Disk.honest g.D.Disk.told c.requires.world.0 world.rows c.args.self.now world.situation c.args.number c.letter_at.result.now world.is c.letter_at.ensures in
+    addressee g.D.Disk.seen g.D.Disk.may_leave g.D.Disk.honest g.D.Disk.told c.requires.world.0 world.rows c.args.self.now world.situation c.args.number c.letter_at.result.now world.is c.letter_at.ensures.letter in
     let one : slice_get c.args.self.now.members.items c.letter_at.result.now.to ≡ Some c.index.result.now =
     slice_get_read c.args.self.now.members.items (length c.args.self.now.members.items) c.letter_at.result.now.to c.index.result.now refl below c.index.ensures in
     let there : slice_get c.args.self.now.members.items c.letter_at.result.now.to ≡ Some c.index_mut.result.now =
     slice_get_read c.args.self.now.members.items (length c.args.self.now.members.items) c.letter_at.result.now.to c.index_mut.result.now refl below c.index_mut.ensures.value in
     let same : c.index.result.now ≡ c.index_mut.result.now = some_same (slice_get c.args.self.now.members.items c.letter_at.result.now.to) c.index.result.now c.index_mut.result.now one there in
-    again_moved g.D.Disk.seen g.D.Disk.may_leave g.D.Disk.honest g.D.Disk.told c.args.self.now _ c.args.number c.letter_at.result.now c.index_mut.result.now _ c.letter_at.ensures there
+    again_moved g.D.Disk.seen g.D.Disk.may_leave g.D.Disk.honest g.D.Disk.told c.args.self.now _ c.args.number c.letter_at.result.now c.index_mut.result.now _ c.letter_at.ensures.letter there
     (ap (λ member. member.mail.runs) (sym same) ∙ c.if-not-index.false) refl refl refl refl refl refl refl refl refl refl c.in_ok-push.ensures.items
