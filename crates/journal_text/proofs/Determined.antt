@@ -15,12 +15,14 @@ use Rattle.book_law.specs.Book.{PostedLetter, Row, Standing}
 use Rattle.book_law.specs.declared.turn.Cause.TheVariants.{Campaign}
 use Rattle.step_law.specs.State.{State}
 use Rattle.script_law.specs.Commands.{Plain, set_by, tasks_for, with_letter, with_mail}
+use Rattle.script_law.specs.Free.{IsFreePart}
 use Rattle.script_law.specs.Parts.{Plays, Sets, Stays, Then}
 use Rattle.script_law.specs.Round.{AreRounds, round_tasks}
 use Rattle.script_law.specs.Script.{ArePartsOf, IsPartOf}
 use Rattle.script_law.specs.Settling.{Drains, DrainsIn, IsDrainRound, IsLedToQuiet, IsNextMinute, Settles, Walks, WalksIn, WalksOn, calmed, campaign_tasks, coordinator, restart_tasks}
 use Rattle.script_law.specs.Situation.{Situation, Task, Do, after_turns, delivered}
 use Rattle.script_law.proofs.TurnLemmas.{as_many}
+use Rattle.journal_text.proofs.Courses.{free_as_many, posted_alike}
 use Rattle.journal_text.proofs.Twins.{AreTwins, turned_alike}
 
 -- as many turns, and one situation behind them, from which on the others are twins
@@ -90,6 +92,18 @@ plain_alike : (members : ℕ) (tasks : Situation → List Task) (change : Situat
     → EndAlike members (Plain members tasks change) (Plain members tasks change)
 plain_alike members tasks change leaves =
     then_alike members (Plays members tasks) (Sets change) (Plays members tasks) (Sets change) (plays_alike members tasks) (sets_alike members change leaves)
+
+-- ---- turns in no order
+
+free_alike : (members : ℕ) (window : Window) (at : ℤ) (turns : ℕ) → EndAlike members (IsFreePart members window at turns) (IsFreePart members window at turns)
+free_alike members window at turns situation a b more rest after behind x y twins =
+    let size = free_as_many members window at turns situation a b more rest after behind x y twins in
+    let ends = posted_alike members situation a b more rest size twins in
+    record {
+      size = size;
+      same = x.is ∙ ends.after ∙ sym y.is;
+      twins = subst (λ (here : Situation). AreTwins members here.standing more rest) (sym x.is) ends.twins;
+    }
 
 -- ---- rounds
 
@@ -193,7 +207,7 @@ part_alike members table (command.Round at rounds) = rounds_alike members table.
 part_alike members table (command.Settle at) = settles_alike members table at.0
 part_alike members table (command.Walk to) = walks_alike members table to.0
 part_alike members table (command.Break who pass image) = λ situation a b more rest after behind x y twins. absurd x
-part_alike members table (command.Free at turns) = λ situation a b more rest after behind x y twins. absurd x
+part_alike members table (command.Free at turns) = free_alike members table.window at.0 turns
 part_alike members table (command.Campaign who) = plain_alike members (tasks_for (command.Campaign who)) (set_by (command.Campaign who)) (λ here. refl)
 part_alike members table (command.Stop who) = plain_alike members (tasks_for (command.Stop who)) (set_by (command.Stop who)) (λ here. refl)
 part_alike members table (command.Restart who) = plain_alike members (tasks_for (command.Restart who)) (set_by (command.Restart who)) (λ here. refl)

@@ -1,3 +1,4 @@
+pub mod Courses
 pub mod ToldLemmas
 pub mod PartLemmas
 pub mod SummaryLemmas

@@ -38,7 +38,7 @@ turned situation turn standing = record {
   latest = latest_after turn situation.latest;
 }
 
-after_twin : (members : ℕ) (situation : Situation) (row other : Row) → row.turn ≡ other.turn
+pub after_twin : (members : ℕ) (situation : Situation) (row other : Row) → row.turn ≡ other.turn
     → after_row members situation.standing row.turn row.event row.letters ≡ after_row members situation.standing other.turn other.event other.letters
     → after_turn members situation row ≡ after_turn members situation other
 after_twin members situation row other turn stands =
