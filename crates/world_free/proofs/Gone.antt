@@ -1,0 +1,129 @@
+-- A replica that goes freely: turns of others, and then its own.
+use Rattle.std.proofs.Common.{◌≡◌, ℕ, ◌+◌, ◌<◌, Bool, true, false, List, [], ◌∷◌, ◌++◌, Some, None, Option, IfSome, eq-eqb, inl, inr, refl, sym, ap, ◌∙◌, subst, append_assoc}
+use Rattle.std.specs.List.{AllZip, Contains}
+use Rattle.std.proofs.lemmas.Bool.{cases_Bool}
+use Rattle.std.proofs.lemmas.List.{append-nil}
+use Rattle.std.proofs.lemmas.List.Sums.{fold-append}
+use Rattle.step_law.specs.Step.{Event}
+use Rattle.step_law.specs.declared.out.OutLetter.{OutLetter}
+use Rattle.step_law.proofs.Lists.{in_rest}
+use Rattle.book_law.specs.Book.{Row, Standing, after_row, post}
+use Rattle.book_law.specs.declared.turn.CallRow.{CallRow}
+use Rattle.book_law.specs.declared.turn.Cause.{Cause}
+use Rattle.book_law.specs.declared.turn.Cause.TheVariants.{Campaign, Tick, Hear, Answer}
+use Rattle.book_law.specs.declared.turn.Turn.{Turn}
+use Rattle.book_law.specs.declared.turn.Turn.TheVariants.{Did, Stopped, Restarted, Arrived}
+use Rattle.cluster_sched.specs.declared.fate.Fate.{Fate}
+use Rattle.script_law.specs.Free.{Course, after_all_posted, after_posted, course_of, is_turn_of, next_cause}
+use Rattle.script_law.specs.Situation.{Situation, after_turn}
+use Rattle.free_law.specs.Others.{AreOthers, mail_behind}
+use Rattle.free_law.proofs.MailLemmas.{Passes, others_pass}
+use Rattle.free_law.proofs.PartLemmas.{course_with_others, goes_others, goes_own, here_is, seen_next, taken_next}
+use Rattle.turn_book.specs.Rows.{is_seat}
+use Rattle.world_law.specs.Rows.{IsBehind, seat_of}
+use Rattle.world_law.specs.declared.row.BookRow.{BookRow}
+use Rattle.world_steps.proofs.AfterTurn.{did_runs}
+use Rattle.world_free.specs.Jobs.{HasGone, situation_in}
+use Rattle.world_free.specs.Plan.{Plan, course_in}
+use Rattle.world_free.specs.Seats.{rows_by}
+
+-- ---- rows of others
+
+is_own : (who : ℕ) (turn : Turn) → is_seat who (seat_of turn) ≡ is_turn_of who turn
+is_own who (Did other cause made) = refl
+is_own who (Stopped other cause kept) = refl
+is_own who (Restarted other) = refl
+is_own who (Arrived number) = refl
+
+-- where none of some rows is the seat's, no turn behind them is its replica's
+pub others_behind : (who : ℕ) (rows : List BookRow) (behind : List Row) → AllZip IsBehind rows behind → rows_by who rows ≡ [] → AreOthers who behind
+others_behind who [] [] each none = tt
+others_behind who [] (next ∷ behind) each none = absurd each
+others_behind who (row ∷ rows) [] each none = absurd each
+others_behind who (row ∷ rows) (next ∷ behind) each none = elim (cases_Bool (is_seat who (seat_of row.turn))) [
+  | inl is ↦ absurd (let some : row ∷ rows_by who rows ≡ [] = sym (rw is refl) ∙ none in cc)
+  | inr differs ↦ (
+    ap (is_turn_of who) each.0.turn_is ∙ sym (is_own who row.turn) ∙ differs,
+    others_behind who rows behind each.1 (sym (rw differs refl) ∙ none),
+  )
+]
+
+-- ---- the situation of a part that goes on
+
+pub situation_more : (plan : Plan) (more others : List Row) → situation_in plan (more ++ others) ≡ after_all_posted plan.book.members (situation_in plan more) others
+situation_more plan more others = fold-append (after_posted plan.book.members) plan.situation more others
+
+pub situation_next : (plan : Plan) (more : List Row) (row : Row) → situation_in plan (more ++ row ∷ []) ≡ after_posted plan.book.members (situation_in plan more) row
+situation_next plan more row = situation_more plan more (row ∷ [])
+
+-- what turns of others leave of it
+pub others_leave_it : (plan : Plan) (who : ℕ) (more others : List Row) → AreOthers who others → Passes who (situation_in plan more) (situation_in plan (more ++ others))
+others_leave_it plan who more others none =
+    subst (λ (s : Situation). Passes who (situation_in plan more) s) (sym (situation_more plan more others)) (others_pass plan.book.members who (situation_in plan more) others none)
+
+-- ---- its own turn
+
+own_turn : (who : ℕ) (cause : Cause) (made : Option CallRow) (turn : Turn) → turn ≡ Did who cause made → is_turn_of who turn ≡ true
+own_turn who cause made turn is = ap (is_turn_of who) is ∙ rw (eq-eqb who who refl) refl
+
+pub turn_runs : (members who : ℕ) (situation : Situation) (row : Row) (cause : Cause) (made : Option CallRow) → row.turn ≡ Did who cause made → situation.standing.runs who ≡ true
+    → (after_posted members situation row).standing.runs who ≡ true
+turn_runs members who situation row cause made is runs =
+    ap (λ (turn : Turn). (after_turn members situation (record row { turn = turn })).standing.runs who) is
+    ∙ ap (λ (all : ℕ → Bool). all who) (did_runs members situation.standing who cause made row.event row.letters) ∙ runs
+
+-- it posts its letters
+pub did_posts : (n : ℕ) (s : Standing) (turn : Turn) (who : ℕ) (cause : Cause) (made : Option CallRow) (event : Event) (letters : List OutLetter) → turn ≡ Did who cause made
+    → (after_row n s turn event letters).posted ≡ s.posted ++ post who letters
+unfolding after_row
+did_posts n s turn who cause made event letters is = rw is refl
+
+-- what is left of a mail was in it
+pub in_mail : (cause : Cause) (mail : List ℕ) (number : ℕ) → Contains (mail_behind cause mail) number → Contains mail number
+in_mail Campaign mail number has = has
+in_mail (Tick now) mail number has = has
+in_mail (Hear heard) [] number has = has
+in_mail (Hear heard) (first ∷ mail) number has = in_rest first mail number has
+in_mail Answer mail number has = has
+
+-- turns set no cuts
+pub cuts_stay : (members : ℕ) (situation : Situation) (rows : List Row) → (after_all_posted members situation rows).cuts ≡ situation.cuts
+cuts_stay members situation [] = refl
+cuts_stay members situation (row ∷ rows) = cuts_stay members (after_posted members situation row) rows
+
+-- **A replica that has gone freely has with its next turn**, whatever turns of others came between, where the turn is the one that it was to take
+-- by what it saw last.
+pub gone_next : (plan : Plan) (who taken : ℕ) (more others : List Row) (row : Row) (cause : Cause) (made : Option CallRow) → HasGone plan who taken more → taken < plan.turns → AreOthers who others
+    → row.turn ≡ Did who cause made → cause ≡ next_cause plan.table.window plan.at who taken (situation_in plan more)
+    → IfSome made (λ call. call.fate ≡ (situation_in plan more).fates who) → HasGone plan who (taken + 1) ((more ++ others) ++ row ∷ [])
+gone_next plan who taken more others row cause made gone left none is next fated = record {
+  goes =
+      goes_own plan.book.members who plan.table.window plan.at plan.turns plan.situation (more ++ others) row
+      (goes_others plan.book.members who plan.table.window plan.at plan.turns plan.situation more others gone.goes none)
+      (record {
+        runs = ap (λ (s : Situation). s.standing.runs who) seen ∙ gone.runs;
+        left = rw taken_is left;
+        does = record {
+          made = made;
+          is = is ∙ ap (λ (c : Cause). Did who c made) (next ∙ rw (taken_is, seen) refl);
+          fate = rw seen fated;
+        };
+      });
+  taken_is = taken_next plan.book.members who plan.situation (more ++ others) row own ∙ ap (λ n. n + 1) taken_is;
+  last = seen_next plan.book.members who plan.situation (more ++ others) row own;
+  runs =
+      ap (λ (s : Situation). s.standing.runs who) (situation_next plan (more ++ others) row)
+      ∙ turn_runs plan.book.members who (situation_in plan (more ++ others)) row cause made is ((others_leave_it plan who more others none).runs ∙ gone.runs);
+}
+  where
+    own : is_turn_of who row.turn ≡ true
+    own = own_turn who cause made row.turn is
+
+    course : ((course_in plan who (more ++ others)).seen ≡ (course_in plan who more).seen) × ((course_in plan who (more ++ others)).taken ≡ (course_in plan who more).taken)
+    course = course_with_others plan.book.members who plan.situation more others none
+
+    seen : (course_in plan who (more ++ others)).seen ≡ situation_in plan more
+    seen = course.0 ∙ gone.last
+
+    taken_is : (course_in plan who (more ++ others)).taken ≡ taken
+    taken_is = course.1 ∙ gone.taken_is

@@ -1,0 +1,17 @@
+pub mod Begun
+pub mod Closed
+pub mod Commits
+pub mod EndLemmas
+pub mod Ending
+pub mod Gone
+pub mod Handed
+pub mod JobLemmas
+pub mod Joining
+pub mod Joins
+pub mod Letters
+pub mod Lists
+pub mod MailSteps
+pub mod Played
+pub mod Readying
+pub mod Runs
+pub mod Stepping

@@ -1,0 +1,123 @@
+-- What the thread of a replica knows between its turns, and when it has taken a step that is no turn yet.
+use Rattle.std.specs.Prelude.{◌≡◌, ℕ, ◌<◌, ◌≤◌, ◌^◌, true, false, List, [], ◌++◌, length, Option, None, Some, slice_get, slice_index_or}
+use Rattle.disk_model.specs.Images.{Image}
+use Rattle.disk_model.specs.Told.{Told}
+use Rattle.agree_law.specs.Transition.{identity_of}
+use Rattle.book_law.specs.Book.{Row}
+use Rattle.replica_core.specs.Replica.{ReplicaState}
+use Rattle.replica_node.specs.Node.{IsNodeAtRest, disk_of, replica_of}
+use Rattle.replica_node.specs.Reliable.{IsReliable}
+use Rattle.replica_node.specs.declared.node.Node.{Node}
+use Rattle.script_law.specs.Free.{GoesFreely, after_all_posted, next_cause}
+use Rattle.script_law.specs.Situation.{Situation, is_cut}
+use Rattle.turn_book.specs.Turns.{opening_of}
+use Rattle.world_law.specs.Book.{BookState, StandsBehind, standing_behind}
+use Rattle.world_law.specs.declared.row.BookRow.{BookRow}
+use Rattle.world_parts.specs.Nodes.{IsNodeOf}
+use Rattle.world_parts.specs.Parts.{IsBookAt, IsMailOf}
+use Rattle.world_steps.specs.Steps.{IsBeside}
+use Rattle.world_steps.specs.Turns.{IsNextStep}
+use Rattle.world_steps.specs.declared.steps.Taken.{Taken}
+use Rattle.world_free.specs.Mails.{IsMailIn}
+use Rattle.world_free.specs.Plan.{ArePlayed, Plan, SharedBook, course_in, plan_of}
+use Rattle.world_free.specs.Seats.{IsSeatAt}
+use Rattle.world_free.specs.declared.job.FreeJob.{FreeJob}
+use Rattle.world_free.specs.declared.job.Setting.{Setting}
+
+-- ---- the part
+
+-- The shared book is that of the plan: it has its table and began with its book, behind which rows stand in the plan's situation, and
+-- letters are lost as there.
+pub record IsOfPlan (plan : Plan) (book : SharedBook) : Type 0 where
+  pub key : (opening_of book).key.value ≡ plan.table
+  pub state : (opening_of book).state.value ≡ plan.book
+  pub rows : List Row
+  pub at : IsBookAt plan.table rows plan.book plan.situation
+  pub cuts : (from to : ℕ) → is_cut from to plan.cuts ≡ is_cut from to plan.situation.cuts
+
+-- some rows of the part have what these have, and stand behind a book at rest of few turns
+pub record HasPlayed (plan : Plan) (after : List BookRow) : Type 0 where
+  pub begun : List Row
+  pub more : List Row
+  pub are : ArePlayed plan after begun more
+  pub book : BookState
+  pub behind : StandsBehind plan.table (begun ++ more) book
+  pub rest : book.pending ≡ None
+  pub members : book.members ≡ plan.book.members
+  pub few : length book.turns < 2 ^ 31
+
+-- the situation after these rows of the part
+abbrev pub situation_in : Plan → List Row → Situation
+situation_in plan more = after_all_posted plan.book.members plan.situation more
+
+-- A replica has gone freely by these rows, of which the last is its own, if there are any; it has had so many turns, and runs.
+pub record HasGone (plan : Plan) (who taken : ℕ) (more : List Row) : Type 0 where
+  pub goes : GoesFreely plan.book.members plan.table.window plan.at plan.turns who plan.situation more
+  pub taken_is : (course_in plan who more).taken ≡ taken
+  pub last : (course_in plan who more).seen ≡ situation_in plan more
+  pub runs : (situation_in plan more).standing.runs who ≡ true
+
+-- ---- between two turns
+
+-- a node that runs, on a disk that can't fail
+pub record IsNodeFit {D : Type 0} (seen : D → Image) (may_leave : D → Image → Type 0) (honest : D → Type 0) (told_of : D → Option Told) (plan : Plan) (who : ℕ) (node : Node D) : Type 0 where
+  pub at_rest : IsNodeAtRest seen may_leave honest plan.table node
+  pub trusted : honest (disk_of node)
+  pub reliable : IsReliable (told_of (disk_of node))
+  pub identity : (replica_of node).identity ≡ identity_of plan.book.members who
+  pub member : who < plan.book.members
+
+-- **What the thread of a replica that runs has, after so many turns**: whatever rows of the part have what its seat has seen, the replica has
+-- gone freely by them, its node is where they leave it, and its mail is the one that they leave.
+pub record IsRunner {D : Type 0} (seen : D → Image) (may_leave : D → Image → Type 0) (honest : D → Type 0) (told_of : D → Option Told) (plan : Plan) (book : SharedBook) (who taken : ℕ) (job : FreeJob D) : Type 0 where
+  pub of_plan : IsOfPlan plan book
+  pub node : IsNodeFit seen may_leave honest told_of plan who job.node
+  pub after : List BookRow
+  pub seat : IsSeatAt book who after job.seat
+  pub some : HasPlayed plan after
+  pub gone : (begun more : List Row) → ArePlayed plan after begun more → HasGone plan who taken more
+  pub state : (begun more : List Row) → ArePlayed plan after begun more → (replica_of job.node).state ≡ (situation_in plan more).standing.replicas who
+  pub mail : (begun more : List Row) → ArePlayed plan after begun more → IsMailIn (situation_in plan more) who job.mail
+
+-- ---- with a step that is no turn yet
+
+-- **The replica has taken a step, for the cause that was next**: the node is one step ahead of all that the seat has seen.
+pub record IsStepper {D : Type 0} (seen : D → Image) (may_leave : D → Image → Type 0) (honest : D → Type 0) (told_of : D → Option Told) (plan : Plan) (book : SharedBook) (who taken : ℕ) (step : Taken) (job : FreeJob D) : Type 0 where
+  pub of_plan : IsOfPlan plan book
+  pub node : IsNodeFit seen may_leave honest told_of plan who job.node
+  pub after : List BookRow
+  pub seat : IsSeatAt book who after job.seat
+  pub some : HasPlayed plan after
+  pub left : taken < plan.turns
+  pub old : ReplicaState
+  pub next : IsNextStep plan.table (some.begun ++ some.more) some.book who step old (replica_of job.node)
+  pub gone : (begun more : List Row) → ArePlayed plan after begun more → HasGone plan who taken more
+  pub cause : (begun more : List Row) → ArePlayed plan after begun more
+      → step.cause ≡ next_cause plan.table.window plan.at who taken (situation_in plan more)
+  pub mail : (begun more : List Row) → ArePlayed plan after begun more → IsMailIn (situation_in plan more) who job.mail
+
+-- ---- a replica that is stopped
+
+-- the thread has done nothing: the node and the mail are as the part began
+pub record IsIdle {D : Type 0} (seen : D → Image) (may_leave : D → Image → Type 0) (honest : D → Type 0) (told_of : D → Option Told) (plan : Plan) (book : SharedBook) (who : ℕ) (job : FreeJob D) : Type 0 where
+  pub seat : IsSeatAt book who [] job.seat
+  pub node : (rows : List Row) → IsBookAt plan.table rows plan.book plan.situation → IsNodeOf seen may_leave honest told_of plan.table rows plan.book who job.node
+  pub mail : IsMailOf plan.book.letters plan.situation who [] job.mail.mail
+
+-- ---- jobs
+
+-- **The job of a replica after so many turns, where it runs**; one that is stopped has none.
+pub record IsJobAt {D : Type 0} (seen : D → Image) (may_leave : D → Image → Type 0) (honest : D → Type 0) (told_of : D → Option Told) (plan : Plan) (book : SharedBook) (who taken : ℕ) (job : FreeJob D) : Type 0 where
+  pub runs : job.mail.mail.runs ≡ plan.situation.standing.runs who
+  pub running : plan.situation.standing.runs who ≡ true → IsRunner seen may_leave honest told_of plan book who taken job
+  pub stopped : plan.situation.standing.runs who ≡ false → IsIdle seen may_leave honest told_of plan book who job
+
+-- each replica's job is so
+abbrev pub AreJobsAt : {D : Type 0} → (seen : D → Image) → (may_leave : D → Image → Type 0) → (honest : D → Type 0) → (told_of : D → Option Told) → (plan : Plan) → (book : SharedBook) → (taken : ℕ) → List (FreeJob D) → Type 0
+AreJobsAt {D = D} seen may_leave honest told_of plan book taken jobs =
+    (who : ℕ) (job : FreeJob D) → slice_get jobs who ≡ Some job → IsJobAt seen may_leave honest told_of plan book who taken job
+
+-- each replica's job has had all its turns, of a part that began in this situation
+abbrev pub HaveRun : {D : Type 0} → (seen : D → Image) → (may_leave : D → Image → Type 0) → (honest : D → Type 0) → (told_of : D → Option Told) → SharedBook → Setting → Situation → List (FreeJob D) → Type 0
+HaveRun seen may_leave honest told_of book setting situation jobs =
+    AreJobsAt seen may_leave honest told_of (plan_of (opening_of book).key.value book situation setting) book setting.turns jobs
