@@ -11,7 +11,12 @@ rate of some runs, in turns a second of the processor, and the most bytes that a
 of bench/plain_world, which rustc builds, and which has to write the same report in as many turns. How many turns a run has was
 worked out by small_world (tools/small_world), which the gate compares with the program.
 
-Then comes the first run once more, as the program makes it with the word --make, and a run of some 1,000,000 turns: the seconds
+Then come runs in which replicas run by themselves, in threads of their own, each beside a run of about as many turns in rounds:
+turns a second of the clock, the seconds of the processor by those of the clock, and bytes a turn. A thread that waits for its
+ticket looks again and again, and gives up its processor in between: what free turns take of the processor beyond as many turns in
+rounds is told as waiting, in which what threads cost besides is contained.
+
+Last comes the first run once more, as the program makes it with the word --make, and a run of some 1,000,000 turns: the seconds
 of the processor that it takes without and with its journal, and those in which `cat` copies what was written.
 """
 import os
@@ -19,6 +24,9 @@ import re
 import subprocess
 import sys
 import tempfile
+import time
+from itertools import product
+from typing import NamedTuple
 
 ROOT = os.path.dirname(os.path.dirname(os.path.abspath(__file__)))
 sys.dont_write_bytecode = True  # tools/ is to have no files but its own
@@ -33,6 +41,8 @@ SEED = 7
 TRIES = 3
 # So many jobs make some 1,000,000 turns.
 JOURNAL_JOBS = 680
+# How many parts of free turns a run has, with how many turns of each replica: as many as a script may have.
+FREE_PARTS = ((5, 20_000), (100, 1_000))
 
 
 def run_file(members, window, entries):
@@ -83,6 +93,53 @@ def best_of(program, folder, turns):
     return text_of(os.path.join(folder, "report")), text_of(os.path.join(folder, "notes")), turns / seconds, size / turns
 
 
+def scripted(members, script):
+    """A run of so many replicas over a day, with a job of each minute and a script."""
+    text = run_file(members, "2024-01-01T00:00Z 2024-01-02T00:00Z", ["* * * * * job"])
+    return text.replace("script\nend\n", "\n".join(["script", "campaign 0", *script, "end", ""]))
+
+
+class Clocked(NamedTuple):
+    """What a run took: its turns, the seconds of the clock, those of the processor, and its most bytes."""
+
+    turns: int
+    clock: float
+    processor: float
+    size: int
+
+    def told(self):
+        rate, many = self.turns / self.clock, self.processor / self.clock
+        return f"{self.turns:,} turns, {rate:,.0f} a second of the clock, {many:.1f} processors, {self.size / self.turns:.0f} bytes a turn"
+
+
+def clocked(program, folder, text):
+    """The quickest of some runs of a run file, by the clock."""
+    write_run(folder, text)
+    with open(os.path.join(folder, "run"), "rb") as stdin:
+        told = subprocess.run([program, "--journal"], stdin=stdin, stdout=subprocess.PIPE, check=True).stdout
+    tries = []
+    for _ in range(TRIES):
+        begun = time.monotonic()
+        processor, size = measured([program], *(os.path.join(folder, name) for name in ("run", "report", "notes")))
+        tries.append((time.monotonic() - begun, processor, size))
+    return Clocked(len(TURN.findall(told.decode())), *min(tries))
+
+
+def parted(command, parts, count):
+    """A script of such commands, one a minute, each of so many turns or rounds."""
+    return [f"{command} 2024-01-01T{part // 60:02}:{part % 60:02}Z {count}" for part in range(parts)]
+
+
+def measure_free(program, folder, members, parts, each):
+    """A run of free turns, one of rounds that has about as many, and which share of the free one's processor time isn't that of turns."""
+    free = clocked(program, folder, scripted(members, parted("free", parts, each)))
+    rounds = clocked(program, folder, scripted(members, parted("round", parts, each // 3)))
+    waited = 1 - rounds.processor / rounds.turns * free.turns / free.processor
+    print(f"{members} replicas, {parts} times {each:,} free turns: {free.told()}")
+    print(f"    in rounds {rounds.told()}")
+    print(f"    {free.turns / free.clock / (rounds.turns / rounds.clock):.2f} of their turns a second, {waited:.0%} of the processor waits")
+
+
 def write_run(folder, text):
     with open(os.path.join(folder, "run"), "w", encoding="utf-8") as file:
         file.write(text)
@@ -123,6 +180,8 @@ def main():
                 sys.exit(f"{name}: bench/plain_world has another report, or {told.strip()} turns in place of {turns:,}")
             print(f"{name}: {turns:,} turns, {launches:,} launches, {rate:,.0f} turns a second, {size:.0f} bytes a turn")
             print(f"    in plain Rust {plain_rate:,.0f} turns a second, {plain_size:.0f} bytes a turn")
+        for members, (parts, each) in product((1, 3, 7), FREE_PARTS):
+            measure_free(program, folder, members, parts, each)
         measure_made(program, folder)
         measure_journal(program, folder)
 
