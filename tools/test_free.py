@@ -119,6 +119,15 @@ class Free(unittest.TestCase):
         why = "line 8 of the journal is 'command end', where each replica that runs has 3 turns: replica 1 has had 2"
         self.assertEqual(self.refused(run, order, (f"5 1 tick {STAMP}", None)), why)
 
+    def test_the_order_may_settle_what_is_launched(self):
+        """The example without a report in docs/SCRIPTS.md: the minutes of grace end behind the free turns."""
+        head, job = ["cronrun 1", "replicas 3", f"window {STAMP} 2024-03-31T04:00Z", "grace 5"], ["crontab alice UTC 1", "0 1 * * * x"]
+        for turns, outcomes in ((20, {"launched 0 void 1", "launched 1 void 0"}), (60, {"launched 1 void 0"})):
+            script = ["campaign 0", f"free 2024-03-31T01:00Z {turns}", *["round 2024-03-31T01:06Z 1"] * (turns == 20)]
+            run = RunFile("\n".join([*head, *job, "script", *script, "end", ""]))
+            told = {report_of(World(run, seed).play()).split("job alice:1 ")[1].split("\n")[0] for seed in SEEDS}
+            self.assertEqual(told, outcomes)
+
     def test_rounds_are_judged_too(self):
         run = run_of(2, "campaign 0", f"round {STAMP} 1")
         why = self.refused(run, [], ("1 0 tick 2024-03-31T00:00Z", "1 0 tick 2024-03-31T00:01Z"))

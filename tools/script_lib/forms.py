@@ -38,7 +38,7 @@ COMMANDS = {
     "free": ([AT, TURNS], "has each replica run by itself for T turns"),
 }
 # The commands that the program refuses so far, whatever follows them.
-NOT_TAKEN = ("break", "free")
+NOT_TAKEN = ("break",)
 # Other words for what a command does.
 OTHERS = {
     "again": ["resend", "replay", "redeliver"],

@@ -5,11 +5,21 @@ use cron_io::{StdSink, StdSource};
 use cron_serve::run;
 use std::process::ExitCode;
 use std::{env, io};
+use world_free::OpenGate;
 
 fn main(rt: HostRuntime) -> ExitCode {
     let mut source = StdSource::new(rt.stdin());
     let mut sink = StdSink::new(io::writer(&rt));
     let mut notes = StdSink::new(rt.stderr());
     let args = env::args(&rt);
-    ExitCode::from(run(&rt, rt.alloc(), args, &mut source, &mut sink, &mut notes))
+    let status = run(
+        &rt,
+        rt.alloc(),
+        args,
+        &mut source,
+        &mut sink,
+        &mut notes,
+        &OpenGate,
+    );
+    ExitCode::from(status)
 }

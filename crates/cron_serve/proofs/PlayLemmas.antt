@@ -10,11 +10,10 @@ use Rattle.script_law.specs.Situation.{Situation}
 use Rattle.run_text.specs.Run.{Run}
 use Rattle.run_text.specs.Sound.{IsSoundRun}
 use Rattle.run_text.proofs.SoundLemmas.{sound_run}
-use Rattle.world_rounds.specs.Commands.{IsTaken as IsPlayable}
 use Rattle.world_rounds.specs.World.{book_of}
 use Rattle.world_rounds.specs.declared.world.World.{World}
 use Rattle.whole_law.proofs.WholeLemmas.{script_whole}
-use Rattle.world_play.specs.Play.{AreMemNodesOf, HasRun}
+use Rattle.world_play.specs.Play.{AreMemNodesOf, HasRun, IsPlayable}
 use Rattle.world_play.proofs.Taken.{script_taken}
 use Rattle.cron_serve.specs.Input.{IsTaken}
 use Rattle.cron_serve.specs.Serve.{IsRunOf}

@@ -22,7 +22,9 @@ use replica_node::Node;
 use report_text::{ReportFault, write_book_report};
 use run_text::RunFault;
 use std::alloc::Global;
+use std::sync::Wait;
 use std::thread::Threads;
+use world_free::TurnGate;
 use world_law::Book;
 use world_play::play_run;
 
@@ -47,12 +49,13 @@ pub struct Played {
 /// # Errors
 ///
 /// What the input is refused for, or want of memory; then nothing is written.
-pub fn write_output<K: Sink, R: Threads + Sync>(
+pub fn write_output<K: Sink, R: Threads + Wait + Sync, G: TurnGate + Sync>(
     rt: &R,
     alloc: Global,
     asked: Asked,
     bytes: &[u8],
     sink: &mut K,
+    gate: &G,
 ) -> Result<RunEnd, RunFault>
     requires short { length bytes.now ≤ 1_048_576 }
     requires lanes { 0 < asked.lanes }
@@ -62,8 +65,8 @@ pub fn write_output<K: Sink, R: Threads + Sync>(
     ensures unwritten { IfErr result (λ _. K.seen sink.new ≡ K.seen sink.old) }
 {
     match asked.output {
-        Output::Report => launch(rt, alloc, asked.lanes, bytes, sink),
-        Output::Journal => tell(rt, alloc, asked.lanes, bytes, sink),
+        Output::Report => launch(rt, alloc, asked.lanes, bytes, sink, gate),
+        Output::Journal => tell(rt, alloc, asked.lanes, bytes, sink, gate),
         Output::DueList => list(alloc, bytes, sink),
         Output::Check => check(alloc, bytes, sink),
         Output::Summary(_) => unreachable!(),
@@ -71,12 +74,13 @@ pub fn write_output<K: Sink, R: Threads + Sync>(
 }
 
 // Plays the run, and writes its report.
-fn launch<K: Sink, R: Threads + Sync>(
+fn launch<K: Sink, R: Threads + Wait + Sync, G: TurnGate + Sync>(
     rt: &R,
     alloc: Global,
     lanes: u8,
     bytes: &[u8],
     sink: &mut K,
+    gate: &G,
 ) -> Result<RunEnd, RunFault>
     requires short { length bytes.now ≤ 1_048_576 }
     requires lanes { 0 < lanes }
@@ -84,17 +88,18 @@ fn launch<K: Sink, R: Threads + Sync>(
     ensures refused { IfErr result (λ fault. IfRefused fault (IsRefusedAsRun bytes.now)) }
     ensures unwritten { IfErr result (λ _. K.seen sink.new ≡ K.seen sink.old) }
 {
-    let played = play(rt, alloc, lanes, bytes)?;
+    let played = play(rt, alloc, lanes, bytes, gate)?;
     Ok(report(alloc, sink, played))
 }
 
 // Plays the run, and writes its report, and its journal behind it.
-fn tell<K: Sink, R: Threads + Sync>(
+fn tell<K: Sink, R: Threads + Wait + Sync, G: TurnGate + Sync>(
     rt: &R,
     alloc: Global,
     lanes: u8,
     bytes: &[u8],
     sink: &mut K,
+    gate: &G,
 ) -> Result<RunEnd, RunFault>
     requires short { length bytes.now ≤ 1_048_576 }
     requires lanes { 0 < lanes }
@@ -102,20 +107,21 @@ fn tell<K: Sink, R: Threads + Sync>(
     ensures refused { IfErr result (λ fault. IfRefused fault (IsRefusedAsRun bytes.now)) }
     ensures unwritten { IfErr result (λ _. K.seen sink.new ≡ K.seen sink.old) }
 {
-    let played = play(rt, alloc, lanes, bytes)?;
+    let played = play(rt, alloc, lanes, bytes, gate)?;
     Ok(journal(alloc, sink, played))
 }
 
-/// Plays a run in a world of its replicas.
+/// Plays a run in a world of its replicas, free turns with this gate. It may wait.
 ///
 /// # Errors
 ///
 /// What the bytes are refused for, or want of memory.
-pub fn play<R: Threads + Sync>(
+pub fn play<R: Threads + Wait + Sync, G: TurnGate + Sync>(
     rt: &R,
     alloc: Global,
     lanes: u8,
     bytes: &[u8],
+    gate: &G,
 ) -> Result<Played, RunFault>
     requires short { length bytes.now ≤ 1_048_576 }
     requires lanes { 0 < lanes }
@@ -127,7 +133,7 @@ pub fn play<R: Threads + Sync>(
 {
     let (run, table) = take_table(alloc, bytes)?;
     let commands = run.commands.as_slice();
-    let (world, starts) = play_run(rt, alloc, &table, run.members, commands, lanes)?;
+    let (world, starts) = play_run(rt, alloc, &table, run.members, commands, lanes, gate)?;
     let (book, nodes) = world.into_book();
     Ok(Played {
         table,

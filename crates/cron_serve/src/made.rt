@@ -14,41 +14,45 @@ use journal_text::write_summary;
 use made_run::make_run;
 use run_text::RunFault;
 use std::alloc::Global;
+use std::sync::Wait;
 use std::thread::Threads;
+use world_free::TurnGate;
 
 /// Makes the run of a seed, plays it, and writes its summary.
 ///
 /// # Errors
 ///
 /// Want of memory; then nothing is written.
-pub fn write_made<K: Sink, R: Threads + Sync>(
+pub fn write_made<K: Sink, R: Threads + Wait + Sync, G: TurnGate + Sync>(
     rt: &R,
     alloc: Global,
     lanes: u8,
     seed: u32,
     sink: &mut K,
+    gate: &G,
 ) -> Result<RunEnd, OutOfMemory>
     requires lanes { 0 < lanes }
     ensures end { IfOk result (EndsWriting (Output.Summary seed) (made_text seed) (K.seen sink.old) (K.seen sink.new)) }
     ensures unwritten { IfErr result (λ _. K.seen sink.new ≡ K.seen sink.old) }
 {
-    let played = play_made(rt, alloc, lanes, seed)?;
+    let played = play_made(rt, alloc, lanes, seed, gate)?;
     Ok(summarize(alloc, sink, seed, played))
 }
 
 // Plays the run of a seed. It is never refused.
-fn play_made<R: Threads + Sync>(
+fn play_made<R: Threads + Wait + Sync, G: TurnGate + Sync>(
     rt: &R,
     alloc: Global,
     lanes: u8,
     seed: u32,
+    gate: &G,
 ) -> Result<Played, OutOfMemory>
     requires lanes { 0 < lanes }
     ensures run { IfOk result (λ played. IsRunOf (made_text seed) played.table played.book played.nodes.items) }
     ensures played { IfOk result IsPlayed }
 {
     let text = make_run(alloc, seed)?;
-    match play(rt, alloc, lanes, text.as_bytes()) {
+    match play(rt, alloc, lanes, text.as_bytes(), gate) {
         Ok(played) => Ok(played),
         Err(RunFault::OutOfMemory) => Err(OutOfMemory),
         Err(RunFault::Refused(_)) => unreachable!(),

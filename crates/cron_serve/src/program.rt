@@ -16,17 +16,21 @@ use cron_io::{Sink, Source};
 use std::alloc::Global;
 use std::env::Args;
 use std::io::{self, ErrorKind};
+use std::sync::Wait;
 use std::thread::Threads;
+use world_free::TurnGate;
 
 /// Runs the program, and tells its exit status. The first of the arguments is its name, and the others are its words. An argument
-/// that is not UTF-8 is a faulty word, and any other fault of the arguments is want of memory.
-pub fn run<S: Source, K: Sink, E: Sink, R: Threads + Sync>(
+/// that is not UTF-8 is a faulty word, and any other fault of the arguments is want of memory. The threads of free turns pass the gate:
+/// it may wait.
+pub fn run<S: Source, K: Sink, E: Sink, R: Threads + Wait + Sync, G: TurnGate + Sync>(
     rt: &R,
     alloc: Global,
     args: io::Result<Args>,
     source: &mut S,
     sink: &mut K,
     notes: &mut E,
+    gate: &G,
 ) -> u8
     // The status, the text that the words behind the name ask for, and the note are those of one end.
     ensures ends { IfOk args (λ args. (asked : Asked) → Asks (behind_name (texts_of (into_iter_items args))) asked
@@ -45,19 +49,20 @@ pub fn run<S: Source, K: Sink, E: Sink, R: Threads + Sync>(
         (E.seen notes.old) (E.seen notes.new) result) }
 {
     match args {
-        Ok(args) => run_behind_name(rt, alloc, args, source, sink, notes),
+        Ok(args) => run_behind_name(rt, alloc, args, source, sink, notes, gate),
         Err(error) => stop_at_once(alloc, stop_of(&error), notes),
     }
 }
 
 // Runs the program on the words behind the first argument.
-fn run_behind_name<S: Source, K: Sink, E: Sink, R: Threads + Sync>(
+fn run_behind_name<S: Source, K: Sink, E: Sink, R: Threads + Wait + Sync, G: TurnGate + Sync>(
     rt: &R,
     alloc: Global,
     mut args: Args,
     source: &mut S,
     sink: &mut K,
     notes: &mut E,
+    gate: &G,
 ) -> u8
     ensures ends { (asked : Asked) → Asks (behind_name (texts_of (into_iter_items args))) asked
         → EndsProgram asked.output (S.seen source.old) (S.seen source.new) (K.seen sink.old) (K.seen sink.new)
@@ -67,7 +72,7 @@ fn run_behind_name<S: Source, K: Sink, E: Sink, R: Threads + Sync>(
         (E.seen notes.old) (E.seen notes.new) result }
 {
     let _name = args.next();
-    cron_cluster(rt, alloc, args, source, sink, notes).status
+    cron_cluster(rt, alloc, args, source, sink, notes, gate).status
 }
 
 // Why arguments that can't be had stop the program.

@@ -20,18 +20,21 @@ use crate::words::{Asked, Output, read_words};
 use cron_io::{Sink, Source, read_all};
 use std::alloc::Global;
 use std::env::Args;
+use std::sync::Wait;
 use std::thread::Threads;
+use world_free::TurnGate;
 
 /// The most bytes of an input.
 const MAX_INPUT: u32 = 1_048_576;
 
 // Reads the input, and writes what is asked for of it.
-fn answer<S: Source, K: Sink, R: Threads + Sync>(
+fn answer<S: Source, K: Sink, R: Threads + Wait + Sync, G: TurnGate + Sync>(
     rt: &R,
     alloc: Global,
     asked: Asked,
     source: &mut S,
     sink: &mut K,
+    gate: &G,
 ) -> Result<RunEnd, Stop>
     requires lanes { 0 < asked.lanes }
     requires input { IsOfInput asked.output }
@@ -47,17 +50,18 @@ fn answer<S: Source, K: Sink, R: Threads + Sync>(
         StaysReliable (S.seen source.old) (S.seen source.new) (S.reliable source.new) }
 {
     let bytes = read_all(alloc, source, MAX_INPUT)?;
-    let end = write_output(rt, alloc, asked, &bytes, sink)?;
+    let end = write_output(rt, alloc, asked, &bytes, sink, gate)?;
     Ok(end)
 }
 
 // Reads the input, and writes what is asked for of it, or stops.
-fn serve_input<S: Source, K: Sink, R: Threads + Sync>(
+fn serve_input<S: Source, K: Sink, R: Threads + Wait + Sync, G: TurnGate + Sync>(
     rt: &R,
     alloc: Global,
     asked: Asked,
     source: &mut S,
     sink: &mut K,
+    gate: &G,
 ) -> RunEnd
     requires lanes { 0 < asked.lanes }
     requires input { IsOfInput asked.output }
@@ -68,26 +72,27 @@ fn serve_input<S: Source, K: Sink, R: Threads + Sync>(
     ensures lasting { S.reliable source.old →
         StaysReliable (S.seen source.old) (S.seen source.new) (S.reliable source.new) }
 {
-    match answer(rt, alloc, asked, source, sink) {
+    match answer(rt, alloc, asked, source, sink, gate) {
         Ok(end) => end,
         Err(stop) => RunEnd::stopped(alloc, stop),
     }
 }
 
 // Makes the run of a seed, and writes its summary, or stops. No source is read, whichever there is.
-fn serve_made<K: Sink, R: Threads + Sync>(
+fn serve_made<K: Sink, R: Threads + Wait + Sync, G: TurnGate + Sync>(
     rt: &R,
     alloc: Global,
     lanes: u8,
     seed: u32,
     sink: &mut K,
+    gate: &G,
 ) -> RunEnd
     requires lanes { 0 < lanes }
     ensures ends { (source : SourceView) → Ends (Wanted.Summary seed) source source (K.seen sink.old) (K.seen sink.new) result }
     ensures complete { (source : SourceView) → Completes (Wanted.Summary seed) source source (K.seen sink.old) (K.seen sink.new) result }
     ensures statuses { (result.status ≡ 0) ⊎ (result.status ≡ 4) ⊎ (result.status ≡ 5) }
 {
-    match write_made(rt, alloc, lanes, seed, sink) {
+    match write_made(rt, alloc, lanes, seed, sink, gate) {
         Ok(end) => end,
         Err(_) => RunEnd::stopped(alloc, Stop::OutOfMemory),
     }
@@ -105,12 +110,13 @@ fn seed_of(output: Output) -> Option<u32>
 }
 
 // Writes what is asked for, of the input or of a run that is made.
-fn serve<S: Source, K: Sink, R: Threads + Sync>(
+fn serve<S: Source, K: Sink, R: Threads + Wait + Sync, G: TurnGate + Sync>(
     rt: &R,
     alloc: Global,
     asked: Asked,
     source: &mut S,
     sink: &mut K,
+    gate: &G,
 ) -> RunEnd
     requires lanes { 0 < asked.lanes }
     ensures ends { Ends asked.output (S.seen source.old) (S.seen source.new) (K.seen sink.old) (K.seen sink.new) result }
@@ -122,24 +128,25 @@ fn serve<S: Source, K: Sink, R: Threads + Sync>(
         StaysReliable (S.seen source.old) (S.seen source.new) (S.reliable source.new) }
 {
     match seed_of(asked.output) {
-        Some(seed) => serve_made(rt, alloc, asked.lanes, seed, sink),
-        None => serve_input(rt, alloc, asked, source, sink),
+        Some(seed) => serve_made(rt, alloc, asked.lanes, seed, sink, gate),
+        None => serve_input(rt, alloc, asked, source, sink, gate),
     }
 }
 
 /// Reads a run file from the source, and writes to the sink what the words ask for. Without a word that is the report
 /// of the run's launches: a world of the run's replicas, each on an empty disk in memory, plays the commands of its
-/// script, and walks to the window's last minute; `--lanes` says in how many lanes. `--journal` asks for the journal of
-/// the run's turns behind the report. `--list` asks for the due instants of the run's jobs, and `--check` for the lines
+/// script, and walks to the window's last minute; `--lanes` says in how many lanes, and the threads of each command `free`
+/// pass the gate. It may wait. `--journal` asks for the journal of the run's turns behind the report. `--list` asks for the due instants of the run's jobs, and `--check` for the lines
 /// of its tables that break a rule: no launch is made then. `--make` asks for the summary of the run that a seed makes:
 /// nothing is read then. A note of what went wrong goes to `notes`.
-pub fn cron_cluster<S: Source, K: Sink, E: Sink, R: Threads + Sync>(
+pub fn cron_cluster<S: Source, K: Sink, E: Sink, R: Threads + Wait + Sync, G: TurnGate + Sync>(
     rt: &R,
     alloc: Global,
     words: Args,
     source: &mut S,
     sink: &mut K,
     notes: &mut E,
+    gate: &G,
 ) -> RunEnd
     // What each status says of the input, the text that the words ask for, the book and the nodes.
     ensures ends { (asked : Asked) → Asks (texts_of (into_iter_items words)) asked
@@ -165,7 +172,7 @@ pub fn cron_cluster<S: Source, K: Sink, E: Sink, R: Threads + Sync>(
     ensures note { IsNoted (E.seen notes.old) (E.seen notes.new) (note_text result.status result.refusal) }
 {
     let end = match read_words(words) {
-        Some(asked) => serve(rt, alloc, asked, source, sink),
+        Some(asked) => serve(rt, alloc, asked, source, sink, gate),
         None => RunEnd::stopped(alloc, Stop::Usage),
     };
     write_note(notes, &end);

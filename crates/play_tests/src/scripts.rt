@@ -1,6 +1,7 @@
 //! Runs that worlds play, and how often each job is launched and given up.
 use crate::worlds::report_of;
 use std::alloc::Global;
+use std::sync::Wait;
 use std::test::*;
 use std::thread::Threads;
 
@@ -123,7 +124,7 @@ const RUNS: &[Run] = &[
 ];
 
 // The report of a run.
-fn report_by<R: Threads + Sync>(rt: &R, alloc: Global, run: &Run) -> Result<String, Fail> {
+fn report_by<R: Threads + Wait + Sync>(rt: &R, alloc: Global, run: &Run) -> Result<String, Fail> {
     let text = format!(in alloc;
         "cronrun 1\nreplicas {}\nwindow {}\ngrace {}\n{}script\n{}end\n",
         run.members, run.window, run.grace, run.table, run.commands

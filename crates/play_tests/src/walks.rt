@@ -1,6 +1,7 @@
 //! Runs without a script, in which each launch is made when it is due.
 use crate::worlds::report_of;
 use std::alloc::Global;
+use std::sync::Wait;
 use std::test::*;
 use std::thread::Threads;
 
@@ -70,7 +71,7 @@ const WALKS: &[Walk] = &[
 ];
 
 // The report of a run.
-fn report_by<R: Threads + Sync>(rt: &R, alloc: Global, walk: &Walk) -> Result<String, Fail> {
+fn report_by<R: Threads + Wait + Sync>(rt: &R, alloc: Global, walk: &Walk) -> Result<String, Fail> {
     let text = format!(in alloc;
         "cronrun 1\nreplicas 1\nwindow {}\ngrace 0\n{}script\nend\n",
         walk.window, walk.tables

@@ -11,8 +11,10 @@ use journal_text::{write_journal, write_summary};
 use report_text::{ReportFault, write_book_report};
 use run_text::read_run;
 use std::alloc::Global;
+use std::sync::Wait;
 use std::test::Fail;
 use std::thread::Threads;
+use world_free::OpenGate;
 use world_law::Book;
 use world_play::play_run;
 
@@ -38,7 +40,12 @@ fn short(text: &str) -> Result<&str, Fail>
 }
 
 // Plays the run of a file in a world of its replicas, rounds in so many lanes.
-fn play<R: Threads + Sync>(rt: &R, alloc: Global, text: &str, lanes: u8) -> Result<Played, Fail>
+fn play<R: Threads + Wait + Sync>(
+    rt: &R,
+    alloc: Global,
+    text: &str,
+    lanes: u8,
+) -> Result<Played, Fail>
     requires lanes { 0 < lanes }
     ensures few { IfOk result (λ played. played.members ≤ 7) }
     ensures members { IfOk result (λ played. played.book.members ≡ played.members) }
@@ -54,7 +61,8 @@ fn play<R: Threads + Sync>(rt: &R, alloc: Global, text: &str, lanes: u8) -> Resu
         return Err(Fail::from("no table"));
     };
     let commands = run.commands.as_slice();
-    let Ok((world, starts)) = play_run(rt, alloc, &table, run.members, commands, lanes) else {
+    let Ok((world, starts)) = play_run(rt, alloc, &table, run.members, commands, lanes, &OpenGate)
+    else {
         return Err(Fail::from("no world"));
     };
     let (book, _nodes) = world.into_book();
@@ -67,7 +75,7 @@ fn play<R: Threads + Sync>(rt: &R, alloc: Global, text: &str, lanes: u8) -> Resu
 }
 
 /// The report of the world that has played the run of a file, rounds in so many lanes.
-pub fn report_of<R: Threads + Sync>(
+pub fn report_of<R: Threads + Wait + Sync>(
     rt: &R,
     alloc: Global,
     text: &str,
@@ -91,13 +99,17 @@ pub fn report_of<R: Threads + Sync>(
 }
 
 /// The numbers of the turns at which the parts of a run's script begin, in the world that has played it.
-pub fn starts_of<R: Threads + Sync>(rt: &R, alloc: Global, text: &str) -> Result<Vec<u64>, Fail> {
+pub fn starts_of<R: Threads + Wait + Sync>(
+    rt: &R,
+    alloc: Global,
+    text: &str,
+) -> Result<Vec<u64>, Fail> {
     let played = play(rt, alloc, text, 1)?;
     Ok(played.starts)
 }
 
 /// Plays the run of a file, and writes the journal of the world's book.
-pub fn write_journal_of<R: Threads + Sync>(
+pub fn write_journal_of<R: Threads + Wait + Sync>(
     rt: &R,
     alloc: Global,
     text: &str,
@@ -108,7 +120,7 @@ pub fn write_journal_of<R: Threads + Sync>(
 }
 
 /// Plays the run of a file, and writes the summary of the world's book, as if the run were made from a seed.
-pub fn write_summary_of<R: Threads + Sync>(
+pub fn write_summary_of<R: Threads + Wait + Sync>(
     rt: &R,
     alloc: Global,
     text: &str,

@@ -127,7 +127,7 @@ plays_command : (command : Command) → (HasUnplayedWord (command_line command) 
 plays_command (command.Round at rounds) none = tt
 plays_command (command.Campaign member) none = tt
 plays_command (command.Stop member) none = tt
-plays_command (command.Break member pass image) none = none (inl refl)
+plays_command (command.Break member pass image) none = none refl
 plays_command (command.Restart member) none = tt
 plays_command (command.Cut from to) none = tt
 plays_command command.Heal none = tt
@@ -140,7 +140,7 @@ plays_command (command.Fate member word) none = tt
 plays_command (command.Arrive late) none = tt
 plays_command (command.Settle at) none = tt
 plays_command (command.Walk to) none = tt
-plays_command (command.Free at turns) none = none (inr refl)
+plays_command (command.Free at turns) none = tt
 
 -- one command more
 with_command_more : (number : ℕ) (run : Run) (line : List ℕ) (next : Above) → IsSoundRun number run → (adds : AddsCommand run line next)

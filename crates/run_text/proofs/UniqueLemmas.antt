@@ -44,8 +44,7 @@ section_no_zone line (System, is) other = at_differs 0 (sym is ∙ other) (λ e.
 section_no_zone line (Anacron, is) other = at_differs 0 (sym is ∙ other) (λ e. omega arith)
 
 end_no_word : HasUnplayedWord (codes "end") → ⊥
-end_no_word (inl is) = at_differs 0 is (λ e. omega arith)
-end_no_word (inr is) = at_differs 0 is (λ e. omega arith)
+end_no_word is = at_differs 0 is (λ e. omega arith)
 
 end_says_none : (command : Command) → codes "end" ≡ command_line command → ⊥
 end_says_none (command.Round at rounds) is = at_differs 0 is (λ e. omega arith)

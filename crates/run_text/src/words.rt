@@ -84,9 +84,9 @@ pub fn has_zone_word(line: &str) -> bool
     first_word(line) == "zone"
 }
 
-/// Whether the line's first word is that of a command without a form, whatever follows.
+/// Whether the line's first word is that of the command without a form, whatever follows.
 pub fn has_unplayed_word(line: &str) -> bool
     ensures { IsTrue result ↔ HasUnplayedWord line.now }
 {
-    matches!(first_word(line), "break" | "free")
+    first_word(line) == "break"
 }

@@ -5,8 +5,10 @@ use crate::runs::{THREE_LAUNCHES, THREE_LAUNCHES_REPORT};
 use cron_io::{MemSink, MemSource};
 use cron_serve::cron_cluster;
 use std::alloc::Global;
+use std::sync::Wait;
 use std::test::Fail;
 use std::thread::Threads;
+use world_free::OpenGate;
 
 // What is left by a run.
 #[derive(Drop)]
@@ -17,7 +19,7 @@ struct Left {
 }
 
 // What is left by a run of single bytes, whose calls of these numbers fail.
-fn play<R: Threads + Sync>(
+fn play<R: Threads + Wait + Sync>(
     rt: &R,
     alloc: Global,
     input: &str,
@@ -28,7 +30,15 @@ fn play<R: Threads + Sync>(
     let mut report = ByteSink(MemSink::new(alloc, 1 << 10, faults.writes.to_vec(alloc)?)?);
     let mut notes = ByteSink(MemSink::new(alloc, 100, faults.notes.to_vec(alloc)?)?);
     let words = Vec::new(alloc).into_iter();
-    let end = cron_cluster(rt, alloc, words, &mut source, &mut report, &mut notes);
+    let end = cron_cluster(
+        rt,
+        alloc,
+        words,
+        &mut source,
+        &mut report,
+        &mut notes,
+        &OpenGate,
+    );
     Ok(Left {
         status: end.status,
         report,

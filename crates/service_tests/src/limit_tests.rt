@@ -3,6 +3,7 @@ use crate::play::{Left, NO_FAULTS, play};
 use crate::runs::TOO_LARGE;
 use std::alloc::Global;
 use std::fmt::Write;
+use std::sync::Wait;
 use std::test::Fail;
 use std::thread::Threads;
 
@@ -21,7 +22,7 @@ fn run_of(alloc: Global, until: &str, lines: u32, line: &str) -> Result<String, 
 }
 
 // What is left of such a run.
-fn left_of<R: Threads + Sync>(
+fn left_of<R: Threads + Wait + Sync>(
     rt: &R,
     alloc: Global,
     until: &str,

@@ -9,11 +9,13 @@ ghost use Rattle.cron_serve.specs.declared.words.Output.{Output};
 use cron_io::{MemSink, MemSource, OutOfMemory};
 use cron_serve::cron_cluster;
 use std::alloc::Global;
+use std::sync::Wait;
 use std::test::Fail;
 use std::thread::Threads;
+use world_free::OpenGate;
 
 // The status of a run in memory, with so much room for its report.
-fn status_in_memory<R: Threads + Sync>(
+fn status_in_memory<R: Threads + Wait + Sync>(
     rt: &R,
     alloc: Global,
     bytes: Vec<u8>,
@@ -29,7 +31,7 @@ fn status_in_memory<R: Threads + Sync>(
     let mut source = MemSource::new(bytes, Vec::new(alloc));
     let mut sink = MemSink::new(alloc, room, Vec::new(alloc))?;
     let words = Vec::new(alloc).into_iter();
-    let end = cron_cluster(rt, alloc, words, &mut source, &mut sink, notes);
+    let end = cron_cluster(rt, alloc, words, &mut source, &mut sink, notes, &OpenGate);
     Ok(end.status)
 }
 
@@ -37,7 +39,11 @@ const RUN: &str =
     "cronrun 1\nreplicas 1\nwindow 2026-01-01T00:00Z 2026-01-01T00:02Z\ngrace 0\nscript\nend\n";
 
 // The status of the run with so much room for its report.
-fn status_with_room<R: Threads + Sync>(rt: &R, alloc: Global, room: u32) -> Result<u8, Fail> {
+fn status_with_room<R: Threads + Wait + Sync>(
+    rt: &R,
+    alloc: Global,
+    room: u32,
+) -> Result<u8, Fail> {
     let mut notes = MemSink::new(alloc, 100, Vec::new(alloc))?;
     let bytes = Vec::from_slice(alloc, RUN.as_bytes())?;
     Ok(status_in_memory(rt, alloc, bytes, room, &mut notes)?)

@@ -3,8 +3,10 @@ use crate::program::args_of;
 use cron_io::{MemSink, MemSource};
 use cron_serve::{RunEnd, cron_cluster};
 use std::alloc::{AllocError, Global};
+use std::sync::Wait;
 use std::test::Fail;
 use std::thread::Threads;
+use world_free::OpenGate;
 
 /// The numbers of the reads, of the writes of the report, and of those of the note that fail.
 #[derive(Clone, Copy)]
@@ -29,7 +31,7 @@ pub struct Left {
 }
 
 /// What a run of these bytes leaves.
-pub fn play<R: Threads + Sync>(
+pub fn play<R: Threads + Wait + Sync>(
     rt: &R,
     alloc: Global,
     input: &[u8],
@@ -39,7 +41,7 @@ pub fn play<R: Threads + Sync>(
 }
 
 /// What the program leaves of these bytes, with these words behind its name.
-pub fn play_words<R: Threads + Sync>(
+pub fn play_words<R: Threads + Wait + Sync>(
     rt: &R,
     alloc: Global,
     words: &[&str],
@@ -51,7 +53,15 @@ pub fn play_words<R: Threads + Sync>(
     let mut source = MemSource::new(input.to_vec(alloc)?, faults.reads.to_vec(alloc)?);
     let mut report = MemSink::new(alloc, 1 << 20, faults.writes.to_vec(alloc)?)?;
     let mut notes = MemSink::new(alloc, 100, faults.notes.to_vec(alloc)?)?;
-    let end = cron_cluster(rt, alloc, args, &mut source, &mut report, &mut notes);
+    let end = cron_cluster(
+        rt,
+        alloc,
+        args,
+        &mut source,
+        &mut report,
+        &mut notes,
+        &OpenGate,
+    );
     Ok(Left { end, report, notes })
 }
 

@@ -4,8 +4,10 @@ use cron_serve::run;
 use std::alloc::Global;
 use std::env::Args;
 use std::io;
+use std::sync::Wait;
 use std::test::Fail;
 use std::thread::Threads;
+use world_free::{OpenGate, TurnGate};
 
 /// What the program leaves.
 #[derive(Drop)]
@@ -16,18 +18,30 @@ pub struct Left {
 }
 
 /// What the program leaves of an input, with these arguments, where these writes of the report fail.
-pub fn play<R: Threads + Sync>(
+pub fn play<R: Threads + Wait + Sync>(
     rt: &R,
     alloc: Global,
     args: io::Result<Args>,
     input: &str,
     writes: &[u64],
 ) -> Result<Left, Fail> {
+    play_past(rt, alloc, args, input, writes, &OpenGate)
+}
+
+/// What it leaves where the threads of free turns pass this gate.
+pub fn play_past<R: Threads + Wait + Sync, G: TurnGate + Sync>(
+    rt: &R,
+    alloc: Global,
+    args: io::Result<Args>,
+    input: &str,
+    writes: &[u64],
+    gate: &G,
+) -> Result<Left, Fail> {
     let bytes = input.as_bytes().to_vec(alloc)?;
     let mut source = MemSource::new(bytes, Vec::new(alloc));
     let mut report = MemSink::new(alloc, 1 << 10, writes.to_vec(alloc)?)?;
     let mut notes = MemSink::new(alloc, 100, Vec::new(alloc))?;
-    let status = run(rt, alloc, args, &mut source, &mut report, &mut notes);
+    let status = run(rt, alloc, args, &mut source, &mut report, &mut notes, gate);
     Ok(Left {
         status,
         report,

@@ -1,6 +1,7 @@
 //! Runs with a script, through the whole program, and what their reports say of each job.
 use crate::program::{Left, args_of, play};
 use std::alloc::Global;
+use std::sync::Wait;
 use std::test::Fail;
 use std::thread::Threads;
 
@@ -85,7 +86,7 @@ const SCRIPTED: &[Scripted] = &[
 ];
 
 // What the program leaves of such a run, with these words, where these writes of the report fail.
-fn left_by<R: Threads + Sync>(
+fn left_by<R: Threads + Wait + Sync>(
     rt: &R,
     alloc: Global,
     run: &Scripted,

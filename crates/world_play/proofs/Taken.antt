@@ -1,7 +1,8 @@
 -- The commands of a run that is read are ones that a world takes.
-use Rattle.std.proofs.Common.{ℕ, ◌≤◌, List, [], ◌∷◌, All, arith}
+use Rattle.std.proofs.Common.{◌≡◌, ℕ, ◌≤◌, List, [], ◌∷◌, All, arith, refl}
 use Rattle.std.specs.List.{AllByRecursion}
 use Rattle.std.proofs.lemmas.List.Elements.{All-from_recursion}
+use Rattle.zone_minutes.specs.declared.minute.Minute.{Minute}
 use Rattle.zone_minutes.specs.declared.minute.Window.{Window}
 use Rattle.script_text.specs.Command.{IsInRange}
 use Rattle.script_text.specs.declared.command.Command.{Command}
@@ -10,9 +11,10 @@ use Rattle.run_text.specs.Rules.{PlaysCommand}
 use Rattle.run_text.specs.Run.{Run}
 use Rattle.run_text.specs.Sound.{IsSoundRun}
 use Rattle.world_rounds.specs.Commands.{IsTaken}
+use Rattle.world_play.specs.Play.{IsPlayable}
 
 -- what a command may name is what a world takes
-taken : (window : Window) (members : ℕ) (command : Command) → 1 ≤ members → IsInRange members window command → PlaysCommand command → IsTaken window members command
+taken : (window : Window) (members : ℕ) (command : Command) → 1 ≤ members → IsInRange members window command → PlaysCommand command → IsPlayable window members command
 taken window members (Round at rounds) some range plays = range.0.inside
 taken window members (Campaign who) some range plays = range
 taken window members (Stop who) some range plays = range
@@ -29,14 +31,35 @@ taken window members (Fate who word) some range plays = range
 taken window members (Arrive late) some range plays = tt
 taken window members (Settle at) some range plays = (omega (arith, some), range.inside)
 taken window members (Walk to) some range plays = (omega (arith, some), range.inside)
-taken window members (Free at turns) some range plays = absurd plays
+taken window members (Free at turns) some range plays = (omega (arith, some), range.0.inside)
 
 all_taken : (window : Window) (members : ℕ) (script : List Command) → 1 ≤ members → AllByRecursion (IsInRange members window) script → AllByRecursion PlaysCommand script
-    → AllByRecursion (IsTaken window members) script
+    → AllByRecursion (IsPlayable window members) script
 all_taken window members [] some range plays = tt
 all_taken window members (command ∷ script) some range plays = (taken window members command some range.0 plays.0, all_taken window members script some range.1 plays.1)
 
-pub script_taken : (next : ℕ) (run : Run) → IsSoundRun next run → All (IsTaken run.window run.members) run.commands
+pub script_taken : (next : ℕ) (run : Run) → IsSoundRun next run → All (IsPlayable run.window run.members) run.commands
 script_taken next run sound =
-    All-from_recursion (IsTaken run.window run.members) run.commands
+    All-from_recursion (IsPlayable run.window run.members) run.commands
     (all_taken run.window run.members run.commands sound.replicas.some sound.script.in_range sound.script.played)
+
+-- a command that is played, and isn't that of free turns, is one that a world takes
+pub other_taken : (window : Window) (members : ℕ) (command : Command) → ((at : Minute) (turns : ℕ) → command ≡ Free at turns → ⊥)
+    → IsPlayable window members command → IsTaken window members command
+other_taken window members (Round at rounds) other playable = playable
+other_taken window members (Campaign who) other playable = playable
+other_taken window members (Stop who) other playable = playable
+other_taken window members (Break who pass image) other playable = playable
+other_taken window members (Restart who) other playable = playable
+other_taken window members (Cut from to) other playable = playable
+other_taken window members Heal other playable = playable
+other_taken window members (Drop from to) other playable = playable
+other_taken window members (Repeat from to) other playable = playable
+other_taken window members (Reverse who) other playable = playable
+other_taken window members (Again letter) other playable = playable
+other_taken window members (Skew who minutes) other playable = playable
+other_taken window members (Fate who word) other playable = playable
+other_taken window members (Arrive late) other playable = playable
+other_taken window members (Settle at) other playable = playable
+other_taken window members (Walk to) other playable = playable
+other_taken window members (Free at turns) other playable = absurd (other at turns refl)

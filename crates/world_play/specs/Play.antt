@@ -1,9 +1,12 @@
 -- A world on disks in memory, and a script that it has played.
 use Rattle.std.specs.Prelude.{◌≡◌, ℕ, ◌+◌, ◌<◌, List, ◌++◌, length, take, get_or, ⊤}
+use Rattle.zone_minutes.specs.Window.{IsInWindow}
+use Rattle.zone_minutes.specs.declared.minute.Window.{Window}
 use Rattle.disk_model.specs.MemDisk.{left_by, seen_of, told_of}
 use Rattle.disk_model.specs.declared.mem_disk.MemDisk.{MemDisk}
 use Rattle.due_set.specs.Table.{Table}
 use Rattle.script_text.specs.declared.command.Command.{Command}
+use Rattle.script_text.specs.declared.command.Command.TheVariants.{Free}
 use Rattle.book_law.specs.Book.{Row}
 use Rattle.journal_text.specs.Starts.{BeginAt}
 use Rattle.replica_node.specs.declared.node.Node.{Node}
@@ -12,6 +15,7 @@ use Rattle.script_law.specs.Script.{ArePartsOf, Obeys}
 use Rattle.script_law.specs.Situation.{Situation, first_situation}
 use Rattle.world_law.specs.Book.{BookState, StandsBehind}
 use Rattle.world_parts.specs.Nodes.{AreNodesOf}
+use Rattle.world_rounds.specs.Commands.{IsTaken}
 use Rattle.world_rounds.specs.Start.{IsFreshDisk}
 use Rattle.world_rounds.specs.World.{IsWorldAt, book_of}
 use Rattle.world_rounds.specs.declared.world.World.{World}
@@ -28,6 +32,11 @@ IsMemWorldAt table rows world situation = IsWorldAt seen_of left_by (λ disk. �
 -- `seen_of` shows them, stands for what replica r keeps.
 abbrev pub AreMemNodesOf : Table → List Row → BookState → List (Node MemDisk) → Type 0
 AreMemNodesOf table rows book nodes = AreNodesOf seen_of left_by (λ disk. ⊤) told_of table rows book nodes
+
+-- The command is one that a world takes, or one for replicas that run by themselves: there are some, and the instant is in the window.
+abbrev pub IsPlayable : Window → ℕ → Command → Type 0
+IsPlayable window members (Free at turns) = (0 < members) × IsInWindow window at.0
+IsPlayable window members command = IsTaken window members command
 
 -- The part of the command of a place begins at this number of turns, where so many were taken before the script: the
 -- rows in front of it are the parts of the commands before it.

@@ -14,14 +14,13 @@ ghost use Rattle.replica_node.specs.Node.{disk_of};
 ghost use Rattle.replica_node.specs.declared.node.Node.{Node};
 ghost use Rattle.replica_store.specs.Files.{FilesStand};
 ghost use Rattle.world_law.specs.Book.{IsLegalBook, StandsBehind, standing_behind};
-ghost use Rattle.world_play.specs.Play.{AreMemNodesOf, HasRun};
-ghost use Rattle.world_rounds.specs.Commands.{IsTaken};
+ghost use Rattle.world_play.specs.Play.{AreMemNodesOf, HasRun, IsPlayable};
 ghost use Rattle.world_rounds.specs.World.{book_of};
 ghost use Rattle.world_rounds.specs.declared.world.World.{World};
 
 /// A world takes each command of a run that is read for it.
 pub fn a_world_takes_each_command_that_is_read()
-    ensures { (next : ℕ) (run : Run) → IsSoundRun next run → All (IsTaken run.window run.members) run.commands }
+    ensures { (next : ℕ) (run : Run) → IsSoundRun next run → All (IsPlayable run.window run.members) run.commands }
 {}
 
 /// The book of a world that has played a run is legal, and no call is pending in it; and whichever rows stand behind it obey the

@@ -5,7 +5,7 @@ use Rattle.run_text.proofs.SoundLemmas.{sound_run}
 use Rattle.journal_text.specs.Starts.{AreStarts}
 use Rattle.journal_text.proofs.StartLemmas.{book_starts}
 use Rattle.world_law.specs.Book.{BookState, IsLegalBook}
-use Rattle.world_rounds.specs.Commands.{IsTaken}
+use Rattle.world_play.specs.Play.{IsPlayable}
 use Rattle.world_play.proofs.Taken.{script_taken}
 use Rattle.world_play.proofs.Runs.{at_rest, legal_book}
 use Rattle.play_tests.proofs.worlds.play.Goals as goal
@@ -30,8 +30,8 @@ pub play_run-requires-clause-taken : goal.play_run-requires-clause-taken
 play_run-requires-clause-taken g c = λ lives borrowed.
     let sound = sound_run c.in_ok-short.field-0.now (run_of c.in-Ok.run') c.in-Ok.ensures.read in
     let window = ap (λ table. table.window) c.in-Ok-build_table.ensures.table.is in
-    subst (λ w. All (IsTaken w c.in-Ok.run'.members) c.as_slice-commands.result.now) (sym window)
-    (subst (λ (l : List Command). All (IsTaken c.in-Ok.run'.window c.in-Ok.run'.members) l) (sym c.as_slice-commands.ensures.value) (script_taken _ (run_of c.in-Ok.run') sound))
+    subst (λ w. All (IsPlayable w c.in-Ok.run'.members) c.as_slice-commands.result.now) (sym window)
+    (subst (λ (l : List Command). All (IsPlayable c.in-Ok.run'.window c.in-Ok.run'.members) l) (sym c.as_slice-commands.ensures.value) (script_taken _ (run_of c.in-Ok.run') sound))
 
 pub returns-clause-few : goal.returns-clause-few
 returns-clause-few g c = (sound_run c.in_ok-short.field-0.now (run_of c.in-Ok.run') c.in-Ok.ensures.read).replicas.few

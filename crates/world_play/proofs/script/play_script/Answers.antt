@@ -1,8 +1,7 @@
 use Rattle.std.proofs.Common.{◌≡◌, ℕ, [], length, sym, subst, ◌∙◌, All}
 use Rattle.script_law.specs.Situation.{first_situation}
-use Rattle.world_rounds.specs.Commands.{IsTaken}
 use Rattle.world_rounds.specs.World.{book_of}
-use Rattle.world_play.specs.Play.{ArePartsFrom}
+use Rattle.world_play.specs.Play.{ArePartsFrom, IsPlayable}
 use Rattle.world_play.proofs.Starts.{as_many_turns}
 use Rattle.world_play.proofs.script.play_script.Goals as goal
 
@@ -11,16 +10,16 @@ play-requires-clause-world g c = λ lives borrowed. record { rows = []; situatio
 
 pub play-requires-clause-taken : goal.play-requires-clause-taken
 play-requires-clause-taken g c = λ lives borrowed.
-    subst (λ n. All (IsTaken c.args.table.now.window n) c.args.script.now) (sym c.in_ok-world.ensures.members) c.requires.taken
+    subst (λ n. All (IsPlayable c.args.table.now.window n) c.args.script.now) (sym c.in_ok-world.ensures.members) c.requires.taken
 
 pub returns : goal.returns
 returns g c =
     let table = c.args.table.now in
     let script = c.args.script.now in
     let first = first_situation c.args.members table in
-    let starts = c.in_ok-starts.starts.items in
+    let starts = c.in_ok-played.played.1.items in
     let none : length (book_of c.in_ok-world.world).turns ≡ 0 = as_many_turns table [] (book_of c.in_ok-world.world) c.in_ok-world.ensures.starts.ahead.at.behind in
-    let (rows, situation, parts, here) = c.in_ok-starts.ensures.goes [] first c.in_ok-world.ensures.starts in
+    let (rows, situation, parts, here) = c.in_ok-played.ensures.goes [] first c.in_ok-world.ensures.starts in
     record {
       played = record {
         rows = rows;
@@ -28,6 +27,6 @@ returns g c =
         parts = subst (λ (n : ℕ). ArePartsFrom n table script 0 starts first rows situation) c.in_ok-world.ensures.members
             (subst (λ (n : ℕ). ArePartsFrom (book_of c.in_ok-world.world).members table script n starts first rows situation) none parts);
         is = here;
-        count = c.in_ok-starts.ensures.members ∙ c.in_ok-world.ensures.members;
+        count = c.in_ok-played.ensures.members ∙ c.in_ok-world.ensures.members;
       };
     }
