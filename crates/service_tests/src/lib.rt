@@ -8,6 +8,8 @@ mod bytewise;
 #[cfg(test)]
 mod bytewise_tests;
 #[cfg(test)]
+mod free_tests;
+#[cfg(test)]
 mod journal_tests;
 #[cfg(test)]
 mod kept;
