@@ -302,7 +302,7 @@ class Ends(RanTest):
             manual = file.read()
         part = manual[manual.index("## What ran") : manual.index("## Options")]
         for word in re.findall(r"(?m)^  (--\w+)", "\n".join(lines)):
-            if word not in ("--help", "--cron"):
+            if word not in ("--help", "--version", "--cron"):
                 self.assertIn(f"`{word}", part)
 
 

@@ -4,6 +4,7 @@ import sys
 from datetime import datetime, timedelta
 from itertools import chain
 
+from release_lib.version import help_text, version_line
 from run_file_lib.faults import Stop, counted, shown, why
 from run_file_lib.options import LISTS, OPTIONS, Parser, layout, number_of
 
@@ -58,6 +59,7 @@ def parser():
         elif word in HANDED:
             group.add_argument(word, metavar=value, help=text)
     group.add_argument("--help", action="store_true", help="print this text")
+    group.add_argument("--version", action="store_true", help="print the version of Hevtsora")
     return made
 
 
@@ -151,7 +153,10 @@ def run(words, environment, now, streams):
     try:
         options = parser().parse_args(words)
         if options.help:
-            streams.output(parser().format_help().encode())
+            streams.output(help_text(parser().format_help()).encode())
+            return 0
+        if options.version:
+            streams.output(f"{version_line('ran')}\n".encode())
             return 0
         if not options.logs:
             raise Stop("ran: which log? --help lists the options")

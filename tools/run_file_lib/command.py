@@ -2,6 +2,8 @@
 from collections import namedtuple
 from datetime import timedelta
 
+from release_lib.version import help_text, version_line
+
 from .changes import change_lines, differences, new_table, split_change, table_of
 from .due_list import LAUNCH, DueList
 from .explain import why_lines
@@ -25,7 +27,10 @@ def run(words, environment, now, streams):
     try:
         options = options_of(words)
         if options.help:
-            streams.output(parser().format_help().encode())
+            streams.output(help_text(parser().format_help()).encode())
+            return 0
+        if options.version:
+            streams.output(f"{version_line('run_file')}\n".encode())
             return 0
         return Command(options, environment, streams).run(now)
     except Stop as stop:

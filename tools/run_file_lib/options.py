@@ -72,6 +72,7 @@ OPTIONS = [
     ("--check", None, "in place of the run file: each line at fault, as the program finds it", "--check"),
     ("--program", "PATH", "the program of --list and --check; the built one by default", "--program ~/bin/cron_cluster"),
     ("--help", None, "print this text", "--help"),
+    ("--version", None, "print the version of Hevtsora", "--version"),
 ]
 # The options that ask for something in place of the run file.
 ANSWERS = ("list", "check", "why", "next", "change")

@@ -3,13 +3,13 @@ import os
 import re
 import subprocess
 
+from release_lib.version import PROGRAM
+
 from .causes import meaning
 from .faults import NoAnswer, Stop, at, caused, shown, why
 from .origins import origin_of, place_of
 
-ROOT = os.path.dirname(os.path.dirname(os.path.dirname(os.path.abspath(__file__))))
 FOLDER = os.path.join("crates", "cron_cluster")
-PROGRAM = os.path.join(ROOT, FOLDER, "out", "cron_cluster")
 REFUSED = 2
 REFUSAL = re.compile("cron_cluster: line ([0-9]+): cause ([0-9]+) at ([0-9]+)\n")
 

@@ -2,6 +2,8 @@
 import argparse
 import sys
 
+from release_lib.version import help_text, version_line
+
 from .lines import faults_of
 from .operands import Frame
 from .plain import plain_lines
@@ -24,10 +26,11 @@ The status is 0 where no line is at fault, 1 where one is, and 2 where a word or
 
 def parser():
     layout = argparse.RawDescriptionHelpFormatter
-    made = argparse.ArgumentParser(prog="explain", description=ABOUT, epilog=END, formatter_class=layout)
+    made = argparse.ArgumentParser(prog="explain", description=help_text(ABOUT), epilog=END, formatter_class=layout)
     made.add_argument("run", metavar="RUN", help="the run file, or a script; - for standard input")
     plain = "write the file without the comments and the empty lines of its script, and judge nothing"
     made.add_argument("--plain", action="store_true", help=plain)
+    made.add_argument("--version", action="version", version=version_line("explain"), help="print the version of Hevtsora and exit")
     return made
 
 

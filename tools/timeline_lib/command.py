@@ -4,6 +4,7 @@ import os
 import subprocess
 import sys
 
+from release_lib.version import PROGRAM, help_text, version_line
 from script_lib.run_lines import plain_run
 from small_world.replay import BadJournal, Recorded, followed, is_free, journal_in
 from small_world.run_file import RunFile
@@ -21,8 +22,6 @@ docs/FORMATS.md is the manual.
 
   tools/timeline examples/takeover > takeover.svg
 """
-ROOT = os.path.dirname(os.path.dirname(os.path.dirname(os.path.abspath(__file__))))
-PROGRAM = os.path.join(ROOT, "crates", "cron_cluster", "out", "cron_cluster")
 # The status with which it refuses a run file.
 REFUSED = 2
 # So many turns are drawn around a launch, and so many at most.
@@ -31,7 +30,8 @@ MOST_DRAWN = {"picture": 1_000, "page": 20_000}
 
 
 def parser():
-    made = argparse.ArgumentParser(prog="timeline", description=ABOUT, formatter_class=argparse.RawDescriptionHelpFormatter)
+    layout = argparse.RawDescriptionHelpFormatter
+    made = argparse.ArgumentParser(prog="timeline", description=help_text(ABOUT), formatter_class=layout)
     made.add_argument("run", metavar="RUN", help="the run file")
     journal = "its journal, in place of what the program writes; a report before it is passed over"
     made.add_argument("journal", metavar="JOURNAL", nargs="?", help=journal)
@@ -44,6 +44,7 @@ def parser():
     made.add_argument("--launch", metavar="NAME", help="draw the turns of this launch and some around, as alice:1@20240331T0100Z")
     made.add_argument("--text", action="store_true", help="write what became of each launch, or of this one, as sentences")
     made.add_argument("--page", action="store_true", help="write a page, to be scrolled and asked")
+    made.add_argument("--version", action="version", version=version_line("timeline"), help="print the version of Hevtsora and exit")
     return made
 
 
