@@ -3,6 +3,7 @@ import argparse
 import sys
 
 from release_lib.version import help_text, version_line
+from run_file_lib.streams import OUTPUT, write_all
 
 from .lines import faults_of
 from .operands import Frame
@@ -96,8 +97,7 @@ def run(words):
         else:
             lines, status = explained(options.run, text)
             output = "".join(f"{shown(line)}\n" for line in lines)
-        sys.stdout.buffer.write(output.encode("utf-8", "surrogateescape"))
-        sys.stdout.buffer.flush()
+        write_all(OUTPUT, output.encode("utf-8", "surrogateescape"))
     except OSError as fault:
         print(f"explain: {options.run}: {fault.strerror or fault}", file=sys.stderr)
         return 2

@@ -1,5 +1,6 @@
 """The command: its words, what it reads and what it writes."""
 import argparse
+import errno
 import os
 import subprocess
 import sys
@@ -147,6 +148,8 @@ def run(words):
         parser().error("either --page or --text")
     try:
         output, difference = drawn(options)
+        if sys.stdout is None:
+            raise OSError(errno.EBADF, os.strerror(errno.EBADF))
         sys.stdout.write(output)
         sys.stdout.flush()
     except (BadJournal, OSError, UnicodeDecodeError) as fault:
