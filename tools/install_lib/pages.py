@@ -16,15 +16,21 @@ Page = namedtuple("Page", "name section brief parts beside")
 PARSERS = {"run_file": run_file.parser, "ran": ran.parser, "explain": explain.parser, "timeline": timeline.parser}
 README, MACHINE, RUN_FILE, FORMATS = "README.md", "docs/MACHINE.md", "docs/RUN_FILE.md", "docs/FORMATS.md"
 SCRIPTS, TABLES, STATUSES = "docs/SCRIPTS.md", "docs/TABLES.md", "docs/TOOLS.md"
-# The first heads of tables that a page leaves out, since OPTIONS and EXIT STATUS have the same.
-LEFT_OUT = ("Option", "Word", "Status")
+# The first heads of tables that a page leaves out, since OPTIONS has the same.
+LEFT_OUT = ("Option", "Word")
 
 
 def rendered(lines):
     """The lines of a manual in the language of man pages."""
-    for part in parts_of(as_installed("\n".join(lines)).split("\n")):
-        if part.kind != TABLE or part.content[0][0] not in LEFT_OUT:
-            yield from lines_of(part)
+    for it in parts_in(lines):
+        if it.kind != TABLE or it.content[0][0] not in LEFT_OUT:
+            yield from lines_of(it)
+
+
+def parts_in(lines):
+    """The parts of these lines, with the names that tools have where they are installed."""
+    text_of_page = as_installed("\n".join(lines)).replace("[TOOLS.md](TOOLS.md#statuses)", "EXIT STATUS")
+    return parts_of(text_of_page.split("\n"))
 
 
 def sections(name, *headings):
@@ -79,10 +85,10 @@ def statuses(program):
     """The statuses of a program, from the table of all."""
     lines = [line for line in section(STATUSES, "Statuses") if line.startswith("|")]
     rows = [cells(line) for line in (lines[0], *lines[2:])]
-    own = [row[1:] for row in rows if row[0] in (rows[0][0], f"`{program}`")]
-    if len(own) < 2:
+    own = [[status, f"{when}. {rows[0][3]}: {output}"] for name, status, when, output in rows if name == f"`{program}`"]
+    if not own:
         raise ValueError(f"{STATUSES} has no status of {program}")
-    return lines_of(Part(TABLE, [["Exit status", *own[0][1:]], *own[1:]]))
+    return lines_of(Part(TABLE, [rows[0][1:3], *own]))
 
 
 def part(name, heading):
@@ -102,7 +108,7 @@ def text(words):
 
 def own_tables():
     """The commands that README has for own tables."""
-    for it in parts_of(as_installed("\n".join(section(README, "Your own tables"))).split("\n")):
+    for it in parts_in(section(README, "Your own tables")):
         if it.kind == BLOCK:
             yield from lines_of(it)
 
@@ -166,10 +172,11 @@ def program_page():
 
 def tables_page():
     """The page of the rules of tables."""
+    first = ["What differs from cronie, Debian's cron and anacron", "A table in a run file"]
     lines = ["Lines", "Fields", "The day rule", "Nicknames", "Hashed fields", "Variables", "Commands", "System tables"]
-    more = ["Zones and clock changes", "Anacrontabs", "What differs from cronie, Debian's cron and anacron"]
+    last = ["Zones and clock changes", "Anacrontabs"]
     parts = [
-        ("DESCRIPTION", [(intro, TABLES), (sections, TABLES, "A table in a run file", *lines, *more)]),
+        ("DESCRIPTION", [(intro, TABLES), (sections, TABLES, *first, *lines, *last)]),
         ("FILES", [(part, MACHINE, "Which tables are read")]),
         ("EXAMPLES", [(part, TABLES, "What will run, and when")]),
     ]
