@@ -9,6 +9,7 @@ import re
 import subprocess
 import tempfile
 import unittest
+from concurrent.futures import ThreadPoolExecutor
 
 from release_lib.version import PROGRAM
 
@@ -88,9 +89,10 @@ class Statuses(unittest.TestCase):
         return done.returncode, done.stderr.decode()
 
     def test_each_tool(self):
-        for tool, words, status in CALLS:
-            if tool != "cron_cluster":
-                got, notes = self.ended(os.path.join(HERE, tool), words)
+        calls = [call for call in CALLS if call[0] != "cron_cluster"]
+        with ThreadPoolExecutor(os.cpu_count()) as pool:
+            ends = pool.map(lambda call: self.ended(os.path.join(HERE, call[0]), call[1]), calls)
+            for (tool, words, status), (got, notes) in zip(calls, ends):
                 self.assertEqual(got, status, f"{tool} {words}: {notes}")
                 self.assertNotIn("Traceback", notes)
 

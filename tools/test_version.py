@@ -5,6 +5,7 @@ Usage: tools/test_version.py [NAME..]
 """
 import os
 import re
+import shutil
 import subprocess
 import tempfile
 import unittest
@@ -31,6 +32,14 @@ class Version(unittest.TestCase):
                 done = subprocess.run([link, "--version"], cwd=folder, capture_output=True, text=True, check=False)
                 told = f"{name} (Hevtsora) {text_of('VERSION')}"
                 self.assertEqual((done.returncode, done.stdout, done.stderr), (0, told, ""))
+
+    def test_a_folder_that_was_copied_alone(self):
+        with tempfile.TemporaryDirectory() as folder:
+            for name in ("explain", "release_lib", "run_file_lib", "script_lib"):
+                copy = shutil.copy if name == "explain" else shutil.copytree
+                copy(os.path.join(HERE, name), os.path.join(folder, name))
+            done = subprocess.run([os.path.join(folder, "explain"), "--version"], capture_output=True, text=True, check=False)
+            self.assertEqual((done.returncode, done.stdout), (0, "explain (Hevtsora) of an unknown version\n"))
 
     def test_the_newest_changes_are_of_it(self):
         self.assertRegex(text_of("VERSION"), r"\A\d+\.\d+\.\d+\n\Z")

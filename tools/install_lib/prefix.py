@@ -26,17 +26,23 @@ def put(path, item):
     """Writes a file under another name and gives it its own, so that nobody finds a part of it."""
     new = os.path.join(os.path.dirname(path), f".{os.path.basename(path)}.{os.getpid()}")
     try:
-        if item.link is not None:
-            os.symlink(item.link, new)
-        else:
-            with open(new, "xb") as file:
-                file.write(item.data)
-            os.chmod(new, item.mode)
+        write_new(new, item)
         os.replace(new, path)
-    except BaseException:
+    except OSError as fault:
+        raise OSError(fault.errno, fault.strerror, path) from fault
+    finally:
         if os.path.lexists(new):
             os.unlink(new)
-        raise
+
+
+def write_new(path, item):
+    """Writes a file that isn't there."""
+    if item.link is not None:
+        os.symlink(item.link, path)
+        return
+    with open(path, "xb") as file:
+        file.write(item.data)
+    os.chmod(path, item.mode)
 
 
 class Prefix:

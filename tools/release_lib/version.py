@@ -13,7 +13,9 @@ PROGRAM = os.path.join(os.path.dirname(ABOVE), "bin", "cron_cluster") if IS_INST
 
 
 def version_line(name):
-    """What `--version` of a tool prints."""
+    """What `--version` of a tool prints. A folder of tools that was copied alone has no file VERSION."""
+    if not os.path.isfile(FILE):
+        return f"{name} (Hevtsora) of an unknown version"
     with open(FILE, encoding="utf-8") as file:
         return f"{name} (Hevtsora) {file.read().strip()}"
 
