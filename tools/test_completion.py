@@ -10,7 +10,7 @@ import subprocess
 import tempfile
 import unittest
 
-from install_lib.pages import PARSERS, program_usage
+from install_lib.sources import PARSERS, program_words
 
 HERE = os.path.dirname(os.path.abspath(__file__))
 FILE = os.path.join(HERE, "completion", "hevtsora.bash")
@@ -32,7 +32,7 @@ complete -p cron_cluster run_file ran explain timeline
 def options_of(tool):
     """The options of a tool, as its help has them; of the program, as its note has them."""
     if tool == "cron_cluster":
-        return re.findall(r"--\w+", program_usage())
+        return re.findall(r"--\w+", program_words())
     return re.findall(r"(?m)^  (?:-\w, )?(--\w+)", PARSERS[tool]().format_help())
 
 

@@ -16,6 +16,7 @@ from unittest import mock
 
 from install_lib.command import run
 from install_lib.contents import LIBRARY, MANIFEST, TOOLS
+from install_lib.pages import man_pages
 
 HERE = os.path.dirname(os.path.abspath(__file__))
 NAME = "etc-crontab:1@20240330T0100Z"
@@ -106,8 +107,8 @@ class Install(unittest.TestCase):
             if mode is not None and path not in runs:
                 self.assertEqual(mode, 0o755 if content is None else 0o644, path)
         self.assertEqual(sorted(os.listdir(os.path.join(self.prefix, "bin"))), sorted([*TOOLS, "cron_cluster"]))
-        self.assertEqual(len(os.listdir(os.path.join(self.prefix, "share/man/man1"))), 5)
-        self.assertEqual(os.listdir(os.path.join(self.prefix, "share/man/man5")), ["hevtsora_tables.5"])
+        for name, text in man_pages().items():
+            self.assertEqual(found[f"usr/share/man/man{name[-1]}/{name}"][1].decode(), text)
         listed = text_of(os.path.join(self.prefix, MANIFEST)).splitlines()
         self.assertEqual({os.path.normpath(f"usr/{it}") for it in listed}, set(found))
 
@@ -119,7 +120,7 @@ class Install(unittest.TestCase):
         self.assertIn("\n  run_file --list --days 7\n", self.called("run_file", "--help")[1])
         machine = self.at("machine")
         write(os.path.join(machine, "etc/crontab"), "0 1 * * * root echo hi\n")
-        words = ["--root", machine, "--zone", "UTC", "--zoneinfo", "/usr/share/zoneinfo", "--cron", "hevtsora"]
+        words = ["--root", machine, "--zone", "UTC", "--cron", "hevtsora"]
         status, output, _ = self.called("run_file", *words, "--list", "--from", "2024-03-30")
         self.assertEqual((status, output), (0, f"Sat 2024-03-30 01:00  -                  {machine}/etc/crontab:1  root  echo hi\n"))
         log = write(self.at("log"), "2024-03-30T01:00:01+00:00 host CRON[7]: (root) CMD (echo hi)\n")

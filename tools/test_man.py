@@ -11,8 +11,9 @@ import tempfile
 import unittest
 
 from install_lib.manual import parts_of, section
-from install_lib.pages import PARSERS, man_pages
+from install_lib.pages import man_pages
 from install_lib.roff import inline, lines_of, synopsis
+from install_lib.sources import PARSERS
 
 HERE = os.path.dirname(os.path.abspath(__file__))
 PAGES = man_pages()
@@ -112,7 +113,7 @@ class Pages(unittest.TestCase):
     def test_each_option_stands_there(self):
         for tool, parser in PARSERS.items():
             page = PAGES[f"{tool}.1"]
-            part = page[page.index(".SH OPTIONS") : page.index('.SH "EXIT STATUS"')]
+            part = page[page.index('.SH "OPTIONS"') : page.index('.SH "EXIT STATUS"')]
             words = re.findall(r"(?m)^  (?:-\w, )?(--\w+)", parser().format_help())
             self.assertGreater(len(words), 1)
             for word in words:

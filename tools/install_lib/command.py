@@ -3,9 +3,9 @@ import argparse
 import os
 import sys
 
-from release_lib.version import version_line
+from release_lib.version import PROGRAM, version_line
 
-from .contents import OF_THE_PROGRAM, contents, program_of
+from .contents import OF_THE_PROGRAM, contents
 from .prefix import Fault, Prefix
 
 ABOUT = """\
@@ -43,7 +43,7 @@ def folder_of(prefix, environment):
 
 def checked_program(path):
     """The program that is installed, which has to be there."""
-    program = program_of(path)
+    program = PROGRAM if path is None else path
     if not (os.path.isfile(program) and os.access(program, os.X_OK)):
         how = "`rt run` in crates/cron_cluster builds it, --program names another one, and --tools-only leaves it out"
         raise Fault(f"there is no program {program}; {how}")

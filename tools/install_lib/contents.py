@@ -3,8 +3,6 @@ import os
 from collections import namedtuple
 from glob import glob
 
-from release_lib.version import PROGRAM
-
 from .manual import ROOT
 from .pages import man_pages
 
@@ -65,8 +63,3 @@ def contents(program):
     if program is None:
         return [item for item in items if item.path not in OF_THE_PROGRAM]
     return [Item("bin/cron_cluster", RUN, read(program), None), *items]
-
-
-def program_of(path):
-    """Where the program is that is installed."""
-    return PROGRAM if path is None else path
