@@ -47,6 +47,7 @@ CALLS = [
     ("timeline", f"--alone {TAKEOVER}.stdout", 1),
     ("timeline", f"{TAKEOVER} --program ./none", 1),
     ("timeline", f"--alone {TAKEOVER} > /dev/full", 1),
+    ("timeline", f"--alone --text {TAKEOVER} > /dev/full", 1),
     ("timeline", f"--alone {TAKEOVER} >&-", 1),
     ("timeline", "--loud", 2),
     ("install", "--program ./program prefix", 0),
@@ -85,8 +86,10 @@ class Statuses(unittest.TestCase):
     def ended(self, tool, words):
         """The status of a call, and what it writes to standard error."""
         command = ["bash", "-c", f'"$0" {words}; exit ${{PIPESTATUS[0]}}', tool]
-        done = subprocess.run(command, cwd=self.folder, stdout=subprocess.PIPE, stderr=subprocess.PIPE, check=False)
-        return done.returncode, done.stderr.decode()
+        # Without a buffer a fault of standard output comes at another place.
+        environment = {name: value for name, value in os.environ.items() if name != "PYTHONUNBUFFERED"}
+        done = subprocess.run(command, cwd=self.folder, env=environment, capture_output=True, text=True, check=False)
+        return done.returncode, done.stderr
 
     def test_each_tool(self):
         calls = [call for call in CALLS if call[0] != "cron_cluster"]
@@ -94,7 +97,7 @@ class Statuses(unittest.TestCase):
             ends = pool.map(lambda call: self.ended(os.path.join(HERE, call[0]), call[1]), calls)
             for (tool, words, status), (got, notes) in zip(calls, ends):
                 self.assertEqual(got, status, f"{tool} {words}: {notes}")
-                self.assertNotIn("Traceback", notes)
+                self.assertNotRegex(notes, "Traceback|Exception ignored")
 
     def test_the_built_program(self):
         if not os.access(PROGRAM, os.X_OK):

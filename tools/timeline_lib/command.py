@@ -139,6 +139,19 @@ def drawn(options):
     return page_of(picture, jobs, launch, difference) if options.page else picture.text(jobs, difference), difference
 
 
+def write_out(text):
+    """Writes to standard output."""
+    if sys.stdout is None:
+        raise OSError(errno.EBADF, os.strerror(errno.EBADF))
+    try:
+        sys.stdout.write(text)
+        sys.stdout.flush()
+    except OSError:
+        # Python tries the rest again as it ends, and would end with a status of its own.
+        os.dup2(os.open(os.devnull, os.O_WRONLY), sys.stdout.fileno())
+        raise
+
+
 def run(words):
     """Writes the picture, and gives the status: 1 where a word or a file is at fault, or a journal isn't what is worked out."""
     options = parser().parse_args(words)
@@ -148,10 +161,7 @@ def run(words):
         parser().error("either --page or --text")
     try:
         output, difference = drawn(options)
-        if sys.stdout is None:
-            raise OSError(errno.EBADF, os.strerror(errno.EBADF))
-        sys.stdout.write(output)
-        sys.stdout.flush()
+        write_out(output)
     except (BadJournal, OSError, UnicodeDecodeError) as fault:
         note(fault)
         return 1
