@@ -6,6 +6,7 @@ Usage: tools/test_install.py [NAME..]
 """
 import io
 import os
+import re
 import stat
 import subprocess
 import sys
@@ -14,7 +15,7 @@ import unittest
 from contextlib import redirect_stderr
 from unittest import mock
 
-from install_lib.command import run
+from install_lib.command import parser, run
 from install_lib.contents import LIBRARY, MANIFEST, TOOLS
 from install_lib.pages import man_pages
 
@@ -220,6 +221,12 @@ class Install(unittest.TestCase):
         self.assertIn("File exists", self.installed("--program", self.program, self.prefix, status=1))
         for words in ([], ["--loud", "x"], ["--program", "x", "--tools-only", "x"], ["--uninstall", "--tools-only", "x"]):
             self.installed(*words, status=2)
+
+    def test_options_of_the_manual(self):
+        manual = text_of(os.path.join(os.path.dirname(HERE), "docs/TOOLS.md"))
+        for word in re.findall(r"(?m)^  (--[\w-]+)", parser().format_help()):
+            if word != "--version":
+                self.assertRegex(manual, rf"\n\| `{word}( PATH)?` \| ")
 
     def test_the_command(self):
         words = [os.path.join(HERE, "install"), "--tools-only", self.prefix]

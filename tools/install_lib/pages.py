@@ -10,6 +10,8 @@ from .sources import description, examples, intro, option_lines, own_tables, par
 # A page: its name and its section, what stands behind its name, its heads with the parts below each, and the pages that it names at
 # its end. A part is a function with its words.
 Page = namedtuple("Page", "name section brief heads beside")
+BEHIND = """The manuals, from which this page is made, and the run files of `examples/` are in share/doc/hevtsora; what stands in
+`tools/testdata` is in the repository alone."""
 
 
 def of_a_tool(tool, brief, manual, more, beside):
@@ -102,7 +104,7 @@ def page_text(page):
         lines.append(f'.SH "{head}"')
         for make, *words in parts:
             lines += make(*words)
-    lines += ['.SH "SEE ALSO"', ", ".join(map(named, page.beside)), ".PP", "The manuals in share/doc/hevtsora, from which this page is made."]
+    lines += ['.SH "SEE ALSO"', ", ".join(map(named, page.beside)), *sentence(BEHIND)]
     return "".join(f"{line}\n" for line in lines)
 
 
