@@ -10,7 +10,17 @@ ASSIGNMENT = re.compile("([A-Za-z_][A-Za-z0-9_]*)[ \t]*=(.*)", re.DOTALL)
 # A name in quotes, which cronie takes and the program doesn't.
 QUOTED = re.compile("([\"'])([A-Za-z_][A-Za-z0-9_]*)\\1[ \t]*=.*", re.DOTALL)
 USER = re.compile("[A-Za-z_][A-Za-z0-9_.-]{0,31}")
-NICKNAMES = "@yearly @annually @monthly @weekly @daily @midnight @hourly @reboot".split()
+# The fields that each nickname stands for. An entry of `@reboot` has none, and is never due at a minute.
+NICKNAMES = {
+    "@yearly": "0 0 1 1 *",
+    "@annually": "0 0 1 1 *",
+    "@monthly": "0 0 1 * *",
+    "@weekly": "0 0 * * 0",
+    "@daily": "0 0 * * *",
+    "@midnight": "0 0 * * *",
+    "@hourly": "0 * * * *",
+    "@reboot": "",
+}
 MOST_BYTES_OF_A_COMMAND = 1000
 
 

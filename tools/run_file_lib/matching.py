@@ -3,18 +3,9 @@ from collections import namedtuple
 from datetime import timedelta
 
 from .anacrontabs import fnv
-from .crontabs import split_word
+from .crontabs import NICKNAMES, split_word
 from .fields import KINDS, value_of
 
-NICKNAMES = {
-    "@yearly": "0 0 1 1 *",
-    "@annually": "0 0 1 1 *",
-    "@monthly": "0 0 1 * *",
-    "@weekly": "0 0 * * 0",
-    "@daily": "0 0 * * *",
-    "@midnight": "0 0 * * *",
-    "@hourly": "0 * * * *",
-}
 # A hashed day of the month is one that each month has, and a hashed day of the week isn't Sunday twice.
 HASHED = [(0, 59), (0, 23), (1, 28), (1, 12), (0, 6)]
 MOST_DAYS_OF_MONTHS = [31, 29, 31, 30, 31, 30, 31, 31, 30, 31, 30, 31]
@@ -68,19 +59,21 @@ class Times:
 def times_of(text, owner, command):
     """The times of an entry, whose line is good; none of `@reboot`. The owner and the command pick the value of a `?`."""
     nickname, _ = split_word(text)
-    if nickname == "@reboot":
-        return None
     rest = NICKNAMES.get(nickname, text)
+    if not rest:
+        return None
     fields = []
-    for place, kind in enumerate(KINDS):
+    for place in range(len(KINDS)):
         word, rest = split_word(rest)
-        fields.append(Matched(word, {picked(place, owner, command)} if word == "?" else values_of(kind, place, word)))
+        fields.append(Matched(word, values_of(place, word, owner, command)))
     return Times(fields)
 
 
-def values_of(kind, place, text):
-    """The values of a field."""
-    values = set()
+def values_of(place, text, owner, command):
+    """The values of the field at a place, which is good. The owner and the command pick the value of a `?`."""
+    if text == "?":
+        return {picked(place, owner, command)}
+    kind, values = KINDS[place], set()
     for item in text.split(","):
         base, _, step = item.partition("/")
         low, _, high = base.partition("-")

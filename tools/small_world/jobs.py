@@ -3,52 +3,14 @@ crontab's entry a launch is known by its instant, of an anacrontab's job by its 
 import re
 from bisect import bisect_right
 
+from run_file_lib.anacrontabs import fnv
+from run_file_lib.crontabs import NICKNAMES
+from run_file_lib.matching import values_of
+
 from .instants import DAY, date_of, stamp_of
 
-MONTHS = "jan feb mar apr may jun jul aug sep oct nov dec".split()
-WEEK_DAYS = "sun mon tue wed thu fri sat".split()
-# The values of the five fields, and those of which a hash picks one.
-VALUES = [(0, 59), (0, 23), (1, 31), (1, 12), (0, 6)]
-PICKED = [(0, 59), (0, 23), (1, 28), (1, 12), (0, 6)]
-NICKNAMES = {
-    "@yearly": "0 0 1 1 *",
-    "@annually": "0 0 1 1 *",
-    "@monthly": "0 0 1 * *",
-    "@weekly": "0 0 * * 0",
-    "@daily": "0 0 * * *",
-    "@midnight": "0 0 * * *",
-    "@hourly": "0 * * * *",
-}
 # The periods of an anacrontab that are days, by their names.
 DAYS = {"@daily": 1, "@weekly": 7}
-
-
-def fnv(data):
-    """FNV-1a of 64 bits."""
-    value = 0xCBF29CE484222325
-    for byte in data:
-        value = (value ^ byte) * 0x100000001B3 % 2**64
-    return value
-
-
-def number_of(kind, text):
-    """A number, or the name of a month or of a weekday."""
-    names = {3: [""] + MONTHS, 4: WEEK_DAYS}.get(kind, [])
-    return names.index(text.lower()) if text.lower() in names else int(text)
-
-
-def field_of(kind, text, owner, command):
-    """The values of a field."""
-    if text == "?":
-        low, high = PICKED[kind]
-        return {low + fnv(f"{owner}\0{command}\0{kind}".encode()) % (high - low + 1)}
-    values = set()
-    for item in text.split(","):
-        base, _, step = item.partition("/")
-        first, _, last = base.partition("-")
-        low, high = VALUES[kind] if base == "*" else (number_of(kind, first), number_of(kind, last or first))
-        values |= set(range(low, high + 1, int(step or 1)))
-    return {value % 7 for value in values} if kind == 4 else values
 
 
 class Entry:
@@ -57,7 +19,7 @@ class Entry:
     def __init__(self, name, zone, texts, owner, command):
         self.name = name
         self.zone = zone
-        self.values = [field_of(kind, text, owner, command) for kind, text in enumerate(texts)]
+        self.values = [values_of(place, text, owner, command) for place, text in enumerate(texts)]
         self.stars = [text.startswith("*") for text in texts]
         self.times = {60 * hour + minute for hour in self.values[1] for minute in self.values[0]}
         self.days = {}
@@ -170,7 +132,7 @@ def entry_of(name, zone, line, kind, owner):
     """The entry of a line."""
     if line.startswith("@"):
         nickname, rest = re.split(r"[ \t]+", line, maxsplit=1)
-        texts = NICKNAMES.get(nickname, "").split()
+        texts = NICKNAMES[nickname].split()
     else:
         *texts, rest = re.split(r"[ \t]+", line, maxsplit=5)
     if kind == "system":
