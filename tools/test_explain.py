@@ -160,6 +160,7 @@ class Explain(unittest.TestCase):
         self.assertEqual(plain_text("cronrun 1\n# x\n"), "cronrun 1\n# x\n")
 
     def test_a_script_alone(self):
+        self.assertEqual(explained("x", "# a comment\n\ncampaign 6\n \t# \udcff\0\r\n"), (["each line of the script is taken"], False))
         lines, wrong = explained("x", "campaign 6\nround 1999-01-01T00:00Z 3\ncampaign 7\nend\n")
         self.assertTrue(wrong)
         told = ["x:3:10: replicas are numbered from 0 on, and R is 0 to 6", "x:4: `tools/run_file` writes the line `end`"]

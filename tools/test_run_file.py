@@ -196,10 +196,16 @@ class Words(RunFileTest):
         self.assertEqual(self.comments("--script", file)[0], f"{file} is the script")
         self.assertEqual(self.lines("--script", self.write("empty", ""))[4:], ["script", "end"])
 
+    def test_script_with_comments(self):
+        """They say nothing to the program, and so do empty lines; whatever bytes a comment has."""
+        file = self.write("duel", b"# \xff \0\r\ncampaign 0\n\n \t# then\n\r\nround 2024-03-30T00:00Z 1\n#end\n")
+        self.assertEqual(self.lines("--script", file)[4:], ["script", "campaign 0", "round 2024-03-30T00:00Z 1", "end"])
+        self.assertEqual(self.lines("--script", self.write("none", "# nothing\n"))[4:], ["script", "end"])
+
     def test_bad_scripts(self):
         return_fault = "the line ends with a carriage return, which would be a part of what it says"
         for data, line, message in (
-            (b"heal\nend\n", 2, "the line `end` is written by run_file (cause 30)"),
+            (b"# x\n\nheal\nend\n", 4, "the line `end` is written by run_file (cause 30)"),
             (b"heal\r\n", 1, return_fault),
             (b"heal \xff\n", 1, "the line isn't UTF-8 (cause 15)"),
             (b"heal \0\n", 1, "there is a zero byte in the line (cause 15)"),

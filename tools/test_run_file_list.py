@@ -236,16 +236,16 @@ class Periods(RunFileTest):
 class Refusals(ProgramTest):
     """What is told where the program refuses the run file, or gives no answer."""
 
-    def told(self, note, status=2, answer=""):
+    def told(self, note, status=2, answer="", words=()):
         """The status and the message for a note of the program."""
         self.program(answer, note, status)
-        status, lines, notes = self.answered("--list")
+        status, lines, notes = self.answered("--list", *words)
         self.assertEqual((len(lines), len(notes)), (0, 1), notes)
         return status, notes[0]
 
-    def refused(self, line, cause, before):
+    def refused(self, line, cause, before, *words):
         """The message for a refusal."""
-        status, message = self.told(f"cron_cluster: line {line}: cause {cause} at {before}\n")
+        status, message = self.told(f"cron_cluster: line {line}: cause {cause} at {before}\n", words=words)
         self.assertEqual(status, 1)
         return message.replace(f"the program refuses the run file: {CAUSES.get(cause)} (cause {cause})", "REFUSED")
 
@@ -264,6 +264,10 @@ class Refusals(ProgramTest):
             (12, 0, "run_file: REFUSED; line 12 is `script ..`"),
         ):
             self.assertEqual(self.refused(line, 3, before), message)
+        script = self.write("duel", "# a comment\nheal\n\nheal 0\n")
+        for line, message in ((12, "run_file: REFUSED; line 12 is `script ..`"), (13, f"{script}:2: REFUSED"), (14, f"{script}:4: REFUSED")):
+            self.assertEqual(self.refused(line, 30, 0, "--script", script), message)
+        self.assertEqual(self.refused(15, 30, 0, "--script", script), "run_file: REFUSED; line 15 is `end ..`")
         known = "run_file: the program refuses the run file: a fault that the script doesn't know (cause 99)"
         self.assertEqual(self.refused(0, 99, 0), known)
 

@@ -1,13 +1,15 @@
 """Gathers the zones, the tables and the script of a run file, and tells what it finds."""
 import os
 
+from script_lib.plain import is_kept
+
 from .daemons import HEVTSORA, Cron, Verdict, called, cron_of, file_reasons, owner_of, verdict_of
 from .faults import Stop, at, caused, counted, lines_told, same_in, shown, why
 from .findings import Findings
 from .labels import label_of
 from .machine_zone import MachineZone, machine_zone, other_zones
 from .options import head_of, number_of
-from .origins import RunFile, Section, lines_of_sections, placed
+from .origins import RunFile, Script, Section, lines_of_sections, placed
 from .places import MOST_BYTES, OPTION, SPOOL, Finder, Root, Table, read_file, read_regular
 from .stamps import MOST_DAYS, Clock, judge_length
 from .tables import LEFT_OUT, JobCount, TableReader, end_fault, lines_of, text_fault, told_once
@@ -54,11 +56,12 @@ class Gatherer:
             self.comment("there is no table")
         front = [*head, *self.zones.lines()]
         sections = list(placed([section for section in read if section], len(front) + 1))
-        data = "\n".join([*front, *lines_of_sections(sections), "script", *script, "end", ""]).encode()
+        lines = [*front, *lines_of_sections(sections), "script"]
+        data = "\n".join([*lines, *script.values(), "end", ""]).encode()
         if len(data) > MOST_BYTES:
             size = f"the run file would have {len(data):,} bytes, and the program takes {MOST_BYTES:,}"
             raise Stop(f"run_file: {caused(33, size)}")
-        return RunFile(data, sections, window)
+        return RunFile(data, sections, window, Script(self.options.script, len(lines) + 1, list(script)) if script else None)
 
     def comment(self, text):
         """Tells what is no fault."""
@@ -241,21 +244,23 @@ class Gatherer:
             self.trouble(file, lines, text)
 
     def script(self):
-        """The lines of the script. The program says what is wrong with them, but for what no line may have."""
+        """The lines of the script that say something, by their numbers. The program says what is wrong with them, but for what no
+        line may have."""
         file = self.options.script
         if file is None:
-            return []
+            return {}
         try:
             lines = lines_of(read_file(file))
         except OSError as fault:
             raise Stop(at(file, 0, f"it can't be read: {why(fault)}")) from fault
-        for number, line in enumerate(lines, 1):
+        script = {number: line for number, line in enumerate(lines, 1) if is_kept(line)}
+        for number, line in script.items():
             fault = text_fault(line) or end_fault(line)
             if fault or line == "end":
                 raise Stop(at(file, number, fault or caused(30, "the line `end` is written by run_file")))
         if lines:
             self.comment(f"{shown(file)} is the script")
-        return lines
+        return script
 
 
 def where(lines):

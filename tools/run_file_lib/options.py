@@ -38,7 +38,7 @@ OPTIONS = [
     ("--until", "STAMP", "in place of --days: the minute behind the last one", "--until '2027-03-29 12:00'"),
     ("--grace", "MINUTES", f"how late a launch may be, 0 to {MOST_GRACE} minutes; 0 by default", "--grace 60"),
     ("--replicas", "N", f"how many replicas there are, 1 to {MOST_REPLICAS}; 1 by default", "--replicas 3"),
-    ("--script", "FILE", "the lines between `script` and `end`; none by default", "--script duel.script"),
+    ("--script", "FILE", "the lines between `script` and `end`, without comments; none by default", "--script duel.script"),
     ("--zone", "NAME", "the zone of all tables; that of etc/localtime below the root by default", "--zone Europe/Paris"),
     ("--zoneinfo", "DIR", "the folder of zones; usr/share/zoneinfo below the root by default", "--zoneinfo ~/zones"),
     (

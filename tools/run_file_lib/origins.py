@@ -1,8 +1,10 @@
 """Where the jobs and the lines of a run file come from."""
 from collections import namedtuple
 
-# A run file: its bytes, its sections in order, and its window.
-RunFile = namedtuple("RunFile", "data sections window", defaults=[None])
+# A run file: its bytes, its sections in order, its window, and its script, where it has one.
+RunFile = namedtuple("RunFile", "data sections window script", defaults=[None, None])
+# A script: its file, the line of the run file that is its first one, and the numbers in the file of the lines that the run file has.
+Script = namedtuple("Script", "file first numbers")
 # A section: its kind, label and zone, the file of its table, the line of the run file that is the table's first one, the lines
 # of the table as the run file has them, its jobs, and how many bytes a line lacks at its front, by the line. A table has as many
 # lines in the run file as in its own.
@@ -41,7 +43,7 @@ def alone(made, section, job):
     ending = job.ending if section.kind == "anacrontab" else ":1"
     [placed_alone] = placed([section._replace(lines=lines, jobs=[job._replace(ending=ending)])], len(front) + 1)
     text = "\n".join([*front, *lines_of_sections([placed_alone]), "script", "end", ""])
-    return made._replace(data=text.encode(), sections=[placed_alone])
+    return made._replace(data=text.encode(), sections=[placed_alone], script=None)
 
 
 def of_window(made, first, last):
@@ -59,6 +61,12 @@ def origin_of(sections, line):
         if 0 <= place <= len(section.lines):
             return section, place
     return None
+
+
+def script_line_of(script, line):
+    """The number in its file of the line of a script that is that line of the run file; none where it is no such line."""
+    place = line - script.first if script else -1
+    return script.numbers[place] if 0 <= place < len(script.numbers) else None
 
 
 def place_of(section, line, before):

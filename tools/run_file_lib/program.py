@@ -7,7 +7,7 @@ from release_lib.version import PROGRAM
 
 from .causes import meaning
 from .faults import NoAnswer, Stop, at, caused, shown, why
-from .origins import origin_of, place_of
+from .origins import origin_of, place_of, script_line_of
 
 FOLDER = os.path.join("crates", "cron_cluster")
 REFUSED = 2
@@ -57,6 +57,9 @@ def refusal_text(made, line, cause, before):
         section, place = origin
         number, column = place_of(section, place, before) if place else (0, 0)
         return at(section.file, number, text, column)
+    number = script_line_of(made.script, line)
+    if number is not None:
+        return at(made.script.file, number, text)
     if line == 0:
         return f"run_file: {text}"
     words = made.data.decode().split("\n")[line - 1].split(" ")[:2]

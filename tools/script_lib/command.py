@@ -7,13 +7,13 @@ from run_file_lib.streams import OUTPUT, write_all
 
 from .lines import faults_of
 from .operands import Frame
-from .plain import plain_lines
+from .plain import is_kept, plain_lines
 from .run_lines import Fault, Script, head_faults, lines_of, plain_run, script_of
 
 ABOUT = """\
 Tells of a run file each line of its script that the program doesn't take, with the column, and what would be right. It reads
 the lines before the script only as far as the script goes by them; `tools/run_file --check` judges the tables. A file that
-doesn't begin with `cronrun` is taken for a script alone, as `tools/run_file --script` reads it.
+doesn't begin with `cronrun` is taken for a script alone, as `tools/run_file --script` reads it: that may have comments.
 
 docs/SCRIPTS.md is the manual.
 
@@ -58,11 +58,12 @@ def run_faults(lines):
 
 
 def script_faults(lines):
-    """The same of a script alone, whose replicas and window aren't known."""
+    """The same of a script alone, whose replicas and window aren't known, and in which comments and empty lines are passed over."""
     told = "`tools/run_file` writes the line `end`"
     ends = [Fault(number, 0, told, 30) for number, line in enumerate(lines, 1) if line == "end"]
     script = Script(Frame(None, None, None), 1, lines, None)
-    return sorted([*ends, *(fault for fault in faults_of(script) if lines[fault.line - 1] != "end")])
+    said = (fault for fault in faults_of(script) if is_kept(lines[fault.line - 1]))
+    return sorted([*ends, *(fault for fault in said if lines[fault.line - 1] != "end")])
 
 
 def told(name, fault):
