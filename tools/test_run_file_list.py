@@ -13,10 +13,13 @@ from pathlib import Path
 
 from run_file_lib.anacrontabs import AnacronLines
 from run_file_lib.causes import CAUSES
-from run_file_lib.formats import FIELDS
+from run_file_lib.due_list import DueList, rows_of
+from run_file_lib.formats import FIELDS, Csv, Json, Text
+from run_file_lib.gather import Gatherer
+from run_file_lib.options import options_of
 from run_file_lib.origins import Section, place_of
 from run_file_lib.program import PROGRAM
-from test_run_file import DOCUMENTS, HERE, TOOL, RunFileTest
+from test_run_file import DOCUMENTS, HERE, NOW, TOOL, Memory, RunFileTest
 
 # A program that keeps its words and its input, and answers what is written in a file.
 FAKE = """#!/bin/sh
@@ -96,6 +99,20 @@ end
         expected = [f"{times}  {place:{width}}  {name:4}  {text}" for times, place, name, text in rows]
         self.assertEqual(self.answered("--list", "--days", "2"), (0, expected, []))
         self.assertEqual([line.split()[4] for line in expected], [place for _, place, _, _ in rows])
+
+    def test_lines_of_minutes(self):
+        """What a form writes at once of a minute is what it writes of its rows, one by one."""
+        self.machine()
+        self.write("var/spool/cron/bob", '0 3 * * * "a", b\nCRON_TZ=UTC\n0 1 * * * b\tc\n')
+        self.program(self.ANSWER.replace("20240330T0100Z 2024-03-30T01:00", "20240330T0130Z 2024-03-30T01:30"))
+        options = options_of(["--root", self.root, "--cron", "hevtsora", "--list", "--days", "2"])
+        gatherer = Gatherer(options, {}, Memory())
+        due = DueList(self.made, gatherer.run_file(NOW), gatherer.zone, gatherer.zones.local_times)
+        minutes = [minute for part in due.parts() for minute in part]
+        self.assertEqual([[launch.is_plain for launch in minute.launches] for minute in minutes], [[True, False], [False, False]])
+        for form in (Text(due), Json(due), Csv(due)):
+            for minute in minutes:
+                self.assertEqual(form.lines(minute), [form.line(row) for row in rows_of(minute)])
 
     def test_forms(self):
         """The same rows as objects of JSON and as comma-separated values."""

@@ -1,6 +1,7 @@
 """The command: it reads the words, the tables and the zones, and writes the run file, or what the program answers to it."""
 from collections import namedtuple
 from datetime import timedelta
+from itertools import chain
 
 from release_lib.version import help_text, version_line
 
@@ -80,9 +81,10 @@ class Command:
         form = self.form()(due)
         head = list(form.head)
         try:
-            for rows in due.rows():
-                self.output_lines([*head, *map(form.line, rows)])
+            for part in due.parts():
+                self.output_lines(chain(head, chain.from_iterable(map(form.lines, part))))
                 head = []
+            self.output_lines(map(form.line, due.rows_without_time()))
         except Stop as stop:
             if not isinstance(stop.__cause__, BrokenPipeError):
                 raise
@@ -149,7 +151,8 @@ class Command:
 
     def output_lines(self, lines):
         """Writes lines to standard output, in one piece."""
-        self.streams.output("".join(f"{line}\n" for line in lines).encode("utf-8", "backslashreplace"))
+        text = "\n".join([*lines, ""])
+        self.streams.output(text.encode("utf-8", "backslashreplace"))
 
 
 def origin_at(due, place):

@@ -4,7 +4,7 @@ import io
 import json
 from datetime import date
 
-from .due_list import ANACRON_JOB, CLOCK, LAUNCH, REBOOT
+from .due_list import ANACRON_JOB, CLOCK, LAUNCH, REBOOT, Row, row_of, rows_of
 from .faults import place, shown
 
 VERSION = 1
@@ -13,6 +13,8 @@ WEEK_DAYS = "Mon Tue Wed Thu Fri Sat Sun".split()
 # What stands where there is nothing to tell.
 NOTHING = "-"
 WORDS = {REBOOT: "@reboot", ANACRON_JOB: "anacron"}
+# The fields from this one on are told by a launch's job, and those before by its minute, where the launch is a plain one.
+FIRST_OF_JOB = FIELDS.index("user")
 
 
 class WeekDays(dict):
@@ -28,10 +30,24 @@ def utc_of(at):
     return f"{at[:4]}-{at[4:6]}-{at[6:8]}T{at[9:11]}:{at[11:]}"
 
 
-class Text:
-    """Rows as lines of columns."""
+class Form:
+    """A form of rows, each of which is a line. That of a plain launch has two parts: what the launches of its minute have in common,
+    and what those of its job do."""
 
     head = ()
+
+    def lines(self, minute):
+        """The lines of a minute."""
+        if minute.changes:
+            return [self.line(row) for row in rows_of(minute)]
+        front, ends = self.front(minute.instant, minute.local), self.ends
+        return [
+            front + ends[launch.origin.name] if launch.is_plain else self.line(row_of(minute, launch)) for launch in minute.launches
+        ]
+
+
+class Text(Form):
+    """Rows as lines of columns."""
 
     def __init__(self, due):
         origins = due.origins.values()
@@ -42,8 +58,6 @@ class Text:
         self.fronts = {name: f"{where:{width}}  {users[name]:{most}}  " for name, where in places.items()}
         self.commands = {origin.name: shown(origin.job.command) for origin in origins}
         self.ends = {name: front + self.commands[name] for name, front in self.fronts.items()}
-        # The front of the last line, which is often that of the next one.
-        self.last, self.stamp = None, ""
         self.nowhere = f"{NOTHING:{width}}  {NOTHING:{most}}  "
         self.days = WeekDays()
 
@@ -53,18 +67,17 @@ class Text:
             name = row.origin.name
             word = f"{WORDS[row.kind]:8}{NOTHING:7}{NOTHING:5}  {NOTHING:17}"
             return f"{word}  {self.fronts[name]}{f'[{more}] ' if more else ''}{self.when(row)}{self.commands[name]}"
-        if row.instant != self.last:
-            self.last, self.stamp = row.instant, self.stamp_of(row)
+        front = self.front(row.instant, row.local)
         if row.kind == CLOCK:
-            return f"{self.stamp}{self.nowhere}-- {row.text} --"
+            return f"{front}{self.nowhere}-- {row.text} --"
         if not row.other and not row.moved and not more:
-            return self.stamp + self.ends[row.origin.name]
-        return f"{self.stamp}{self.fronts[row.origin.name]}{self.remarks(row, more)} {self.commands[row.origin.name]}"
+            return front + self.ends[row.origin.name]
+        return f"{front}{self.fronts[row.origin.name]}{self.remarks(row, more)} {self.commands[row.origin.name]}"
 
-    def stamp_of(self, row):
-        """The columns of a row's time."""
-        day, time, utc = row.local[:10], row.local[11:], utc_of(row.instant)
-        return f"{self.days[day]} {day} {time}  {NOTHING if utc == row.local else utc + 'Z':17}  "
+    def front(self, instant, local):
+        """The columns of a time."""
+        day, time, utc = local[:10], local[11:], utc_of(instant)
+        return f"{self.days[day]} {day} {time}  {NOTHING if utc == local else utc + 'Z':17}  "
 
     def when(self, row):
         """When a row without an instant is launched."""
@@ -81,18 +94,28 @@ class Text:
         return f"[{', '.join(told)}]"
 
 
-class Json:
-    """Rows as objects of JSON, one a line."""
-
-    head = ()
+class Fields(Form):
+    """Rows as fields with their names."""
 
     def __init__(self, due):
         self.zone = due.zone
         self.days = WeekDays()
+        self.ends = {name: self.end(origin) for name, origin in due.origins.items()}
 
     def line(self, row):
         """The line of a row."""
-        return json.dumps(dict(zip(FIELDS, self.values(row))), ensure_ascii=False)
+        return self.written(self.values(row), 0)
+
+    def front(self, instant, local):
+        """The first part of a plain launch's line."""
+        at = (VERSION, LAUNCH, local, self.days[local[:10]], self.zone, utc_of(instant) + "Z", local, self.zone, None)
+        written = self.written(at, 0)
+        return written[: len(written) - self.bracket] + self.between
+
+    def end(self, origin):
+        """The second part of a plain launch's line."""
+        values = self.values(Row(LAUNCH, origin=origin))
+        return self.written(values[FIRST_OF_JOB:], FIRST_OF_JOB)[self.bracket :]
 
     def values(self, row):
         """The values of a row's fields; none where a field says nothing."""
@@ -105,13 +128,25 @@ class Json:
         return (VERSION, row.kind, *at, *(entry if row.kind == LAUNCH else (None,) * 3), *source, job.when or None)
 
 
-class Csv(Json):
+class Json(Fields):
+    """Rows as objects of JSON, one a line."""
+
+    # What stands between two fields, and how many marks stand before the first one and behind the last one.
+    between, bracket = ", ", 1
+
+    def written(self, values, first):
+        """Values as an object, of the fields from that one on."""
+        return json.dumps(dict(zip(FIELDS[first:], values)), ensure_ascii=False)
+
+
+class Csv(Fields):
     """Rows as comma-separated values."""
 
     head = (",".join(FIELDS),)
+    between, bracket = ",", 0
 
-    def line(self, row):
-        """The line of a row, which may hold line ends of its own in quotes."""
+    def written(self, values, _first):
+        """Values as a row, which may hold line ends of its own in quotes."""
         written = io.StringIO()
-        csv.writer(written, lineterminator="").writerow(["" if value is None else value for value in self.values(row)])
+        csv.writer(written, lineterminator="").writerow(["" if value is None else value for value in values])
         return written.getvalue()
