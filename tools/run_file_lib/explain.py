@@ -1,4 +1,5 @@
 """Why an entry is due at a minute, or isn't: by its fields, the day rule and the changes of the clock. The program decides it."""
+import functools
 from datetime import timedelta
 
 from .clocks import UTC, changes_between, clock_at
@@ -17,6 +18,12 @@ MADE_UP = "{} is skipped, and a fixed time that is skipped is launched at once a
 AT_ONCE = "a fixed time that is skipped is launched at once after the change"
 
 
+@functools.lru_cache(maxsize=1_000)
+def changes_near(zone, instant):
+    """The changes of a zone's clock at an instant and within the three hours before, which many entries may be asked about."""
+    return [] if zone is UTC else list(changes_between(zone, instant - CORRECTION, instant + MINUTE))
+
+
 class Explanation:
     """Why an entry is due at an instant, or isn't."""
 
@@ -26,9 +33,7 @@ class Explanation:
         self.zone = zone
         self.instant = instant
         self.local = clock_at(zone, instant)
-        near = [] if zone is UTC else changes_between(zone, instant - CORRECTION, instant + MINUTE)
-        # The change that ends here, and those within the three hours before.
-        self.changes = list(near)
+        self.changes = changes_near(zone, instant)
         self.here = next((change for change in self.changes if change.instant == instant), None)
 
     def shown_before(self):

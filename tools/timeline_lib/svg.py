@@ -1,21 +1,38 @@
 """Elements of a picture in SVG."""
+import functools
 import re
 from xml.sax.saxutils import escape, quoteattr
 
 # How wide a letter of a text is at most, on the whole.
 LETTER = 6.2
+# A text that stands in quotes as it is.
+PLAIN = re.compile(r"[\w .,:@()#-]*")
 
 
 def element(name, title="", inside="", **attributes):
     """An element with its attributes, of which `_` stands for `-`, and with a title where it has one."""
-    told = "".join(f" {key.rstrip('_').replace('_', '-')}={quoteattr(short(value))}" for key, value in attributes.items())
+    told = "".join([f" {attribute_of(key)}={quoted(short(value))}" for key, value in attributes.items()])
     inside = (f"<title>{escape(title)}</title>" if title else "") + inside
     return f"<{name}{told}>{inside}</{name}>" if inside else f"<{name}{told}/>"
 
 
+@functools.lru_cache(maxsize=None)
+def attribute_of(key):
+    """The attribute that a word stands for."""
+    return key.rstrip("_").replace("_", "-")
+
+
+def quoted(text):
+    """A text in quotes. Most texts have nothing to be escaped, which is seen at once."""
+    return f'"{text}"' if PLAIN.fullmatch(text) else quoteattr(text)
+
+
 def short(value):
     """A number without needless digits, or a text."""
-    return re.sub(r"\.0$", "", f"{value:.1f}") if isinstance(value, float) else str(value)
+    if not isinstance(value, float):
+        return str(value)
+    digits = f"{value:.1f}"
+    return digits[:-2] if digits.endswith(".0") else digits
 
 
 def line(x1, y1, x2, y2, kind, title="", **attributes):
