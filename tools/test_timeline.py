@@ -11,6 +11,7 @@ import subprocess
 import tempfile
 import unittest
 from contextlib import redirect_stderr, redirect_stdout
+from unittest import mock
 from xml.etree import ElementTree
 
 from small_world.run_file import RunFile
@@ -267,6 +268,18 @@ class Timeline(unittest.TestCase):
             decided = [text for _, text in way if text.endswith(": it is decided")]
             ends = "its start", "its end as a launch"
             self.assertEqual(decided, [f"a majority has voted for {end}: it is decided" for end in ends])
+
+    def test_a_made_run(self):
+        """The run that is made has 317,725 turns, so another one stands in for it here."""
+        made = {0: MANY, 7: FREE, 2**32 - 1: MANY}
+        with mock.patch("timeline_lib.command.made_run", made.get):
+            status, output, _ = self.ran("--make", "7", "--alone", "--text")
+            self.assertEqual((status, output), (0, self.ran(self.write(FREE, "free"), "--alone", "--text")[1]))
+            for seed in (0, 2**32 - 1):
+                title = f"the run of seed {seed}: turns 0 to 9 of"
+                self.assertIn(title, self.ran("--make", str(seed), "--alone", "--until", "10")[1])
+        for words in ([], ["--make", "7", example("takeover")], ["--make", "-1"], ["--make", str(2**32)], ["--make", "x"]):
+            self.assertEqual(self.ran(*words, "--alone")[:2], (2, ""))
 
     def test_a_link_on_the_path(self):
         link = os.path.join(self.folder.name, "timeline")

@@ -9,6 +9,7 @@ from release_lib.version import PROGRAM, help_text, version_line
 from script_lib.run_lines import plain_run
 from small_world.replay import BadJournal, Recorded, followed, is_free, journal_in
 from small_world.run_file import RunFile
+from small_world.texts import made_run
 
 from .launches import Launches
 from .page import page_of
@@ -22,20 +23,23 @@ to standard output, or a page (HTML). What a journal doesn't say, such as what a
 docs/FORMATS.md is the manual.
 
   tools/timeline examples/takeover > takeover.svg
+  tools/timeline --make 7 --launch make:1@20240305T0138Z > launch.svg
 """
 # The status with which it refuses a run file.
 REFUSED = 2
 # So many turns are drawn around a launch, and so many at most.
 AROUND = 5
+MOST_SEED = 2**32 - 1
 MOST_DRAWN = {"picture": 1_000, "page": 20_000}
 
 
 def parser():
     layout = argparse.RawDescriptionHelpFormatter
     made = argparse.ArgumentParser(prog="timeline", description=help_text(ABOUT), formatter_class=layout)
-    made.add_argument("run", metavar="RUN", help="the run file")
+    made.add_argument("run", metavar="RUN", nargs="?", help="the run file")
     journal = "its journal, in place of what the program writes; a report before it is passed over"
     made.add_argument("journal", metavar="JOURNAL", nargs="?", help=journal)
+    made.add_argument("--make", type=int, metavar="SEED", help="in place of RUN: the run file that is made from this number")
     made.add_argument("--program", metavar="PATH", default=PROGRAM, help="the program; the built one by default")
     made.add_argument("--alone", action="store_true", help="work the journal out, without the program")
     made.add_argument("--seed", type=int, default=0, metavar="N", help="the order of free turns that --alone draws; 0 by default")
@@ -54,12 +58,12 @@ def read(path):
         return file.read()
 
 
-def written(program, path, text):
+def written(program, name, text):
     """What the program writes of a run file, with its journal."""
     done = subprocess.run([program, "--journal"], input=text.encode(), stdout=subprocess.PIPE, stderr=subprocess.PIPE, check=False)
     if done.returncode != 0:
         note = done.stderr.decode(errors="replace").strip()
-        more = f"; `tools/explain {path}` tells what is wrong with a script" if done.returncode == REFUSED else ""
+        more = f"; `tools/explain {name}` tells what is wrong with a script" if done.returncode == REFUSED else ""
         raise BadJournal(f"the program ends with status {done.returncode}: {note}{more}")
     return done.stdout.decode()
 
@@ -70,7 +74,7 @@ def played(options, run, text):
         if is_free(run):
             note("in which order free turns come nothing settles: this is one of many, and --seed draws another")
         return Recorded(run, options.seed).play(), None
-    lines, first = journal_in(read(options.journal) if options.journal else written(options.program, options.run, text))
+    lines, first = journal_in(read(options.journal) if options.journal else written(options.program, name_of(options), text))
     world, difference = followed(run, lines, first)
     if difference:
         note(difference)
@@ -124,9 +128,14 @@ def ways(launches, launch, first, until, jobs):
             yield from (f"  turn {turn}: {text}" for turn, text in events)
 
 
+def name_of(options):
+    """What the run is called."""
+    return f"the run of seed {options.make}" if options.run is None else options.run
+
+
 def drawn(options):
     """The text that the words ask for, and where the journal differs from what is worked out."""
-    text = plain_run(read(options.run))
+    text = plain_run(read(options.run)) if options.make is None else made_run(options.make)
     run = RunFile(text)
     jobs = jobs_of(options, run)
     world, difference = played(options, run, text)
@@ -135,7 +144,7 @@ def drawn(options):
     turns = turns_of(options, launches, launch)
     if options.text:
         return "".join(f"{line}\n" for line in ways(launches, launch, *turns, jobs)), difference
-    picture = Picture(launches, *turns, os.path.basename(options.run))
+    picture = Picture(launches, *turns, os.path.basename(name_of(options)))
     return page_of(picture, jobs, launch, difference) if options.page else picture.text(jobs, difference), difference
 
 
@@ -155,6 +164,10 @@ def write_out(text):
 def run(words):
     """Writes the picture, and gives the status: 1 where a word or a file is at fault, or a journal isn't what is worked out."""
     options = parser().parse_args(words)
+    if (options.run is None) == (options.make is None):
+        parser().error("either RUN or --make")
+    if options.make is not None and not 0 <= options.make <= MOST_SEED:
+        parser().error(f"--make takes a number from 0 to {MOST_SEED:,}")
     if options.alone and options.journal:
         parser().error("either a journal or --alone")
     if options.page and options.text:
@@ -166,7 +179,7 @@ def run(words):
         note(fault)
         return 1
     except (IndexError, KeyError, ValueError):
-        more = f"; `tools/explain {options.run}` tells what is wrong with a script"
-        note(f"{options.run} is no run file that the program takes{more}")
+        more = f"; `tools/explain {name_of(options)}` tells what is wrong with a script"
+        note(f"{name_of(options)} is no run file that the program takes{more}")
         return 1
     return 1 if difference else 0
