@@ -98,6 +98,7 @@ function showMiddle(place) {
   wide.style.width = `${data.width * state.scale}px`;
   room.scrollLeft = place * state.scale - room.clientWidth / 2;
   draw();
+  tellTurn();
 }
 
 function zoom(steps) {
