@@ -173,6 +173,14 @@ end
         self.assertEqual([windows[0][0], *(last for _, last in windows)], [f"2024-01-{hour}:00Z" for hour in hours])
         self.assertTrue(all(one[1] == other[0] for one, other in zip(windows, windows[1:])))
 
+    def test_parts_have_no_script(self):
+        """The stamps of a script may lie in another part of the window."""
+        script = self.write("duel", "# x\ncampaign 0\nround 2024-03-30T00:00Z 1\n")
+        self.answered("--list", "--script", script)
+        self.assertEqual(self.kept("run").split("\n")[4:], ["script", "campaign 0", "round 2024-03-30T00:00Z 1", "end", ""])
+        self.answered("--list", "--script", script, "--days", "401")
+        self.assertEqual(self.kept("run").split("\n")[2:], ["window 2025-05-04T00:00Z 2025-05-05T00:00Z", "grace 0", "script", "end", ""])
+
     def test_what_the_program_gets(self):
         self.machine()
         run = self.lines("--days", "3")

@@ -47,10 +47,14 @@ def alone(made, section, job):
 
 
 def of_window(made, first, last):
-    """The same run file, but for its window."""
-    head = made.data.split(b"\n", 3)
-    head[2] = f"window {first:%Y-%m-%dT%H:%M}Z {last:%Y-%m-%dT%H:%M}Z".encode()
-    return made._replace(data=b"\n".join(head))
+    """The same run file, but for its window. In another one the stamps of a script may have no place, so it has none there."""
+    lines = made.data.split(b"\n")
+    lines[2] = f"window {first:%Y-%m-%dT%H:%M}Z {last:%Y-%m-%dT%H:%M}Z".encode()
+    if not made.script or (first, last) == (made.window.first, made.window.last):
+        return made._replace(data=b"\n".join(lines))
+    begin = made.script.first - 1
+    del lines[begin : begin + len(made.script.numbers)]
+    return made._replace(data=b"\n".join(lines), script=None)
 
 
 def origin_of(sections, line):
