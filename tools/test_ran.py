@@ -61,7 +61,7 @@ def logged(form, *launches):
 class RanTest(RunFileTest):
     def setUp(self):
         super().setUp()
-        patch = mock.patch("ran_lib.tables.answer_of", answer_of)
+        patch = mock.patch("run_file_lib.windows.answer_of", answer_of)
         patch.start()
         self.addCleanup(patch.stop)
         self.addCleanup(os.chdir, os.getcwd())

@@ -1,4 +1,5 @@
 """The entries of a machine's tables, and when the program says that each is due."""
+import functools
 import os
 import re
 from collections import namedtuple
@@ -6,23 +7,23 @@ from datetime import datetime, timedelta
 
 from run_file_lib import stamps
 from run_file_lib.clocks import EPOCH
-from run_file_lib.faults import NoAnswer, Stop, cause_of
+from run_file_lib.due_list import INSTANT
+from run_file_lib.faults import NoAnswer
 from run_file_lib.gather import Gatherer
 from run_file_lib.options import options_of
-from run_file_lib.program import answer_of
 from run_file_lib.stamps import stamp_of
 from run_file_lib.users import split_users
+from run_file_lib.windows import answers
 
 from .clock import Clock
 
 # An entry: its name in the report, its file and line, its user, where that is known, its command, whether it is one of `@reboot`,
 # and the minutes since 1970 at which it is due.
 Entry = namedtuple("Entry", "name file line user command is_at_start dues")
-DUE = re.compile(r"due (.+)@(\d{4})(\d\d)(\d\d)T(\d\d)(\d\d)Z \S+")
+DUE = re.compile(r"due (.+)@(\d{8}T\d{4})Z \S+")
 # What stands before the user in a system table: five fields or a nickname.
 USER = re.compile(r"[ \t]*(?:@\S+|(?:\S+[ \t]+){4}\S+)[ \t]+(\S+)")
 MINUTE = timedelta(minutes=1)
-TOO_MANY = 24
 
 
 class Silent:
@@ -90,34 +91,19 @@ def user_of(section, text, users):
 
 
 def dues_of(program, made):
-    """The minutes at which each job is due, by its name. Where a window has too many for one answer, its halves are asked for."""
-    try:
-        lines = answer_of(program, "--list", made, "cron due 1")
-    except Stop as stop:
-        if cause_of(str(stop)) != TOO_MANY:
-            raise
-        return joined(*(dues_of(program, half) for half in halves_of(made)))
+    """The minutes at which each job is due, by its name."""
     found = {}
-    for line in lines:
-        if line.startswith("due "):
-            due = DUE.fullmatch(line)
-            if not due:
-                raise NoAnswer(f"ran: the program's answer has a line `{line}`")
-            instant = datetime(*map(int, due.groups()[1:]))
-            found.setdefault(due[1], []).append((instant - EPOCH) // MINUTE)
+    for lines in answers(program, made, 1):
+        for line in lines:
+            if line.startswith("due "):
+                due = DUE.fullmatch(line)
+                if not due:
+                    raise NoAnswer(f"ran: the program's answer has a line `{line}`")
+                found.setdefault(due[1], []).append(minute_of(due[2]))
     return found
 
 
-def joined(early, late):
-    """Two answers in one."""
-    return {name: early.get(name, []) + late.get(name, []) for name in {**early, **late}}
-
-
-def halves_of(made):
-    """The run file over each half of its window."""
-    head = made.data.split(b"\n", 3)
-    first, end = (datetime.strptime(word, "%Y-%m-%dT%H:%MZ") for word in head[2].decode().split(" ")[1:])
-    middle = first + (end - first) // MINUTE // 2 * MINUTE
-    for begin, until in ((first, middle), (middle, end)):
-        window = f"window {stamp_of(begin)} {stamp_of(until)}".encode()
-        yield made._replace(data=b"\n".join([*head[:2], window, head[3]]))
+@functools.lru_cache(maxsize=100_000)
+def minute_of(text):
+    """The minute since 1970 of an instant, as a due list writes it."""
+    return (datetime.strptime(text, INSTANT) - EPOCH) // MINUTE
