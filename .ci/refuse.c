@@ -15,10 +15,10 @@ __attribute__((constructor)) static void start(void) {
     left = digits ? atol(digits) : 0;
 }
 
-// Whether this allocation is the one.
+// Whether this allocation is the one. Threads count together.
 static int is_refused(void) {
     static const char note[] = "refused\n";
-    if (left == 0 || --left > 0)
+    if (__atomic_load_n(&left, __ATOMIC_RELAXED) <= 0 || __atomic_sub_fetch(&left, 1, __ATOMIC_RELAXED) != 0)
         return 0;
     return write(2, note, sizeof note - 1) > 0;
 }
