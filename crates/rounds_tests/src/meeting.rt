@@ -1,18 +1,31 @@
-//! Disks of which two wait for each other.
+//! Where two threads wait for each other, and disks of which two do so.
 use disk_model::{Disk, DiskFault, FileNo, MemDisk};
 use std::alloc::Global;
 use std::sync::Arc;
 use std::sync::atomic::{AtomicBool, AtomicU64, Ordering};
 use std::thread;
 
-// How often a disk looks whether the other has come. Where their replicas don't run at once, this ends the wait.
+// How often a thread looks whether the other has come. Where their replicas don't run at once, this ends the wait.
 const LOOKS: u32 = 100_000_000;
 
-/// Where two disks meet.
+/// Waits until somebody has come more often than this. It says whether they have; the limit of looks may end the wait.
+pub fn has_come(count: &AtomicU64, before: u64) -> bool {
+    'looks: for _look in 0..LOOKS {
+        if count.load(Ordering::SeqCst) > before {
+            return true;
+        }
+        thread::yield_now();
+    }
+    false
+}
+
+/// Where two meet.
 #[derive(Drop)]
 pub struct Meeting {
     // Whether they wait for each other from now on.
     open: AtomicBool,
+    // How often each of them waits at most.
+    most: u64,
     // How often each has come.
     first: AtomicU64,
     second: AtomicU64,
@@ -21,23 +34,12 @@ pub struct Meeting {
     missed: AtomicU64,
 }
 
-// Counts a coming, and waits until the other has come as often. It says whether that has.
-fn meets(mine: &AtomicU64, other: &AtomicU64) -> bool {
-    let before = mine.fetch_add(1, Ordering::SeqCst);
-    'looks: for _look in 0..LOOKS {
-        if other.load(Ordering::SeqCst) > before {
-            return true;
-        }
-        thread::yield_now();
-    }
-    false
-}
-
 impl Meeting {
-    /// A meeting that isn't open.
-    pub fn new() -> Meeting {
+    // A meeting that isn't open, at which each waits so often at most.
+    fn with_waits(most: u64) -> Meeting {
         Meeting {
             open: AtomicBool::new(false),
+            most,
             first: AtomicU64::new(0),
             second: AtomicU64::new(0),
             met: AtomicU64::new(0),
@@ -45,7 +47,17 @@ impl Meeting {
         }
     }
 
-    /// From now on the disks wait for each other.
+    /// A meeting that isn't open, at which each waits as often as it comes.
+    pub fn new() -> Meeting {
+        Meeting::with_waits(u64::MAX)
+    }
+
+    /// A meeting that isn't open, at which each waits when it comes first, and no more.
+    pub fn once() -> Meeting {
+        Meeting::with_waits(1)
+    }
+
+    /// From now on they wait for each other.
     pub fn open(&self) {
         self.open.store(true, Ordering::SeqCst);
     }
@@ -58,17 +70,21 @@ impl Meeting {
         )
     }
 
-    // A disk of this number comes; only 0 and 1 wait.
-    fn come(&self, who: u8) {
+    /// Whoever has this number comes; only 0 and 1 wait, each until the other has come as often.
+    pub fn come(&self, who: u8) {
         if who > 1 || !self.open.load(Ordering::SeqCst) {
             return;
         }
-        let met = if who == 0 {
-            meets(&self.first, &self.second)
+        let (mine, other) = if who == 0 {
+            (&self.first, &self.second)
         } else {
-            meets(&self.second, &self.first)
+            (&self.second, &self.first)
         };
-        if met {
+        let before = mine.fetch_add(1, Ordering::SeqCst);
+        if before >= self.most {
+            return;
+        }
+        if has_come(other, before) {
             self.met.fetch_add(1, Ordering::SeqCst);
         } else {
             self.missed.fetch_add(1, Ordering::SeqCst);
@@ -76,7 +92,7 @@ impl Meeting {
     }
 }
 
-/// A disk in memory, of this number. In each sync it waits for the other of 0 and 1.
+/// A disk in memory, of this number. In a sync it comes to the meeting, where 0 and 1 wait for each other.
 #[derive(Drop)]
 pub struct MeetingDisk {
     disk: MemDisk,

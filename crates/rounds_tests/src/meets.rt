@@ -1,5 +1,5 @@
 //! Lanes run at the same time: two replicas of a round wait for each other, and neither waits in vain.
-ghost use Rattle.std.specs.Prelude.{◌≡◌, Contains, IfOk, length};
+ghost use Rattle.std.specs.Prelude.{◌≡◌, ◌≤◌, Contains, IfOk, length};
 ghost use Rattle.world_rounds.specs.Start.{IsFreshDisk};
 ghost use Rattle.world_rounds.specs.World.{IsWorld, book_of};
 ghost use Rattle.rounds_tests.specs.Plays.{IsHour};
@@ -27,20 +27,42 @@ fn meeting_disk(alloc: Global, who: u8, meeting: &Arc<Meeting, Global>) -> Resul
     Ok(MeetingDisk::new(empty_disk(alloc), who, meeting))
 }
 
-// Three of them.
-fn meeting_disks(alloc: Global, meeting: &Arc<Meeting, Global>) -> Result<Vec<MeetingDisk>, Fail>
-    ensures count { IfOk result (λ disks. length disks.items ≡ 3) }
+// So many of them.
+fn meeting_disks(
+    alloc: Global,
+    count: u8,
+    meeting: &Arc<Meeting, Global>,
+) -> Result<Vec<MeetingDisk>, Fail>
+    ensures count { IfOk result (λ disks. length disks.items ≡ count) }
     ensures fresh { IfOk result (λ disks. (disk : Medium) → Contains disks.items disk
         → IsFreshDisk ⟦<MeetingDisk as Disk>⟧.may_leave ⟦<MeetingDisk as Disk>⟧.honest ⟦<MeetingDisk as Disk>⟧.told disk) }
 {
     let mut disks = Vec::new(alloc);
-    'disks: for who in 0..3u8 {
+    'disks: for who in 0..count {
         disks.push(meeting_disk(alloc, who, meeting)?)?;
     }
     Ok(disks)
 }
 
-// A world on them, in which the last has stood for leader. From now on the others wait for each other.
+/// A world on so many of them, before any turn.
+pub fn world_of_meeting_disks(
+    alloc: Global,
+    table: &JobTable,
+    count: u8,
+    meeting: &Arc<Meeting, Global>,
+) -> Result<World<MeetingDisk>, Fail>
+    requires few { count ≤ 7 }
+    ensures world { IfOk result (IsWorld ⟦<MeetingDisk as Disk>⟧.seen ⟦<MeetingDisk as Disk>⟧.may_leave ⟦<MeetingDisk as Disk>⟧.honest ⟦<MeetingDisk as Disk>⟧.told table.now) }
+    ensures members { IfOk result (λ world. (book_of world).members ≡ count) }
+{
+    let disks = meeting_disks(alloc, count, meeting)?;
+    match World::new(alloc, table, count, disks) {
+        Ok(world) => Ok(world),
+        Err(_) => Err(Fail::from("no world")),
+    }
+}
+
+// A world on three of them, in which the last has stood for leader. From now on the others wait for each other.
 fn meeting_world<R: Threads + Sync>(
     rt: &R,
     alloc: Global,
@@ -50,10 +72,7 @@ fn meeting_world<R: Threads + Sync>(
     ensures world { IfOk result (IsWorld ⟦<MeetingDisk as Disk>⟧.seen ⟦<MeetingDisk as Disk>⟧.may_leave ⟦<MeetingDisk as Disk>⟧.honest ⟦<MeetingDisk as Disk>⟧.told table.now) }
     ensures members { IfOk result (λ world. (book_of world).members ≡ 3) }
 {
-    let disks = meeting_disks(alloc, meeting)?;
-    let Ok(world) = World::new(alloc, table, 3, disks) else {
-        return Err(Fail::from("no world"));
-    };
+    let world = world_of_meeting_disks(alloc, table, 3, meeting)?;
     let world = play_on(rt, world, table, &[Command::Campaign { member: 2 }], 3)?;
     meeting.open();
     Ok(world)

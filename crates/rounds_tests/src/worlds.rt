@@ -35,8 +35,8 @@ fn disks(alloc: Global, count: u8) -> Result<Vec<MemDisk>, Fail>
     Ok(disks)
 }
 
-// A world before any turn.
-fn first_world(alloc: Global, table: &JobTable, count: u8) -> Result<World<MemDisk>, Fail>
+/// A world before any turn.
+pub fn first_world(alloc: Global, table: &JobTable, count: u8) -> Result<World<MemDisk>, Fail>
     requires few { count ≤ 7 }
     ensures world { IfOk result (IsWorld seen_of left_by (λ disk. ⊤) told_of table.now) }
     ensures members { IfOk result (λ world. (book_of world).members ≡ count) }

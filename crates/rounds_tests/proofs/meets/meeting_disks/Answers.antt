@@ -15,7 +15,7 @@ disks-preserved c =
 
 pub returns-clause-count : goal.returns-clause-count
 returns-clause-count c =
-    let whole : c.disks.who ≡ 3 = omega (arith, c.disks-test.false, c.disks.auto.who-end) in
+    let whole : c.disks.who ≡ c.args.count = omega (arith, c.disks-test.false, c.disks.auto.who-end) in
     c.disks.invariant.count_is ∙ whole
 
 pub returns-clause-fresh : goal.returns-clause-fresh
