@@ -133,7 +133,7 @@ def parted(command, parts, count):
 def measure_free(program, folder, members, parts, each):
     """A run of free turns, one of rounds that has about as many, and which share of the free one's processor time isn't that of turns."""
     free = clocked(program, folder, scripted(members, parted("free", parts, each)))
-    rounds = clocked(program, folder, scripted(members, parted("round", parts, each // 3)))
+    rounds = clocked(program, folder, scripted(members, parted("round", parts, each // 2)))
     waited = 1 - rounds.processor / rounds.turns * free.turns / free.processor
     print(f"{members} replicas, {parts} times {each:,} free turns: {free.told()}")
     print(f"    in rounds {rounds.told()}")
