@@ -100,7 +100,8 @@ class Explain(unittest.TestCase):
             self.assertEqual(faults_in(with_script("heal", line, "heal")), [(FIRST + 1, column, text, 30)])
 
     def test_a_script_that_is_taken(self):
-        script = ["campaign 2", "round 2024-03-31T00:00Z 10000", "skew 1 -10000", "fate 0 late", "again 4294967295", "cut 1 1", "free 2024-03-31T00:00Z 4"]
+        at = "2024-03-31T00:00Z"
+        script = ["campaign 2", f"round {at} 10000", "skew 1 -10000", "fate 0 late", "again 4294967295", "cut 1 1", f"free {at} 4"]
         self.assertEqual(faults_in(with_script(*script, "walk 2024-03-31T03:59Z")), [])
         self.assertEqual(explained("x", with_script(*script)), (["each line of the script is taken"], False))
 
