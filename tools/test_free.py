@@ -6,6 +6,7 @@ Usage: tools/test_free.py [NAME..]
 import random
 import unittest
 
+from small_world.changed import changed
 from small_world.made import free_run
 from small_world.replay import Followed, Recorded, Replay
 from small_world.run_file import RunFile
@@ -37,22 +38,6 @@ class Ordered(World):
 def lines_of(world):
     """The lines of a journal between the first one and `end`."""
     return journal_of(world).split("\n")[1:-2]
-
-
-def changed(chance, lines):
-    """Lines of which one, drawn from those of turns, is another, or is missing, or stands there twice."""
-    number = chance.choice([place for place, line in enumerate(lines) if line[0].isdigit()])
-    words = lines[number].split(" ")
-    other = chance.choice(["0", "1", "2", "3", "4", "5", "6", "-"])
-    ways = {
-        "owner": [" ".join([words[0], other, *words[2:]])],
-        "word": [" ".join([*words[:2], chance.choice(["answer", "campaign", f"tick {STAMP}", "hear 0", "hear 7", "stop"])])],
-        "number": [" ".join([str(int(words[0]) + 1), *words[1:]])],
-        "more": [f"{lines[number]} done"],
-        "missing": [],
-        "twice": [lines[number]] * 2,
-    }
-    return [*lines[:number], *ways[chance.choice(list(ways))], *lines[number + 1 :]]
 
 
 class Free(unittest.TestCase):

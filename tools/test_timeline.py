@@ -204,6 +204,14 @@ class Timeline(unittest.TestCase):
         self.assertEqual(self.ran(run, self.journal), (0, output, ""))
         self.assertNotEqual(self.ran(run, "--alone", "--seed", "5")[1], output)
 
+    def test_a_command_that_the_program_refuses(self):
+        run = self.write(FREE.replace("campaign 0", "break 0 1 2"), "break")
+        self.write(journal_of(World(RunFile(FREE)).play()))
+        for words in (["--alone"], [self.journal]):
+            status, output, notes = self.ran(run, *words)
+            self.assertEqual((status, output), (1, ""))
+            self.assertIn(f"{run} is no run file that the program takes; `tools/explain {run}` tells", notes)
+
     def test_a_journal_has_the_same_picture(self):
         world = world_of("leader_cut_off")
         self.write(report_of(world) + journal_of(world))

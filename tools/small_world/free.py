@@ -30,8 +30,8 @@ class FreePart:
         return "tick", world.clock(who, self.at)
 
     def left(self):
-        """The replicas that have turns left."""
-        return [who for who, taken in self.taken.items() if taken < self.turns]
+        """The replicas that have turns left. One whose disk has stopped has none."""
+        return [who for who, taken in self.taken.items() if taken < self.turns and self.world.runs[who]]
 
     def take(self, who):
         """The next turn of a replica. Its letters join the mails at once."""

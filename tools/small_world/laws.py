@@ -1,7 +1,9 @@
 """A world that is watched: after each turn what replicas know agrees with what was chosen, each launch that is held was started
-in the log before it was called, and each drain ends within its bounds."""
+in the log before it was called, each drain ends within its bounds, and where a disk stops within a write, its files stand for what
+is kept."""
 from collections import Counter, defaultdict
 
+from .files import Files
 from .jobs import Entry, Periodic
 from .launches import LAUNCH, End, Start, apply, fresh_rows, takes_effect
 from .replica import MOST_ENTRIES, Accept, Accepted, Follower, Known, Lead, Nack, Prepare, Promise, Snap
@@ -36,12 +38,17 @@ class WatchedWorld(World):
         self.ended = {}
         self.campaigns = 0
         self.checked = {}
+        # Where disks are armed, the files of each.
+        has_break = any(command[0] == "break" for command in run.script)
+        self.files = [Files(who, run.jobs) for who in self.members] if has_break else []
 
     # What is chosen, and what agrees with it.
 
     def add(self, turn, step=None):
         super().add(turn, step)
         self.seen[turn.word] += 1
+        if turn.word == "restart":
+            self.check_files(self.files[turn.who : turn.who + 1])
         self.seen["snapshot heard"] += turn.word == "hear" and self.hears_snapshot(turn)
         if step:
             self.count_votes(turn.who, step.votes())
@@ -89,6 +96,34 @@ class WatchedWorld(World):
         claim(replica.prefix < len(self.tables), "what is learned is in the log")
         claim(tuple(replica.launches) == self.tables[replica.prefix], "a launch table is that of the log up to the prefix")
         claim(tuple(replica.rows) == self.tables[replica.base], "what is kept of it is that up to the base")
+
+    # Disks that stop.
+
+    def arm(self, who, arm):
+        super().arm(who, arm)
+        if self.files:
+            self.files[who].arm = arm
+
+    def save(self, who, change):
+        end = super().save(who, change)
+        if self.files:
+            claim(self.files[who].save(change) == (end is not None), "a disk stops within the call that its arm says")
+        return end
+
+    def break_off(self, turn, change, kept):
+        replica, after = self.replicas[turn.who], kept.after(change)
+        claim(replica.kept() == after, "a step changes on the disk what it saves")
+        claim(kept != after, "a change alters what is kept")
+        super().break_off(turn, change, kept)
+        claim(self.files[turn.who].kept == replica.kept(), "where a disk stops, its files stand for what is kept")
+        kind = "snapshot" if change[0] == "base" and turn.cause == "hear" else change[0]
+        self.seen[f"{turn.end} {kind}"] += 1
+
+    def check_files(self, disks):
+        """The files of disks are read anew."""
+        for files in disks:
+            files.attach()
+            claim(files.kept == self.replicas[files.me].kept(), "files stand for what is kept")
 
     # Free turns.
 
@@ -154,7 +189,8 @@ class WatchedWorld(World):
         return self
 
     def check_ends(self, by_script):
-        """Each due instant is closed, as a launch where it is later than each clock reading of the script."""
+        """Each due instant is closed, as a launch where it is later than each clock reading of the script; and what is kept can be read."""
+        self.check_files(self.files)
         claim({name: call.kind for name, call in self.ledger.held.items()} == self.ended, "all that is held has ended in the log")
         for number, job in enumerate(self.run.jobs):
             if isinstance(job, Entry):

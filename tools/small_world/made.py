@@ -1,5 +1,5 @@
 """Run files made from seeds: tables with few jobs, and scripts in which replicas stop and start, letters are lost, doubled and
-reordered, clocks are off, and calls fail or come late."""
+reordered, clocks are off, calls fail or come late, and disks stop within a write."""
 import random
 
 from .instants import minute_of, stamp_of
@@ -11,17 +11,23 @@ PERIODS = ["1 5", "2 30", "7 25", "@monthly 45", "@weekly 0", "@yearly 600"]
 FATES = ["done", "done", "lost-before", "lost-after", "late", "late"]
 MEMBERS = [1, 2, 3, 3, 3, 4, 5, 5, 6, 7]
 FREE_TURNS = [1, 2, 3, 5, 8, 12, 20, 30, 70, 130]
+# How many calls of a disk are to succeed: few as a rule, and a record takes four of them. Behind so many a launch table takes the place
+# of 64 entries, where a replica leads with nothing amiss; two calls behind the last of them it is shown.
+CALLS = [0, 1, 2, 2, 2, 3, 3, 3, 4, 5, 6, 7, 7, 8, 10, 11, 14, 30, 2**32 - 1]
+TABLE_CALLS = [256, 259, 260, 261, 262, 263, 263, 263, 264, 264, 264, 268]
+# The image with the stopped call done, that without it, and those with a byte in its place.
+IMAGES = [0, 1, 1, 1, 2, 5, 5, 8, 767, 770, 2**32 - 1, 2**32 - 2]
 # How often a command is made, by the order of the commands in Script.add.
-WEIGHTS = [16, 4, 3, 4, 2, 2, 2, 2, 2, 2, 1, 6, 3, 0.3, 0.3, 0]
-FREE_WEIGHTS = [4, 3, 3, 5, 2, 2, 2, 2, 2, 2, 1, 12, 4, 0.3, 0.3, 16]
+WEIGHTS = [16, 4, 3, 4, 2, 2, 2, 2, 2, 2, 1, 6, 3, 0.3, 0.3, 0, 0]
+FREE_WEIGHTS = [4, 3, 3, 5, 2, 2, 2, 2, 2, 2, 1, 12, 4, 0.3, 0.3, 16, 0]
+BREAK_WEIGHTS = [16, 7, 1, 10, 1, 1, 1, 1, 1, 1, 1, 5, 2, 0.3, 0.3, 5, 18]
 
 
 class Script:
-    """A script in the making: the clock that its rounds go by mostly rises. Where it is free, replicas run by themselves more
-    often than in rounds."""
+    """A script in the making: the clock that its rounds go by mostly rises. The weights tell how often each command is made."""
 
-    def __init__(self, chance, members, minutes, is_free=False):
-        self.weights = FREE_WEIGHTS if is_free else WEIGHTS
+    def __init__(self, chance, members, minutes, weights=WEIGHTS):
+        self.weights = weights
         self.chance = chance
         self.members = members
         self.minutes = minutes
@@ -57,7 +63,26 @@ class Script:
         leader, missed = self.candidate(), self.members - 1
         last = stamp_of(FIRST + self.minutes - 1)
         self.lines += [f"campaign {leader}", f"round {last} 5", f"stop {missed}", f"round {last} {rounds}"]
-        self.lines += [f"restart {missed}", f"round {last} 6" if self.weights is WEIGHTS else f"free {last} 40"]
+        self.lines += [f"restart {missed}", f"free {last} 40" if self.weights is FREE_WEIGHTS else f"round {last} 6"]
+
+    def stop(self):
+        """After how many calls a disk stops, and which image that leaves."""
+        return f"{self.chance.choice(CALLS)} {self.chance.choice(IMAGES)}"
+
+    def stop_at_snapshots(self):
+        """Has a replica miss so many entries that it needs a snapshot, and its disk stop some times as it comes back."""
+        self.leave_behind()
+        rounds = self.lines.pop()
+        for _ in range(4):
+            self.lines += [f"restart {self.members - 1}", f"break {self.members - 1} {self.stop()}", rounds]
+
+    def stop_at_tables(self):
+        """Has the disk of a leader stop some times, about where a launch table takes the place of entries."""
+        last = stamp_of(FIRST + self.minutes - 1)
+        for _ in range(self.chance.choice([1, 2, 4])):
+            leader = self.candidate()
+            self.lines += [f"restart {leader}", f"break {leader} {self.chance.choice(TABLE_CALLS)} {self.chance.choice(IMAGES)}"]
+            self.lines += [f"campaign {leader}", f"round {last} {70 if self.members == 1 else 140}"]
 
     def add(self):
         """Adds a command, rounds more often than any other."""
@@ -78,6 +103,7 @@ class Script:
             "settle": self.stamp,
             "walk": self.stamp,
             "free": lambda: f"{self.stamp()} {self.chance.choice(FREE_TURNS)}",
+            "break": lambda: f"{self.who()} {self.stop()}",
         }
         word = self.chance.choices(list(makers), self.weights)[0]
         self.lines.append(f"{word} {makers[word]()}".rstrip())
@@ -116,13 +142,33 @@ def free_run(seed):
     is_left_behind = chance.random() < 0.06
     members, minutes = (3, 60) if is_left_behind else (chance.choice(MEMBERS), chance.choice([15, 20, 30]))
     tables = ["crontab alice UTC 1", "* * * * * job"] if is_left_behind else tables_of(chance, chance.random() < 0.2)
-    script = Script(chance, members, minutes, is_free=True)
+    script = Script(chance, members, minutes, FREE_WEIGHTS)
     for _ in range(chance.choice([2, 4, 6, 9, 14])):
         script.add()
     if is_left_behind:
         script.leave_behind(400)
     elif not any(line.startswith("free ") for line in script.lines):
         script.lines.append(f"free {stamp_of(FIRST + minutes - 1)} 40")
+    window = f"window {stamp_of(FIRST)} {stamp_of(FIRST + minutes)}"
+    head = ["cronrun 1", f"replicas {members}", window, f"grace {chance.choice([0, 1, 5, minutes])}"]
+    return "\n".join([*head, *tables, "script", *script.lines, "end", ""])
+
+
+def break_run(seed):
+    """The run file of a seed, in whose script disks stop within a write, in rounds and while replicas run by themselves; in some of them
+    where a launch table is kept, or where one is heard."""
+    chance = random.Random(seed)
+    kind = chance.choices(["few", "tables", "left behind"], [70, 15, 15])[0]
+    members = chance.choice({"few": MEMBERS, "tables": [1, 1, 1, 2], "left behind": [3]}[kind])
+    minutes = chance.choice([15, 20, 30]) if kind == "few" else 120
+    tables = tables_of(chance, chance.random() < 0.15) if kind == "few" else ["crontab alice UTC 1", "* * * * * job"]
+    script = Script(chance, members, minutes, BREAK_WEIGHTS)
+    for _ in range(chance.choice([5, 10, 20, 30, 40] if kind == "few" else [0, 3])):
+        script.add()
+    if kind == "tables":
+        script.stop_at_tables()
+    elif kind == "left behind":
+        script.stop_at_snapshots()
     window = f"window {stamp_of(FIRST)} {stamp_of(FIRST + minutes)}"
     head = ["cronrun 1", f"replicas {members}", window, f"grace {chance.choice([0, 1, 5, minutes])}"]
     return "\n".join([*head, *tables, "script", *script.lines, "end", ""])

@@ -1,6 +1,7 @@
 """A run with what each of its turns did, for those who show it: as the small world plays it, or as a journal tells it."""
 import re
 
+from .disk import KEPT, LOST
 from .instants import minute_of
 from .texts import turn_line
 from .verdict import Judged, Refused
@@ -41,6 +42,9 @@ class Replay(Recorded):
     """A world whose turns are those of a journal, be they those of its script or others. What the journal doesn't say of a turn
     is worked out."""
 
+    # What the line of a turn tells of a disk that stops within: `kept` or `lost`.
+    told_end = None
+
     def play_lines(self, lines, first=2):
         """Plays the lines between the first and the last one, of which the first has that number."""
         for number, line in enumerate(lines, first):
@@ -56,6 +60,13 @@ class Replay(Recorded):
         if len(self.parts) != len(self.run.script) + 1:
             raise BadJournal("the journal lacks a command of the script")
         return self
+
+    def may_stop(self, who):
+        return self.told_end is not None
+
+    def save(self, who, change):
+        """The journal tells which turn a disk stops within, and whether what was to be saved is kept."""
+        return self.told_end
 
     def take_part(self, number, line):
         """Begins the part of the next command, or that of the walk at the end."""
@@ -74,9 +85,12 @@ class Replay(Recorded):
             self.arrive(int(words[0]))
         elif word == "restart":
             self.restart(int(who))
-        elif word == "stop":
+        elif word == "stop" and not words:
             self.stop(int(who))
         else:
+            self.told_end, word, *words = words if word == "stop" else [None, word, *words]
+            if self.told_end not in (None, KEPT, LOST):
+                raise ValueError("neither kept nor lost")
             if word == "tick":
                 self.fates[int(who)] = words[1] if words[1:] else "done"
             self.take(int(who), word, self.operand(int(who), word, words))

@@ -61,6 +61,29 @@ class Leader:
         return any(slot >= prefix for slot in self.best)
 
 
+class Kept(NamedTuple):
+    """What stays over a stop: the round tried last, the ballot promised, the votes by slot, and the launch table at the base."""
+
+    tried: int
+    promised: int
+    votes: dict
+    base: int
+    rows: list
+
+    def after(self, change):
+        """What is kept after a change."""
+        kind, *parts = change
+        if kind == "tried":
+            return self._replace(tried=parts[0] // 8, promised=parts[0])
+        if kind == "promised":
+            return self._replace(promised=parts[0])
+        if kind == "voted":
+            slot, ballot, entry = parts
+            return self._replace(promised=ballot, votes={**self.votes, slot: Vote(ballot, entry)})
+        base, rows = parts
+        return self._replace(base=base, rows=rows, votes={slot: vote for slot, vote in self.votes.items() if slot >= base})
+
+
 class Step:
     """What comes of a step beside what the replica knows: what is changed on its disk, packets by addressee, entries learned with
     their slots, and a call of the scheduler. The change is `tried` or `promised` with a ballot, `voted` with a slot, a ballot and
@@ -89,13 +112,16 @@ class Replica:
         self.run = run
         self.majority = run.members // 2 + 1
         self.others = [other for other in range(run.members) if other != me]
-        # What stays over a stop: the round tried last, the ballot promised, the votes by slot, and the launch table at the base.
-        self.tried = 0
-        self.promised = 0
-        self.votes = {}
-        self.base = 0
-        self.rows = fresh_rows(run.jobs)
+        self.keep(Kept(0, 0, {}, 0, fresh_rows(run.jobs)))
         self.start()
+
+    def kept(self):
+        """What is on its disk."""
+        return Kept(self.tried, self.promised, dict(self.votes), self.base, list(self.rows))
+
+    def keep(self, kept):
+        """Has this on its disk, and nothing else."""
+        self.tried, self.promised, self.votes, self.base, self.rows = kept
 
     def start(self):
         """Starts with what is on the disk."""

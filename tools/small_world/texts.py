@@ -18,8 +18,9 @@ def report_of(world):
 def turn_line(run, number, turn):
     """The line of a turn in the journal."""
     words = [str(number), "-" if turn.who is None else str(turn.who), turn.word]
+    words += [turn.end, turn.cause] if turn.cause else []
     if turn.operand is not None:
-        words.append(stamp_of(turn.operand) if turn.word == "tick" else str(turn.operand))
+        words.append(stamp_of(turn.operand) if words[-1] == "tick" else str(turn.operand))
     if turn.call:
         words.append(turn.fate)
     if turn.answer:

@@ -66,7 +66,7 @@ class Judged(World):
         if who is None:
             having = ", ".join(f"replica {other} has had {part.taken[other]}" for other in part.left())
             self.refuse(f"is {self.told()!r}, where each replica that runs has {part.turns} turns: {having}")
-        if who not in part.taken:
+        if who not in part.taken or not self.runs[who]:
             self.refuse(f"is {self.told()!r}, and replica {who} doesn't run")
         if part.taken[who] == part.turns:
             self.refuse(f"is {self.told()!r}, and replica {who} has had all its turns, which are {part.turns}")

@@ -2,15 +2,17 @@
 turn is a step of a replica, a stop, a start, or the arrival of a late call."""
 from typing import NamedTuple, Optional
 
+from .disk import KEPT, Arm, Disk
 from .free import FreePart, Order
 from .instants import minute_of
 from .launches import Call, Ledger
-from .replica import Follower, Replica
+from .replica import Follower, Replica, Step
 
 
 class Turn(NamedTuple):
     """A turn: whose it is, what it does, and what the scheduler was called for. The operand of `tick` is the clock reading, of
-    `hear` the letter, of `arrive` the late call."""
+    `hear` the letter, of `arrive` the late call. A disk that stops within a write makes a `stop` with a cause, which is the word of
+    the turn that was saving something, and has that turn's operand; `end` tells whether that is kept."""
 
     who: Optional[int]
     word: str
@@ -18,6 +20,8 @@ class Turn(NamedTuple):
     call: Optional[Call] = None
     fate: Optional[str] = None
     answer: Optional[Call] = None
+    end: Optional[str] = None
+    cause: Optional[str] = None
 
 
 class Letter(NamedTuple):
@@ -35,6 +39,7 @@ class World:
         self.order = Order(seed)
         self.members = range(run.members)
         self.replicas = [Replica(who, run) for who in self.members]
+        self.disks = [Disk() for _ in self.members]
         self.runs = [True] * run.members
         self.waits = [None] * run.members
         self.mails = [[] for _ in self.members]
@@ -52,8 +57,13 @@ class World:
     # Turns.
 
     def take(self, who, word, operand=None):
-        """A turn of a replica in which it takes a step."""
+        """A turn of a replica in which it takes a step, unless its disk stops within."""
+        kept = self.replicas[who].kept() if self.may_stop(who) else None
         step = self.step(who, word, operand)
+        end = self.save(who, step.change) if step.change else None
+        if end:
+            self.break_off(Turn(who, "stop", operand, end=end, cause=word), step.change, kept)
+            return
         fate = self.fates[who] if step.call else None
         answer = self.call(who, step.call) if step.call else None
         self.waits[who] = answer
@@ -73,6 +83,26 @@ class World:
         self.mails[who].pop(0)
         return replica.hear(self.letters[operand].sender, self.letters[operand].packets)
 
+    def arm(self, who, arm):
+        """The disk of a replica stops as the arm says; where there is none, it doesn't."""
+        self.disks[who].arm = arm
+
+    def may_stop(self, who):
+        """Whether the disk of a replica may stop within what it saves next."""
+        return self.disks[who].arm is not None
+
+    def save(self, who, change):
+        """Saves the change of a step. Where the disk stops within, tells whether it is kept or lost."""
+        return self.disks[who].save(change)
+
+    def break_off(self, turn, change, kept):
+        """A replica stops within the save of a change, with what was kept before or with the change. Nothing else comes of its step."""
+        step = Step()
+        step.change = change if turn.end == KEPT else None
+        self.replicas[turn.who].keep(kept.after(change) if step.change else kept)
+        self.end(turn.who)
+        self.add(turn, step)
+
     def call(self, who, call):
         fate, self.fates[who] = self.fates[who], "done"
         return self.ledger.call(call, fate)
@@ -81,10 +111,15 @@ class World:
         """Adds a turn, with the step that it took if it took one."""
         self.turns.append(turn)
 
-    def stop(self, who):
+    def end(self, who):
+        """A replica runs no more: what waits for it is lost, and its disk isn't armed any more."""
         self.runs[who] = False
         self.waits[who] = None
         self.mails[who] = []
+        self.arm(who, None)
+
+    def stop(self, who):
+        self.end(who)
         self.add(Turn(who, "stop"))
 
     def restart(self, who):
@@ -112,12 +147,10 @@ class World:
     def round(self, at):
         first = len(self.letters)
         for who in self.members:
-            if self.runs[who]:
-                if self.waits[who]:
-                    self.take(who, "answer")
-                for letter in list(self.mails[who]):
-                    self.take(who, "hear", letter)
-                self.take(who, "tick", self.clock(who, at))
+            answers = [("answer", None)] if self.waits[who] else []
+            for word, operand in [*answers, *(("hear", letter) for letter in self.mails[who]), ("tick", self.clock(who, at))]:
+                if self.runs[who]:
+                    self.take(who, word, operand)
         self.deliver(first)
 
     def campaign(self, who):
@@ -166,6 +199,8 @@ class World:
         self.cuts = set()
         self.skews = [0] * self.run.members
         self.fates = ["done"] * self.run.members
+        for who in self.members:
+            self.arm(who, None)
         who = self.coordinator()
         self.campaign(who)
         self.drain(who, at)
@@ -209,6 +244,10 @@ class World:
         if self.runs[int(who)]:
             self.stop(int(who))
 
+    def arm_if_running(self, who, calls, image):
+        if self.runs[int(who)]:
+            self.arm(int(who), Arm(int(calls), int(image)))
+
     def restart_if_stopped(self, who):
         if not self.runs[int(who)]:
             self.restart(int(who))
@@ -249,6 +288,7 @@ COMMANDS = {
     "round": World.play_rounds,
     "campaign": World.campaign_if_running,
     "stop": World.stop_if_running,
+    "break": World.arm_if_running,
     "restart": World.restart_if_stopped,
     "cut": World.cut,
     "heal": World.heal,
