@@ -10,8 +10,8 @@ from unittest import mock
 
 from small_world.changed import changed
 from small_world.disk import KEPT, LOST, Arm, Disk
-from small_world.files import Files
-from small_world.launches import NOOP, Start, fresh_rows
+from small_world.files import File, Files
+from small_world.launches import LAUNCH, NOOP, End, Start, fresh_rows
 from small_world.laws import Broken, WatchedWorld
 from small_world.made import break_run
 from small_world.replay import BadJournal, Followed, Recorded, Replay
@@ -122,6 +122,30 @@ class Arms(unittest.TestCase):
             told = [self.saved(change, bases, (calls, image)) for change, bases in ((VOTE, 0), (TABLE, 0), (TABLE, 1))]
             self.assertEqual(told, ends, (calls, image))
             self.assertEqual([self.saved(TABLE, bases, (calls, image)) for bases in (2, 3)], ends[1:])
+
+    def test_what_files_stand_for(self):
+        """By the bytes of the first area, of which P is the body of a promise of ballot 8, and those of the chooser."""
+        promise = bytes([2]) + bytes(14) + bytes([8]) + bytes(40)
+        told = [("", "", 0), ("1", "", 0), ("1P", "", 0), ("0P1", "", 0), ("1P0", "", 8), ("1P1", "", 8), ("1P1P0", "", None), ("1P0", "\xff", 0)]
+        for area, chooser, promised in told:
+            files = Files(1, ["a job"])
+            files.areas[0] = File(b"".join(promise if part == "P" else bytes([int(part)]) for part in area))
+            files.chooser = File(chooser.encode("latin-1"))
+            files.attach()
+            self.assertEqual(files.kept and files.kept.promised, promised, area)
+        for more, kept in ((56, Files(1, ["a job"]).kept), (57, None)):
+            files.areas[1] = File(b"\1" + b"\xff" * more)
+            files.attach()
+            self.assertEqual(files.kept, kept)
+
+    def test_the_files_of_a_replica_alone(self):
+        """It has its ballot, and two votes for each of three launches."""
+        world = played(run_of(1, f"break 0 {2**32 - 1} 1", entry="0,20,40 * * * *", hours=1))
+        entries = [entry for at in (28530720, 28530740, 28530760) for entry in (Start(0, at, at), End(0, at, LAUNCH))]
+        kept = world.files[0].kept
+        self.assertEqual((kept.tried, kept.promised, kept.base), (1, 8, 0))
+        self.assertEqual(kept.votes, {slot: (8, entry) for slot, entry in enumerate(entries)})
+        self.assertEqual([len(area.content) for area in world.files[0].areas], [7 * 57 + 1, 0])
 
     def test_files_go_on_behind_a_stop(self):
         chance = random.Random(0)

@@ -119,10 +119,9 @@ def kept_by(records, jobs):
         tried = sum(record[5] // 8 for record in copy if record[0] == TRIED)
         kept = Kept(tried, max((record[5] for record in copy), default=0), votes, base, [row_of(row) for row in rows])
     for record in records:
-        change = change_of(record)
-        if record[0] not in (TRIED, PROMISED, VOTED) or not may_follow(kept, change):
+        if record[0] not in (TRIED, PROMISED, VOTED) or not may_follow(kept, change_of(record)):
             return None
-        kept = kept.after(change)
+        kept = kept.after(change_of(record))
     return kept
 
 
