@@ -123,6 +123,13 @@ class Arms(unittest.TestCase):
             self.assertEqual(told, ends, (calls, image))
             self.assertEqual([self.saved(TABLE, bases, (calls, image)) for bases in (2, 3)], ends[1:])
 
+    def test_each_image(self):
+        """The files stand for what is kept by arithmetic, whatever byte stands in the place of those that were written."""
+        for change, bases in ((VOTE, 0), (TABLE, 0), (TABLE, 1)):
+            for calls in range(6):
+                for image in (0, 1, *range(2, 3 * 256, 3)):
+                    self.saved(change, bases, (calls, image))
+
     def test_what_files_stand_for(self):
         """By the bytes of the first area, of which P is the body of a promise of ballot 8, and those of the chooser."""
         promise = bytes([2]) + bytes(14) + bytes([8]) + bytes(40)

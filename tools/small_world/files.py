@@ -10,6 +10,7 @@ BODY = struct.Struct(">BBBBIQQQqqq")
 SHUT, OPEN = b"\0", b"\1"
 GATED = len(OPEN) + BODY.size
 TRIED, PROMISED, VOTED, BASE, ROW = range(1, 6)
+BALLOTS = {"tried": TRIED, "promised": PROMISED}
 ENDS = {2: LAUNCH, 3: VOID}
 
 
@@ -59,6 +60,14 @@ def row_body(slot, job, row):
     told = row.cursor, row.open_now, row.last
     tag = sum(1 << place for place, value in enumerate(told) if value is not None)
     return body(ROW, tag, job, row.launched, slot, row.voided, *(value or 0 for value in told))
+
+
+def record_of(change):
+    """The record that saves a change; none for a base, which takes an area of its own."""
+    kind, *parts = change
+    if kind in BALLOTS:
+        return body(BALLOTS[kind], ballot=parts[0])
+    return vote_body(*parts) if kind == "voted" else None
 
 
 def base_bodies(kept, own, slot, rows):
@@ -173,10 +182,8 @@ class Files:
 
     def save(self, change):
         """Saves a change, and tells whether the disk stopped within. Then the files are what the stop leaves, attached anew."""
-        kind, *parts = change
-        ballot_kinds = {"tried": TRIED, "promised": PROMISED}
-        one = body(ballot_kinds[kind], ballot=parts[0]) if kind in ballot_kinds else vote_body(*parts) if kind == "voted" else None
-        for call, *operands in self.append(one) if one else self.rebase(*parts):
+        one = record_of(change)
+        for call, *operands in self.append(one) if one else self.rebase(*change[1:]):
             if self.arm and self.arm.left == 0:
                 # A sync within which the disk stops does nothing, and a write or a cut may be done.
                 if operands:
