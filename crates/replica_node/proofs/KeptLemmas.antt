@@ -11,6 +11,7 @@ use Rattle.disk_model.specs.Images.{Image}
 use Rattle.disk_model.specs.Made.{AllDone, DiskCall, MadeCalls}
 use Rattle.disk_model.specs.Told.{Tells, Told, after_arm, after_disarm, image_left}
 use Rattle.disk_model.proofs.StopLemmas.{all_pass, all_run, stops_at}
+use Rattle.paxos_base.specs.Durable.{after_delta}
 use Rattle.paxos_base.specs.declared.durable.Delta.{Delta}
 use Rattle.paxos_base.specs.declared.durable.Delta.TheVariants.{Tried, Promised, Voted, Base}
 use Rattle.paxos_base.specs.declared.durable.Durable.{Durable}
@@ -21,7 +22,7 @@ use Rattle.store_format.specs.Records.{AreRecords, IsRecord, record_bytes}
 use Rattle.store_format.specs.declared.body.Record.{Record}
 use Rattle.store_format.specs.declared.body.Record.TheVariants as Item
 use Rattle.replica_store.specs.Faults as stored
-use Rattle.replica_store.specs.Files.{other_area, selected, selected_by, FilesStand}
+use Rattle.replica_store.specs.Files.{other_area, selected, selected_by}
 use Rattle.replica_store.specs.Kept.{IsReady, Shows, StopsInSave}
 use Rattle.replica_store.specs.Made.{area_after, attach_calls, save_calls}
 use Rattle.replica_store.specs.Store.{IsStoreSettled, area_of, jobs_of, records_of}
@@ -30,9 +31,9 @@ use Rattle.replica_store.specs.declared.fault.StoreFault.TheVariants as Store
 use Rattle.replica_store.specs.declared.store.Store.{Store as AStore}
 use Rattle.replica_store.proofs.BaseLemmas.{base_early, base_kept, base_lost}
 use Rattle.replica_store.proofs.CleanLemmas.{armed_clean, attached_clean, disarmed_clean, ready_clean, settled_ready}
-use Rattle.replica_store.proofs.KeptLemmas.{record_early, record_kept, record_lost}
+use Rattle.replica_store.proofs.KeptLemmas.{StandsIn, record_early, record_kept, record_lost}
 use Rattle.replica_node.specs.Faults.{of_disk}
-use Rattle.replica_node.specs.Kept.{IsKeptByArm, IsSynced, LeavesByArm, calls_of}
+use Rattle.replica_node.specs.Kept.{IsKeptByArm, IsSynced, KeepsChange, LeavesByArm, calls_of}
 use Rattle.replica_node.specs.Node.{calls_for}
 use Rattle.replica_node.specs.declared.fault.NodeFault.TheVariants as Node
 use Rattle.replica_node.specs.declared.node.Node.{Node as ANode}
@@ -46,38 +47,40 @@ below_or_from left few =
       | inr apart ↦ elim apart [ inl below ↦ inl below | inr above ↦ inr (omega (arith, above)) ]
     ]
 
-not_kept : (jobs few : ℕ) (P : ℕ → Type 0) (kept : Durable) (arm : Arm) (image : Image) → (arm.left < few → FilesStand jobs kept image) → (few ≤ arm.left → (Shows P arm.image → ⊥) → FilesStand jobs kept image)
-    → ((few ≤ arm.left) × Shows P arm.image → ⊥) → (arm.left < few) ⊎ (few ≤ arm.left) → FilesStand jobs kept image
-not_kept jobs few P kept arm image early lost none (inl less) = early less
-not_kept jobs few P kept arm image early lost none (inr more) = lost more (λ shows. none (more, shows))
+not_kept : (jobs few : ℕ) (P : ℕ → Type 0) (area : FileNo) (kept : Durable) (arm : Arm) (image : Image) → (arm.left < few → StandsIn jobs area kept image) → (few ≤ arm.left → (Shows P arm.image → ⊥) → StandsIn jobs area kept image)
+    → ((few ≤ arm.left) × Shows P arm.image → ⊥) → (arm.left < few) ⊎ (few ≤ arm.left) → StandsIn jobs area kept image
+not_kept jobs few P area kept arm image early lost none (inl less) = early less
+not_kept jobs few P area kept arm image early lost none (inr more) = lost more (λ shows. none (more, shows))
 
 module _ (jobs : ℕ) (area : FileNo) (kept : Durable) (own : Option ℕ) (arm : Arm) (old new : Told) where
-  record_by_arm : (change : Delta) (item : Record) → StopsInSave jobs area kept own change arm old new → delta_record change ≡ Some item → ((2 ≤ arm.left) × Shows (λ byte. byte ≡ 1) arm.image → ⊥) → FilesStand jobs kept (image_left new)
+  by_arm : (change : Delta) → (KeepsChange area change arm → StandsIn jobs (area_after change area) (after_delta change kept) (image_left new)) → ((KeepsChange area change arm → ⊥) → StandsIn jobs area kept (image_left new))
+      → IsKeptByArm jobs area kept change arm (image_left new)
+  by_arm change saved lost =
+      record {
+        saved = λ keeps. (saved keeps).stand;
+        lost = λ none. (lost none).stand;
+        saved_area = λ keeps. (saved keeps).selects;
+        lost_area = λ none. (lost none).selects;
+      }
+
+  record_by_arm : (change : Delta) (item : Record) → StopsInSave jobs area kept own change arm old new → delta_record change ≡ Some item → ((2 ≤ arm.left) × Shows (λ byte. byte ≡ 1) arm.image → ⊥) → StandsIn jobs area kept (image_left new)
   record_by_arm change item save is none =
-      not_kept jobs 2 (λ byte. byte ≡ 1) kept arm (image_left new) (record_early jobs area kept own change item arm old new save is) (record_lost jobs area kept own change item arm old new save is) none (below_or_from arm.left 2)
+      not_kept jobs 2 (λ byte. byte ≡ 1) area kept arm (image_left new) (record_early jobs area kept own change item arm old new save is) (record_lost jobs area kept own change item arm old new save is) none (below_or_from arm.left 2)
 
   pub kept_by_arm : (change : Delta) → StopsInSave jobs area kept own change arm old new → ((item : Record) → delta_record change ≡ Some item → IsRecord (record_bytes item) item)
       → ((slot : ℕ) (rows : List JobRow) → change ≡ Base slot rows → AreRecords (map record_bytes (base_records kept own slot rows)) (base_records kept own slot rows)) → IsKeptByArm jobs area kept change arm (image_left new)
   kept_by_arm (Tried ballot) save spelled base =
-      record {
-        saved = λ keeps. record_kept jobs area kept own (Tried ballot) (Item.Tried ballot) arm old new save refl (spelled (Item.Tried ballot) refl) keeps.0 keeps.1;
-        lost = record_by_arm (Tried ballot) (Item.Tried ballot) save refl;
-      }
+      by_arm (Tried ballot) (λ keeps. record_kept jobs area kept own (Tried ballot) (Item.Tried ballot) arm old new save refl (spelled (Item.Tried ballot) refl) keeps.0 keeps.1)
+      (record_by_arm (Tried ballot) (Item.Tried ballot) save refl)
   kept_by_arm (Promised ballot) save spelled base =
-      record {
-        saved = λ keeps. record_kept jobs area kept own (Promised ballot) (Item.Promised ballot) arm old new save refl (spelled (Item.Promised ballot) refl) keeps.0 keeps.1;
-        lost = record_by_arm (Promised ballot) (Item.Promised ballot) save refl;
-      }
+      by_arm (Promised ballot) (λ keeps. record_kept jobs area kept own (Promised ballot) (Item.Promised ballot) arm old new save refl (spelled (Item.Promised ballot) refl) keeps.0 keeps.1)
+      (record_by_arm (Promised ballot) (Item.Promised ballot) save refl)
   kept_by_arm (Voted vote) save spelled base =
-      record {
-        saved = λ keeps. record_kept jobs area kept own (Voted vote) (Item.Voted vote) arm old new save refl (spelled (Item.Voted vote) refl) keeps.0 keeps.1;
-        lost = record_by_arm (Voted vote) (Item.Voted vote) save refl;
-      }
+      by_arm (Voted vote) (λ keeps. record_kept jobs area kept own (Voted vote) (Item.Voted vote) arm old new save refl (spelled (Item.Voted vote) refl) keeps.0 keeps.1)
+      (record_by_arm (Voted vote) (Item.Voted vote) save refl)
   kept_by_arm (Base slot rows) save spelled base =
-      record {
-        saved = λ keeps. base_kept jobs area kept own slot rows arm old new save (base slot rows refl) keeps.0 keeps.1;
-        lost = λ none. not_kept jobs 3 (λ byte. selected_by byte ≡ other_area area) kept arm (image_left new) (base_early jobs area kept own slot rows arm old new save) (base_lost jobs area kept own slot rows arm old new save) none (below_or_from arm.left 3);
-      }
+      by_arm (Base slot rows) (λ keeps. base_kept jobs area kept own slot rows arm old new save (base slot rows refl) keeps.0 keeps.1)
+      (λ none. not_kept jobs 3 (λ byte. selected_by byte ≡ other_area area) area kept arm (image_left new) (base_early jobs area kept own slot rows arm old new save) (base_lost jobs area kept own slot rows arm old new save) none (below_or_from arm.left 3))
 
 -- ---- between two calls
 

@@ -1,4 +1,5 @@
 pub mod AgainLemmas
+pub mod ArmLemmas
 pub mod AttachedLemmas
 pub mod ChangeLemmas
 pub mod FaultLemmas

@@ -1,6 +1,6 @@
 -- What a node says where it is reopened.
-use Rattle.std.proofs.Common.{◌≡◌, ◌⊎◌, ℕ, Option, None, Some, refl, sym, ap, ◌∙◌, subst, inl, inr}
-use Rattle.std.proofs.lemmas.Option.{same_Some}
+use Rattle.std.proofs.Common.{◌≡◌, ◌≢◌, ◌⊎◌, ℕ, List, Option, None, Some, refl, sym, ap, ◌∙◌, subst, inl, inr, arith}
+use Rattle.std.proofs.lemmas.Option.{none-some, same_Some}
 use Rattle.due_set.specs.Table.{Table}
 use Rattle.gate_file.specs.File.{bodies_of}
 use Rattle.disk_model.specs.declared.armed.Arm.{Arm}
@@ -9,19 +9,22 @@ use Rattle.disk_model.specs.Images.{Image}
 use Rattle.disk_model.specs.Told.{Told, image_left}
 use Rattle.paxos_base.specs.Durable.{after_delta}
 use Rattle.paxos_base.specs.declared.durable.Delta.{Delta}
+use Rattle.paxos_base.specs.declared.durable.Delta.TheVariants.{Tried, Promised, Voted, Base}
 use Rattle.paxos_base.specs.declared.durable.Durable.{Durable}
+use Rattle.paxos_base.specs.declared.rows.JobRow.{JobRow}
 use Rattle.store_format.specs.Order.{ChangeMayFollow}
 use Rattle.store_format.proofs.SoundLemmas.{StandFor-sound}
 use Rattle.replica_core.specs.Commit.{kept_after}
 use Rattle.replica_core.specs.Replica.{ReplicaState}
 use Rattle.replica_core.specs.declared.replica.Planned.{Planned}
-use Rattle.replica_store.specs.Files.{FilesStand, IsRecoverable}
+use Rattle.replica_store.specs.Files.{FilesStand, IsRecoverable, selected}
+use Rattle.replica_store.specs.Made.{area_after}
 use Rattle.replica_store.specs.Store.{IsStoreSettled, StoreKeeps, jobs_of}
 use Rattle.replica_store.specs.declared.store.Store.{Store}
-use Rattle.replica_store.proofs.FileLemmas.{files_stand_for_one, recoverable_stands}
+use Rattle.replica_store.proofs.FileLemmas.{files_stand_for_one, recoverable_stands, same_file}
 use Rattle.replica_store.proofs.SaveLemmas.{settled_recoverable}
 use Rattle.replica_node.specs.Change.{IsDecided}
-use Rattle.replica_node.specs.Kept.{IsAnsweredByArm, IsKeptByArm, KeepsChange, LeavesByArm}
+use Rattle.replica_node.specs.Kept.{IsAnsweredByArm, IsKeptByArm, KeepsChange, LeavesByArm, area_for}
 use Rattle.replica_node.specs.Stopped.{HasPlanned}
 use Rattle.replica_node.proofs.ChangeLemmas.{decided_kept, decided_lost}
 
@@ -91,3 +94,36 @@ tells_answer jobs area before found now change arm answer (Some told) facts kept
 -- a change that alters what was kept is answered where the disk keeps it, and nowhere else
 pub lost_answer : (area : FileNo) (kept : Durable) (change : Delta) (arm : Arm) (answer : Option Delta) → IsAnsweredByArm area kept change arm answer → (after_delta change kept ≡ kept → ⊥) → (KeepsChange area change arm → ⊥) → answer ≡ None
 lost_answer area kept change arm answer answered alters loses = elim (answered.lost loses) [ inl none ↦ none | inr same ↦ absurd (alters same) ]
+
+-- ---- the area that is in use then
+
+base_alters : (jobs : ℕ) (slot : ℕ) (rows : List JobRow) (kept : Durable) → ChangeMayFollow jobs kept (Base slot rows) → after_delta (Base slot rows) kept ≡ kept → ⊥
+unfolding after_delta
+base_alters jobs slot rows kept follows same =
+    let higher = follows.0 in
+    let equal : slot ≡ kept.base = ap (λ (k : Durable). k.base) same in
+    omega (arith, higher, equal)
+
+module _ (jobs : ℕ) (area : FileNo) (kept : Durable) (arm : Arm) (image : Image) where
+  -- a change that was answered, and that alters nothing where the disk doesn't keep it: a base alters what is kept
+  answered_area : (change : Delta) → ChangeMayFollow jobs kept change → IsKeptByArm jobs area kept change arm image → ((KeepsChange area change arm → ⊥) → after_delta change kept ≡ kept)
+      → (selected image ≡ area_after change area) ⊎ (selected image ≢ area_after change area) → selected image ≡ area_after change area
+  answered_area change follows left same (inl is) = is
+  answered_area (Tried ballot) follows left same (inr not_so) = left.lost_area (λ keeps. not_so (left.saved_area keeps))
+  answered_area (Promised ballot) follows left same (inr not_so) = left.lost_area (λ keeps. not_so (left.saved_area keeps))
+  answered_area (Voted vote) follows left same (inr not_so) = left.lost_area (λ keeps. not_so (left.saved_area keeps))
+  answered_area (Base slot rows) follows left same (inr not_so) = absurd (base_alters jobs slot rows kept follows (same (λ keeps. not_so (left.saved_area keeps))))
+
+  image_area : (change : Delta) (answer : Option Delta) → ChangeMayFollow jobs kept change → IsKeptByArm jobs area kept change arm image → IsAnsweredByArm area kept change arm answer → (answer ≡ Some change) ⊎ (answer ≡ None)
+      → selected image ≡ area_for answer area
+  image_area change answer follows left answered (inl is) =
+      let same : (KeepsChange area change arm → ⊥) → after_delta change kept ≡ kept = λ loses. elim (answered.lost loses) [ inl none ↦ absurd (none-some change (sym none ∙ is)) | inr same ↦ same ] in
+      subst (λ (a : Option Delta). selected image ≡ area_for a area) (sym is) (answered_area change follows left same (same_file (selected image) (area_after change area)))
+  image_area change answer follows left answered (inr none) =
+      subst (λ (a : Option Delta). selected image ≡ area_for a area) (sym none) (left.lost_area (λ keeps. absurd (none-some change (sym none ∙ answered.saved keeps))))
+
+pub tells_area : (jobs : ℕ) (area : FileNo) (kept : Durable) (change : Delta) (arm : Arm) (answer : Option Delta) (told : Option Told) (seen : FileNo) → ChangeMayFollow jobs kept change → LeavesByArm jobs area kept change arm told
+    → IsAnsweredByArm area kept change arm answer → (answer ≡ Some change) ⊎ (answer ≡ None) → ((one : Told) → told ≡ Some one → seen ≡ selected (image_left one)) → seen ≡ area_for answer area
+tells_area jobs area kept change arm answer None seen follows left answered either is = absurd left
+tells_area jobs area kept change arm answer (Some told) seen follows left answered either is =
+    is told refl ∙ image_area jobs area kept arm (image_left told) change answer follows left answered either

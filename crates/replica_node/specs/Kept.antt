@@ -1,5 +1,5 @@
 -- Whether a step's change is kept, where an armed disk stops within its save.
-use Rattle.std.specs.Prelude.{◌≡◌, ◌≤◌, ◌+◌, ◌⊎◌, ℕ, false, Option, None, Some, IsSomeAnd}
+use Rattle.std.specs.Prelude.{◌≡◌, ◌≤◌, ◌<◌, ◌⊎◌, ⊤, ℕ, false, Option, None, Some, Result, Ok, Err, IsSomeAnd}
 use Rattle.disk_model.specs.declared.armed.Arm.{Arm}
 use Rattle.disk_model.specs.declared.fault.FileNo.{FileNo}
 use Rattle.disk_model.specs.declared.fault.FileNo.TheVariants.{Chooser}
@@ -9,11 +9,15 @@ use Rattle.paxos_base.specs.Durable.{after_delta}
 use Rattle.paxos_base.specs.declared.durable.Delta.{Delta}
 use Rattle.paxos_base.specs.declared.durable.Delta.TheVariants.{Tried, Promised, Voted, Base}
 use Rattle.paxos_base.specs.declared.durable.Durable.{Durable}
-use Rattle.replica_store.specs.Files.{selected_by, other_area, FilesStand}
+use Rattle.save_law.specs.Save as save
+use Rattle.save_law.specs.Save.{calls_before}
+use Rattle.replica_store.specs.Files.{selected, selected_by, other_area, FilesStand}
 use Rattle.replica_store.specs.Kept.{IsClean, Shows}
 use Rattle.replica_store.specs.Made.{area_after}
 use Rattle.replica_store.specs.Store.{area_of}
 use Rattle.replica_node.specs.Node.{disk_of, store_of}
+use Rattle.replica_node.specs.declared.fault.NodeFault.{NodeFault}
+use Rattle.replica_node.specs.declared.fault.NodeFault.TheVariants.{Stopped, DiskFault, OutOfMemory, Damaged, Letter}
 use Rattle.replica_node.specs.declared.node.Node.{Node}
 
 -- ---- the disk of a node between two calls
@@ -37,20 +41,26 @@ abbrev pub area_for : Option Delta → FileNo → FileNo
 area_for None area = area
 area_for (Some change) area = area_after change area
 
--- ---- by the numbers of its arm
+-- The area in use where so many bases were kept: each is the start of the other area, and the first is in use before there is one.
+abbrev pub area_by : (bases : ℕ) → FileNo
+area_by bases = selected_by bases
 
--- The calls of a save before those that write and sync the one byte which makes its change hold: the gate's byte of a record,
--- or the chooser's for a base.
-abbrev pub calls_before : Delta → ℕ
-calls_before (Tried ballot) = 2
-calls_before (Promised ballot) = 2
-calls_before (Voted vote) = 2
-calls_before (Base slot rows) = 3
+-- ---- by the numbers of its arm
 
 -- How many calls of the disk save the change of a step, where it has one.
 abbrev pub calls_of : Option Delta → ℕ
 calls_of None = 0
-calls_of (Some change) = calls_before change + 2
+calls_of (Some change) = save.calls_of change
+
+-- What comes of a step whose change takes so many calls, on a disk that can't fail and is armed to stop after so many: it is done
+-- where they are enough, and stopped where they are not. Memory may run out.
+abbrev pub EndsByArm : {T : Type 0} → (calls left : ℕ) → Result T NodeFault → Type 0
+EndsByArm calls left (Ok answer) = calls ≤ left
+EndsByArm calls left (Err Stopped) = left < calls
+EndsByArm calls left (Err DiskFault) = ⊥
+EndsByArm calls left (Err OutOfMemory) = ⊤
+EndsByArm calls left (Err (Damaged gate)) = ⊥
+EndsByArm calls left (Err (Letter letter)) = ⊥
 
 -- The byte that makes a change hold shows the state after it: an open gate, or a chooser that selects the other area.
 abbrev pub IsByteAfter : FileNo → Delta → ℕ → Type 0
@@ -64,10 +74,13 @@ IsByteAfter area (Base slot rows) byte = selected_by byte ≡ other_area area
 abbrev pub KeepsChange : FileNo → Delta → Arm → Type 0
 KeepsChange area change arm = (calls_before change ≤ arm.left) × Shows (IsByteAfter area change) arm.image
 
--- an image stands for the state after a change where the disk keeps it, and else for the one before
+-- An image stands for the state after a change where the disk keeps it, and selects the area after it, and else it stands for the
+-- state before and selects the area of that.
 pub record IsKeptByArm (jobs : ℕ) (area : FileNo) (kept : Durable) (change : Delta) (arm : Arm) (image : Image) : Type 0 where
   pub saved : KeepsChange area change arm → FilesStand jobs (after_delta change kept) image
   pub lost : (KeepsChange area change arm → ⊥) → FilesStand jobs kept image
+  pub saved_area : KeepsChange area change arm → selected image ≡ area_after change area
+  pub lost_area : (KeepsChange area change arm → ⊥) → selected image ≡ area
 
 -- the image that a disk's stop leaves does so
 abbrev pub LeavesByArm : ℕ → FileNo → Durable → Delta → Arm → Option Told → Type 0

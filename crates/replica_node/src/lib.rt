@@ -12,6 +12,7 @@ mod reopen;
 
 pub use fault::NodeFault;
 pub use laws::{
-    a_base_is_kept_by_the_low_bit, a_node_at_rest_is_recoverable, a_step_leads_to_one_state,
+    a_base_is_kept_by_the_low_bit, a_change_is_kept_by_the_numbers, a_node_at_rest_is_recoverable,
+    a_reliable_disk_is_unfailing_and_unarmed, a_step_leads_to_one_state,
 };
 pub use node::Node;

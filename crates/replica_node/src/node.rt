@@ -22,8 +22,8 @@ ghost use Rattle.replica_store.specs.Files.{selected, FilesStand, FilesStandForE
 ghost use Rattle.replica_store.specs.Store.{area_of, jobs_of, StoreKeeps, IsStoreSettled};
 ghost use Rattle.replica_node.specs.declared.fault.NodeFault.TheVariants.{Stopped, OutOfMemory, Damaged, Letter};
 ghost use Rattle.replica_node.specs.Faults.{of_disk, EndsRun, HasNodeAnswer, IsRefused, letter_told};
-ghost use Rattle.replica_node.specs.Reliable.{IsReliable};
-ghost use Rattle.replica_node.specs.Kept.{area_for, calls_of, IsAnsweredByArm, IsSynced, KeepsChange, LeavesByArm};
+ghost use Rattle.replica_node.specs.Reliable.{CantFail, IsReliable, IsUnfailing, IsUnfailingAfter};
+ghost use Rattle.replica_node.specs.Kept.{area_for, calls_of, EndsByArm, IsAnsweredByArm, IsSynced, KeepsChange, LeavesByArm};
 
 use crate::fault::NodeFault;
 use crate::reopen::{attach_stopped, take_kept};
@@ -89,10 +89,14 @@ impl<D: Disk> Node<D> {
         ensures identity { IfOk result (λ node. (replica_of node).identity ≡ record { me = me; members = members }) }
         ensures started { IfOk result (λ node. (replica_of node).state ≡ started me (replica_of node).state.kept) }
         ensures stand { IfOk result (λ node. FilesStand (length table.now.jobs) (replica_of node).state.kept (D.seen disk)) }
+        // Its store goes on in the area that the chooser selects.
+        ensures area { IfOk result (λ node. area_of (store_of node) ≡ selected (D.seen disk)) }
         ensures clean { IsSome (D.told disk) → IfOk result (IsNodeClean D.told) }
         // From a disk that is reliable, want of memory and files at fault are the only faults, and the node's disk is so.
         ensures reliable { IsReliable (D.told disk) → IfOk result (λ node. IsReliable (D.told (disk_of node))) }
         ensures unended { IsReliable (D.told disk) → EndsRun (fault_of result) → ⊥ }
+        // One that can't fail doesn't, whether it is armed or not.
+        ensures unfailing { IsUnfailing (D.told disk) → IsUnfailingAfter (fault_of result) (D.told (disk_after result)) }
 
         // From a disk that was recoverable, with the state before a change or after it, one of the two is found; whatever a
         // stop within this call leaves stands for one of them, and the disk stays recoverable.
@@ -154,6 +158,11 @@ impl<D: Disk> Node<D> {
             → OnOk result ((calls_of change ≤ arm.left) × IsNodeArmed D.told self.new (record arm { left = arm.left - calls_of change })) }
         ensures too_few { (change : Option Delta) (arm : Arm) → IsChangeOf table.now input.entry (replica_of self.old) change → IsErrOf result Stopped
             → IsNodeClean D.told self.old → IsNodeArmed D.told self.old arm → arm.left < calls_of change }
+        // A disk that can't fail doesn't, whether it is armed or not; so it stops exactly there, but for want of memory.
+        ensures unfailing { IsUnfailing (D.told (disk_of self.old)) → IsUnfailingAfter result (D.told (disk_of self.new)) }
+        ensures ends_by_arm { (change : Option Delta) (arm : Arm) → IsChangeOf table.now input.entry (replica_of self.old) change
+            → IsUnfailing (D.told (disk_of self.old)) → IsNodeClean D.told self.old → IsNodeArmed D.told self.old arm
+            → EndsByArm (calls_of change) arm.left result }
 
         ensures alike { OnErr result (IsAlike (replica_of self.new) (replica_of self.old)) }
         ensures refused { IsRefused result → IsNodeAtRest D.seen D.may_leave D.honest table.now self.new }
@@ -164,7 +173,7 @@ impl<D: Disk> Node<D> {
         // Where the disk stopped, that was within the save of the step's change, and the node can be reopened.
         ensures stopped { IsSome (D.told (disk_of self.old)) → IsErrOf result Stopped
             → IsStoppedWithin D.may_leave D.honest D.told table.now input.entry (replica_of self.old) self.new }
-        // Whether the change is kept then, the numbers say that the disk was armed with.
+        // Whether the change is kept then, and which area is in use, the numbers say that the disk was armed with.
         ensures kept_by_arm { (change : Delta) (arm : Arm) → IsChangeOf table.now input.entry (replica_of self.old) (Some change) → IsErrOf result Stopped
             → IsNodeClean D.told self.old → IsNodeArmed D.told self.old arm
             → LeavesByArm (length table.now.jobs) (area_of (store_of self.old)) (replica_of self.old).state.kept change arm (D.told (disk_of self.new)) }
@@ -218,6 +227,7 @@ impl<D: Disk> Node<D> {
             → Tells (MadeCalls of_disk (calls_for self.old own (option_copied delta.entry)) result) (D.told (disk_of self.old)) (D.told (disk_of self.new)) }
         ensures reliable { IsReliable (D.told (disk_of self.old)) → OnOk result (IsReliable (D.told (disk_of self.new))) }
         ensures unended { IsReliable (D.told (disk_of self.old)) → EndsRun result → ⊥ }
+        ensures unfailing { IsUnfailing (D.told (disk_of self.old)) → IsUnfailingAfter result (D.told (disk_of self.new)) }
         ensures clean { IsNodeClean D.told self.old → OnOk result (IsNodeClean D.told self.new) }
         ensures area { OnOk result (area_of (store_of self.new) ≡ area_for (option_copied delta.entry) (area_of (store_of self.old))) }
         ensures kept_by_arm { (change : Delta) (arm : Arm) → option_copied delta.entry ≡ Some change → IsErrOf result Stopped
@@ -248,6 +258,7 @@ impl<D: ArmedDisk> Node<D> {
     ghost use Rattle.replica_node.specs.Node.{disk_after, disk_of, fault_of, replica_of, runs_in, store_of, IsNodeAtRest};
     ghost use Rattle.replica_node.specs.Kept.{IsNodeArmed, IsNodeClean};
     ghost use Rattle.replica_node.specs.Stopped.{IsQuiet, IsStopped, reopened};
+    ghost use Rattle.replica_node.specs.declared.fault.NodeFault.{NodeFault};
 
     /// Lets `pass` more writes, cuts and syncs of its disk succeed, and the next one stop within and leave the image of that
     /// number. Nothing else of the node changes.
@@ -266,6 +277,7 @@ impl<D: ArmedDisk> Node<D> {
             → IsNodeAtRest D.seen D.may_leave D.honest table self.new }
         ensures clean { IsNodeClean D.told self.old → IsNodeClean D.told self.new }
         ensures armed { IsNodeClean D.told self.old → IsNodeArmed D.told self.new (record { left = pass; image = image }) }
+        ensures unfailing { IsUnfailing (D.told (disk_of self.old)) → IsUnfailing (D.told (disk_of self.new)) }
     {
         self.disk.arm(pass, image);
     }
@@ -285,6 +297,7 @@ impl<D: ArmedDisk> Node<D> {
         ensures at_rest { (table : Table) → IsNodeAtRest D.seen D.may_leave D.honest table self.old
             → IsNodeAtRest D.seen D.may_leave D.honest table self.new }
         ensures clean { IsNodeClean D.told self.old → IsNodeClean D.told self.new }
+        ensures reliable { IsUnfailing (D.told (disk_of self.old)) → IsReliable (D.told (disk_of self.new)) }
     {
         self.disk.disarm();
     }
@@ -324,12 +337,22 @@ impl<D: ArmedDisk> Node<D> {
         ensures lost_by_arm { (stop : IsStopped D.may_leave D.honest D.told table.now self) (area : FileNo) (arm : Arm) → D.honest (disk_of self)
             → LeavesByArm (length table.now.jobs) area (replica_of self).state.kept stop.change arm (D.told (disk_of self))
             → ProposesAnew (replica_of self).state → (KeepsChange area stop.change arm → ⊥) → IfOk result (λ found. found.1 ≡ None) }
+        // The area in use is that of the image that the stop left; by the numbers of the arm, it is the one after the answer.
+        ensures area { (told : Told) → D.told (disk_of self) ≡ Some told → IfOk result (λ found. selected (D.seen (disk_of found.0)) ≡ selected (image_left told)) }
+        ensures area_by_arm { (stop : IsStopped D.may_leave D.honest D.told table.now self) (area : FileNo) (arm : Arm) → D.honest (disk_of self)
+            → LeavesByArm (length table.now.jobs) area (replica_of self).state.kept stop.change arm (D.told (disk_of self))
+            → IfOk result (λ found. selected (D.seen (disk_of found.0)) ≡ area_for found.1 area) }
         ensures recoverable { D.honest (disk_of self) → IfOk result (λ found. IsRecoverable (length table.now.jobs) (replica_of found.0).state.kept (replica_of found.0).state.kept
             (D.may_leave (disk_of found.0))) }
 
         ensures still_recoverable { (stop : IsStopped D.may_leave D.honest D.told table.now self) → D.honest (disk_of self)
             → IsRecoverable (length table.now.jobs) (replica_of self).state.kept (after_delta stop.change (replica_of self).state.kept) (D.may_leave (disk_after (reopened result))) }
         ensures quiet { IsQuiet (D.told (disk_after (reopened result))) }
+        // A disk that can't fail is reliable then, and of an honest one want of memory is the only fault.
+        ensures reliable { CantFail (D.told (disk_of self)) → IsReliable (D.told (disk_after (reopened result))) }
+        ensures unended { CantFail (D.told (disk_of self)) → EndsRun (fault_of (reopened result)) → ⊥ }
+        ensures memory_alone { (fault : NodeFault) → D.honest (disk_of self) → CantFail (D.told (disk_of self))
+            → fault_of (reopened result) ≡ Err fault → fault ≡ OutOfMemory }
         ensures never_stopped { fault_of (reopened result) ≡ Err Stopped → ⊥ }
         ensures sound { (gate : ℕ) → D.honest (disk_of self) → fault_of (reopened result) ≡ Err (Damaged gate) → ⊥ }
         ensures damaged { (gate : ℕ) (bodies : List (List ℕ)) → fault_of (reopened result) ≡ Err (Damaged gate)
@@ -380,9 +403,11 @@ fn start<D: Disk>(
     ensures started { IfOk result (λ found. found.1.state ≡ started me found.1.state.kept) }
     ensures of_table { IfOk result (λ found. IsOfTable table.now found.1) }
     ensures stand { IfOk result (λ found. FilesStand (length table.now.jobs) found.1.state.kept (D.seen disk.old)) }
+    ensures area { IfOk result (λ found. area_of found.0 ≡ selected (D.seen disk.old)) }
     ensures clean { IsSome (D.told disk.old) → IfOk result (λ found. IsSomeAnd (D.told disk.new) (IsSynced (area_of found.0))) }
     ensures reliable { IsReliable (D.told disk.old) → OnOk result (IsReliable (D.told disk.new)) }
     ensures unended { IsReliable (D.told disk.old) → EndsRun result → ⊥ }
+    ensures unfailing { IsUnfailing (D.told disk.old) → IsUnfailingAfter result (D.told disk.new) }
     ensures either { (before after : Durable) → D.honest disk.old → IsRecoverable (length table.now.jobs) before after (D.may_leave disk.old)
         → IfOk result (λ found. (found.1.state.kept ≡ before) ⊎ (found.1.state.kept ≡ after)) }
     ensures sound { (before after : Durable) (gate : ℕ) → D.honest disk.old → IsRecoverable (length table.now.jobs) before after (D.may_leave disk.old)

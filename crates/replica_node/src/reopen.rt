@@ -12,9 +12,10 @@ ghost use Rattle.store_format.specs.Area.{IsFirstRecordAtFault};
 ghost use Rattle.replica_core.specs.Replica.{IsSmall, ReplicaState};
 ghost use Rattle.replica_core.specs.Step.{CanTake, IsOfTable};
 ghost use Rattle.replica_store.specs.Files.{selected, FilesStand, IsRecoverable};
-ghost use Rattle.replica_store.specs.Store.{jobs_of, StoreKeeps, IsStoreSettled};
+ghost use Rattle.replica_store.specs.Store.{area_of, jobs_of, StoreKeeps, IsStoreSettled};
 ghost use Rattle.replica_node.specs.Change.{ShowsChange, IsDecided};
-ghost use Rattle.replica_node.specs.Faults.{HasNodeAnswer};
+ghost use Rattle.replica_node.specs.Faults.{EndsRun, HasNodeAnswer};
+ghost use Rattle.replica_node.specs.Reliable.{CantFail, IsReliable};
 ghost use Rattle.replica_node.specs.Stopped.{HasPlanned, IsQuiet};
 ghost use Rattle.replica_node.specs.declared.fault.NodeFault.TheVariants.{Stopped, Damaged, Letter};
 
@@ -38,6 +39,7 @@ pub fn attach_stopped<D: ArmedDisk>(
     ensures jobs { IfOk result (λ found. jobs_of found.0 ≡ jobs) }
     ensures keeps { IfOk result (λ found. StoreKeeps found.0 found.1) }
     ensures image { (told : Told) → D.told disk.old ≡ Some told → IfOk result (λ found. FilesStand jobs found.1 (image_left told)) }
+    ensures area { (told : Told) → D.told disk.old ≡ Some told → IfOk result (λ found. area_of found.0 ≡ selected (image_left told)) }
     ensures either { (before after : Durable) → D.honest disk.old → IsRecoverable jobs before after (D.may_leave disk.old)
         → IfOk result (λ found. (found.1 ≡ before) ⊎ (found.1 ≡ after)) }
     ensures sound { (before after : Durable) (gate : ℕ) → D.honest disk.old → IsRecoverable jobs before after (D.may_leave disk.old)
@@ -47,6 +49,8 @@ pub fn attach_stopped<D: ArmedDisk>(
     ensures damaged { (gate : ℕ) (bodies : List (List ℕ)) → result ≡ Err (Damaged gate) → HasBodies (file_of (selected (D.seen disk.new)) (D.seen disk.new)) bodies
         → IsFirstRecordAtFault jobs bodies gate }
     ensures quiet { IsQuiet (D.told disk.new) }
+    ensures reliable { CantFail (D.told disk.old) → IsReliable (D.told disk.new) }
+    ensures unended { CantFail (D.told disk.old) → EndsRun result → ⊥ }
     ensures never_stopped { result ≡ Err Stopped → ⊥ }
     ensures no_letter { (fault : LetterFault) → result ≡ Err (Letter fault) → ⊥ }
     ensures answer { HasNodeAnswer D.honest D.counts disk.old disk.new result }

@@ -69,7 +69,7 @@ pub fn synced_files_are_recoverable<D: Disk>()
 
 /// A law, with nothing to run: whether a change is kept that a record saves, where an armed disk stops within the save. A
 /// stop within the first two calls, which put the record behind its gate, leaves the state before the change. One within the
-/// last two, which open the gate, keeps the change exactly where the image shows the gate's byte as 1.
+/// last two, which open the gate, keeps the change exactly where the image shows the gate's byte as 1. The same area is in use.
 pub fn a_stop_may_keep_a_record()
     ensures early { (jobs : ℕ) (area : FileNo) (kept : Durable) (own : Option ℕ) (change : Delta) (item : Record) (arm : Arm) (old new : Told)
         → StopsInSave jobs area kept own change arm old new → delta_record change ≡ Some item
@@ -80,11 +80,14 @@ pub fn a_stop_may_keep_a_record()
     ensures saved { (jobs : ℕ) (area : FileNo) (kept : Durable) (own : Option ℕ) (change : Delta) (item : Record) (arm : Arm) (old new : Told)
         → StopsInSave jobs area kept own change arm old new → delta_record change ≡ Some item → IsRecord (record_bytes item) item
         → 2 ≤ arm.left → Shows (λ byte. byte ≡ 1) arm.image → FilesStand jobs (after_delta change kept) (image_left new) }
+    ensures area { (jobs : ℕ) (area : FileNo) (kept : Durable) (own : Option ℕ) (change : Delta) (item : Record) (arm : Arm) (old new : Told)
+        → StopsInSave jobs area kept own change arm old new → delta_record change ≡ Some item → selected (image_left new) ≡ area }
 {}
 
 /// A law, with nothing to run: whether a base is kept, where an armed disk stops within its save. A stop within the first
 /// three calls, which write the other area, leaves the state before the base. One within the last two, which write the
-/// chooser's byte, keeps the base exactly where the image shows a byte that selects the other area.
+/// chooser's byte, keeps the base exactly where the image shows a byte that selects the other area. That area is in use where
+/// the base is kept, and else the same as before.
 pub fn a_stop_may_keep_a_base()
     ensures early { (jobs : ℕ) (area : FileNo) (kept : Durable) (own : Option ℕ) (slot : ℕ) (rows : List JobRow) (arm : Arm) (old new : Told)
         → StopsInSave jobs area kept own (Base slot rows) arm old new
@@ -96,6 +99,15 @@ pub fn a_stop_may_keep_a_base()
         → StopsInSave jobs area kept own (Base slot rows) arm old new
         → AreRecords (map record_bytes (base_records kept own slot rows)) (base_records kept own slot rows)
         → 3 ≤ arm.left → Shows (λ byte. selected_by byte ≡ other_area area) arm.image → FilesStand jobs (after_delta (Base slot rows) kept) (image_left new) }
+    ensures early_area { (jobs : ℕ) (area : FileNo) (kept : Durable) (own : Option ℕ) (slot : ℕ) (rows : List JobRow) (arm : Arm) (old new : Told)
+        → StopsInSave jobs area kept own (Base slot rows) arm old new
+        → arm.left < 3 → selected (image_left new) ≡ area }
+    ensures lost_area { (jobs : ℕ) (area : FileNo) (kept : Durable) (own : Option ℕ) (slot : ℕ) (rows : List JobRow) (arm : Arm) (old new : Told)
+        → StopsInSave jobs area kept own (Base slot rows) arm old new
+        → 3 ≤ arm.left → (Shows (λ byte. selected_by byte ≡ other_area area) arm.image → ⊥) → selected (image_left new) ≡ area }
+    ensures saved_area { (jobs : ℕ) (area : FileNo) (kept : Durable) (own : Option ℕ) (slot : ℕ) (rows : List JobRow) (arm : Arm) (old new : Told)
+        → StopsInSave jobs area kept own (Base slot rows) arm old new
+        → 3 ≤ arm.left → Shows (λ byte. selected_by byte ≡ other_area area) arm.image → selected (image_left new) ≡ other_area area }
 {}
 
 /// A law, with nothing to run: a disk that runs is ready for a save where the store is settled, and the chooser and its area

@@ -5,11 +5,11 @@ use Rattle.paxos_base.specs.Rows.{RowsStand}
 use Rattle.replica_node.proofs.AttachedLemmas.{fit_to_start}
 use Rattle.replica_node.proofs.FaultLemmas.{damaged_below}
 use Rattle.replica_node.proofs.KeptLemmas.{tells_attached}
-use Rattle.replica_node.proofs.ReliableLemmas.{ends_below, reliable_done, reliable_never}
+use Rattle.replica_node.proofs.ReliableLemmas.{ends_below, reliable_done, reliable_never, unfailing_below, unfailing_done, unfailing_memory}
 use Rattle.disk_model.specs.Images.{file_of}
 use Rattle.gate_file.proofs.GateLemmas.{some_list}
 use Rattle.replica_store.specs.Files.{selected}
-use Rattle.replica_store.specs.Made.{attach_calls}
+use Rattle.replica_store.specs.Made.{attach_calls, look_calls}
 use Rattle.replica_node.proofs.node.start.Goals as goal
 
 -- ---- the store is not attached
@@ -81,3 +81,25 @@ returns-in_err-store-clause-unended g c sure ends =
     let found = some_list (file_of (selected image) image) in
     reliable_never (attach_calls image (length found.0)) c.attach.result (g.D.Disk.told c.args.disk.now) (g.D.Disk.told c.attach.new.disk) sure (c.attach.ensures.told found.0 found.1)
     (ends_below c.in_err-store.field-0.0 c.attach.result c.from_residual.result c.in_err-store.was c.from_residual.ensures.1 ends)
+
+-- ---- from a disk that can't fail, and may be armed
+
+pub returns-clause-unfailing : goal.returns-clause-unfailing
+returns-clause-unfailing g c sure =
+    let image = g.D.Disk.seen c.args.disk.now in
+    let found = c.in_ok-store.ensures.stand in
+    unfailing_done (attach_calls image (length found.bodies)) (c.in_ok-store.store, c.in_ok-store.kept) (g.D.Disk.told c.args.disk.now) (g.D.Disk.told c.attach.new.disk) sure (c.in_ok-store.ensures.told found.bodies found.has)
+
+pub returns-in_err-replica-clause-unfailing : goal.returns-in_err-replica-clause-unfailing
+returns-in_err-replica-clause-unfailing g c sure =
+    let image = g.D.Disk.seen c.args.disk.now in
+    let found = c.in_ok-store.ensures.stand in
+    let here = unfailing_done (attach_calls image (length found.bodies)) (c.in_ok-store.store, c.in_ok-store.kept) (g.D.Disk.told c.args.disk.now) (g.D.Disk.told c.attach.new.disk) sure (c.in_ok-store.ensures.told found.bodies found.has) in
+    unfailing_memory c.from_residual-in_err-replica.result (g.D.Disk.told c.attach.new.disk) c.from_residual-in_err-replica.ensures.1 here
+
+pub returns-in_err-store-clause-unfailing : goal.returns-in_err-store-clause-unfailing
+returns-in_err-store-clause-unfailing g c sure =
+    let image = g.D.Disk.seen c.args.disk.now in
+    let found = some_list (file_of (selected image) image) in
+    unfailing_below (attach_calls image (length found.0)) (look_calls image) c.in_err-store.field-0.0 c.attach.result c.from_residual.result (g.D.Disk.told c.args.disk.now) (g.D.Disk.told c.attach.new.disk)
+    c.in_err-store.was c.from_residual.ensures.1 sure (c.attach.ensures.told found.0 found.1) c.attach.ensures.told_damaged

@@ -1,4 +1,4 @@
-use Rattle.std.proofs.Common.{length, subst}
+use Rattle.std.proofs.Common.{length, ap, ◌∙◌, subst}
 use Rattle.disk_model.specs.Images.{Image, file_of}
 use Rattle.gate_file.specs.Gates.{HasBodies}
 use Rattle.gate_file.proofs.GateLemmas.{some_list}
@@ -7,6 +7,7 @@ use Rattle.replica_store.specs.Made.{attach_calls, look_calls}
 use Rattle.replica_store.proofs.FileLemmas.{fewer_recoverable}
 use Rattle.replica_node.proofs.FaultLemmas.{damaged_below, stopped_below}
 use Rattle.replica_node.proofs.QuietLemmas.{attach_never, attach_quiet, revived_seen, tells_revived}
+use Rattle.replica_node.proofs.ReliableLemmas.{after_cant_fail, ends_below, quiet_reliable, reliable_done, reliable_never, reliable_unfailing, revived_reliable, unfailing_below}
 use Rattle.replica_node.proofs.reopen.attach_stopped.Goals as goal
 
 -- ---- the disk is not attached
@@ -44,7 +45,35 @@ returns-in_err-attach-clause-never_stopped g c is =
     (tells_revived (g.D.Disk.told c.args.disk.now) (g.D.Disk.told mid) c.requires.stopped c.revive.ensures.told) (c.attach.ensures.told found.0 found.1)
     (stopped_below c.in_err-attach.field-0.0 c.attach.result c.from_residual.result c.in_err-attach.was c.from_residual.ensures.1 is)
 
+pub returns-in_err-attach-clause-unended : goal.returns-in_err-attach-clause-unended
+returns-in_err-attach-clause-unended g c sure ends =
+    let mid = c.revive.new.self in
+    let seen = g.D.Disk.seen mid in
+    let found = some_list (file_of (selected seen) seen) in
+    reliable_never (attach_calls seen (length found.0)) c.attach.result (g.D.Disk.told mid) (g.D.Disk.told c.attach.new.disk)
+    (revived_reliable (g.D.Disk.told c.args.disk.now) (g.D.Disk.told mid) c.requires.stopped sure c.revive.ensures.told) (c.attach.ensures.told found.0 found.1)
+    (ends_below c.in_err-attach.field-0.0 c.attach.result c.from_residual.result c.in_err-attach.was c.from_residual.ensures.1 ends)
+
+pub returns-in_err-attach-clause-reliable : goal.returns-in_err-attach-clause-reliable
+returns-in_err-attach-clause-reliable g c sure =
+    let mid = c.revive.new.self in
+    let seen = g.D.Disk.seen mid in
+    let found = some_list (file_of (selected seen) seen) in
+    let revived = reliable_unfailing (g.D.Disk.told mid) (revived_reliable (g.D.Disk.told c.args.disk.now) (g.D.Disk.told mid) c.requires.stopped sure c.revive.ensures.told) in
+    quiet_reliable (g.D.Disk.told c.attach.new.disk) (g.met.D.ArmedDisk.tells c.attach.new.disk)
+    (after_cant_fail c.from_residual.result (g.D.Disk.told c.attach.new.disk)
+    (unfailing_below (attach_calls seen (length found.0)) (look_calls seen) c.in_err-attach.field-0.0 c.attach.result c.from_residual.result (g.D.Disk.told mid) (g.D.Disk.told c.attach.new.disk)
+    c.in_err-attach.was c.from_residual.ensures.1 revived.0 (c.attach.ensures.told found.0 found.1) c.attach.ensures.told_damaged))
+    (returns-in_err-attach-clause-quiet g c)
+
 -- ---- it is attached
+
+pub returns-clause-reliable : goal.returns-clause-reliable
+returns-clause-reliable g c sure =
+    let mid = c.revive.new.self in
+    let found = c.in_ok-attach.ensures.stand in
+    reliable_done (attach_calls (g.D.Disk.seen mid) (length found.bodies)) c.in_ok-attach.field-0 (g.D.Disk.told mid) (g.D.Disk.told c.attach.new.disk)
+    (revived_reliable (g.D.Disk.told c.args.disk.now) (g.D.Disk.told mid) c.requires.stopped sure c.revive.ensures.told) (c.in_ok-attach.ensures.told found.bodies found.has)
 
 pub returns-clause-quiet : goal.returns-clause-quiet
 returns-clause-quiet g c =
@@ -59,6 +88,11 @@ returns-clause-image g c told is =
     let mid = c.revive.new.self in
     subst (λ (image : Image). FilesStand c.args.jobs c.in_ok-attach.field-0.1 image)
     (revived_seen (g.D.Disk.told c.args.disk.now) (g.D.Disk.told mid) told (g.D.Disk.seen mid) (g.met.D.ArmedDisk.tells mid) c.requires.stopped c.revive.ensures.told is (g.met.D.Disk.done_is_seen mid)) c.in_ok-attach.ensures.stand
+
+pub returns-clause-area : goal.returns-clause-area
+returns-clause-area g c told is =
+    let mid = c.revive.new.self in
+    c.in_ok-attach.ensures.area ∙ ap selected (revived_seen (g.D.Disk.told c.args.disk.now) (g.D.Disk.told mid) told (g.D.Disk.seen mid) (g.met.D.ArmedDisk.tells mid) c.requires.stopped c.revive.ensures.told is (g.met.D.Disk.done_is_seen mid))
 
 pub returns-clause-either : goal.returns-clause-either
 returns-clause-either g c before after honest recoverable =

@@ -20,7 +20,11 @@ use Rattle.replica_node.proofs.FaultLemmas.{memory_below}
 use Rattle.replica_node.proofs.RestLemmas.{at_rest_after, at_rest_still, either_around, few_members, leaves_weaker, recoverable_around, stands_at_rest}
 use Rattle.replica_node.proofs.StepLemmas.{change_follows, planned_alters, plans_alike}
 use Rattle.replica_node.proofs.ToldLemmas.{one_change, told_done, told_failed, told_of_step}
+use Rattle.replica_node.proofs.ReliableLemmas.{ends_by_arm, no_fault_in, planned_ends, unfailing_handed, unfailing_planned}
 use Rattle.replica_node.proofs.StoppedLemmas.{stopped_within, tells_stopped}
+use Rattle.replica_node.specs.Reliable.{IsUnfailingAfter}
+use Rattle.disk_model.specs.Made.{MadeCalls}
+use Rattle.disk_model.specs.Told.{Tells}
 use Rattle.std.specs.Prelude.{IsErrOf}
 use Rattle.store_format.specs.Area.{StandFor}
 use Rattle.replica_core.specs.Step.{CanTake}
@@ -100,6 +104,9 @@ returns-in-Ok-clause-armed g c change arm of armed =
     let own = c.requires.at_rest.keeps in
     tells_counted (calls_for old own.0 change) (calls_of change) c.complete.result arm (g.D.Disk.told old.disk) (g.D.Disk.told c.keep.new.self.disk) (count_calls old own.0 change) armed
     (returns-in-Ok-clause-told g c own.0 change own.1 of)
+
+pub returns-in-Ok-clause-ends_by_arm : goal.returns-in-Ok-clause-ends_by_arm
+returns-in-Ok-clause-ends_by_arm g c change arm of sure clean armed = (returns-in-Ok-clause-armed g c change arm of armed).0
 
 -- ---- the disk stopped
 
@@ -183,6 +190,13 @@ returns-in-Err-Stopped-clause-too_few g c change arm of is clean armed =
     tells_too_few StepOut (area_of old.store) (calls_for old own.0 change) (calls_of change) arm (g.D.Disk.told old.disk) (g.D.Disk.told c.keep.new.self.disk) (count_calls old own.0 change) clean armed
     (returns-in-Err-Stopped-clause-told g c own.0 change own.1 of)
 
+pub returns-in-Err-Stopped-clause-unfailing : goal.returns-in-Err-Stopped-clause-unfailing
+returns-in-Err-Stopped-clause-unfailing g c sure =
+    subst (λ (r : Result Unit NodeFault). IsUnfailingAfter r (g.D.Disk.told c.keep.new.self.disk)) (c.in-Err-Stopped.is ∙ ap Err c.in-Err-Stopped.field-0-is) (c.keep.ensures.unfailing sure)
+
+pub returns-in-Err-Stopped-clause-ends_by_arm : goal.returns-in-Err-Stopped-clause-ends_by_arm
+returns-in-Err-Stopped-clause-ends_by_arm g c change arm of sure clean armed = returns-in-Err-Stopped-clause-too_few g c change arm of refl clean armed
+
 -- ---- another fault
 
 pub returns-in-Err-clause-images : goal.returns-in-Err-clause-images
@@ -223,3 +237,32 @@ returns-in-Err-clause-told g c =
     told_of_step c.args.table.now c.args.input old now plans.event delta (Err c.in-Err.fault) (g.D.Disk.told old.disk) (g.D.Disk.told c.keep.new.self.disk) plans.event_is told c.plan.ensures.alike refl
     (λ own stand. told_failed {U = StepOut} (calls_for now own delta) c.in-Err.fault c.keep.result (Err c.in-Err.fault) c.in-Err.is refl (g.D.Disk.told old.disk) (g.D.Disk.told c.keep.new.self.disk)
     (c.keep.ensures.told own stand))
+
+pub returns-in-Err-clause-unfailing : goal.returns-in-Err-clause-unfailing
+returns-in-Err-clause-unfailing g c sure =
+    unfailing_handed StepOut c.in-Err.fault c.keep.result (g.D.Disk.told c.keep.new.self.disk) c.in-Err.is (c.keep.ensures.unfailing sure)
+
+pub returns-in-Err-clause-ends_by_arm : goal.returns-in-Err-clause-ends_by_arm
+returns-in-Err-clause-ends_by_arm g c change arm of sure clean armed =
+    let old = c.args.self.now in
+    let own = c.requires.at_rest.keeps in
+    let told = g.D.Disk.told c.keep.new.self.disk in
+    let calls = calls_for old own.0 change in
+    let made = returns-in-Err-clause-told g c own.0 change own.1 of in
+    ends_by_arm StepOut (calls_of change) arm.left c.in-Err.fault told (returns-in-Err-clause-unfailing g c sure)
+    (λ is. tells_too_few StepOut (area_of old.store) calls (calls_of change) arm (g.D.Disk.told old.disk) told (count_calls old own.0 change) clean armed
+    (subst (λ (f : NodeFault). Tells (MadeCalls {T = StepOut} of_disk calls (Err f)) (g.D.Disk.told old.disk) told) is made))
+    (λ gate is. c.keep.ensures.undamaged gate (c.in-Err.is ∙ ap Err is))
+    (λ letter is. c.keep.ensures.no_letter letter (c.in-Err.is ∙ ap Err is))
+
+-- ---- the step isn't planned
+
+pub returns-in_err-planned-clause-unfailing : goal.returns-in_err-planned-clause-unfailing
+returns-in_err-planned-clause-unfailing g c sure =
+    unfailing_planned c.in_err-planned.field-0.0 c.from_residual.result (g.D.Disk.told c.args.self.now.disk) c.from_residual.ensures.1 sure
+
+pub returns-in_err-planned-clause-ends_by_arm : goal.returns-in_err-planned-clause-ends_by_arm
+returns-in_err-planned-clause-ends_by_arm g c change arm of sure clean armed =
+    let old = c.args.self.now.replica in
+    planned_ends (calls_of change) arm.left old.identity.members c.args.input c.in_err-planned.field-0.0 c.plan.result c.from_residual.result c.in_err-planned.was c.from_residual.ensures.1 c.plan.ensures.fault
+    (no_fault_in c.args.table.now old c.args.input of.event of.event_is)

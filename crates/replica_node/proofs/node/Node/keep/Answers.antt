@@ -14,7 +14,7 @@ use Rattle.replica_store.proofs.FileLemmas.{bodies_stand_for_one}
 use Rattle.replica_store.proofs.SaveLemmas.{settled_recoverable}
 use Rattle.replica_node.specs.Faults.{of_disk}
 use Rattle.replica_node.proofs.KeptLemmas.{tells_by_arm, tells_saved}
-use Rattle.replica_node.proofs.ReliableLemmas.{reliable_done, reliable_never}
+use Rattle.replica_node.proofs.ReliableLemmas.{reliable_done, reliable_never, unfailing_done, unfailing_saved}
 use Rattle.replica_node.proofs.ToldLemmas.{told_done, told_stored}
 use Rattle.replica_node.proofs.node.Node.keep.Goals as goal
 
@@ -106,3 +106,33 @@ returns-in-Err-DiskFault-clause-unended g c sure ends =
     let own = c.requires.keeps in
     reliable_never (save_calls (area_of node.store) (length (records_of node.store)) node.replica.state.kept own.0 c.in-Some.delta.now) c.save.result (g.D.Disk.told node.disk) (g.D.Disk.told c.save.new.disk) sure
     (c.save.ensures.told node.replica.state.kept own.0 own.1) (inr (c.in-Err-DiskFault.is ∙ ap Err c.in-Err-DiskFault.field-0-is))
+
+-- ---- on a disk that can't fail, and may be armed
+
+pub returns-in-Ok-clause-unfailing : goal.returns-in-Ok-clause-unfailing
+returns-in-Ok-clause-unfailing g c sure =
+    let node = c.args.self.now in
+    let own = c.requires.keeps in
+    unfailing_done (save_calls (area_of node.store) (length (records_of node.store)) node.replica.state.kept own.0 c.in-Some.delta.now) tt (g.D.Disk.told node.disk) (g.D.Disk.told c.save.new.disk) sure
+    (c.in-Ok.ensures.told node.replica.state.kept own.0 own.1)
+
+pub returns-in-Err-Stopped-clause-unfailing : goal.returns-in-Err-Stopped-clause-unfailing
+returns-in-Err-Stopped-clause-unfailing g c sure =
+    let node = c.args.self.now in
+    let own = c.requires.keeps in
+    unfailing_saved (save_calls (area_of node.store) (length (records_of node.store)) node.replica.state.kept own.0 c.in-Some.delta.now) c.in-Err-Stopped.field-0 Store.Stopped (g.D.Disk.told node.disk) (g.D.Disk.told c.save.new.disk)
+    c.in-Err-Stopped.field-0-is (λ gate is. absurd (cc is)) sure (c.in-Err-Stopped.ensures.told node.replica.state.kept own.0 own.1)
+
+pub returns-in-Err-DiskFault-clause-unfailing : goal.returns-in-Err-DiskFault-clause-unfailing
+returns-in-Err-DiskFault-clause-unfailing g c sure =
+    let node = c.args.self.now in
+    let own = c.requires.keeps in
+    unfailing_saved (save_calls (area_of node.store) (length (records_of node.store)) node.replica.state.kept own.0 c.in-Some.delta.now) c.in-Err-DiskFault.field-0 Store.DiskFault (g.D.Disk.told node.disk) (g.D.Disk.told c.save.new.disk)
+    c.in-Err-DiskFault.field-0-is (λ gate is. absurd (cc is)) sure (c.in-Err-DiskFault.ensures.told node.replica.state.kept own.0 own.1)
+
+pub returns-in-Err-OutOfMemory-clause-unfailing : goal.returns-in-Err-OutOfMemory-clause-unfailing
+returns-in-Err-OutOfMemory-clause-unfailing g c sure =
+    let node = c.args.self.now in
+    let own = c.requires.keeps in
+    unfailing_saved (save_calls (area_of node.store) (length (records_of node.store)) node.replica.state.kept own.0 c.in-Some.delta.now) c.in-Err-OutOfMemory.field-0 Store.OutOfMemory (g.D.Disk.told node.disk) (g.D.Disk.told c.save.new.disk)
+    c.in-Err-OutOfMemory.field-0-is (λ gate is. absurd (cc is)) sure (c.in-Err-OutOfMemory.ensures.told node.replica.state.kept own.0 own.1)

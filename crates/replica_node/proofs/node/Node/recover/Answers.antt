@@ -5,6 +5,8 @@ use Rattle.step_law.specs.State.{Identity, State}
 use Rattle.step_law.proofs.SoundLemmas.{start_sound}
 use Rattle.replica_node.proofs.AttachedLemmas.{fit_to_start}
 use Rattle.replica_node.proofs.FaultLemmas.{same_fault}
+use Rattle.replica_node.specs.declared.node.Node.{Node}
+use Rattle.replica_node.proofs.ReliableLemmas.{unfailing_handed}
 use Rattle.replica_node.proofs.node.Node.recover.Goals as goal
 
 pub returns-in-Ok-clause-at_rest : goal.returns-in-Ok-clause-at_rest
@@ -33,3 +35,7 @@ returns-in-Err-clause-sound g c before after gate honest recoverable is =
 
 pub returns-in-Err-clause-damaged : goal.returns-in-Err-clause-damaged
 returns-in-Err-clause-damaged g c gate bodies is has = c.start.ensures.damaged gate bodies (c.in-Err.is ∙ ap Err (same_fault c.in-Err.fault _ is)) has
+
+pub returns-in-Err-clause-unfailing : goal.returns-in-Err-clause-unfailing
+returns-in-Err-clause-unfailing g c sure =
+    unfailing_handed (Node g.row.D.Denot) c.in-Err.fault c.start.result (g.D.Disk.told c.start.new.disk) c.in-Err.is (c.start.ensures.unfailing sure)

@@ -3,9 +3,11 @@ use Rattle.disk_model.specs.Told.{image_left}
 use Rattle.paxos_base.specs.Durable.{after_delta}
 use Rattle.paxos_base.specs.declared.durable.Durable.{Durable}
 use Rattle.store_format.specs.Area.{IsFirstRecordAtFault}
-use Rattle.replica_store.specs.Files.{FilesStand, IsRecoverable}
+use Rattle.replica_store.specs.Files.{FilesStand, IsRecoverable, selected}
 use Rattle.replica_node.proofs.FaultLemmas.{same_fault}
-use Rattle.replica_node.proofs.ReopenLemmas.{Reopens, change_or_none, found_recoverable, found_stands, lost_answer, not_both, planned_as, reopens, tells_answer}
+use Rattle.replica_node.proofs.ReopenLemmas.{Reopens, change_or_none, found_recoverable, found_stands, lost_answer, not_both, planned_as, reopens, tells_answer, tells_area}
+use Rattle.replica_node.specs.declared.node.Node.{Node}
+use Rattle.replica_node.proofs.ReliableLemmas.{ends_handed, memory_left}
 use Rattle.replica_node.proofs.node.Node.reopen.Goals as goal
 
 -- ---- it is attached
@@ -105,6 +107,17 @@ pub returns-in-Ok-clause-lost_by_arm : goal.returns-in-Ok-clause-lost_by_arm
 returns-in-Ok-clause-lost_by_arm g c stop area arm honest left anew loses =
     lost_answer area c.args.self.replica.state.kept stop.change arm c.take_kept-change.result (returns-in-Ok-clause-answer_by_arm g c stop area arm honest left) (stop.has_planned.alters anew) loses
 
+pub returns-in-Ok-clause-area : goal.returns-in-Ok-clause-area
+returns-in-Ok-clause-area g c told is = c.in-Ok.ensures.settled.selects ∙ c.in-Ok.ensures.area told is
+
+pub returns-in-Ok-clause-area_by_arm : goal.returns-in-Ok-clause-area_by_arm
+returns-in-Ok-clause-area_by_arm g c stop area arm honest left =
+    let before = c.args.self.replica.state.kept in
+    let planned = planned_as c.args.table.now c.args.self.replica c.in-Some.planned stop.planned stop.change c.args.self.stopped c.in-Some.is stop.is_cut_short stop.has_planned in
+    tells_area (length c.args.table.now.jobs) area before stop.change arm c.take_kept-change.result (g.D.Disk.told c.args.self.disk) (selected (g.D.Disk.seen c.attach_stopped.new.disk)) stop.has_planned.follows left
+    (returns-in-Ok-clause-answer_by_arm g c stop area arm honest left) (change_or_none stop.change c.in-Ok.kept c.take_kept-change.result (c.take_kept-change.ensures.answer stop.change planned))
+    (returns-in-Ok-clause-area g c)
+
 pub returns-in-Ok-clause-lost : goal.returns-in-Ok-clause-lost
 returns-in-Ok-clause-lost g c stop honest none =
     let before = c.args.self.replica.state.kept in
@@ -149,3 +162,14 @@ returns-clause-sound g c gate honest is =
 pub returns-clause-damaged : goal.returns-clause-damaged
 returns-clause-damaged g c gate bodies is has =
     subst (λ (n : ℕ). IsFirstRecordAtFault n bodies gate) c.jobs.ensures.count (c.attach_stopped.ensures.damaged gate bodies (c.in-Err.is ∙ ap Err (same_fault c.in-Err.fault _ is)) has)
+
+pub returns-clause-unended : goal.returns-clause-unended
+returns-clause-unended g c sure ends =
+    c.attach_stopped.ensures.unended sure (ends_handed (Node g.row.D.Denot) c.in-Err.fault c.attach_stopped.result c.in-Err.is ends)
+
+pub returns-clause-memory_alone : goal.returns-clause-memory_alone
+returns-clause-memory_alone g c fault honest sure is =
+    let other = c.in-Err.fault in
+    sym (same_fault other fault is)
+    ∙ memory_left Unit other (λ ends. c.attach_stopped.ensures.unended sure (ends_handed Unit other c.attach_stopped.result c.in-Err.is ends)) (λ gate damaged. returns-clause-sound g c gate honest (ap Err damaged))
+    (λ letter read. c.attach_stopped.ensures.no_letter letter (c.in-Err.is ∙ ap Err read))
