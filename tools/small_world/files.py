@@ -134,16 +134,14 @@ def kept_by(records, jobs):
     return kept
 
 
-class Files:
-    """The chooser and two areas. Where they are armed, as many calls succeed as were left, and within the next one the disk stops."""
+class Areas:
+    """The chooser and two areas of a disk."""
 
     def __init__(self, me, jobs):
         self.me = me
         self.jobs = jobs
         self.chooser = File()
         self.areas = [File(), File()]
-        self.arm = None
-        self.attach()
 
     def area(self):
         """The number of the area that the low bit of the chooser selects."""
@@ -156,6 +154,33 @@ class Files:
             found.append(content[GATED * len(found) + 1 : GATED * (len(found) + 1)])
         return found
 
+    def append(self, one, count):
+        """The calls that append a body behind so many."""
+        file, tail = self.areas[self.area()], GATED * count
+        return [(file.write, tail + 1, one + SHUT), (file.sync,), (file.write, tail, OPEN), (file.sync,)]
+
+    def rebase(self, kept, slot, rows):
+        """The calls that begin the other area."""
+        other = 1 - self.area()
+        own = 8 * kept.tried + self.me if kept.tried else 0
+        content = b"".join(OPEN + one for one in base_bodies(kept, own, slot, rows)) + SHUT
+        file, chooser = self.areas[other], self.chooser
+        return [(file.cut, 0), (file.write, 0, content), (file.sync,), (chooser.write, 0, bytes([other])), (chooser.sync,)]
+
+    def leave(self, image):
+        """Leaves what a stop does, by the number of the image."""
+        self.chooser = File(self.chooser.left(image))
+        self.areas = [File(area.left(image)) for area in self.areas]
+
+
+class Files(Areas):
+    """Files that are attached. Where they are armed, as many calls succeed as were left, and within the next one the disk stops."""
+
+    def __init__(self, me, jobs):
+        super().__init__(me, jobs)
+        self.arm = None
+        self.attach()
+
     def attach(self):
         """Finds what the files stand for, and sees to a shut gate behind it."""
         self.chooser.sync()
@@ -167,23 +192,10 @@ class Files:
             file.sync()
         self.kept = kept_by([BODY.unpack(one) for one in bodies], self.jobs)
 
-    def append(self, one):
-        """The calls that append a body."""
-        file, tail = self.areas[self.area()], GATED * self.count
-        return [(file.write, tail + 1, one + SHUT), (file.sync,), (file.write, tail, OPEN), (file.sync,)]
-
-    def rebase(self, slot, rows):
-        """The calls that begin the other area."""
-        other = 1 - self.area()
-        own = 8 * self.kept.tried + self.me if self.kept.tried else 0
-        content = b"".join(OPEN + one for one in base_bodies(self.kept, own, slot, rows)) + SHUT
-        file, chooser = self.areas[other], self.chooser
-        return [(file.cut, 0), (file.write, 0, content), (file.sync,), (chooser.write, 0, bytes([other])), (chooser.sync,)]
-
     def save(self, change):
         """Saves a change, and tells whether the disk stopped within. Then the files are what the stop leaves, attached anew."""
         one = record_of(change)
-        for call, *operands in self.append(one) if one else self.rebase(*change[1:]):
+        for call, *operands in self.append(one, self.count) if one else self.rebase(self.kept, *change[1:]):
             if self.arm and self.arm.left == 0:
                 # A sync within which the disk stops does nothing, and a write or a cut may be done.
                 if operands:
@@ -197,6 +209,5 @@ class Files:
 
     def revive(self):
         image, self.arm = self.arm.image, None
-        self.chooser = File(self.chooser.left(image))
-        self.areas = [File(area.left(image)) for area in self.areas]
+        self.leave(image)
         self.attach()

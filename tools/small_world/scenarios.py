@@ -29,11 +29,11 @@ class ScenarioWords(Words):
     """Launches are named by the number of the job, and a start that was decided at another minute tells that."""
 
     def __init__(self):
-        super().__init__(lambda job, at: f"job {job} {stamp_of(at)}")
+        super().__init__(lambda job, at: f"job {job} {self.stamp(at)}")
 
     def entry(self, entry):
         late = isinstance(entry, Start) and entry.now != entry.at
-        return super().entry(entry) + (f" decided {stamp_of(entry.now)}" if late else "")
+        return super().entry(entry) + (f" decided {self.stamp(entry.now)}" if late else "")
 
 
 WORDS = ScenarioWords()

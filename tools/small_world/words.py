@@ -9,13 +9,6 @@ def ballot_words(ballot):
     return f"{ballot // 8}.{ballot % 8}"
 
 
-def row_words(job, row):
-    told = [("cursor", row.cursor), ("open", row.open_now), ("last", row.last)]
-    parts = [f"{name} {stamp_of(instant)}" for name, instant in told if instant is not None]
-    parts += [f"{name} {count}" for name, count in (("launched", row.launched), ("voided", row.voided)) if count]
-    return ", ".join([f"row job {job}", *parts])
-
-
 def role_words(term):
     """What a replica is, by its term."""
     if isinstance(term, (Candidate, Leader)):
@@ -32,7 +25,9 @@ def term_words(term):
 
 
 class Words:
-    """Words in which a launch is named as `title` does, by its job and by when it is due."""
+    """Words in which a launch is named as `title` does, by its job and by when it is due, and an instant as `stamp` does."""
+
+    stamp = staticmethod(stamp_of)
 
     def __init__(self, title):
         self.title = title
@@ -55,6 +50,12 @@ class Words:
 
     def vote(self, slot, ballot, entry):
         return f"{ballot_words(ballot)} at {slot} {self.entry(entry)}"
+
+    def row(self, job, row):
+        told = [("cursor", row.cursor), ("open", row.open_now), ("last", row.last)]
+        parts = [f"{name} {self.stamp(instant)}" for name, instant in told if instant is not None]
+        parts += [f"{name} {count}" for name, count in (("launched", row.launched), ("voided", row.voided)) if count]
+        return ", ".join([f"row job {job}", *parts])
 
     def packets(self, packets):
         """What the packets of a letter say."""
@@ -85,7 +86,7 @@ class Words:
         if kind is Lead:
             return f"lead {ballot_words(packet.ballot)} up to {packet.slot}"
         if kind is Snap:
-            rows = [f"; {row_words(job, row)}" for job, row in enumerate(packet.rows)]
+            rows = [f"; {self.row(job, row)}" for job, row in enumerate(packet.rows)]
             return f"snapshot at {packet.slot}, rows {len(rows)}{''.join(rows)}"
         return f"nack {ballot_words(packet.refused)}, promised {ballot_words(packet.ballot)}"
 
@@ -97,5 +98,5 @@ class Words:
         if kind == "voted":
             return f"voted {self.vote(*parts)}"
         if kind == "base":
-            return "; ".join([f"base {parts[0]}", *(row_words(job, row) for job, row in enumerate(parts[1]))])
+            return "; ".join([f"base {parts[0]}", *(self.row(job, row) for job, row in enumerate(parts[1]))])
         return f"{kind} {ballot_words(parts[0])}"

@@ -1,0 +1,158 @@
+#!/usr/bin/env python3
+"""Tests of stores and nodes on disks that stop, in the small world: what commands of store_play come to, and which bytes are letters. What
+has to come was worked out by hand.
+
+Usage: tools/test_store.py [NAME..]
+"""
+import unittest
+from unittest import mock
+
+from small_world.disk import Disk
+from small_world.files import BODY
+from small_world.laws import Broken
+from small_world.launches import LAUNCH, NOOP, End, Row, Start
+from small_world.letters import fault_of, letter_bytes, packets_in
+from small_world.replica import Accept, Accepted, AskFrom, Known, Lead, Nack, Prepare, Promise, Snap, Vote
+from small_world.store import text_of
+from small_world.store_made import Commands
+
+SEEDS = range(60)
+FRESH = ["kept: tried 0, promised none, base 0", "row job 0"]
+TRIED = ["kept: tried 1, promised 1.0, base 0", "row job 0"]
+# The record of ballot 1.0 as one that is tried, behind an open gate and before a shut one.
+RECORD = f"01{'01' + 14 * '00' + '08' + 40 * '00'}00"
+PREPARE = "01010000" + "00000000" + "0000000000000009" + 40 * "00"
+PACKETS = [
+    Known(0, NOOP),
+    Known(1, Start(1, 20, 21)),
+    Nack(9, 17),
+    Promise(10, 3, {3: Vote(9, NOOP), 5: Vote(8, End(0, 40, LAUNCH))}),
+    Accepted(9, 2),
+    AskFrom(7),
+    Lead(9, 8),
+    Snap(5, [Row(20, 21, None, 1, 2), Row()]),
+]
+
+
+def told(*commands):
+    """What comes of the last of the commands, on a disk of replica 0 of three with one job."""
+    text = text_of("".join(f"> {command}\n" for command in ("disk 3 0 1", *commands)))
+    return [line.strip() for line in text.rpartition("> ")[2].split("\n")[1:-1]]
+
+
+class Stores(unittest.TestCase):
+    def test_what_a_stop_leaves(self):
+        """A record's gate is written by the third call and synced by the fourth; image 1 and 5 show it as 1, and image 8 as 2."""
+        for calls in range(4):
+            for image in (0, 1, 2, 5, 8):
+                kept = TRIED if calls >= 2 and image in (1, 5) else FRESH
+                stopped = "attach", f"arm {calls} {image}", "save tried 1.0"
+                self.assertEqual(told(*stopped), ["fault Stopped"])
+                self.assertEqual(told(*stopped, "attach"), ["fault Stopped"])
+                self.assertEqual(told(*stopped, "revive", "attach"), kept, (calls, image))
+        self.assertEqual(told("attach", "arm 4 0", "save tried 1.0", "keeps"), TRIED)
+        self.assertEqual(told("attach", "arm 0 0", "disarm", "save tried 1.0"), ["saved"])
+
+    def test_what_files_have(self):
+        self.assertEqual(told("files"), ["chooser none", "area 0 none", "area 1 none"])
+        self.assertEqual(told("attach", "stop", "files"), ["chooser none", "area 0 00", "area 1 none"])
+        self.assertEqual(told("attach", "save tried 1.0", "stop", "files")[1], f"area 0 {RECORD}")
+        base = "attach", "save base 1; row job 0"
+        self.assertEqual(told(*base, "stop", "files")[0], "chooser 01")
+        self.assertEqual(told(*base, "save base 2; row job 0", "stop", "files")[0], "chooser 00")
+
+    def test_what_an_attach_does(self):
+        """It syncs the chooser and an area, and writes and syncs a gate."""
+        for calls in range(4):
+            self.assertEqual(told(f"arm {calls} 1", "attach"), ["fault Stopped"])
+        self.assertEqual(told("arm 4 1", "attach"), FRESH)
+        self.assertEqual(told("attach", "stop", "arm 2 1", "attach"), FRESH)
+
+    def test_what_cannot_be_done(self):
+        changes = "save tried 1.0", "save promised 1.1"
+        for refused in ("tried 2.0", "promised 1.1", "voted 1.0 at 0 noop", "base 0; row job 0", "base 1", "base 1; row job 1"):
+            held = ["saved"] if refused == "tried 2.0" else ["refused: the change may not follow what is kept"]
+            self.assertEqual(told("attach", *changes, f"save {refused}"), held)
+        self.assertEqual(told("save tried 1.0"), ["refused: nothing is attached"])
+        self.assertEqual(told("attach", "campaign"), ["refused: a store is attached"])
+        self.assertEqual(told("start", "revive"), ["refused: a node runs"])
+        self.assertEqual(told("start", "arm 0 0", "campaign", "arm 0 0"), ["refused: the node was stopped"])
+        self.assertEqual(text_of("> attach\n"), "> attach\n  refused: there is no disk\n")
+
+
+class Nodes(unittest.TestCase):
+    def test_what_a_stop_keeps(self):
+        for image, kept, round_next in ((0, "was lost", 1), (1, "was kept: tried 1.0", 2)):
+            stopped = "start", f"arm 3 {image}", "campaign"
+            self.assertEqual(told(*stopped), ["fault Stopped"])
+            self.assertEqual(told(*stopped, "reopen"), [kept])
+            self.assertEqual(told(*stopped, "reopen", "start", "campaign")[0], f"delta tried {round_next}.0")
+
+    def test_letters(self):
+        promise = "0200" + PREPARE[4:]
+        self.assertEqual(told("start", f"hear {PREPARE}"), ["delta promised 1.1", f"letter to 1: {promise}"])
+        self.assertEqual(told("start", f"hear {PREPARE[:-2]}"), ["fault Letter(BadLength { packet: 0 })"])
+        self.assertEqual(told("start", f"hear {PREPARE}{PREPARE}"), ["fault Letter(BadGroup { packet: 1 })"])
+        self.assertEqual(told("start", "tick 2024-03-31T01:00Z")[0][:27], "refused: the stamp is outsi")
+
+    def test_numbers_beyond_bounds(self):
+        saved = "attach", f"save tried {2**59}.0", "stop", "start"
+        self.assertEqual(told(*saved, "campaign"), ["refused: the replica's numbers are beyond its bounds"])
+
+
+class Letters(unittest.TestCase):
+    def test_there_and_back(self):
+        content = letter_bytes(2, PACKETS)
+        self.assertIsNone(fault_of(content, 3))
+        self.assertEqual(packets_in(content), (2, PACKETS))
+
+    def fault(self, *changes, packets=(Prepare(9, 0),), members=3):
+        """The fault of a letter in which bytes are other ones."""
+        content = bytearray(letter_bytes(1, packets))
+        for place, byte in changes:
+            content[place] = byte
+        return fault_of(bytes(content), members)
+
+    def test_rules(self):
+        self.assertEqual(fault_of(b"", 3), ("BadLength", 0))
+        for changes, name in [
+            ([(0, 0)], "BadKind"),
+            ([(0, 12)], "BadKind"),
+            ([(2, 1)], "NotZero"),
+            ([(3, 1)], "NotZero"),
+            ([(55, 1)], "NotZero"),
+            ([(1, 3)], "BadMember"),
+            ([(15, 11)], "BadMember"),
+            ([(15, 1)], "BadMember"),
+        ]:
+            self.assertEqual(self.fault(*changes), (name, 0), changes)
+        row = Row(20, 21, 22, 1, 2)
+        for place, byte, name in [(2, 2, "BadKind"), (2, 8, "BadKind"), (11, 1, "BadKind"), (2, 1, "NotZero"), (7, 1, "BadGroup"), (1, 2, "BadMember")]:
+            self.assertEqual(self.fault((56 + place, byte), packets=[Snap(5, [row])]), (name, 1), place)
+
+    def test_groups(self):
+        promise = Promise(10, 3, {3: Vote(9, NOOP)})
+        self.assertEqual(self.fault((31, 2), packets=[promise]), ("BadGroup", 2))
+        self.assertEqual(self.fault((31, 0), packets=[promise]), ("BadGroup", 1))
+        self.assertEqual(self.fault((31, 2), packets=[promise, Lead(9, 0)]), ("BadGroup", 2))
+        self.assertEqual(self.fault(packets=[Accept(9, 0, NOOP), Snap(5, [])]), ("BadGroup", 1))
+        self.assertEqual(len(letter_bytes(1, [promise])), 2 * BODY.size)
+
+
+class Made(unittest.TestCase):
+    def test_made_commands(self):
+        """What comes of commands is what came of them as they were made."""
+        for seed in SEEDS:
+            text = Commands(seed).text()
+            self.assertEqual(text_of("".join(f"{line}\n" for line in text.split("\n") if line.startswith("> "))), text, seed)
+
+    def test_wrong_disks(self):
+        """A disk that decides otherwise by arithmetic than by its bytes is found."""
+        for wrong in (lambda disk, change, byte: byte == 1, lambda disk, change, byte: byte % 2 == 1):
+            with mock.patch.object(Disk, "is_after", wrong), self.assertRaisesRegex(Broken, "its files stand for what is kept"):
+                for seed in range(500):
+                    Commands(seed)
+
+
+if __name__ == "__main__":
+    unittest.main()
