@@ -127,7 +127,8 @@ class Letters(unittest.TestCase):
         ]:
             self.assertEqual(self.fault(*changes), (name, 0), changes)
         row = Row(20, 21, 22, 1, 2)
-        for place, byte, name in [(2, 2, "BadKind"), (2, 8, "BadKind"), (11, 1, "BadKind"), (2, 1, "NotZero"), (7, 1, "BadGroup"), (1, 2, "BadMember")]:
+        rows = [(2, 2, "BadKind"), (2, 8, "BadKind"), (11, 1, "BadKind"), (2, 1, "NotZero"), (7, 1, "BadGroup"), (1, 2, "BadMember")]
+        for place, byte, name in rows:
             self.assertEqual(self.fault((56 + place, byte), packets=[Snap(5, [row])]), (name, 1), place)
 
     def test_groups(self):
