@@ -14,6 +14,7 @@ from contextlib import redirect_stderr, redirect_stdout
 from unittest import mock
 from xml.etree import ElementTree
 
+from small_world.made import break_run
 from small_world.run_file import RunFile
 from small_world.texts import journal_of, report_of
 from small_world.world import World
@@ -32,7 +33,8 @@ crontab alice UTC 1
 * * * * * poll the mail
 script
 end
-"""# Three replicas, of which one stands for leader, and all go on by themselves.
+"""
+# Three replicas, of which one stands for leader, and all go on by themselves.
 FREE = """\
 cronrun 1
 replicas 3
@@ -45,6 +47,25 @@ campaign 0
 free 2024-03-31T01:00Z 8
 end
 """
+# Three replicas with one job, at one o'clock; and one that makes a launch in each minute of two hours. Their scripts follow.
+BROKEN = """\
+cronrun 1
+replicas 3
+window 2024-03-31T00:00Z 2024-03-31T04:00Z
+grace 5
+crontab alice UTC 1
+0 1 * * * make a backup
+script"""
+MINUTES = """\
+cronrun 1
+replicas 1
+window 2024-03-31T00:00Z 2024-03-31T02:00Z
+grace 120
+crontab alice UTC 1
+* * * * * poll the mail
+script"""
+ONE, LAST = "2024-03-31T01:00Z", "2024-03-31T01:59Z"
+ROUND = f"round {ONE} 1"
 
 
 def example(name):
@@ -204,13 +225,72 @@ class Timeline(unittest.TestCase):
         self.assertEqual(self.ran(run, self.journal), (0, output, ""))
         self.assertNotEqual(self.ran(run, "--alone", "--seed", "5")[1], output)
 
-    def test_a_command_that_the_program_refuses(self):
-        run = self.write(FREE.replace("campaign 0", "break 0 1 2"), "break")
-        self.write(journal_of(World(RunFile(FREE)).play()))
-        for words in (["--alone"], [self.journal]):
-            status, output, notes = self.ran(run, *words)
-            self.assertEqual((status, output), (1, ""))
-            self.assertIn(f"{run} is no run file that the program takes; `tools/explain {run}` tells", notes)
+    def broken(self, *script, head=BROKEN):
+        """The picture of a run with a script in which disks stop within a write, and the same from its journal."""
+        run = self.write("\n".join([head, *script, "end", ""]), "broken")
+        status, output, notes = self.ran(run, "--alone")
+        self.assertEqual((status, notes), (0, ""))
+        self.write(journal_of(World(RunFile(head + "\n" + "\n".join([*script, "end", ""]))).play()))
+        self.assertEqual(self.ran(run, self.journal), (0, output, ""))
+        return ElementTree.fromstring(output)
+
+    def test_stops_within_a_write(self):
+        """Replica 0 leads and votes for its own proposal first: the last two calls of four show the vote, if the image has it."""
+        told = f"turn 8: the disk of replica 0 stops as its clock reads {ONE}: its vote 1.0 at 0 start alice:1@20240331T0100Z is"
+        for image, end, votes in ((1, "kept", 1), (0, "lost", 0)):
+            picture = self.broken("campaign 0", ROUND, f"break 0 3 {image}", ROUND, "campaign 1", f"round {ONE} 5")
+            self.assertEqual(self.titles(picture, "rect", "within"), [f"{told} {end}"])
+            self.assertEqual(self.titles(picture, "rect", "stop"), [f"{told} kept"] * votes)
+            self.assertEqual(self.titles(picture, "path", "within"), [f"{told} lost"] * (1 - votes))
+            own = [vote for vote in self.titles(picture, "polygon", "vote") if vote.startswith("turn 8: replica 0 votes ")]
+            self.assertEqual(len(own), votes)
+            self.assertIn(f"stops within a write, which is {end}", self.texts(picture))
+            self.assertIn(f"T{told[1:]} {end}. ", picture.find(SVG + "desc").text)
+            self.assertEqual(self.titles(picture, "rect", "stopped")[0].split(", ")[0], "replica 0: stopped")
+
+    def test_what_a_disk_was_to_save(self):
+        ballot, vote = "its own ballot 1.0", "its vote 1.0 at 1 end alice:1@20240331T0100Z launch"
+        answer = ["campaign 0", ROUND, "break 0 6 1", f"round {ONE} 4"]
+        for script, turn, who, told in (
+            (["break 0 2 1", "campaign 0"], 0, 0, f"it stands for leader: {ballot} is kept"),
+            (["break 0 0 1", "campaign 0"], 0, 0, f"it stands for leader: {ballot} is lost"),
+            (["campaign 0", "break 1 2 2", ROUND], 2, 1, "it hears letter 0: its promise of ballot 1.0 is lost"),
+            (answer, 21, 0, f"it takes what the scheduler told it: {vote} is kept"),
+        ):
+            title = f"turn {turn}: the disk of replica {who} stops as {told}"
+            self.assertEqual(self.titles(self.broken(*script), "rect", "within"), [title])
+        table = "turn 97: the disk of replica 0 stops as its clock reads 2024-03-31T01:59Z: its launch table at slot 64 is"
+        for image, end in ((1, "kept"), (0, "lost")):
+            picture = self.broken("campaign 0", f"round {LAST} 64", f"break 0 7 {image}", f"round {LAST} 1", head=MINUTES)
+            self.assertEqual(self.titles(picture, "rect", "within"), [f"{table} {end}"])
+            self.assertEqual(self.titles(picture, "rect", "base")[0].startswith("turn 97: "), end == "kept")
+
+    def test_what_reached_a_disk_that_stops(self):
+        """The letter was heard, though nothing comes of it, and the clock was read."""
+        picture = self.broken("campaign 0", "break 1 2 2", ROUND)
+        self.assertEqual([letter.split("; ")[-1] for letter in self.letters(picture)][:1], ["heard in turn 2"])
+        picture = self.broken("campaign 0", ROUND, "skew 0 30", "break 0 0 0", ROUND)
+        self.assertIn("03-31 01:30", self.texts(picture, "small"))
+
+    def test_the_way_of_a_launch_past_a_stop(self):
+        for image, end in ((1, "kept"), (0, "lost")):
+            self.broken("campaign 0", ROUND, f"break 0 3 {image}", ROUND, "campaign 1", f"round {ONE} 5")
+            lines = self.ran(os.path.join(self.folder.name, "broken"), self.journal, "--text")[1].split("\n")
+            told = f"  turn 8: the disk of replica 0 stops as it votes for its start at slot 0 in ballot 1.0: the vote is {end}"
+            proposed = "  turn 16: replica 1 proposes its start at slot 0 in ballot 2.1, and votes for it"
+            self.assertEqual(lines[1:3], [told, proposed])
+
+    def test_made_runs_with_stops(self):
+        """Each disk that stops has its sign, whatever the order in which free turns came."""
+        for seed in range(6):
+            text = break_run(seed)
+            lines = journal_of(World(RunFile(text), seed).play())
+            self.write(lines)
+            status, output, notes = self.ran(self.write(text, "made"), self.journal)
+            self.assertEqual((status, notes), (0, ""))
+            drawn = [line for line in re.findall(r"(?m)^(\d+) \d stop (?:kept|lost) ", lines) if int(line) < 1_000]
+            told = self.titles(ElementTree.fromstring(output), "rect", "within")
+            self.assertEqual([title.split(" ")[1] for title in told], [f"{number}:" for number in drawn])
 
     def test_a_journal_has_the_same_picture(self):
         world = world_of("leader_cut_off")

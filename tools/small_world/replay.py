@@ -16,17 +16,22 @@ class BadJournal(Exception):
 
 
 class Recorded(World):
-    """A world that keeps the step of each turn, where there is one, and what the replica is after it; and of each letter the
-    turns in which it was heard."""
+    """A world that keeps the step of each turn, where there is one, and what the replica is after it; of each letter the turns in
+    which it was heard, those included within which a disk stopped; and of each such turn what was to be saved."""
 
     def __init__(self, run, seed=0):
         super().__init__(run, seed)
         self.steps = []
         self.roles = []
         self.heard = {}
+        self.broken_off = {}
+
+    def break_off(self, turn, change, kept):
+        self.broken_off[len(self.turns)] = change
+        super().break_off(turn, change, kept)
 
     def add(self, turn, step=None):
-        if turn.word == "hear":
+        if "hear" in (turn.word, turn.cause):
             self.heard.setdefault(turn.operand, []).append(len(self.turns))
         running = turn.who is not None and self.runs[turn.who]
         self.roles.append(role_words(self.replicas[turn.who].term) if running else "stopped")

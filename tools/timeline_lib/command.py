@@ -6,7 +6,6 @@ import subprocess
 import sys
 
 from release_lib.version import PROGRAM, help_text, version_line
-from script_lib.forms import NOT_TAKEN
 from script_lib.run_lines import plain_run
 from small_world.replay import BadJournal, Recorded, followed, is_free, journal_in
 from small_world.run_file import RunFile
@@ -138,8 +137,6 @@ def drawn(options):
     """The text that the words ask for, and where the journal differs from what is worked out."""
     text = plain_run(read(options.run)) if options.make is None else made_run(options.make)
     run = RunFile(text)
-    if any(command[0] in NOT_TAKEN for command in run.script):
-        raise ValueError("a command that the program refuses")
     jobs = jobs_of(options, run)
     world, difference = played(options, run, text)
     launches = Launches(world)

@@ -51,8 +51,10 @@ class Launches:
         if turn.word == "answer" and turn.who in self.called:
             self.answers[number] = self.called[turn.who]
             self.tell(number, self.answers[number], f"replica {turn.who} takes the answer")
+        if turn.cause:
+            self.break_off(number, turn, self.world.broken_off[number])
         for slot, ballot, entry in step.votes() if step else []:
-            self.vote(number, turn.who, slot, ballot, entry)
+            self.vote(number, turn, slot, ballot, entry)
         for slot, entry in step.learned if step else []:
             self.tell(number, launch_of(entry), f"replica {turn.who} learns {what(entry)} at slot {slot}")
         if turn.call:
@@ -72,13 +74,21 @@ class Launches:
         elif turn.fate != "lost-before":
             self.held.add(name)
 
-    def vote(self, number, who, slot, ballot, entry):
-        """Takes a vote: the first one of a ballot is a proposal, and that with which there is a majority decides."""
-        voters, name = self.voters[slot, ballot], launch_of(entry)
-        place = f"{what(entry)} at slot {slot} in ballot {ballot_words(ballot)}"
-        self.tell(number, name, f"replica {who} " + (f"votes for {place}" if voters else f"proposes {place}, and votes for it"))
+    def break_off(self, number, turn, change):
+        """Tells of a disk that stops as a vote is saved."""
+        if change[0] == "voted":
+            told = f"the disk of replica {turn.who} stops as it votes for {place_of(*change[1:])}: the vote is {turn.end}"
+            self.tell(number, launch_of(change[3]), told)
+
+    def vote(self, number, turn, slot, ballot, entry):
+        """Takes a vote: the first one of a ballot is a proposal, and that with which there is a majority decides. One that was kept as
+        a disk stopped is told already."""
+        voters, name, place = self.voters[slot, ballot], launch_of(entry), place_of(slot, ballot, entry)
+        if not turn.cause:
+            told = f"votes for {place}" if voters else f"proposes {place}, and votes for it"
+            self.tell(number, name, f"replica {turn.who} {told}")
         self.proposed[slot, ballot] = entry
-        voters.add(who)
+        voters.add(turn.who)
         if len(voters) > self.run.members // 2 and slot not in self.chosen:
             self.chosen.add(slot)
             self.tell(number, name, f"a majority has voted for {what(entry)}: it is decided")
@@ -92,6 +102,11 @@ class Launches:
                 yield self.proposed.get((packet.slot, packet.ballot))
             elif isinstance(packet, Promise):
                 yield from (vote.entry for vote in packet.votes.values())
+
+
+def place_of(slot, ballot, entry):
+    """What is voted for, and where."""
+    return f"{what(entry)} at slot {slot} in ballot {ballot_words(ballot)}"
 
 
 def what(entry):

@@ -6,7 +6,7 @@ from small_world.launches import LAUNCH
 from .launches import launch_of
 from .layout import COLUMN, TRACK
 from .svg import LETTER, bent, box, cross, diamond, disc, group_of, line, shape, words
-from .words import call_words, letter_words, term_label, turn_words
+from .words import call_words, letter_words, stop_words, term_label, turn_words
 
 # Layers, from the one that lies behind the others.
 FRAME, BANDS, LETTERS, TRACKS, CALLS, TURNS = range(6)
@@ -236,10 +236,19 @@ class Marks:
 
     def turn(self, number, turn):
         x, y = self.layout.x(number), self.layout.y(turn.who)
+        if turn.cause:
+            return self.stop_within(number, turn, x, y)
         title = turn_words(number, turn) + ("" if turn.word == "stop" else f"; it is {self.world.roles[number]}")
         answered = self.launches.answers.get(number)
         launches = (self.launches.number(answered),) if answered else ()
         return Mark(TURNS, turn.word, x - 6, x + 6, turn_sign(x, y, turn.word, title), (turn.who,), launches=launches)
+
+    def stop_within(self, number, turn, x, y):
+        """A disk that stops within a write. What was to be saved is kept, or it is lost."""
+        change, kind = self.world.broken_off[number], f"stop_{turn.end}"
+        title = stop_words(self.words, number, turn, change)
+        more = self.of_entries([change[3]]) if change[0] == "voted" else {}
+        return Mark(TURNS, kind, x - 6, x + 6, turn_sign(x, y, kind, title), (turn.who,), launches=more.get("launches", ()))
 
     def vote(self, number, who, vote):
         x, y = self.layout.x(number), self.layout.y(who) - 15
@@ -274,6 +283,9 @@ def turn_sign(x, y, word, title=""):
         return shape([(x - 5, y - 6), (x + 6, y), (x - 5, y + 6)], word, title)
     if word == "answer":
         return shape([(x - 6, y - 5), (x, y + 6), (x + 6, y - 5)], word, title)
+    if word in ("stop_kept", "stop_lost"):
+        within = box(x - 2.5, y - 2.5, 5, 5, "stop") if word == "stop_kept" else cross(x, y, 3, "within")
+        return group_of(box(x - 6, y - 6, 12, 12, "within") + within, title)
     if word == "stop":
         return box(x - 5, y - 5, 10, 10, word, title)
     return box(x - 1, y - 5, 2, 10, "tick", title) if word == "tick" else disc(x, y, 3, "hear", title)

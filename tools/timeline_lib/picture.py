@@ -35,6 +35,8 @@ SIGNS = [
     ("base", box(4, -4, 8, 8, "base"), "launch table kept"),
     ("answer", turn_sign(8, 0, "answer"), "takes the answer"),
     ("stop", turn_sign(8, 0, "stop"), "stops"),
+    ("stop_kept", turn_sign(8, 0, "stop_kept"), "stops within a write, which is kept"),
+    ("stop_lost", turn_sign(8, 0, "stop_lost"), "stops within a write, which is lost"),
     ("restart", turn_sign(8, 0, "restart"), "starts again"),
     ("launch", disc(8, 0, 6, "launch"), "launch"),
     ("found", disc(8, 0, 6, "found"), "launch found"),
@@ -148,7 +150,7 @@ class Picture:
             turn, x = self.world.turns[number], self.layout.x(number)
             if number % 5 == 0:
                 yield self.under(x, 14, str(number), "middle")
-            if turn.word == "tick" and turn.operand != told and x - last >= APART:
+            if "tick" in (turn.word, turn.cause) and turn.operand != told and x - last >= APART:
                 told, last = turn.operand, x
                 yield self.under(x, 30, stamp_of(turn.operand)[5:-1].replace("T", " "), "start")
 

@@ -1,5 +1,5 @@
 """What happens in a run, as sentences: who leads when, what stops, and what the scheduler is called for."""
-from .words import TERMS, call_words
+from .words import TERMS, call_words, stop_words, words_of
 
 # So many sentences at most; a run may have thousands.
 MOST_TOLD = 60
@@ -25,7 +25,8 @@ def changes(world, first, until):
             continue
         role = world.roles[number]
         if role != roles[turn.who] and number >= first:
-            yield number, sentence(number, turn.who, role, roles[turn.who])
+            broken_off = stop_words(words_of(world.run), number, turn, world.broken_off[number]) if turn.cause else None
+            yield number, broken_off or sentence(number, turn.who, role, roles[turn.who])
         roles[turn.who] = role
 
 

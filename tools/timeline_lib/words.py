@@ -2,7 +2,7 @@
 from small_world.instants import DAY, date_of, stamp_of
 from small_world.jobs import Entry
 from small_world.launches import VOID
-from small_world.words import Words
+from small_world.words import Words, ballot_words
 
 # A letter that says more is cut there.
 MOST_SAID = 300
@@ -13,6 +13,13 @@ SAID = {
     "restart": "starts again",
 }
 TERMS = {"candidate": "stands", "leader": "leads", "stopped": "stopped"}
+# What a replica does as its disk stops.
+CAUSES = {
+    "campaign": "it stands for leader",
+    "tick": "its clock reads {}",
+    "hear": "it hears letter {}",
+    "answer": "it takes what the scheduler told it",
+}
 COMES_BACK = {
     "lost-before": "it is lost on its way",
     "lost-after": "it is made, and the answer is lost",
@@ -30,6 +37,23 @@ def letter_words(words, number, letter):
     said = words.packets(letter.packets)
     said = said if len(said) <= MOST_SAID else f"{said[:MOST_SAID]} .."
     return f"letter {number} from replica {letter.sender} to replica {letter.to}: {said}"
+
+
+def change_words(words, change):
+    """What is saved on a disk: a ballot of the replica's own, or one that it promised, a vote, or a launch table."""
+    kind, *parts = change
+    if kind == "voted":
+        return f"its vote {words.vote(*parts)}"
+    if kind == "base":
+        return f"its launch table at slot {parts[0]}"
+    return f"its {'promise of' if kind == 'promised' else 'own'} ballot {ballot_words(parts[0])}"
+
+
+def stop_words(words, number, turn, change):
+    """What a disk was to save as it stopped, within which turn, and whether that is kept."""
+    operand = stamp_of(turn.operand) if turn.cause == "tick" else turn.operand
+    cause = CAUSES[turn.cause].format(operand)
+    return f"turn {number}: the disk of replica {turn.who} stops as {cause}: {change_words(words, change)} is {turn.end}"
 
 
 def turn_words(number, turn):
