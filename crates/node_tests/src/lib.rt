@@ -9,6 +9,8 @@ mod arms;
 #[cfg(test)]
 mod nodes;
 #[cfg(test)]
+mod rows;
+#[cfg(test)]
 mod steps;
 #[cfg(test)]
 mod stops;
