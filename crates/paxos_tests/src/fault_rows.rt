@@ -381,3 +381,68 @@ pub const STRANGE: &[Strange] = &[
         sender: 3,
     },
 ];
+
+// Bytes of ACCEPT, from one on and before another, and what is at fault in a letter to three replicas where one of them
+// becomes ff.
+#[derive(Debug)]
+pub struct Span {
+    pub first: usize,
+    pub until: usize,
+    pub fault: Option<LetterFault>,
+}
+
+// A kind that is none, a sender that is none, flags of an entry that are none, and a byte that is to be 0; the job and the
+// ballot's round, whose last byte names its owner; the slot; bytes that are to be 0; the launch and the clock; bytes that are to
+// be 0.
+pub const SPANS: &[Span] = &[
+    Span {
+        first: 0,
+        until: 1,
+        fault: Some(LetterFault::BadKind { packet: 0 }),
+    },
+    Span {
+        first: 1,
+        until: 2,
+        fault: Some(LetterFault::BadMember { packet: 0 }),
+    },
+    Span {
+        first: 2,
+        until: 3,
+        fault: Some(LetterFault::BadKind { packet: 0 }),
+    },
+    Span {
+        first: 3,
+        until: 4,
+        fault: Some(LetterFault::NotZero { packet: 0 }),
+    },
+    Span {
+        first: 4,
+        until: 15,
+        fault: None,
+    },
+    Span {
+        first: 15,
+        until: 16,
+        fault: Some(LetterFault::BadMember { packet: 0 }),
+    },
+    Span {
+        first: 16,
+        until: 24,
+        fault: None,
+    },
+    Span {
+        first: 24,
+        until: 32,
+        fault: Some(LetterFault::NotZero { packet: 0 }),
+    },
+    Span {
+        first: 32,
+        until: 48,
+        fault: None,
+    },
+    Span {
+        first: 48,
+        until: 56,
+        fault: Some(LetterFault::NotZero { packet: 0 }),
+    },
+];

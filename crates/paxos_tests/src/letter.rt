@@ -1,7 +1,7 @@
 //! Packets and letters, read and written.
 ghost use Rattle.std.specs.Prelude.{◌≡◌, IfOk};
 
-use crate::fault_rows::{Changed, REFUSED, STRANGE};
+use crate::fault_rows::{Changed, REFUSED, SPANS, STRANGE};
 use crate::letter_rows::{ACCEPT, BYTES, Bytes, LETTERS, OLD_VOTE, PREPARE, PROMISE, VECTORS};
 use paxos_base::PACKET_BYTES;
 use paxos_letter::{Letter, LetterFault, Packet, packet_bytes, packet_in, write_letter};
@@ -60,6 +60,17 @@ fn each_byte_has_its_field(rt: HostRuntime) -> Result<(), Fail> {
         assert_eq!(rt; text.as_str(), row.text);
     }
     Ok(())
+}
+
+#[test]
+fn a_letter_with_any_byte_at_fault(rt: HostRuntime) {
+    for span in SPANS {
+        for place in span.first..span.until {
+            let bytes = with_byte(*ACCEPT, place, 255);
+            let fault = Letter::read(&bytes, 3).err();
+            assert!(rt; fault == span.fault, "{place}");
+        }
+    }
 }
 
 // The fault of a letter to three replicas.
