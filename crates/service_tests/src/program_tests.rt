@@ -110,3 +110,78 @@ fn arguments_at_fault(rt: HostRuntime) -> Result<(), Fail> {
     assert_eq!(rt; left.status, 5);
     Ok(())
 }
+
+// A write of the report that fails, the status then, and how many bytes of the report stand in front of it. Each line is one
+// write, and the report has nine.
+#[derive(Debug)]
+struct Failing {
+    write: u64,
+    status: u8,
+    written: usize,
+}
+
+const FAILING: &[Failing] = &[
+    Failing {
+        write: 0,
+        status: 4,
+        written: 0,
+    },
+    Failing {
+        write: 1,
+        status: 4,
+        written: 14,
+    },
+    Failing {
+        write: 2,
+        status: 4,
+        written: 57,
+    },
+    Failing {
+        write: 3,
+        status: 4,
+        written: 68,
+    },
+    Failing {
+        write: 4,
+        status: 4,
+        written: 75,
+    },
+    Failing {
+        write: 5,
+        status: 4,
+        written: 105,
+    },
+    Failing {
+        write: 6,
+        status: 4,
+        written: 135,
+    },
+    Failing {
+        write: 7,
+        status: 4,
+        written: 165,
+    },
+    Failing {
+        write: 8,
+        status: 4,
+        written: 195,
+    },
+    Failing {
+        write: 9,
+        status: 0,
+        written: 199,
+    },
+];
+
+#[test]
+fn each_write_of_a_report(rt: HostRuntime) -> Result<(), Fail> {
+    let report = THREE_LAUNCHES_REPORT.as_bytes();
+    for row in FAILING {
+        let args = args_of(rt.alloc(), &[])?;
+        let left = play(&rt, rt.alloc(), Ok(args), THREE_LAUNCHES, &[row.write])?;
+        let front = &report[..report.len().min(row.written)];
+        let ok = left.status == row.status && left.report.bytes() == front;
+        assert!(rt; ok, "{row:?}");
+    }
+    Ok(())
+}

@@ -195,32 +195,68 @@ fn faults(rt: HostRuntime) -> Result<(), Fail> {
     Ok(())
 }
 
-// A write of the report that fails, and the status then. Each line is one write, so the ninth is the last.
-struct Failing {
-    write: &'static [u64],
-    status: u8,
+// How many bytes are kept of a run file that breaks off, and what is left of the run.
+struct Cut {
+    length: usize,
+    shown: &'static str,
 }
 
-const FAILING: &[Failing] = &[
-    Failing {
-        write: &[8],
-        status: 4,
+const CUTS: &[Cut] = &[
+    Cut {
+        length: 0,
+        shown: "2\ncron_cluster: line 1: cause 25 at 0\n",
     },
-    Failing {
-        write: &[9],
-        status: 0,
+    Cut {
+        length: 10,
+        shown: "2\ncron_cluster: line 2: cause 26 at 0\n",
+    },
+    Cut {
+        length: 92,
+        shown: "2\ncron_cluster: line 5: cause 29 at 0\n",
+    },
+    Cut {
+        length: 93,
+        shown: "2\ncron_cluster: line 6: cause 10 at 1\n",
+    },
+    Cut {
+        length: 107,
+        shown: "2\ncron_cluster: line 6: cause 11 at 15\n",
+    },
+    Cut {
+        length: 116,
+        shown: "2\ncron_cluster: line 7: cause 31 at 0\n",
+    },
+    Cut {
+        length: 123,
+        shown: "2\ncron_cluster: line 8: cause 31 at 0\n",
+    },
+    Cut {
+        length: 125,
+        shown: "2\ncron_cluster: line 8: cause 30 at 0\n",
     },
 ];
 
 #[test]
-fn the_last_line(rt: HostRuntime) -> Result<(), Fail> {
-    for row in FAILING {
-        let faults = Faults {
-            writes: row.write,
-            ..NO_FAULTS
-        };
-        let left = play(&rt, rt.alloc(), THREE_LAUNCHES.as_bytes(), &faults)?;
-        assert_eq!(rt; left.end.status, row.status);
+fn run_files_that_break_off(rt: HostRuntime) -> Result<(), Fail> {
+    let whole = THREE_LAUNCHES.as_bytes();
+    for row in CUTS {
+        let front = &whole[..whole.len().min(row.length)];
+        let left = play(&rt, rt.alloc(), front, &NO_FAULTS)?;
+        let shown = show(rt.alloc(), &left)?;
+        assert_eq!(rt; shown.as_str(), row.shown);
+    }
+    Ok(())
+}
+
+// Only the last newline of 127 bytes may be missing.
+#[test]
+fn each_length_of_a_run_file(rt: HostRuntime) -> Result<(), Fail> {
+    let whole = THREE_LAUNCHES.as_bytes();
+    for length in 0..128 {
+        let front = &whole[..whole.len().min(length)];
+        let left = play(&rt, rt.alloc(), front, &NO_FAULTS)?;
+        let status = if length < 126 { 2 } else { 0 };
+        assert!(rt; left.end.status == status, "{length}");
     }
     Ok(())
 }
