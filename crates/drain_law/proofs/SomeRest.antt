@@ -299,6 +299,8 @@ after_it =
       skews = λ who. pos 0;
       fates = λ who. fate.Done;
       latest = now;
+      arms = λ who. None;
+      bases = λ who. 0;
     }
 
 -- the turns of the election may follow over this table too

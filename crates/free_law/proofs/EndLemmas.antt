@@ -1,14 +1,21 @@
 -- A part shows where it ends: each replica that runs has all its turns, and no more.
-use Rattle.std.proofs.Common.{◌≡◌, ℕ, ◌+◌, ◌<◌, true, false, List, [], ◌∷◌, ◌++◌, append_assoc, fold, length, take, Some, ℤ, refl, sym, ap, ◌∙◌, subst, inl, inr, arith}
+use Rattle.std.proofs.Common.{◌≡◌, ℕ, ◌+◌, ◌<◌, Bool, true, false, List, [], ◌∷◌, ◌++◌, append_assoc, fold, length, take, Option, Some, ℤ, eq-eqb, refl, sym, ap, ◌∙◌, subst, inl, inr, arith}
 use Rattle.std.specs.List.{slice_get}
 use Rattle.std.proofs.Math.Seq.{take-append_seam}
 use Rattle.std.proofs.lemmas.Bool.{cases_Bool}
+use Rattle.std.proofs.lemmas.List.Sums.{fold-append}
 use Rattle.zone_minutes.specs.declared.minute.Window.{Window}
-use Rattle.book_law.specs.Book.{Row}
-use Rattle.script_law.specs.Free.{Course, GoesFreely, IsFreePart, after_row_of, begun, course_of, is_turn_of}
+use Rattle.step_law.specs.Step.{Event}
+use Rattle.step_law.specs.declared.out.OutLetter.{OutLetter}
+use Rattle.book_law.specs.Book.{Row, Standing, after_row}
+use Rattle.book_law.specs.declared.turn.Cause.{Cause}
+use Rattle.book_law.specs.declared.turn.Turn.{Turn}
+use Rattle.book_law.specs.declared.turn.Turn.TheVariants.{Stopped}
+use Rattle.script_law.specs.Free.{Course, GoesFreely, IsFreePart, after_all_posted, after_posted, after_row_of, begun, course_of, is_turn_of}
 use Rattle.script_law.specs.Situation.{Situation}
 use Rattle.free_law.specs.Others.{AreOthers, turns_had}
-use Rattle.free_law.proofs.PartLemmas.{course_with_others}
+use Rattle.free_law.proofs.NextLemmas.{fact_here}
+use Rattle.free_law.proofs.PartLemmas.{course_with_others, seen_next}
 use Rattle.free_law.proofs.SeenLemmas.{seen_passes}
 
 found_there : {R : Type 0} (front : List R) (row : R) (rows : List R) → slice_get (front ++ row ∷ rows) (length front) ≡ Some row
@@ -37,9 +44,10 @@ none_had : (who : ℕ) (rows : List Row) → AreOthers who rows → turns_had wh
 none_had who [] others = refl
 none_had who (row ∷ rows) others = rw (others.0) (none_had who rows others.1)
 
-others_and : (who : ℕ) (rows : List Row) (row : Row) → AreOthers who rows → is_turn_of who row.turn ≡ false → AreOthers who (rows ++ row ∷ [])
-others_and who [] row others other = (other, tt)
-others_and who (first ∷ rows) row others other = (others.0, others_and who rows row others.1 other)
+stop_ends : (n : ℕ) (s : Standing) (who : ℕ) (cause : Option Cause) (kept : Bool) (turn : Turn) (event : Event) (letters : List OutLetter)
+    → turn ≡ Stopped who cause kept → (after_row n s turn event letters).runs who ≡ false
+unfolding after_row
+stop_ends n s who cause kept turn event letters is = rw is (fact_here who false s.runs)
 
 module _ (members : ℕ) (window : Window) (at : ℤ) (turns : ℕ) (situation : Situation) where
   pub all_had : (who : ℕ) (rows : List Row) (after : Situation) → IsFreePart members window at turns situation rows after → who < members
@@ -49,27 +57,39 @@ module _ (members : ℕ) (window : Window) (at : ℤ) (turns : ℕ) (situation :
       ∙ (part.each who member).all
       (sym (seen_passes members who situation rows).runs ∙ ap (λ (here : Situation). here.standing.runs who) (sym part.is) ∙ runs)
 
-  -- a replica that is stopped as the part begins has no turn
-  none_of_stopped : (who : ℕ) (front rows : List Row) → situation.standing.runs who ≡ false → AreOthers who front
+  -- a replica that is stopped in what it saw last has no turn behind that
+  none_later : (who : ℕ) (front rows : List Row) → (course_of members who situation front).seen.standing.runs who ≡ false
       → GoesFreely members window at turns who situation (front ++ rows) → AreOthers who rows
-  none_of_stopped who front [] stopped others goes = tt
-  none_of_stopped who front (row ∷ rows) stopped others goes = elim (cases_Bool (is_turn_of who row.turn)) [
+  none_later who front [] stopped goes = tt
+  none_later who front (row ∷ rows) stopped goes = elim (cases_Bool (is_turn_of who row.turn)) [
     | inl own ↦
         let next = goes (length front) row (found_there front row rows) own in
         let runs : (course_of members who situation front).seen.standing.runs who ≡ true =
         subst (λ (l : List Row). (course_of members who situation l).seen.standing.runs who ≡ true) (take-append_seam front (row ∷ rows)) next.runs in
-        let seen : (course_of members who situation front).seen ≡ situation = (course_with_others members who situation [] front others).0 in
-        absurd (let no : false ≡ true = sym stopped ∙ ap (λ (s : Situation). s.standing.runs who) (sym seen) ∙ runs in cc)
-    | inr other ↦ (
-      other,
-      none_of_stopped who (front ++ row ∷ []) rows stopped (others_and who front row others other)
-          (subst (λ (l : List Row). GoesFreely members window at turns who situation l) (sym (append_assoc front (row ∷ []) rows)) goes),
-    )
+        absurd (let no : false ≡ true = sym stopped ∙ runs in cc)
+    | inr other ↦
+        let same = (course_with_others members who situation front (row ∷ []) (other, tt)).0 in (
+          other,
+          none_later who (front ++ row ∷ []) rows (ap (λ (s : Situation). s.standing.runs who) same ∙ stopped)
+              (subst (λ (l : List Row). GoesFreely members window at turns who situation l) (sym (append_assoc front (row ∷ []) rows)) goes),
+        )
   ]
+
+  -- **A replica that stops has no turn after that.**
+  pub none_behind_a_stop : (who : ℕ) (cause : Option Cause) (kept : Bool) (front rows : List Row) (row : Row) → row.turn ≡ Stopped who cause kept
+      → GoesFreely members window at turns who situation (front ++ row ∷ rows) → AreOthers who rows
+  none_behind_a_stop who cause kept front rows row is goes =
+      let own : is_turn_of who row.turn ≡ true = ap (is_turn_of who) is ∙ rw (eq-eqb who who refl) refl in
+      let here : (course_of members who situation (front ++ row ∷ [])).seen ≡ after_posted members (after_all_posted members situation front) row =
+      seen_next members who situation front row own ∙ fold-append (after_posted members) situation front (row ∷ []) in
+      let before = after_all_posted members situation front in
+      none_later who (front ++ row ∷ []) rows
+      (ap (λ (s : Situation). s.standing.runs who) here ∙ stop_ends members before.standing who cause kept row.turn row.event row.letters is)
+      (subst (λ (l : List Row). GoesFreely members window at turns who situation l) (sym (append_assoc front (row ∷ []) rows)) goes)
 
   pub stopped_has_none : (who : ℕ) (rows : List Row) (after : Situation) → IsFreePart members window at turns situation rows after → who < members
       → situation.standing.runs who ≡ false → turns_had who rows ≡ 0
-  stopped_has_none who rows after part member stopped = none_had who rows (none_of_stopped who [] rows stopped tt (part.each who member).goes)
+  stopped_has_none who rows after part member stopped = none_had who rows (none_later who [] rows stopped (part.each who member).goes)
 
   -- ---- where it ends
 

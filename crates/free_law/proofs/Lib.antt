@@ -6,3 +6,4 @@ pub mod OtherLemmas
 pub mod PartLemmas
 pub mod SeenLemmas
 pub mod SomeParts
+pub mod SomeStop

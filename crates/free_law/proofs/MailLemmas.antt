@@ -7,6 +7,7 @@ use Rattle.std.proofs.lemmas.List.Elements.{filter-append}
 use Rattle.book_law.specs.Book.{PostedLetter, Row}
 use Rattle.script_law.specs.Situation.{Situation, after_turn, is_cut, letters_for, reaches}
 use Rattle.script_law.specs.Free.{after_all_posted, after_posted, is_turn_of}
+use Rattle.script_law.proofs.StopLemmas.{other_arms, other_bases}
 use Rattle.free_law.specs.Others.{AreOthers}
 use Rattle.free_law.proofs.OtherLemmas.{fate_stays, mail_stays, posts, replica_stays, runs_stay, waits_stay}
 
@@ -86,6 +87,8 @@ pub record Passes (who : ℕ) (old new : Situation) : Type 0 where
   pub runs : new.standing.runs who ≡ old.standing.runs who
   pub waits : new.standing.waits who ≡ old.standing.waits who
   pub fate : new.fates who ≡ old.fates who
+  pub arm : new.arms who ≡ old.arms who
+  pub bases : new.bases who ≡ old.bases who
   pub cuts : new.cuts ≡ old.cuts
   pub skews : new.skews ≡ old.skews
   pub posted : List PostedLetter
@@ -98,6 +101,8 @@ passes_none who situation = record {
   runs = refl;
   waits = refl;
   fate = refl;
+  arm = refl;
+  bases = refl;
   cuts = refl;
   skews = refl;
   posted = [];
@@ -117,6 +122,8 @@ passes_one members who situation row other =
       runs = runs_stay members situation.standing row.turn row.event row.letters who other;
       waits = waits_stay members situation.standing row.turn row.event row.letters who other;
       fate = fate_stays row.turn situation.fates who other;
+      arm = other_arms members situation row who other;
+      bases = other_bases members situation row who other;
       cuts = refl;
       skews = refl;
       posted = new.0;
@@ -152,6 +159,8 @@ passes_on who one two three first second =
       runs = second.runs ∙ first.runs;
       waits = second.waits ∙ first.waits;
       fate = second.fate ∙ first.fate;
+      arm = second.arm ∙ first.arm;
+      bases = second.bases ∙ first.bases;
       cuts = second.cuts ∙ first.cuts;
       skews = second.skews ∙ first.skews;
       posted = first.posted ++ second.posted;

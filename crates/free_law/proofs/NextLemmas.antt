@@ -15,7 +15,7 @@ use Rattle.script_law.specs.Free.{after_all_posted, after_posted, is_time_to_sta
 use Rattle.free_law.specs.Others.{AreOthers, mail_behind}
 use Rattle.free_law.proofs.MailLemmas.{others_pass}
 
-fact_here : {A : Type 0} (who : ℕ) (fact : A) (facts : ℕ → A) → with_fact who fact facts who ≡ fact
+pub fact_here : {A : Type 0} (who : ℕ) (fact : A) (facts : ℕ → A) → with_fact who fact facts who ≡ fact
 fact_here who fact facts = rw (eq-eqb who who refl) refl
 
 -- a replica without a letter hears none

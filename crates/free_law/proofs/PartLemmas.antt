@@ -86,18 +86,18 @@ module _ (members who : ℕ) where
         → GoesFreely members window at turns who situation (rows ++ last ∷ [])
     goes_other rows last goes other place row is own =
         ⊎_elim
-        (λ old. subst (λ front. IsFreeTurn window at turns who (course_of members who situation front) row.turn) (sym old.1) (goes place row old.0 own))
+        (λ old. subst (λ front. IsFreeTurn members window at turns who (course_of members who situation front) row) (sym old.1) (goes place row old.0 own))
         (λ new. absurd (let no : true ≡ false = sym own ∙ ap (λ (r : Row). is_turn_of who r.turn) new.0 ∙ other in cc))
         (row_of_snoc rows last place row is)
 
     pub goes_own : (rows : List Row) (last : Row) → GoesFreely members window at turns who situation rows
-        → IsFreeTurn window at turns who (course_of members who situation rows) last.turn
+        → IsFreeTurn members window at turns who (course_of members who situation rows) last
         → GoesFreely members window at turns who situation (rows ++ last ∷ [])
     goes_own rows last goes may place row is own =
         ⊎_elim
-        (λ old. subst (λ front. IsFreeTurn window at turns who (course_of members who situation front) row.turn) (sym old.1) (goes place row old.0 own))
-        (λ new. subst (λ front. IsFreeTurn window at turns who (course_of members who situation front) row.turn) (sym new.1)
-        (subst (λ (r : Row). IsFreeTurn window at turns who (course_of members who situation rows) r.turn) (sym new.0) may))
+        (λ old. subst (λ front. IsFreeTurn members window at turns who (course_of members who situation front) row) (sym old.1) (goes place row old.0 own))
+        (λ new. subst (λ front. IsFreeTurn members window at turns who (course_of members who situation front) row) (sym new.1)
+        (subst (λ (r : Row). IsFreeTurn members window at turns who (course_of members who situation rows) r) (sym new.0) may))
         (row_of_snoc rows last place row is)
 
     pub goes_others : (rows more : List Row) → GoesFreely members window at turns who situation rows → AreOthers who more

@@ -4,15 +4,23 @@ use Rattle.std.proofs.lemmas.Bool.{cases_Bool}
 use Rattle.zone_minutes.specs.declared.minute.Minute.{Minute}
 use Rattle.zone_minutes.specs.declared.minute.Window.{Window}
 use Rattle.cluster_sched.specs.declared.row.SchedRow.{SchedRow}
-use Rattle.book_law.specs.Book.{Row}
+use Rattle.cluster_sched.specs.declared.fate.Fate.{Fate}
+use Rattle.paxos_base.specs.declared.durable.Delta.{Delta}
+use Rattle.save_law.specs.Save.{is_kept}
+use Rattle.step_law.specs.Folds.{deltas_of}
+use Rattle.step_law.specs.State.{State}
+use Rattle.step_law.specs.Step.{Event, step}
+use Rattle.agree_law.specs.Transition.{identity_of}
+use Rattle.book_law.specs.Book.{Row, Standing}
 use Rattle.book_law.specs.declared.turn.CallRow.{CallRow}
 use Rattle.book_law.specs.declared.turn.Cause.{Cause}
 use Rattle.book_law.specs.declared.turn.Cause.TheVariants.{Campaign, Tick, Hear, Answer}
 use Rattle.book_law.specs.declared.turn.Turn.{Turn}
-use Rattle.book_law.specs.declared.turn.Turn.TheVariants.{Did}
+use Rattle.book_law.specs.declared.turn.Turn.TheVariants.{Did, Stopped}
+use Rattle.script_law.specs.Arms.{IsEnough, IsTurnByArm, TakesStep}
 use Rattle.script_law.specs.Free.{Course, IsFreeTurn, after_all_posted, after_posted, after_row_of, begun, course_of, is_time_to_stand, is_turn_of, next_cause, next_cause_by}
 use Rattle.script_law.specs.Round.{clock_reading}
-use Rattle.script_law.specs.Situation.{Situation, letters_for}
+use Rattle.script_law.specs.Situation.{Armed, Situation, Do, changes_in, letters_for}
 use Rattle.term_core.specs.Term.{is_leader}
 use Rattle.free_law.proofs.MailLemmas.{Passes, passes_none, passes_on, passes_one}
 use Rattle.free_law.proofs.NextLemmas.{idle_hears_none}
@@ -64,6 +72,53 @@ cause_is who cause other made call is = cc
 made_is : (who : ℕ) (cause other : Cause) (made call : Option CallRow) → Did who cause made ≡ Did who other call → call ≡ made
 made_is who cause other made call is = cc
 
+no_stop : (who : ℕ) (cause : Cause) (made : Option CallRow) (why : Option Cause) (kept : Bool) → Did who cause made ≡ Stopped who why kept → ⊥
+no_stop who cause made why kept is = cc
+
+-- a turn that a replica did is a step that its disk saved
+step_of : (members : ℕ) (situation : Situation) (who : ℕ) (next cause : Cause) (row : Row) (made : Option CallRow) → IsTurnByArm members situation (Do who next) row
+    → row.turn ≡ Did who cause made → TakesStep members situation who next row
+step_of members situation who next cause row made (inl takes) is = takes
+step_of members situation who next cause row made (inr stops) is =
+    absurd (no_stop who cause made (Some next) (is_kept (situation.bases who) stops.change stops.armed.left stops.armed.image) (sym is ∙ stops.is))
+
+-- what the step of a turn changes follows from its replica
+changes_stay : (members who : ℕ) (old new : Standing) (turn mine : Turn) (event : Event) → turn ≡ mine
+    → changes_in members new mine event ≡ changes_in members old mine event → changes_in members new turn event ≡ changes_in members old turn event
+changes_stay members who old new turn mine event is same =
+    subst (λ (t : Turn). changes_in members new t event ≡ changes_in members old t event) (sym is) same
+
+-- **A turn by what a replica saw last is one by what stands now**, where others alone had turns between.
+turn_still : (members who : ℕ) (old new : Situation) (cause : Cause) (row : Row) → Passes who old new → IsTurnByArm members old (Do who cause) row
+    → IsTurnByArm members new (Do who cause) row
+turn_still members who old new cause row passes (inl takes) =
+    let same : changes_in members new.standing row.turn row.event ≡ changes_in members old.standing row.turn row.event =
+    changes_stay members who old.standing new.standing row.turn (Did who cause takes.does.made) row.event takes.does.is
+    (ap (λ (state : State). deltas_of (step (identity_of members who) row.event state)) passes.replica) in
+    inl (record {
+      does = record {
+        made = takes.does.made;
+        is = takes.does.is;
+        fate = subst (λ (fate : Fate). IfSome takes.does.made (λ call. call.fate ≡ fate)) (sym passes.fate) takes.does.fate;
+      };
+      saved =
+          subst (λ (armed : Option Armed). IsEnough armed (changes_in members new.standing row.turn row.event)) (sym passes.arm)
+          (subst (λ (changes : List Delta). IsEnough (old.arms who) changes) (sym same) takes.saved);
+    })
+turn_still members who old new cause row passes (inr stops) =
+    let kept : ℕ → Bool = λ bases. is_kept bases stops.change stops.armed.left stops.armed.image in
+    inr (record {
+      armed = stops.armed;
+      is_armed = passes.arm ∙ stops.is_armed;
+      change = stops.change;
+      is = stops.is ∙ ap (λ (bases : ℕ). Stopped who (Some cause) (kept bases)) (sym passes.bases);
+      changes =
+          changes_stay members who old.standing new.standing row.turn (Stopped who (Some cause) (kept (old.bases who))) row.event stops.is
+          (ap (λ (state : State). deltas_of (step (identity_of members who) row.event state)) passes.replica)
+          ∙ stops.changes;
+      few = stops.few;
+    })
+
 module _ (members : ℕ) (window : Window) (at : ℤ) (turns who : ℕ) (situation : Situation) (rows : List Row) where
   abbrev course : Course
   course = course_of members who situation rows
@@ -80,13 +135,17 @@ module _ (members : ℕ) (window : Window) (at : ℤ) (turns who : ℕ) (situati
   abbrev reading : Minute
   reading = clock_reading window at (course.seen.skews who)
 
-  pub still_runs : (turn : Turn) → IsFreeTurn window at turns who course turn → here.standing.runs who ≡ true
-  still_runs turn next = passes.runs ∙ next.runs
+  abbrev next : Cause
+  next = next_cause window at who course.taken course.seen
 
-  pub still_first : (number : ℕ) (made : Option CallRow) → IsFreeTurn window at turns who course (Did who (Hear number) made)
+  pub still_runs : (row : Row) → IsFreeTurn members window at turns who course row → here.standing.runs who ≡ true
+  still_runs row free = passes.runs ∙ free.runs
+
+  pub still_first : (number : ℕ) (row : Row) (made : Option CallRow) → IsFreeTurn members window at turns who course row → row.turn ≡ Did who (Hear number) made
       → (mail : List ℕ) × (here.mails who ≡ number ∷ mail)
-  still_first number made next =
-      let told = cause_is who (Hear number) (next_cause window at who course.taken course.seen) made next.does.made next.does.is in
+  still_first number row made free is =
+      let takes = step_of members course.seen who next (Hear number) row made free.does is in
+      let told = cause_is who (Hear number) next made takes.does.made (sym is ∙ takes.does.is) in
       let (rest, front) =
       first_of (course.seen.standing.waits who) (course.seen.mails who) (if stands_next then Campaign else Tick reading) number
       (idle_hears_none stands_next reading number) told in (
@@ -94,15 +153,22 @@ module _ (members : ℕ) (window : Window) (at : ℤ) (turns who : ℕ) (situati
         passes.mail ∙ ap (λ mail. mail ++ letters_for here (length course.seen.standing.posted) who) front,
       )
 
-  pub still_waits : (made : Option CallRow) → IsFreeTurn window at turns who course (Did who Answer made) → IsSome (here.standing.waits who)
-  still_waits made next =
-      let told = cause_is who Answer (next_cause window at who course.taken course.seen) made next.does.made next.does.is in
+  pub still_waits : (row : Row) (made : Option CallRow) → IsFreeTurn members window at turns who course row → row.turn ≡ Did who Answer made
+      → IsSome (here.standing.waits who)
+  still_waits row made free is =
+      let takes = step_of members course.seen who next Answer row made free.does is in
+      let told = cause_is who Answer next made takes.does.made (sym is ∙ takes.does.is) in
       subst (λ (waits : Option SchedRow). IsSome waits) (sym passes.waits)
       (answer_of (course.seen.standing.waits who) (course.seen.mails who) (if stands_next then Campaign else Tick reading)
       (idle_takes_none stands_next reading) told)
 
-  pub still_fate : (cause : Cause) (made : CallRow) → IsFreeTurn window at turns who course (Did who cause (Some made)) → made.fate ≡ here.fates who
-  still_fate cause made next =
-      let call = made_is who cause (next_cause window at who course.taken course.seen) (Some made) next.does.made next.does.is in
-      let set : made.fate ≡ course.seen.fates who = subst (λ (some : Option CallRow). IfSome some (λ c. c.fate ≡ course.seen.fates who)) call next.does.fate in
+  pub still_fate : (row : Row) (cause : Cause) (made : CallRow) → IsFreeTurn members window at turns who course row → row.turn ≡ Did who cause (Some made)
+      → made.fate ≡ here.fates who
+  still_fate row cause made free is =
+      let takes = step_of members course.seen who next cause row (Some made) free.does is in
+      let call = made_is who cause next (Some made) takes.does.made (sym is ∙ takes.does.is) in
+      let set : made.fate ≡ course.seen.fates who = subst (λ (some : Option CallRow). IfSome some (λ c. c.fate ≡ course.seen.fates who)) call takes.does.fate in
       set ∙ sym passes.fate
+
+  pub still_by_arm : (row : Row) → IsFreeTurn members window at turns who course row → IsTurnByArm members here (Do who next) row
+  still_by_arm row free = turn_still members who course.seen here next row passes free.does

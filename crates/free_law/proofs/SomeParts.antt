@@ -1,5 +1,5 @@
 -- Two replicas over a table without jobs have two turns each, in two orders.
-use Rattle.std.proofs.Common.{◌≡◌, ℕ, zero, suc, ◌<◌, pos, true, false, Some, None, List, [], ◌∷◌, ◌++◌, refl, subst, arith, lit<}
+use Rattle.std.proofs.Common.{◌≡◌, ℕ, zero, suc, ◌<◌, pos, true, false, Some, None, List, [], ◌∷◌, ◌++◌, refl, subst, arith, lit<, inl}
 use Rattle.std.specs.List.{slice_get}
 use Rattle.paxos_base.specs.Durable.{after_delta}
 use Rattle.paxos_base.specs.Members.{with_member}
@@ -23,32 +23,32 @@ use Rattle.book_law.specs.Legal.{IsLegal, MayFollow, TakesTurn}
 use Rattle.book_law.specs.Some.{no_jobs}
 use Rattle.book_law.specs.declared.turn.Cause.{Cause}
 use Rattle.book_law.specs.declared.turn.Cause.TheVariants as cause
-use Rattle.book_law.specs.declared.turn.Turn.{Turn}
 use Rattle.book_law.specs.declared.turn.Turn.TheVariants.{Did}
 use Rattle.book_law.proofs.SomeBook.{prepare_spells, promise_spells}
 use Rattle.book_law.proofs.Turns.{legal_append}
+use Rattle.script_law.specs.Arms.{IsEnough}
 use Rattle.script_law.specs.Free.{Course, GoesFreely, IsFreePart, IsFreeTurn, TakesFreeTurns, after_all_posted, course_of, is_turn_of, next_cause}
-use Rattle.script_law.specs.Situation.{Situation, first_situation}
+use Rattle.script_law.specs.Situation.{Situation, changes_in, first_situation}
 use Rattle.free_law.proofs.PartLemmas.{goes_none, goes_other, goes_own}
 
 -- ---- the turns
 
-abbrev did : ℕ → Cause → Event → List OutLetter → Row
+abbrev pub did : ℕ → Cause → Event → List OutLetter → Row
 did who cause event letters = record { turn = Did who cause None; event = event; letters = letters; votes = []; learnt = [] }
 
 abbrev letter_to : ℕ → ℕ → Packet → OutLetter
 letter_to to from packet = record { to = to; bytes = spelling from (packet ∷ []) }
 
-abbrev minute : Cause
+abbrev pub minute : Cause
 minute = cause.Tick (record { 0 = pos 0 })
 
-abbrev told_minute : Event
+abbrev pub told_minute : Event
 told_minute = Tick (pos 0) (record { rows = []; intent = intent.Rest })
 
-abbrev stands : Row
+abbrev pub stands : Row
 stands = did 0 cause.Campaign Campaign (letter_to 1 0 (packet.Prepare 8 0) ∷ [])
 
-abbrev ticks : ℕ → Row
+abbrev pub ticks : ℕ → Row
 ticks who = did who minute told_minute []
 
 abbrev promises : Row
@@ -64,7 +64,7 @@ unheard = ticks 1 ∷ ticks 1 ∷ stands ∷ ticks 0 ∷ []
 
 -- ---- both are legal
 
-abbrev May : List Row → Row → Type 0
+abbrev pub May : List Row → Row → Type 0
 May book row = MayFollow 2 no_jobs (standing_after 2 (first_rows no_jobs) book) row.turn row
 
 nothing_found : {X : Type 0} {x : X} (k : ℕ) → slice_get [] k ≡ Some x → ⊥
@@ -73,10 +73,10 @@ nothing_found k is = cc
 asks_nothing : IsIntent no_jobs [] (pos 0) intent.Rest
 asks_nothing = ((λ job at may. nothing_found job may.is_row), (λ job at takes. nothing_found job takes.is_row))
 
-takes_campaign : (standing : Standing) (who : ℕ) → who < 2 → standing.runs who ≡ true → TakesTurn 2 no_jobs standing who cause.Campaign Campaign
+pub takes_campaign : (standing : Standing) (who : ℕ) → who < 2 → standing.runs who ≡ true → TakesTurn 2 no_jobs standing who cause.Campaign Campaign
 takes_campaign standing who member runs = record { member = member; runs = runs; event_of = refl; planned = tt }
 
-takes_tick : (standing : Standing) (who : ℕ) → who < 2 → standing.runs who ≡ true → IsLaunchTable no_jobs (standing.replicas who) []
+pub takes_tick : (standing : Standing) (who : ℕ) → who < 2 → standing.runs who ≡ true → IsLaunchTable no_jobs (standing.replicas who) []
     → TakesTurn 2 no_jobs standing who minute told_minute
 takes_tick standing who member runs launch = record {
   member = member;
@@ -134,7 +134,7 @@ ticks_last : May (ticks 1 ∷ ticks 1 ∷ stands ∷ []) (ticks 0)
 unfolding step campaign tick after_row after_act after_delta deltas_by learnt_by calls_by sent_by with_member votes_from packets_of
 ticks_last = (takes_tick _ 0 (lit< tt) refl refl, record { letters = tt; votes = refl; learnt = refl; call = refl })
 
-none_is_legal : IsLegal 2 no_jobs []
+pub none_is_legal : IsLegal 2 no_jobs []
 none_is_legal number row is = absurd cc
 
 pub heard_is_legal : IsLegal 2 no_jobs heard
@@ -150,7 +150,7 @@ start = first_situation 2 no_jobs
 
 -- the row is the replica's next turn behind these
 abbrev Next : (who : ℕ) → List Row → Row → Type 0
-Next who rows row = IsFreeTurn no_jobs.window (pos 0) 2 who (course_of 2 who start rows) row.turn
+Next who rows row = IsFreeTurn 2 no_jobs.window (pos 0) 2 who (course_of 2 who start rows) row
 
 abbrev Goes : (who : ℕ) → List Row → Type 0
 Goes who rows = GoesFreely 2 no_jobs.window (pos 0) 2 who start rows
@@ -161,9 +161,10 @@ none_goes who = goes_none 2 who no_jobs.window (pos 0) 2 start
 own : (who : ℕ) (rows : List Row) (row : Row) → Goes who rows → Next who rows row → Goes who (rows ++ row ∷ [])
 own who rows row = goes_own 2 who no_jobs.window (pos 0) 2 start rows row
 
-in_turn : {who : ℕ} {course : Course} {turn : Turn} → course.seen.standing.runs who ≡ true → course.taken < 2
-    → turn ≡ Did who (next_cause no_jobs.window (pos 0) who course.taken course.seen) None → IsFreeTurn no_jobs.window (pos 0) 2 who course turn
-in_turn runs left is = record { runs = runs; left = left; does = record { made = None; is = is; fate = tt } }
+pub in_turn : {who : ℕ} {course : Course} {row : Row} → course.seen.standing.runs who ≡ true → course.taken < 2
+    → row.turn ≡ Did who (next_cause no_jobs.window (pos 0) who course.taken course.seen) None
+    → IsEnough (course.seen.arms who) (changes_in 2 course.seen.standing row.turn row.event) → IsFreeTurn 2 no_jobs.window (pos 0) 2 who course row
+in_turn runs left is saved = record { runs = runs; left = left; does = inl (record { does = record { made = None; is = is; fate = tt }; saved = saved }) }
 
 other : (who : ℕ) (rows : List Row) (row : Row) → Goes who rows → is_turn_of who row.turn ≡ false → Goes who (rows ++ row ∷ [])
 other who rows row = goes_other 2 who no_jobs.window (pos 0) 2 start rows row
@@ -172,40 +173,40 @@ heard_goes_first : Goes 0 heard
 unfolding after_row
 heard_goes_first =
     own 0 (stands ∷ ticks 1 ∷ promises ∷ []) (ticks 0)
-    (other 0 (stands ∷ ticks 1 ∷ []) promises (other 0 (stands ∷ []) (ticks 1) (own 0 [] stands (none_goes 0) (in_turn refl (lit< tt) refl)) refl) refl)
-    (in_turn refl (lit< tt) refl)
+    (other 0 (stands ∷ ticks 1 ∷ []) promises (other 0 (stands ∷ []) (ticks 1) (own 0 [] stands (none_goes 0) (in_turn refl (lit< tt) refl tt)) refl) refl)
+    (in_turn refl (lit< tt) refl tt)
 
 heard_goes_second : Goes 1 heard
 unfolding after_row
 heard_goes_second =
     other 1 (stands ∷ ticks 1 ∷ promises ∷ []) (ticks 0)
     (own 1 (stands ∷ ticks 1 ∷ []) promises
-    (own 1 (stands ∷ []) (ticks 1) (other 1 [] stands (none_goes 1) refl) (in_turn refl (lit< tt) refl))
-    (in_turn refl (lit< tt) refl))
+    (own 1 (stands ∷ []) (ticks 1) (other 1 [] stands (none_goes 1) refl) (in_turn refl (lit< tt) refl tt))
+    (in_turn refl (lit< tt) refl tt))
     refl
 
 unheard_goes_first : Goes 0 unheard
 unfolding after_row
 unheard_goes_first =
     own 0 (ticks 1 ∷ ticks 1 ∷ stands ∷ []) (ticks 0)
-    (own 0 (ticks 1 ∷ ticks 1 ∷ []) stands (other 0 (ticks 1 ∷ []) (ticks 1) (other 0 [] (ticks 1) (none_goes 0) refl) refl) (in_turn refl (lit< tt) refl))
-    (in_turn refl (lit< tt) refl)
+    (own 0 (ticks 1 ∷ ticks 1 ∷ []) stands (other 0 (ticks 1 ∷ []) (ticks 1) (other 0 [] (ticks 1) (none_goes 0) refl) refl) (in_turn refl (lit< tt) refl tt))
+    (in_turn refl (lit< tt) refl tt)
 
 unheard_goes_second : Goes 1 unheard
 unfolding after_row
 unheard_goes_second =
     other 1 (ticks 1 ∷ ticks 1 ∷ stands ∷ []) (ticks 0)
     (other 1 (ticks 1 ∷ ticks 1 ∷ []) stands
-    (own 1 (ticks 1 ∷ []) (ticks 1) (own 1 [] (ticks 1) (none_goes 1) (in_turn refl (lit< tt) refl)) (in_turn refl (lit< tt) refl))
+    (own 1 (ticks 1 ∷ []) (ticks 1) (own 1 [] (ticks 1) (none_goes 1) (in_turn refl (lit< tt) refl tt)) (in_turn refl (lit< tt) refl tt))
     refl)
     refl
 
 -- ---- whose turns they are
 
-abbrev IsOfMember : Row → Type 0
+abbrev pub IsOfMember : Row → Type 0
 IsOfMember row = (who : ℕ) × (who < 2) × (is_turn_of who row.turn ≡ true)
 
-named : (one row : Row) → Some one ≡ Some row → IsOfMember one → IsOfMember row
+pub named : (one row : Row) → Some one ≡ Some row → IsOfMember one → IsOfMember row
 named one row is member = let same : one ≡ row = cc in subst (λ r. IsOfMember r) same member
 
 heard_named : (place : ℕ) (row : Row) → slice_get heard place ≡ Some row → IsOfMember row

@@ -1,5 +1,5 @@
 //! Laws of turns in no order. Each is the contract of a function that does nothing.
-ghost use Rattle.std.specs.Prelude.{◌≡◌, ◌≢◌, ℕ, ◌+◌, ◌*◌, ◌<◌, true, false, ℤ, pos, List, [], ◌∷◌, ◌++◌, length, map, Option, None, Some, IsSome};
+ghost use Rattle.std.specs.Prelude.{◌≡◌, ◌≢◌, ℕ, ◌+◌, ◌*◌, ◌<◌, Bool, true, false, ℤ, pos, List, [], ◌∷◌, ◌++◌, length, map, Option, None, Some, IsSome};
 ghost use Rattle.zone_minutes.specs.declared.minute.Window.{Window};
 ghost use Rattle.cluster_sched.specs.declared.row.SchedRow.{SchedRow};
 ghost use Rattle.paxos_base.specs.declared.entry.Vote.{Vote};
@@ -13,11 +13,12 @@ ghost use Rattle.book_law.specs.declared.turn.CallRow.{CallRow};
 ghost use Rattle.book_law.specs.declared.turn.Cause.{Cause};
 ghost use Rattle.book_law.specs.declared.turn.Cause.TheVariants.{Campaign, Tick, Hear, Answer};
 ghost use Rattle.book_law.specs.declared.turn.Turn.{Turn};
-ghost use Rattle.book_law.specs.declared.turn.Turn.TheVariants.{Did};
+ghost use Rattle.book_law.specs.declared.turn.Turn.TheVariants.{Did, Stopped};
+ghost use Rattle.script_law.specs.Arms.{IsTurnByArm, armed_by};
 ghost use Rattle.script_law.specs.Free.{GoesFreely, IsFreePart, IsFreeTurn, after_all_posted, after_posted, course_of, is_turn_of, next_cause};
 ghost use Rattle.script_law.specs.Round.{clock_reading};
 ghost use Rattle.script_law.specs.Script.{IsPartOf};
-ghost use Rattle.script_law.specs.Situation.{Situation, after_turn, first_situation, letters_for};
+ghost use Rattle.script_law.specs.Situation.{Situation, Do, after_turn, first_situation, letters_for};
 ghost use Rattle.free_law.specs.Others.{AreOthers, mail_behind, turns_had};
 
 /// A replica takes an answer that waits for it, or else hears the first letter of its mail. With neither it stands for leader at one
@@ -45,8 +46,8 @@ pub fn letters_come_while_others_take_turns()
         ≡ situation.mails who ++ letters_for (after_all_posted members situation rows) (length situation.standing.posted) who }
 {}
 
-/// The turns of others leave a replica, what waits for it and the fate of its next call; and what it has seen, and how many turns it
-/// has had.
+/// The turns of others leave a replica, what waits for it and the fate of its next call; how its disk is armed, and how many bases
+/// that has kept; and what the replica has seen, and how many turns it has had.
 pub fn turns_of_others_leave_a_replica()
     ensures replica { (members who : ℕ) (situation : Situation) (rows : List Row) → AreOthers who rows
         → (after_all_posted members situation rows).standing.replicas who ≡ situation.standing.replicas who }
@@ -56,6 +57,10 @@ pub fn turns_of_others_leave_a_replica()
         → (after_all_posted members situation rows).standing.waits who ≡ situation.standing.waits who }
     ensures fate { (members who : ℕ) (situation : Situation) (rows : List Row) → AreOthers who rows
         → (after_all_posted members situation rows).fates who ≡ situation.fates who }
+    ensures arm { (members who : ℕ) (situation : Situation) (rows : List Row) → AreOthers who rows
+        → (after_all_posted members situation rows).arms who ≡ situation.arms who }
+    ensures bases { (members who : ℕ) (situation : Situation) (rows : List Row) → AreOthers who rows
+        → (after_all_posted members situation rows).bases who ≡ situation.bases who }
     ensures seen { (members who : ℕ) (situation : Situation) (rows more : List Row) → AreOthers who more
         → (course_of members who situation (rows ++ more)).seen ≡ (course_of members who situation rows).seen }
     ensures taken { (members who : ℕ) (situation : Situation) (rows more : List Row) → AreOthers who more
@@ -63,20 +68,28 @@ pub fn turns_of_others_leave_a_replica()
 {}
 
 /// A replica's next turn, which is settled by what it saw directly after the turn before, finds all as it was: the replica runs, the
-/// letter that it hears is the first of its mail, the answer that it takes waits, and the fate of its call is the one that is set.
+/// letter that it hears is the first of its mail, the answer that it takes waits, and the fate of its call is the one that is set. Its
+/// disk is armed as it was then: whether the turn stops, and what the stop keeps, comes out the same now.
 pub fn what_a_replica_saw_last_still_stands()
-    ensures runs { (members : ℕ) (window : Window) (at : ℤ) (turns who : ℕ) (situation : Situation) (rows : List Row) (turn : Turn)
-        → IsFreeTurn window at turns who (course_of members who situation rows) turn
+    ensures runs { (members : ℕ) (window : Window) (at : ℤ) (turns who : ℕ) (situation : Situation) (rows : List Row) (row : Row)
+        → IsFreeTurn members window at turns who (course_of members who situation rows) row
         → (after_all_posted members situation rows).standing.runs who ≡ true }
-    ensures heard { (members : ℕ) (window : Window) (at : ℤ) (turns who number : ℕ) (situation : Situation) (rows : List Row) (made : Option CallRow)
-        → IsFreeTurn window at turns who (course_of members who situation rows) (Did who (Hear number) made)
+    ensures heard { (members : ℕ) (window : Window) (at : ℤ) (turns who number : ℕ) (situation : Situation) (rows : List Row) (row : Row)
+        (made : Option CallRow)
+        → IsFreeTurn members window at turns who (course_of members who situation rows) row → row.turn ≡ Did who (Hear number) made
         → (mail : List ℕ) × ((after_all_posted members situation rows).mails who ≡ number ∷ mail) }
-    ensures answered { (members : ℕ) (window : Window) (at : ℤ) (turns who : ℕ) (situation : Situation) (rows : List Row) (made : Option CallRow)
-        → IsFreeTurn window at turns who (course_of members who situation rows) (Did who Answer made)
+    ensures answered { (members : ℕ) (window : Window) (at : ℤ) (turns who : ℕ) (situation : Situation) (rows : List Row) (row : Row)
+        (made : Option CallRow)
+        → IsFreeTurn members window at turns who (course_of members who situation rows) row → row.turn ≡ Did who Answer made
         → IsSome ((after_all_posted members situation rows).standing.waits who) }
-    ensures fate { (members : ℕ) (window : Window) (at : ℤ) (turns who : ℕ) (situation : Situation) (rows : List Row) (cause : Cause) (made : CallRow)
-        → IsFreeTurn window at turns who (course_of members who situation rows) (Did who cause (Some made))
+    ensures fate { (members : ℕ) (window : Window) (at : ℤ) (turns who : ℕ) (situation : Situation) (rows : List Row) (row : Row)
+        (cause : Cause) (made : CallRow)
+        → IsFreeTurn members window at turns who (course_of members who situation rows) row → row.turn ≡ Did who cause (Some made)
         → made.fate ≡ (after_all_posted members situation rows).fates who }
+    ensures by_arm { (members : ℕ) (window : Window) (at : ℤ) (turns who : ℕ) (situation : Situation) (rows : List Row) (row : Row)
+        → IsFreeTurn members window at turns who (course_of members who situation rows) row
+        → IsTurnByArm members (after_all_posted members situation rows)
+        (Do who (next_cause window at who (course_of members who situation rows).taken (course_of members who situation rows).seen)) row }
 {}
 
 /// After its next turn a replica's mail is the one that it saw directly after the turn before, without the letter that it heard; then
@@ -97,7 +110,8 @@ pub fn turns_of_one_are_put_together()
         → GoesFreely members window at turns who situation rows → AreOthers who more
         → GoesFreely members window at turns who situation (rows ++ more) }
     ensures own { (members : ℕ) (window : Window) (at : ℤ) (turns who : ℕ) (situation : Situation) (rows : List Row) (row : Row)
-        → GoesFreely members window at turns who situation rows → IsFreeTurn window at turns who (course_of members who situation rows) row.turn
+        → GoesFreely members window at turns who situation rows
+        → IsFreeTurn members window at turns who (course_of members who situation rows) row
         → GoesFreely members window at turns who situation (rows ++ row ∷ []) }
     ensures taken { (members who : ℕ) (situation : Situation) (rows : List Row) → (course_of members who situation rows).taken ≡ turns_had who rows }
     ensures seen { (members who : ℕ) (situation : Situation) (rows : List Row) (row : Row) → is_turn_of who row.turn ≡ true
@@ -112,6 +126,18 @@ pub fn each_replica_has_all_its_turns()
         → IsFreePart members window at turns situation rows after → who < members → after.standing.runs who ≡ true → turns_had who rows ≡ turns }
     ensures stopped { (members : ℕ) (window : Window) (at : ℤ) (turns who : ℕ) (situation after : Situation) (rows : List Row)
         → IsFreePart members window at turns situation rows after → who < members → situation.standing.runs who ≡ false → turns_had who rows ≡ 0 }
+{}
+
+/// A replica that stops in a part has no later turn in it. There is such a part: of two replicas with two turns each, the one whose disk
+/// lets no call pass stops as it stands for leader, and the other one's clock ticks twice. It is a legal book.
+pub fn a_replica_that_stops_has_no_later_turn()
+    ensures none { (members : ℕ) (window : Window) (at : ℤ) (turns who : ℕ) (situation : Situation) (rows more : List Row) (row : Row)
+        (cause : Option Cause) (kept : Bool) → GoesFreely members window at turns who situation (rows ++ row ∷ more)
+        → row.turn ≡ Stopped who cause kept → AreOthers who more }
+    ensures some { (rows : List Row) × (after : Situation) × IsLegal 2 no_jobs rows
+        × IsPartOf 2 no_jobs (command.Free (record { 0 = pos 0 }) 2) (armed_by 0 0 0 (first_situation 2 no_jobs)) rows after
+        × (map (λ row. row.turn) rows
+        ≡ Stopped 0 (Some Campaign) false ∷ Did 1 (Tick (record { 0 = pos 0 })) None ∷ Did 1 (Tick (record { 0 = pos 0 })) None ∷ []) }
 {}
 
 /// A part shows where it ends: no part goes on behind another one from the same situation.

@@ -1,5 +1,5 @@
 -- A legal book that comes to a quiet situation: one of two replicas has been elected over a table without jobs, and has ticked.
-use Rattle.std.proofs.Common.{ℕ, zero, suc, ◌<◌, pos, Some, List, [], take, ℤ, refl, arith, ◌≡◌}
+use Rattle.std.proofs.Common.{ℕ, zero, suc, ◌<◌, pos, None, Some, List, [], take, ℤ, refl, arith, ◌≡◌}
 use Rattle.std.specs.List.{slice_get}
 use Rattle.cluster_sched.specs.declared.fate.Fate.TheVariants as fate
 use Rattle.paxos_base.specs.Durable.{after_delta}
@@ -33,6 +33,8 @@ after_it =
       skews = λ who. pos 0;
       fates = λ who. fate.Done;
       latest = pos 0;
+      arms = λ who. None;
+      bases = λ who. 0;
     }
 
 nothing_found : {X : Type 0} {x : X} (k : ℕ) → slice_get [] k ≡ Some x → ⊥

@@ -17,8 +17,8 @@ module _ (members : ℕ) where
   posted_twin : (situation : Situation) (row other : Row) (rows others : List Row) → AreTwins members situation.standing (row ∷ rows) (other ∷ others)
       → after_posted members situation row ≡ after_posted members situation other
   posted_twin situation row other rows others twins =
-      let (turn, stands, behind) = twins in
-      ap (λ (here : Situation). delivered (length situation.standing.posted) here) (after_twin members situation row other turn stands)
+      let (turn, stands, changes, behind) = twins in
+      ap (λ (here : Situation). delivered (length situation.standing.posted) here) (after_twin members situation row other turn stands changes)
 
   -- twins, as many of each, come to one situation
   pub record PostedAsOne (situation : Situation) (a b more rest : List Row) : Type 0 where
@@ -31,7 +31,7 @@ module _ (members : ℕ) where
   posted_alike situation [] (other ∷ b) more rest size twins = absurd cc
   posted_alike situation (row ∷ a) [] more rest size twins = absurd cc
   posted_alike situation (row ∷ a) (other ∷ b) more rest size twins =
-      let (turn, stands, others) = twins in
+      let (turn, stands, changes, others) = twins in
       let shorter : length a ≡ length b = cc in
       let next = posted_alike (after_posted members situation row) a b more rest shorter others in
       record {
@@ -60,7 +60,7 @@ module _ (members : ℕ) where
       let shorter : length a ≡ length b = cc in
       let next = after_row_of members who course row in
       let onward : AreTwins members next.here.standing (a ++ more) (b ++ rest) =
-      subst (λ (here : Situation). AreTwins members here.standing (a ++ more) (b ++ rest)) (sym (here_next members who course row)) twins.2 in
+      subst (λ (here : Situation). AreTwins members here.standing (a ++ more) (b ++ rest)) (sym (here_next members who course row)) twins.3 in
       course_alike who next a b more rest shorter onward
       ∙ ap (λ (from : Course). fold (after_row_of members who) from b) (course_next who course row other (a ++ more) (b ++ rest) twins)
 

@@ -11,19 +11,21 @@ use Rattle.zone_minutes.specs.declared.minute.Window.{Window}
 use Rattle.due_set.specs.Table.{Table}
 use Rattle.script_text.specs.declared.command.Command.{Command}
 use Rattle.script_text.specs.declared.command.Command.TheVariants as command
-use Rattle.book_law.specs.Book.{PostedLetter, Row, Standing}
+use Rattle.book_law.specs.Book.{PostedLetter, Row, Standing, with_fact}
 use Rattle.book_law.specs.declared.turn.Cause.TheVariants.{Campaign}
+use Rattle.book_law.specs.declared.turn.Turn.{Turn}
 use Rattle.step_law.specs.State.{State}
+use Rattle.script_law.specs.Arms.{AreRoundsByArms, AreTurnsByArms, PlaysByArms, armed_by, tasks_left}
 use Rattle.script_law.specs.Commands.{Plain, set_by, tasks_for, with_letter, with_mail}
 use Rattle.script_law.specs.Free.{IsFreePart}
 use Rattle.script_law.specs.Parts.{Plays, Sets, Stays, Then}
-use Rattle.script_law.specs.Round.{AreRounds, round_tasks}
+use Rattle.script_law.specs.Round.{round_tasks}
 use Rattle.script_law.specs.Script.{ArePartsOf, IsPartOf}
 use Rattle.script_law.specs.Settling.{Drains, DrainsIn, IsDrainRound, IsLedToQuiet, IsNextMinute, Settles, Walks, WalksIn, WalksOn, calmed, campaign_tasks, coordinator, restart_tasks}
-use Rattle.script_law.specs.Situation.{Situation, Task, Do, after_turns, delivered}
+use Rattle.script_law.specs.Situation.{Situation, Task, Do, after_turn, after_turns, delivered}
 use Rattle.script_law.proofs.TurnLemmas.{as_many}
 use Rattle.journal_text.proofs.Courses.{free_as_many, posted_alike}
-use Rattle.journal_text.proofs.Twins.{AreTwins, turned_alike}
+use Rattle.journal_text.proofs.Twins.{AreTwins, after_twin, turned_alike}
 
 -- as many turns, and one situation behind them, from which on the others are twins
 pub record EndAt (members : ℕ) (a b more rest : List Row) (after behind : Situation) : Type 0 where
@@ -93,6 +95,36 @@ plain_alike : (members : ℕ) (tasks : Situation → List Task) (change : Situat
 plain_alike members tasks change leaves =
     then_alike members (Plays members tasks) (Sets change) (Plays members tasks) (Sets change) (plays_alike members tasks) (sets_alike members change leaves)
 
+-- ---- turns by the arms of disks
+
+-- where a replica stops, both have the same tasks less
+as_many_by : (members : ℕ) (situation : Situation) (tasks : List Task) (a b more rest : List Row) → AreTurnsByArms members situation tasks a
+    → AreTurnsByArms members situation tasks b → AreTwins members situation.standing (a ++ more) (b ++ rest) → length a ≡ length b
+as_many_by members situation tasks [] [] more rest x y twins = refl
+as_many_by members situation [] [] (other ∷ b) more rest x y twins = absurd cc
+as_many_by members situation (task ∷ tasks) [] (other ∷ b) more rest x y twins = absurd cc
+as_many_by members situation [] (row ∷ a) b more rest x y twins = absurd cc
+as_many_by members situation (task ∷ tasks) (row ∷ a) [] more rest x y twins = absurd cc
+as_many_by members situation (task ∷ tasks) (row ∷ a) (other ∷ b) more rest x y twins =
+    let (turn, stands, changes, others) = twins in
+    let here = after_turn members situation row in
+    let same : here ≡ after_turn members situation other = after_twin members situation row other turn stands changes in
+    let second : AreTurnsByArms members here (tasks_left row.turn tasks) b =
+    subst (λ (at : Situation). AreTurnsByArms members at (tasks_left row.turn tasks) b) (sym same)
+    (subst (λ (had : Turn). AreTurnsByArms members (after_turn members situation other) (tasks_left had tasks) b) (sym turn) y.1) in
+    ap (λ n. suc n) (as_many_by members here (tasks_left row.turn tasks) a b more rest x.1 second others)
+
+plays_by_alike : (members : ℕ) (tasks : Situation → List Task) → EndAlike members (PlaysByArms members tasks) (PlaysByArms members tasks)
+plays_by_alike members tasks situation a b more rest after behind x y twins =
+    let size = as_many_by members situation (tasks situation) a b more rest x.turns y.turns twins in
+    let ends = turned_alike members situation a b more rest size twins in
+    let stands : (after_turns members situation a).standing ≡ after.standing = sym (ap (λ (here : Situation). here.standing) x.is) in
+    record {
+      size = size;
+      same = x.is ∙ ap (λ (here : Situation). delivered (length situation.standing.posted) here) ends.after ∙ sym y.is;
+      twins = subst (λ (s : Standing). AreTwins members s more rest) stands ends.twins;
+    }
+
 -- ---- turns in no order
 
 free_alike : (members : ℕ) (window : Window) (at : ℤ) (turns : ℕ) → EndAlike members (IsFreePart members window at turns) (IsFreePart members window at turns)
@@ -107,12 +139,13 @@ free_alike members window at turns situation a b more rest after behind x y twin
 
 -- ---- rounds
 
-rounds_alike : (members : ℕ) (window : Window) (at : ℤ) (rounds : ℕ) → EndAlike members (AreRounds members window at rounds) (AreRounds members window at rounds)
+rounds_alike : (members : ℕ) (window : Window) (at : ℤ) (rounds : ℕ)
+    → EndAlike members (AreRoundsByArms members window at rounds) (AreRoundsByArms members window at rounds)
 rounds_alike members window at zero = stays_alike members
 rounds_alike members window at (suc more) =
-    let round = Plays members (round_tasks members window at) in
-    let others = AreRounds members window at more in
-    then_alike members round others round others (plays_alike members (round_tasks members window at)) (rounds_alike members window at more)
+    let round = PlaysByArms members (round_tasks members window at) in
+    let others = AreRoundsByArms members window at more in
+    then_alike members round others round others (plays_by_alike members (round_tasks members window at)) (rounds_alike members window at more)
 
 -- ---- settling
 
@@ -202,13 +235,18 @@ letter_leaves number (Some letter) situation =
 again_leaves : (number : ℕ) → LeavesStanding (set_by (command.Again number))
 again_leaves number situation = letter_leaves number (slice_get situation.standing.posted number) situation
 
+arm_leaves : (who pass image : ℕ) → LeavesStanding (armed_by who pass image)
+arm_leaves who pass image situation =
+    either_leaves (situation.standing.runs who)
+    (record situation { arms = with_fact who (Some (record { left = pass; image = image })) situation.arms }) situation refl
+
 part_alike : (members : ℕ) (table : Table) (given : Command) → EndAlike members (IsPartOf members table given) (IsPartOf members table given)
 part_alike members table (command.Round at rounds) = rounds_alike members table.window at.0 rounds
 part_alike members table (command.Settle at) = settles_alike members table at.0
 part_alike members table (command.Walk to) = walks_alike members table to.0
-part_alike members table (command.Break who pass image) = λ situation a b more rest after behind x y twins. absurd x
+part_alike members table (command.Break who pass image) = sets_alike members (armed_by who pass image) (arm_leaves who pass image)
 part_alike members table (command.Free at turns) = free_alike members table.window at.0 turns
-part_alike members table (command.Campaign who) = plain_alike members (tasks_for (command.Campaign who)) (set_by (command.Campaign who)) (λ here. refl)
+part_alike members table (command.Campaign who) = plays_by_alike members (tasks_for (command.Campaign who))
 part_alike members table (command.Stop who) = plain_alike members (tasks_for (command.Stop who)) (set_by (command.Stop who)) (λ here. refl)
 part_alike members table (command.Restart who) = plain_alike members (tasks_for (command.Restart who)) (set_by (command.Restart who)) (λ here. refl)
 part_alike members table (command.Cut from to) = plain_alike members (tasks_for (command.Cut from to)) (set_by (command.Cut from to)) (λ here. refl)

@@ -1,19 +1,23 @@
 -- Rows that have the same turns and come to the same.
 use Rattle.std.proofs.Common.{◌≡◌, ℕ, List, [], ◌∷◌, ◌++◌, length, map, take, append_assoc, refl, sym, subst, ap, ◌∙◌}
-use Rattle.std.specs.Prelude.{⊤}
+use Rattle.std.specs.Prelude.{⊤, Some, None}
 use Rattle.std.proofs.lemmas.List.{map-append}
 use Rattle.std.proofs.Math.Seq.{take-append_seam}
 use Rattle.due_set.specs.Table.{Table}
 use Rattle.launch_machine.specs.Clerk.{first_rows}
-use Rattle.book_law.specs.Book.{Row, Standing, after_row, standing_after}
-use Rattle.book_law.specs.Legal.{IsLegal}
+use Rattle.paxos_base.specs.declared.durable.Delta.{Delta}
+use Rattle.step_law.specs.Folds.{deltas_of}
+use Rattle.step_law.specs.Step.{Event}
+use Rattle.book_law.specs.Book.{Row, Standing, acts_at, after_row, standing_after}
+use Rattle.book_law.specs.Legal.{IsLegal, MayFollow}
 use Rattle.book_law.specs.declared.turn.Turn.{Turn}
+use Rattle.book_law.specs.declared.turn.Turn.TheVariants.{Did, Stopped, Restarted, Arrived}
 use Rattle.book_law.proofs.Agreement.{cut_is_legal}
-use Rattle.bounds_law.proofs.Keeping.{stands_next}
-use Rattle.script_law.specs.Situation.{Situation, after_turn, after_turns, fates_after, latest_after, mails_after}
-use Rattle.world_law.proofs.Settled.{turns_settle}
+use Rattle.bounds_law.proofs.Keeping.{one_event, stands_next}
+use Rattle.script_law.specs.Situation.{Situation, after_turn, after_turns, arms_after, bases_kept, changes_in, fates_after, latest_after, mails_after}
+use Rattle.world_law.proofs.Settled.{may_next, turns_settle}
 
--- from a standing on, the turns are the same and come to the same
+-- from a standing on, the turns are the same, change the same and come to the same
 abbrev pub AreTwins : ℕ → Standing → List Row → List Row → Type 0
 AreTwins members standing [] [] = ⊤
 AreTwins members standing [] (other ∷ others) = ⊥
@@ -21,29 +25,37 @@ AreTwins members standing (row ∷ rows) [] = ⊥
 AreTwins members standing (row ∷ rows) (other ∷ others) =
     (row.turn ≡ other.turn)
     × (after_row members standing row.turn row.event row.letters ≡ after_row members standing other.turn other.event other.letters)
+    × (changes_in members standing row.turn row.event ≡ changes_in members standing other.turn other.event)
     × AreTwins members (after_row members standing row.turn row.event row.letters) rows others
 
 pub twins_refl : (members : ℕ) (standing : Standing) (rows : List Row) → AreTwins members standing rows rows
 twins_refl members standing [] = tt
-twins_refl members standing (row ∷ rows) = (refl, refl, twins_refl members (after_row members standing row.turn row.event row.letters) rows)
+twins_refl members standing (row ∷ rows) = (refl, refl, refl, twins_refl members (after_row members standing row.turn row.event row.letters) rows)
 
--- a situation after a turn that leaves this standing
-abbrev turned : Situation → Turn → Standing → Situation
-turned situation turn standing = record {
+-- a situation after a turn that leaves this standing and makes these changes
+abbrev turned : Situation → Turn → Standing → List Delta → Situation
+turned situation turn standing changes = record {
   standing = standing;
   mails = mails_after turn situation.mails;
   cuts = situation.cuts;
   skews = situation.skews;
   fates = fates_after turn situation.fates;
   latest = latest_after turn situation.latest;
+  arms = arms_after turn changes situation.arms;
+  bases = bases_kept turn changes situation.bases;
 }
 
 pub after_twin : (members : ℕ) (situation : Situation) (row other : Row) → row.turn ≡ other.turn
     → after_row members situation.standing row.turn row.event row.letters ≡ after_row members situation.standing other.turn other.event other.letters
+    → changes_in members situation.standing row.turn row.event ≡ changes_in members situation.standing other.turn other.event
     → after_turn members situation row ≡ after_turn members situation other
-after_twin members situation row other turn stands =
-    ap (λ (had : Turn). turned situation had (after_row members situation.standing row.turn row.event row.letters)) turn
-    ∙ ap (λ (standing : Standing). turned situation other.turn standing) stands
+after_twin members situation row other turn stands same =
+    let standing = after_row members situation.standing row.turn row.event row.letters in
+    let next = after_row members situation.standing other.turn other.event other.letters in
+    let changes = changes_in members situation.standing row.turn row.event in
+    ap (λ (had : Turn). turned situation had standing changes) turn
+    ∙ ap (λ (now : Standing). turned situation other.turn now changes) stands
+    ∙ ap (λ (made : List Delta). turned situation other.turn next made) same
 
 -- twins, as many of each, come to one situation
 pub record EndAsOne (members : ℕ) (situation : Situation) (a b more rest : List Row) : Type 0 where
@@ -56,13 +68,24 @@ turned_alike members situation [] [] more rest size twins = record { after = ref
 turned_alike members situation [] (other ∷ b) more rest size twins = absurd cc
 turned_alike members situation (row ∷ a) [] more rest size twins = absurd cc
 turned_alike members situation (row ∷ a) (other ∷ b) more rest size twins =
-    let (turn, stands, others) = twins in
+    let (turn, stands, changes, others) = twins in
     let shorter : length a ≡ length b = cc in
     let next = turned_alike members (after_turn members situation row) a b more rest shorter others in
     record {
-      after = next.after ∙ ap (λ (here : Situation). after_turns members here b) (after_twin members situation row other turn stands);
+      after = next.after ∙ ap (λ (here : Situation). after_turns members here b) (after_twin members situation row other turn stands changes);
       twins = next.twins;
     }
+
+-- turns that may follow and are the same change the same, since their causes tell the same
+same_changes : (members : ℕ) (table : Table) (standing : Standing) (turn : Turn) (row other : Row) → MayFollow members table standing turn row
+    → MayFollow members table standing turn other → changes_in members standing turn row.event ≡ changes_in members standing turn other.event
+same_changes members table standing (Did who cause made) row other a b =
+    ap (λ (event : Event). deltas_of (acts_at members standing who event)) (one_event members table standing who cause row.event other.event a.0 b.0)
+same_changes members table standing (Stopped who None kept) row other a b = refl
+same_changes members table standing (Stopped who (Some cause) kept) row other a b =
+    ap (λ (event : Event). deltas_of (acts_at members standing who event)) (one_event members table standing who cause row.event other.event a.0 b.0)
+same_changes members table standing (Restarted who) row other a b = refl
+same_changes members table standing (Arrived number) row other a b = refl
 
 module _ (members : ℕ) (table : Table) where
   abbrev pub after_all : List Row → Standing
@@ -97,9 +120,16 @@ module _ (members : ℕ) (table : Table) where
       let here = stands_next members (first_rows table) front row in
       let there = stands_next members (first_rows table) before other in
       let same : after_row members (after_all front) row.turn row.event row.letters ≡ after_row members (after_all front) other.turn other.event other.letters =
-      sym here ∙ next ∙ there ∙ ap (λ (s : Standing). after_row members s other.turn other.event other.letters) (sym stands) in (
+      sym here ∙ next ∙ there ∙ ap (λ (s : Standing). after_row members s other.turn other.event other.letters) (sym stands) in
+      let beside : MayFollow members table (after_all front) row.turn other =
+      subst (λ (t : Turn). MayFollow members table (after_all front) t other) (sym turn)
+      (subst (λ (s : Standing). MayFollow members table s other.turn other) (sym stands) (may_next members table before others other lawful)) in
+      let changes : changes_in members (after_all front) row.turn row.event ≡ changes_in members (after_all front) other.turn other.event =
+      same_changes members table (after_all front) row.turn row other (may_next members table front rows row legal) beside
+      ∙ ap (λ (t : Turn). changes_in members (after_all front) t other.event) turn in (
         turn,
         same,
+        changes,
         subst (λ (s : Standing). AreTwins members s rows others) here
             (twins_from (front ++ row ∷ []) (before ++ other ∷ []) rows others
             (subst (IsLegal members table) (sym (append_assoc front (row ∷ []) rows)) legal)

@@ -8,7 +8,6 @@ use Rattle.script_text.specs.Script.{IsScriptWithinLimits, rounds_of, free_turns
 use Rattle.script_text.specs.declared.command.Command.{Command}
 use Rattle.run_text.specs.Follow.{Sections, Script, End, inside}
 use Rattle.run_text.specs.Reading.{ReadsFrom}
-use Rattle.run_text.specs.Rules.{HasUnplayedWord}
 use Rattle.run_text.specs.Run.{Run, Section, with_section, with_command, with_commands}
 use Rattle.run_text.specs.Table.{Says}
 use Rattle.run_text.specs.declared.run.SectionKind.TheVariants.{User}
@@ -39,10 +38,9 @@ table_reads number line run label zone before (first ∷ lines) behind final eac
     one_more : (n m : ℕ) → n + suc m ≡ n + 1 + m
     one_more n m = omega arith
 
--- a command that a run may have: what it names is in range, and its line's word has a form
+-- a command that a run may have: what it names is in range
 pub record MayBeSaid (run : Run) (command : Command) : Type 0 where
   pub in_range : IsInRange run.members run.window command
-  pub played : HasUnplayedWord (command_line command) → ⊥
 
 -- the first commands of a script within its limits are within them
 front_within : (front back : List Command) → IsScriptWithinLimits (front ++ back) → IsScriptWithinLimits front
@@ -60,7 +58,6 @@ script_reads number run (command ∷ commands) each within = (
   inr (record {
     command = command;
     says = record { is = record { is = refl; in_range = each.0.in_range }; within = front_within (run.commands ++ command ∷ []) commands longer };
-    played = each.0.played;
     next_is = refl;
   }),
   subst (λ (cs : List Command). ReadsFrom Judged (number + 1) (Script (with_command run command)) (map command_line commands ++ codes "end" ∷ []) (record run { commands = cs }))
@@ -73,4 +70,4 @@ script_reads number run (command ∷ commands) each within = (
 
     kept : (others : List Command) → AllByRecursion (MayBeSaid run) others → AllByRecursion (MayBeSaid (with_command run command)) others
     kept [] all = tt
-    kept (other ∷ others) all = (record { in_range = all.0.in_range; played = all.0.played }, kept others all.1)
+    kept (other ∷ others) all = (record { in_range = all.0.in_range }, kept others all.1)

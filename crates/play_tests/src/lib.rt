@@ -2,7 +2,11 @@
 #![tactic(auto)]
 
 #[cfg(test)]
+mod breaks;
+#[cfg(test)]
 mod journals;
+#[cfg(test)]
+mod saves;
 #[cfg(test)]
 mod scripts;
 #[cfg(test)]

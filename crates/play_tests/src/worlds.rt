@@ -119,6 +119,40 @@ pub fn write_journal_of<R: Threads + Wait + Sync>(
     Ok(write_journal(alloc, sink, &played.table, &played.book, &played.starts))
 }
 
+// Plays the run of a file, rounds in so many lanes, and writes the report of the world's book, and the journal behind it. It says
+// whether each write was taken.
+fn write_all_of<R: Threads + Wait + Sync>(
+    rt: &R,
+    alloc: Global,
+    text: &str,
+    lanes: u8,
+    sink: &mut MemSink,
+) -> Result<bool, Fail>
+    requires lanes { 0 < lanes }
+{
+    let played = play(rt, alloc, text, lanes)?;
+    let (table, book) = (&played.table, &played.book);
+    let reported = write_book_report(alloc, sink, table, played.members, book);
+    let told = write_journal(alloc, sink, table, book, &played.starts);
+    Ok(reported.is_ok() && told.is_ok())
+}
+
+/// The report of the world that has played the run of a file, rounds in so many lanes, and its journal behind it.
+pub fn told_of<R: Threads + Wait + Sync>(
+    rt: &R,
+    alloc: Global,
+    text: &str,
+    lanes: u8,
+) -> Result<String, Fail>
+    requires lanes { 0 < lanes }
+{
+    let mut sink = MemSink::new(alloc, 100_000, Vec::new(alloc))?;
+    if !write_all_of(rt, alloc, text, lanes, &mut sink)? {
+        return Err(Fail::from("no report or no journal"));
+    }
+    Ok(String::from_str(alloc, std::str::from_utf8(sink.bytes())?)?)
+}
+
 /// Plays the run of a file, and writes the summary of the world's book, as if the run were made from a seed.
 pub fn write_summary_of<R: Threads + Wait + Sync>(
     rt: &R,

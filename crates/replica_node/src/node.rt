@@ -386,6 +386,65 @@ impl<D: ArmedDisk> Node<D> {
     }
 }
 
+impl<D: ArmedDisk> Node<D> {
+    ghost use Rattle.replica_node.specs.Node.{disk_of, replica_of, store_of, IsNodeAtRest};
+    ghost use Rattle.replica_node.specs.Kept.{IsNodeClean};
+    ghost use Rattle.replica_node.specs.Stopped.{IsStopped};
+    ghost use Rattle.replica_node.specs.declared.fault.NodeFault.{NodeFault};
+
+    /// Revives the disk of a node whose last step was stopped, attaches it, and starts the replica with what the files kept: what
+    /// [`Node::reopen`] and [`Node::recover`] do one after the other, where the node stands. The answer is the step's change
+    /// exactly where the files kept it.
+    ///
+    /// # Errors
+    ///
+    /// Those of [`Node::reopen`]. The node takes no more calls then.
+    pub fn attach_again(
+        &mut self,
+        alloc: Global,
+        me: u8,
+        members: u8,
+        table: &JobTable,
+    ) -> Result<Option<Delta>, NodeFault>
+        requires me { me < members }
+        requires few { members ≤ 7 }
+        requires stopped { IsStopped D.may_leave D.honest D.told table.now self.old }
+        ensures at_rest { OnOk result (IsNodeAtRest D.seen D.may_leave D.honest table.now self.new) }
+        ensures identity { OnOk result ((replica_of self.new).identity ≡ record { me = me; members = members }) }
+        ensures started { OnOk result ((replica_of self.new).state ≡ started me (replica_of self.new).state.kept) }
+        // The replica keeps what it kept before the step, with the change that is answered or without.
+        ensures change { (stop : IsStopped D.may_leave D.honest D.told table.now self.old)
+            → IfOk result (λ answer. (answer ≡ Some stop.change) ⊎ (answer ≡ None)) }
+        ensures kept { D.honest (disk_of self.old)
+            → IfOk result (λ answer. (replica_of self.new).state.kept ≡ kept_after answer (replica_of self.old).state.kept) }
+        // The numbers that the disk was armed with decide the answer and the area in use, as they do for `reopen`.
+        ensures answer_by_arm { (stop : IsStopped D.may_leave D.honest D.told table.now self.old) (area : FileNo) (arm : Arm) → D.honest (disk_of self.old)
+            → LeavesByArm (length table.now.jobs) area (replica_of self.old).state.kept stop.change arm (D.told (disk_of self.old))
+            → IfOk result (λ answer. IsAnsweredByArm area (replica_of self.old).state.kept stop.change arm answer) }
+        ensures lost_by_arm { (stop : IsStopped D.may_leave D.honest D.told table.now self.old) (area : FileNo) (arm : Arm) → D.honest (disk_of self.old)
+            → LeavesByArm (length table.now.jobs) area (replica_of self.old).state.kept stop.change arm (D.told (disk_of self.old))
+            → ProposesAnew (replica_of self.old).state → (KeepsChange area stop.change arm → ⊥) → IfOk result (λ answer. answer ≡ None) }
+        ensures area_by_arm { (stop : IsStopped D.may_leave D.honest D.told table.now self.old) (area : FileNo) (arm : Arm) → D.honest (disk_of self.old)
+            → LeavesByArm (length table.now.jobs) area (replica_of self.old).state.kept stop.change arm (D.told (disk_of self.old))
+            → IfOk result (λ answer. area_of (store_of self.new) ≡ area_for answer area) }
+        ensures clean { OnOk result (IsNodeClean D.told self.new) }
+        ensures reliable { CantFail (D.told (disk_of self.old)) → OnOk result (IsReliable (D.told (disk_of self.new))) }
+        ensures memory_alone { (fault : NodeFault) → D.honest (disk_of self.old) → CantFail (D.told (disk_of self.old))
+            → result ≡ Err fault → fault ≡ OutOfMemory }
+        ensures answer { HasNodeAnswer D.honest D.counts (disk_of self.old) (disk_of self.new) result }
+    {
+        let Some(planned) = self.stopped.take() else {
+            unreachable!()
+        };
+        let (store, kept) = attach_stopped(alloc, &mut self.disk, table.jobs())?;
+        let change = take_kept(&mut self.replica, table, planned, &kept);
+        self.replica = Replica::start(me, members, table, kept)?;
+        self.store = store;
+        self.running = true;
+        Ok(change)
+    }
+}
+
 // A store attached to its disk, and the replica that starts with what it keeps.
 fn start<D: Disk>(
     alloc: Global,

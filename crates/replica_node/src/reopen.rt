@@ -1,5 +1,5 @@
 //! What a node does where it is reopened.
-ghost use Rattle.std.specs.Prelude.{◌≡◌, ◌↔◌, ◌⊎◌, ℕ, List, IsTrue, None, Some, Err, IfOk};
+ghost use Rattle.std.specs.Prelude.{◌≡◌, ◌↔◌, ◌⊎◌, ℕ, List, IsTrue, None, Some, Err, IfOk, IsSomeAnd};
 ghost use Rattle.disk_model.specs.Images.{file_of, LeavesOnly, NoNewImage};
 ghost use Rattle.disk_model.specs.Told.{Told, HasStopped, image_left};
 ghost use Rattle.due_set.specs.Table.{Table};
@@ -15,6 +15,7 @@ ghost use Rattle.replica_store.specs.Files.{selected, FilesStand, IsRecoverable}
 ghost use Rattle.replica_store.specs.Store.{area_of, jobs_of, StoreKeeps, IsStoreSettled};
 ghost use Rattle.replica_node.specs.Change.{ShowsChange, IsDecided};
 ghost use Rattle.replica_node.specs.Faults.{EndsRun, HasNodeAnswer};
+ghost use Rattle.replica_node.specs.Kept.{IsSynced};
 ghost use Rattle.replica_node.specs.Reliable.{CantFail, IsReliable};
 ghost use Rattle.replica_node.specs.Stopped.{HasPlanned, IsQuiet};
 ghost use Rattle.replica_node.specs.declared.fault.NodeFault.TheVariants.{Stopped, Damaged, Letter};
@@ -40,6 +41,7 @@ pub fn attach_stopped<D: ArmedDisk>(
     ensures keeps { IfOk result (λ found. StoreKeeps found.0 found.1) }
     ensures image { (told : Told) → D.told disk.old ≡ Some told → IfOk result (λ found. FilesStand jobs found.1 (image_left told)) }
     ensures area { (told : Told) → D.told disk.old ≡ Some told → IfOk result (λ found. area_of found.0 ≡ selected (image_left told)) }
+    ensures clean { IfOk result (λ found. IsSomeAnd (D.told disk.new) (IsSynced (area_of found.0))) }
     ensures either { (before after : Durable) → D.honest disk.old → IsRecoverable jobs before after (D.may_leave disk.old)
         → IfOk result (λ found. (found.1 ≡ before) ⊎ (found.1 ≡ after)) }
     ensures sound { (before after : Durable) (gate : ℕ) → D.honest disk.old → IsRecoverable jobs before after (D.may_leave disk.old)

@@ -14,9 +14,11 @@ use Rattle.book_law.proofs.Turns.{after_rows}
 use Rattle.step_law.specs.Step.{Event}
 use Rattle.step_law.specs.declared.out.OutLetter.{OutLetter}
 use Rattle.calm_law.specs.Calm.{Calm}
+use Rattle.script_law.specs.Arms.{AreRoundsByArms, AreUnarmed, PlaysByArms}
 use Rattle.script_law.specs.Parts.{Then}
-use Rattle.script_law.specs.Round.{AreRounds, IsRound}
-use Rattle.script_law.specs.Situation.{Situation}
+use Rattle.script_law.specs.Round.{round_tasks}
+use Rattle.script_law.specs.Situation.{Performs, Situation}
+use Rattle.script_law.proofs.ArmsLemmas.{unarmed_performed, unarmed_performs}
 use Rattle.round_law.specs.Rounds.{GoesRound, GoesRounds, IsWithinBounds, StandsForRounds}
 use Rattle.round_law.specs.Stands.{StandsFor}
 use Rattle.round_law.proofs.BookLemmas.{front_legal, stand_after}
@@ -37,12 +39,12 @@ posted_on members letter standing (row ∷ rows) has =
     posted_on members letter (after_row members standing row.turn row.event row.letters) rows (posted_stays members standing row.turn row.event row.letters letter has)
 
 -- what stands after some tasks of a book
-performed_stands : (members : ℕ) (table : Table) (at : ℤ) (book rows : List Row) (situation after : Situation) → IsRound members table.window at situation rows after
+performed_stands : (members : ℕ) (table : Table) (at : ℤ) (book rows : List Row) (situation after : Situation) → PlaysByArms members (round_tasks members table.window at) situation rows after
     → situation.standing ≡ standing_after members (first_rows table) book → after.standing ≡ standing_after members (first_rows table) (book ++ rows)
 performed_stands members table at book rows situation after round is =
     ap (λ (s : Situation). s.standing) round.is ∙ stand_after members table book rows situation is
 
-rounds_stand : (members : ℕ) (table : Table) (at : ℤ) (rounds : ℕ) (book rows : List Row) (situation after : Situation) → AreRounds members table.window at rounds situation rows after
+rounds_stand : (members : ℕ) (table : Table) (at : ℤ) (rounds : ℕ) (book rows : List Row) (situation after : Situation) → AreRoundsByArms members table.window at rounds situation rows after
     → situation.standing ≡ standing_after members (first_rows table) book → after.standing ≡ standing_after members (first_rows table) (book ++ rows)
 rounds_stand members table at zero book rows situation after stays is =
     ap (λ (s : Situation). s.standing) stays.is ∙ is ∙ ap (standing_after members (first_rows table)) (sym (ap (λ list. book ++ list) stays.none ∙ append-nil book))
@@ -65,11 +67,16 @@ front_bounds members table book rows bounds =
           (posted_on members letter (standing_after members (first_rows table) book) rows has));
     }
 
--- the first round of some
+-- the first round of some, where no disk is armed
+unarmed_round : (members : ℕ) (table : Table) (at : ℤ) (situation after : Situation) (rows : List Row) → AreUnarmed situation
+    → PlaysByArms members (round_tasks members table.window at) situation rows after → Performs members (round_tasks members table.window at situation) situation rows after
+unarmed_round members table at situation after rows none round = unarmed_performs members (round_tasks members table.window at situation) situation after rows none round
+
 first_round : (members : ℕ) (table : Table) (at : ℤ) (more : ℕ) (book rows : List Row) (situation after : Situation) → GoesRounds members table at (suc more) book rows situation after
-    → (parts : Then (IsRound members table.window at) (AreRounds members table.window at more) situation rows after)
+    → AreUnarmed situation
+    → (parts : Then (PlaysByArms members (round_tasks members table.window at)) (AreRoundsByArms members table.window at more) situation rows after)
     → GoesRound members table at book parts.front situation parts.middle
-first_round members table at more book rows situation after goes parts =
+first_round members table at more book rows situation after goes none parts =
     let whole : book ++ rows ≡ (book ++ parts.front) ++ parts.back = ap (λ list. book ++ list) parts.parts ∙ sym (append_assoc book parts.front parts.back) in
     let stands = rounds_stand members table at (suc more) book rows situation after parts goes.standing in
     let bounds = subst (λ list. IsWithinBounds list (standing_after members (first_rows table) list).posted) whole
@@ -81,19 +88,19 @@ first_round members table at more book rows situation after goes parts =
       legal = front_legal members table (book ++ parts.front) parts.back (subst (λ list. IsLegal members table list) whole goes.legal);
       standing = goes.standing;
       faultless = goes.faultless;
-      round = parts.one;
+      round = unarmed_round members table at situation parts.middle parts.front none parts.one;
       limits = subst (λ (s : Standing). IsWithinBounds (book ++ parts.front) s.posted) (sym (performed_stands members table at book parts.front situation parts.middle parts.one goes.standing))
           (front_bounds members table (book ++ parts.front) parts.back bounds);
     }
 
 pub rounds_are_calm : (members : ℕ) (table : Table) (at : ℤ) (rounds : ℕ) (book rows : List Row) (situation after : Situation) (calm : Calm) → GoesRounds members table at rounds book rows situation after
-    → StandsFor members (length table.jobs) situation calm → StandsForRounds members table at rounds calm after
-rounds_are_calm members table at zero book rows situation after calm goes there =
+    → AreUnarmed situation → StandsFor members (length table.jobs) situation calm → StandsForRounds members table at rounds calm after
+rounds_are_calm members table at zero book rows situation after calm goes none there =
     subst (λ (s : Situation). StandsFor members (length table.jobs) s calm) (sym goes.round.is) there
-rounds_are_calm members table at (suc more) book rows situation after calm goes there =
+rounds_are_calm members table at (suc more) book rows situation after calm goes none there =
     let parts = goes.round in
     let whole : book ++ rows ≡ (book ++ parts.front) ++ parts.back = ap (λ list. book ++ list) parts.parts ∙ sym (append_assoc book parts.front parts.back) in
-    let first = first_round members table at more book rows situation after goes parts in
+    let first = first_round members table at more book rows situation after goes none parts in
     let one = round_is_calm members table at book parts.front situation parts.middle calm first there in (
       one.advice,
       one.answers,
@@ -110,5 +117,6 @@ rounds_are_calm members table at (suc more) book rows situation after calm goes 
             round = parts.two;
             limits = subst (λ list. IsWithinBounds list after.standing.posted) whole goes.limits;
           })
+          (unarmed_performed members (round_tasks members table.window at situation) situation parts.middle parts.front none first.round)
           one.stands,
     )

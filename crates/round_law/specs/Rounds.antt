@@ -9,7 +9,8 @@ use Rattle.book_law.specs.Book.{PostedLetter, Row, standing_after}
 use Rattle.book_law.specs.Legal.{IsLegal}
 use Rattle.calm_law.specs.Calm.{Advice, Calm, IsAdvised, calls_at, calm_round}
 use Rattle.calm_law.specs.Rounds.{IsAnswerTo}
-use Rattle.script_law.specs.Round.{AreRounds, IsRound}
+use Rattle.script_law.specs.Arms.{AreRoundsByArms}
+use Rattle.script_law.specs.Round.{IsRound}
 use Rattle.script_law.specs.Situation.{Situation}
 use Rattle.round_law.specs.Stands.{StandsFor}
 
@@ -41,9 +42,9 @@ pub record GoesOnBy (part : Situation → List Row → Situation → Type 0) (me
 abbrev pub GoesRound : ℕ → Table → (at : ℤ) → (book rows : List Row) → (situation after : Situation) → Type 0
 GoesRound members table at = GoesOnBy (IsRound members table.window at) members table at
 
--- it goes on with so many rounds
+-- it goes on with so many rounds, in which a disk that is armed may stop
 abbrev pub GoesRounds : ℕ → Table → (at : ℤ) → ℕ → (book rows : List Row) → (situation after : Situation) → Type 0
-GoesRounds members table at rounds = GoesOnBy (AreRounds members table.window at rounds) members table at
+GoesRounds members table at rounds = GoesOnBy (AreRoundsByArms members table.window at rounds) members table at
 
 -- **The situation stands for a calm round**: by true advice, after which each replica that calls has the answer to its call.
 pub record StandsForRound (members : ℕ) (table : Table) (at : ℤ) (calm : Calm) (after : Situation) : Type 0 where

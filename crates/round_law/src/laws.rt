@@ -5,6 +5,7 @@ ghost use Rattle.launch_machine.specs.Clerk.{first_rows};
 ghost use Rattle.book_law.specs.Book.{Row, standing_after};
 ghost use Rattle.book_law.specs.Legal.{IsLegal};
 ghost use Rattle.calm_law.specs.Calm.{Calm};
+ghost use Rattle.script_law.specs.Arms.{AreUnarmed};
 ghost use Rattle.script_law.specs.Situation.{Situation};
 ghost use Rattle.round_law.specs.Rounds.{GoesRound, GoesRounds, IsFaultless, StandsForRound, StandsForRounds};
 ghost use Rattle.round_law.specs.Stands.{AreMailsPosted, StandsFor};
@@ -19,7 +20,7 @@ pub fn a_situation_stands_for_one()
 
 /// Where a legal book goes on with a round in which all run and nothing is lost, what stands after the round is what a calm round
 /// makes of what stood before it, by true advice and by answers to the calls that were made. There is no fault after it either; and so it
-/// is of rounds, one after another.
+/// is of the rounds of a command, one after another, where no disk is armed.
 pub fn a_round_is_calm()
     ensures calm { (members : ℕ) (table : Table) (at : ℤ) (book rows : List Row) (situation after : Situation) (calm : Calm)
         → GoesRound members table at book rows situation after → StandsFor members (length table.jobs) situation calm
@@ -28,7 +29,7 @@ pub fn a_round_is_calm()
         → GoesRound members table at book rows situation after → StandsFor members (length table.jobs) situation calm
         → IsFaultless members after }
     ensures rounds { (members : ℕ) (table : Table) (at : ℤ) (rounds : ℕ) (book rows : List Row) (situation after : Situation) (calm : Calm)
-        → GoesRounds members table at rounds book rows situation after → StandsFor members (length table.jobs) situation calm
+        → GoesRounds members table at rounds book rows situation after → AreUnarmed situation → StandsFor members (length table.jobs) situation calm
         → StandsForRounds members table at rounds calm after }
 {}
 

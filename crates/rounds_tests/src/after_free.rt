@@ -5,7 +5,8 @@ ghost use Rattle.rounds_tests.specs.Plays.{IsHour};
 
 use crate::free::{run_part, steps_of};
 use crate::hour::{FROM, table_of_one};
-use crate::worlds::{first_world, play_on};
+use crate::worlds::{first_world, play_on, world_after};
+use book_law::{Cause, Turn};
 use cluster_sched::{Name, SchedRow};
 use disk_model::MemDisk;
 use due_set::JobTable;
@@ -87,5 +88,28 @@ fn three_replicas_go_on(rt: HostRuntime) -> Result<(), Fail> {
 fn seven_replicas_go_on(rt: HostRuntime) -> Result<(), Fail> {
     let goes = goes_on(&rt, rt.alloc(), 7)?;
     assert!(rt; goes);
+    Ok(())
+}
+
+// The disk of replica 0 stops as it stands for leader, in its first turn, which is its last one; the other has all of its turns.
+#[test]
+fn a_stop_is_the_last_turn(rt: HostRuntime) -> Result<(), Fail> {
+    let commands = [Command::Break {
+        member: 0,
+        pass: 3,
+        image: 1,
+    }];
+    let table = table_of_one(rt.alloc())?;
+    let world = world_after(&rt, rt.alloc(), &table, 2, &commands, 1)?;
+    let world = run_part(&rt, rt.alloc(), world, &table, FROM, TURNS, &OpenGate)?;
+    let turns = world.book().turns();
+    let stop = Turn::Stopped {
+        who: 0,
+        cause: Some(Cause::Campaign),
+        kept: true,
+    };
+    assert!(rt; turns.contains(&stop));
+    assert!(rt; steps_of(turns, 1) == TURNS as usize);
+    assert!(rt; turns.len() == TURNS as usize + 1);
     Ok(())
 }

@@ -4,7 +4,7 @@ ghost use Rattle.world_rounds.specs.World.{IsWorld, book_of};
 ghost use Rattle.zone_minutes.specs.Window.{IsInWindow};
 
 use book_law::Turn;
-use disk_model::Disk;
+use disk_model::ArmedDisk;
 use due_set::JobTable;
 use std::alloc::Global;
 use std::sync::Wait;
@@ -15,7 +15,7 @@ use world_rounds::World;
 use zone_minutes::Minute;
 
 /// The world after each of its replicas that run has taken so many turns at an instant, in a thread of its own.
-pub fn run_part<R: Threads + Wait + Sync, D: Disk + Send, G: TurnGate + Sync>(
+pub fn run_part<R: Threads + Wait + Sync, D: ArmedDisk + Send, G: TurnGate + Sync>(
     rt: &R,
     alloc: Global,
     world: World<D>,

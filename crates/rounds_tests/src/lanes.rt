@@ -51,11 +51,16 @@ fn is_same_in<R: Threads + Sync>(
     Ok(is_same_book(plain.book(), shared.book()))
 }
 
-// A replica for each lane, and more lanes than replicas.
+// A replica for each lane, and more lanes than replicas. A disk is armed, so that replica 1 stops as it votes in the third round.
 #[test]
 fn lanes_make_no_difference(rt: HostRuntime) -> Result<(), Fail> {
     let commands = [
         Command::Campaign { member: 0 },
+        Command::Break {
+            member: 1,
+            pass: 6,
+            image: 1,
+        },
         Command::Round {
             at: LATER,
             rounds: 6,

@@ -1,5 +1,5 @@
 //! Where two threads wait for each other, and disks of which two do so.
-use disk_model::{Disk, DiskFault, FileNo, MemDisk};
+use disk_model::{ArmedDisk, Disk, DiskFault, FileNo, MemDisk};
 use std::alloc::Global;
 use std::sync::Arc;
 use std::sync::atomic::{AtomicBool, AtomicU64, Ordering};
@@ -159,5 +159,23 @@ impl Disk for MeetingDisk {
     fn sync(&mut self, file: FileNo) -> Result<(), DiskFault> {
         self.meeting.come(self.who);
         self.disk.sync(file)
+    }
+}
+
+impl ArmedDisk for MeetingDisk {
+    ghost use Rattle.std.proofs.Common.{refl};
+
+    ghost tells = { λ disk. refl };
+
+    fn arm(&mut self, pass: u32, image: u32) {
+        self.disk.arm(pass, image);
+    }
+
+    fn disarm(&mut self) {
+        self.disk.disarm();
+    }
+
+    fn revive(&mut self) {
+        self.disk.revive();
     }
 }

@@ -78,16 +78,31 @@ fn is_late(turn: &Turn) -> bool {
     }
 }
 
-// A fate is set, and spent by a call, which arrives later. Letters and an answer wait, letters are lost, a clock is ahead,
-// and a replica is stopped.
+// Whether a disk stopped in the turn.
+fn is_stop_within_a_step(turn: &Turn) -> bool {
+    matches!(*turn, Turn::Stopped { cause: Some(_), .. })
+}
+
+// A disk is armed, and stops within a later command. A fate is set, and spent by a call, which arrives later. Letters and an answer
+// wait, letters are lost, a clock is ahead, and a replica is stopped.
 #[test]
 fn a_world_plays_on_from_its_parts(rt: HostRuntime) -> Result<(), Fail> {
     let commands = [
+        Command::Break {
+            member: 1,
+            pass: 6,
+            image: 1,
+        },
         Command::Campaign { member: 0 },
         Command::Round {
             at: LATER,
-            rounds: 3,
+            rounds: 2,
         },
+        Command::Round {
+            at: LATER,
+            rounds: 1,
+        },
+        Command::Restart { member: 1 },
         Command::Fate {
             member: 0,
             fate: FateWord::Late,
@@ -118,6 +133,7 @@ fn a_world_plays_on_from_its_parts(rt: HostRuntime) -> Result<(), Fail> {
     let table = table_of_one(rt.alloc())?;
     let whole = world_after(&rt, rt.alloc(), &table, 3, &commands, 1)?;
     assert!(rt; whole.book().turns().iter().any(is_late));
+    assert!(rt; whole.book().turns().iter().any(is_stop_within_a_step));
     let place = other_place(&rt, rt.alloc(), &table, &commands, whole.book())?;
     assert!(rt; place.is_none(), "{place:?}");
     Ok(())

@@ -8,7 +8,7 @@ ghost use Rattle.world_rounds.specs.Start.{IsFreshDisk};
 ghost use Rattle.world_rounds.specs.World.{IsWorld, book_of};
 ghost use Rattle.rounds_tests.specs.Plays.{AreTaken};
 
-use disk_model::{Disk, MemDisk};
+use disk_model::{ArmedDisk, MemDisk};
 use due_set::JobTable;
 use script_text::Command;
 use std::alloc::Global;
@@ -49,7 +49,7 @@ pub fn first_world(alloc: Global, table: &JobTable, count: u8) -> Result<World<M
 }
 
 // A command is taken.
-fn take<R: Threads + Sync, D: Disk + Send>(
+fn take<R: Threads + Sync, D: ArmedDisk + Send>(
     rt: &R,
     world: &mut World<D>,
     table: &JobTable,
@@ -69,7 +69,7 @@ fn take<R: Threads + Sync, D: Disk + Send>(
 }
 
 /// The world after some more commands, with rounds in so many lanes.
-pub fn play_on<R: Threads + Sync, D: Disk + Send>(
+pub fn play_on<R: Threads + Sync, D: ArmedDisk + Send>(
     rt: &R,
     mut world: World<D>,
     table: &JobTable,

@@ -8,7 +8,6 @@ use Rattle.script_text.specs.declared.command.Command.{Command}
 use Rattle.script_text.specs.declared.limits.Limits.{Limits}
 use Rattle.script_text.proofs.UniqueLemmas.{one_command}
 use Rattle.run_text.specs.Follow.{Script, End, SaysCommand}
-use Rattle.run_text.specs.Rules.{HasUnplayedWord}
 use Rattle.run_text.specs.Run.{Run, with_command, with_commands}
 use Rattle.run_text.specs.Steps.{place_of, LeadsTo, RefusedFrom, HasRoom, BeginsScript, HasScript, PassesCommand}
 use Rattle.run_text.specs.declared.head.Head.{Head}
@@ -71,14 +70,14 @@ script_ends head first now new left commands so_far last tables run begins = goe
 
 -- the reader passed a line that says a command
 pub command_passes : (head : Head) (old new : Reader) (before after : Limits) (line : List ℕ) (command : Command)
-    → new.number ≡ old.number + 1 → lines_of old.rest.now ≡ line ∷ lines_of new.rest.now → (HasUnplayedWord line → ⊥)
+    → new.number ≡ old.number + 1 → lines_of old.rest.now ≡ line ∷ lines_of new.rest.now
     → ((run : Run) → HasScript head run before → SaysCommand run line command)
     → ((run : Run) → HasScript head run before → HasScript head (with_command run command) after)
     → PassesCommand head old new before after command
-command_passes head old new before after line command number lines played says left = record {
+command_passes head old new before after line command number lines says left = record {
   leads = λ tables run has.
       one_line_at old new (Script run) (Script (with_command run command)) line number lines
-      (inr (record { command = command; says = says run has; played = played; next_is = refl }));
+      (inr (record { command = command; says = says run has; next_is = refl }));
   left_is = left;
 }
 

@@ -1,21 +1,17 @@
 -- What holds of each run that is read, line by line.
-use Rattle.std.proofs.Common.{◌≡◌, ◌≢◌, ℕ, zero, suc, ◌+◌, ◌<◌, ◌≤◌, List, [], ◌∷◌, ◌++◌, length, Option, Some, None, refl, sym, subst, inl, inr, arith, length-append}
+use Rattle.std.proofs.Common.{◌≡◌, ◌≢◌, ℕ, zero, suc, ◌+◌, ◌<◌, ◌≤◌, List, [], ◌∷◌, ◌++◌, length, Option, Some, None, sym, subst, inl, inr, arith, length-append}
 use Rattle.std.specs.Prelude.{⊤}
 use Rattle.std.specs.List.{AllByRecursion}
 use Rattle.std.proofs.lemmas.List.{map-append, length-map}
 use Rattle.zone_minutes.specs.Window.{IsWithinLimits}
 use Rattle.zone_minutes.specs.Zone.{Source}
 use Rattle.zone_minutes.specs.declared.minute.Window.{Window}
-use Rattle.script_text.specs.Command.{command_line, IsInRange}
-use Rattle.script_text.specs.declared.command.Command.{Command}
-use Rattle.script_text.specs.declared.command.Command.TheVariants as command
+use Rattle.script_text.specs.Command.{IsInRange}
 use Rattle.anacron_text.specs.Settings.{no_settings}
 use Rattle.crontab_text.specs.Lines.{lines_of}
 use Rattle.crontab_text.specs.declared.answer.Style.{Style}
 use Rattle.run_text.specs.Follow.{Above, Nothing, Version, Replicas, Times, Sections, Table, Script, End, inside, style_of, MayStandIn, MayStandBelow, AddsCommand}
 use Rattle.run_text.specs.Reading.{ReadsFrom, IsRunText}
-use Rattle.run_text.specs.Grammar.{first_word}
-use Rattle.run_text.specs.Rules.{PlaysCommand, HasUnplayedWord}
 use Rattle.run_text.specs.Run.{NamedZone, Section, Run, run_with, opened, with_line, with_section, with_zone, with_command}
 use Rattle.run_text.specs.Sound.{IsSoundSection, IsSoundSource, IsSoundZone, AreDistinct, AreSoundZones, AreSoundReplicas, IsSoundRun}
 use Rattle.run_text.specs.Table.{Says, AreSaid}
@@ -69,7 +65,7 @@ with_one_more number run section sound part = record {
   grace = sound.grace;
   zones = sound.zones;
   sections = all_push (IsSoundSection number) run.sections section sound.sections part;
-  script = record { in_range = sound.script.in_range; played = sound.script.played; limits = sound.script.limits };
+  script = record { in_range = sound.script.in_range; limits = sound.script.limits };
 }
 
 -- no zone is named yet
@@ -107,7 +103,7 @@ with_zone_more next number run line name source sound adds = record {
   grace = sound.grace;
   zones = sound_zones run.zones (record { line = number; name = name; source = source }) line sound.zones adds;
   sections = sound.sections;
-  script = record { in_range = sound.script.in_range; played = sound.script.played; limits = sound.script.limits };
+  script = record { in_range = sound.script.in_range; limits = sound.script.limits };
 }
 
 -- a run without jobs and commands
@@ -119,28 +115,8 @@ sound_head number members window grace replicas limits short = record {
   grace = short;
   zones = no_zones;
   sections = tt;
-  script = record { in_range = tt; played = tt; limits = record { commands = omega arith; rounds = omega arith; free_turns = omega arith } };
+  script = record { in_range = tt; limits = record { commands = omega arith; rounds = omega arith; free_turns = omega arith } };
 }
-
--- a command has a form where its line's word is that of one
-plays_command : (command : Command) → (HasUnplayedWord (command_line command) → ⊥) → PlaysCommand command
-plays_command (command.Round at rounds) none = tt
-plays_command (command.Campaign member) none = tt
-plays_command (command.Stop member) none = tt
-plays_command (command.Break member pass image) none = none refl
-plays_command (command.Restart member) none = tt
-plays_command (command.Cut from to) none = tt
-plays_command command.Heal none = tt
-plays_command (command.Drop from to) none = tt
-plays_command (command.Repeat from to) none = tt
-plays_command (command.Reverse member) none = tt
-plays_command (command.Again letter) none = tt
-plays_command (command.Skew member minutes) none = tt
-plays_command (command.Fate member word) none = tt
-plays_command (command.Arrive late) none = tt
-plays_command (command.Settle at) none = tt
-plays_command (command.Walk to) none = tt
-plays_command (command.Free at turns) none = tt
 
 -- one command more
 with_command_more : (number : ℕ) (run : Run) (line : List ℕ) (next : Above) → IsSoundRun number run → (adds : AddsCommand run line next)
@@ -153,8 +129,6 @@ with_command_more number run line next sound adds = record {
   sections = sound.sections;
   script = record {
     in_range = all_push (IsInRange run.members run.window) run.commands adds.command sound.script.in_range adds.says.is.in_range;
-    played = all_push PlaysCommand run.commands adds.command sound.script.played
-        (plays_command adds.command (λ word. adds.played (subst HasUnplayedWord (sym adds.says.is.is) word)));
     limits = adds.says.within;
   };
 }

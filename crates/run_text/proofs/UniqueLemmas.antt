@@ -11,9 +11,8 @@ use Rattle.script_text.specs.declared.command.Command.{Command}
 use Rattle.script_text.specs.declared.command.Command.TheVariants as command
 use Rattle.script_text.proofs.UniqueLemmas.{one_command}
 use Rattle.run_text.specs.Follow.{Above, Nothing, Version, Replicas, Times, Sections, Table, Script, End, inside, style_of, MayStandIn, MayStandBelow, NamesZone, StartsSection, IsOfLine, Refuses, RefusesInTable, RefusesBeforeScript, RefusesInScript, AddsCommand, Misses}
-use Rattle.run_text.specs.Grammar.{first_word, IsReplicasLine, HasSectionWord}
+use Rattle.run_text.specs.Grammar.{HasSectionWord}
 use Rattle.run_text.specs.Reading.{ReadsFrom, RefusesFrom}
-use Rattle.run_text.specs.Rules.{HasUnplayedWord}
 use Rattle.run_text.specs.Run.{Run, Section, opened, with_line}
 use Rattle.run_text.specs.declared.refusal.Refusal.{Refusal}
 use Rattle.run_text.specs.declared.run.SectionKind.TheVariants.{User, System, Anacron}
@@ -42,9 +41,6 @@ section_no_zone : (line : List ℕ) → HasSectionWord line → HasZoneWord line
 section_no_zone line (User, is) other = at_differs 0 (sym is ∙ other) (λ e. omega arith)
 section_no_zone line (System, is) other = at_differs 0 (sym is ∙ other) (λ e. omega arith)
 section_no_zone line (Anacron, is) other = at_differs 0 (sym is ∙ other) (λ e. omega arith)
-
-end_no_word : HasUnplayedWord (codes "end") → ⊥
-end_no_word is = at_differs 0 is (λ e. omega arith)
 
 end_says_none : (command : Command) → codes "end" ≡ command_line command → ⊥
 end_says_none (command.Round at rounds) is = at_differs 0 is (λ e. omega arith)
@@ -198,10 +194,8 @@ not_refused_before_script tables number behind run line next fault (inr (inr p))
 
 not_refused_in_script : (run : Run) (line : List ℕ) (next : Above) (fault : ℕ)
     → ((line ≡ codes "end") × (next ≡ End run)) ⊎ AddsCommand run line next → RefusesInScript run line fault → ⊥
-not_refused_in_script run line next fault (inl ends) (inl refused) = end_no_word (subst HasUnplayedWord ends.0 refused.0)
-not_refused_in_script run line next fault (inl ends) (inr refused) = refused.1 ends.0
-not_refused_in_script run line next fault (inr adds) (inl refused) = adds.played refused.0
-not_refused_in_script run line next fault (inr adds) (inr refused) = refused.2 adds.command adds.says
+not_refused_in_script run line next fault (inl ends) refused = refused.0 ends.0
+not_refused_in_script run line next fault (inr adds) refused = refused.1 adds.command adds.says
 
 pub not_refused : (tables : Tables) (number behind : ℕ) (above : Above) (line : List ℕ) (next : Above) (refusal : Refusal) → MayStandBelow tables number behind above line next → Refuses tables number behind above line refusal → ⊥
 not_refused tables number behind Nothing line next refusal p refused = refused.0 p.0
@@ -226,10 +220,7 @@ one_fault_before_script behind known line f g (inr (inr p)) (inr (inl q)) = absu
 one_fault_before_script behind known line f g (inr (inr p)) (inr (inr q)) = p.3 ∙ sym q.3
 
 one_fault_in_script : (run : Run) (line : List ℕ) (f g : ℕ) → RefusesInScript run line f → RefusesInScript run line g → f ≡ g
-one_fault_in_script run line f g (inl p) (inl q) = p.1 ∙ sym q.1
-one_fault_in_script run line f g (inl p) (inr q) = absurd (q.0 p.0)
-one_fault_in_script run line f g (inr p) (inl q) = absurd (p.0 q.0)
-one_fault_in_script run line f g (inr p) (inr q) = p.3 ∙ sym q.3
+one_fault_in_script run line f g p q = p.2 ∙ sym q.2
 
 -- a whole line is refused in one way for one cause
 one_of_line : (number : ℕ) (a b : Refusal) → a.cause ≡ b.cause → IsOfLine number a → IsOfLine number b → a ≡ b

@@ -12,7 +12,6 @@ use Rattle.script_text.specs.Script.{IsScriptWithinLimits}
 use Rattle.script_text.specs.declared.command.Command.{Command}
 use Rattle.run_text.specs.Grammar.{IsReplicasLine, IsWindowLine, IsGraceLine, IsSectionLine, HasSectionWord}
 use Rattle.run_text.specs.Anacrontab.{SayAll, IsFirstBreak}
-use Rattle.run_text.specs.Rules.{HasUnplayedWord}
 use Rattle.run_text.specs.Run.{Section, Run, run_with, opened, with_line, with_section, with_zone, with_command}
 use Rattle.run_text.specs.Table.{Says}
 use Rattle.run_text.specs.Zones.{AddsZone, AddsNone, HasZoneWord, names_of}
@@ -22,7 +21,7 @@ use Rattle.run_text.specs.declared.run.SectionKind.{SectionKind}
 use Rattle.run_text.specs.declared.run.SectionKind.TheVariants.{User, System, Anacron}
 use Rattle.run_text.specs.declared.table.Tables.TheVariants.{Judged, Counted}
 use Rattle.cron_fields.specs.Cause.{cause_number}
-use Rattle.cron_fields.specs.declared.cause.Cause.TheVariants.{BadHeader, BadReplicas, BadWindow, BadGrace, BadSection, BadScript, MissingLine, BadZoneLine, NoFormYet}
+use Rattle.cron_fields.specs.declared.cause.Cause.TheVariants.{BadHeader, BadReplicas, BadWindow, BadGrace, BadSection, BadScript, MissingLine, BadZoneLine}
 
 -- what the lines above a line of a run file were
 pub data Above : Type 0 where
@@ -93,11 +92,10 @@ pub record SaysCommand (run : Run) (line : List ℕ) (command : Command) : Type 
   pub is : IsCommandLine line run.members run.window command
   pub within : IsScriptWithinLimits (run.commands ++ command ∷ [])
 
--- the line says a command more, which has a form, and what stands above the next line then
+-- the line says a command more, and what stands above the next line then
 pub record AddsCommand (run : Run) (line : List ℕ) (next : Above) : Type 0 where
   pub command : Command
   pub says : SaysCommand run line command
-  pub played : HasUnplayedWord line → ⊥
   pub next_is : next ≡ Script (with_command run command)
 
 -- The line of that number, with so many lines behind it, may stand below these, and what stands above the next one then.
@@ -126,12 +124,10 @@ RefusesBeforeScript behind known line cause =
     ⊎ ((HasZoneWord line × AddsNone known line × (cause ≡ cause_number BadZoneLine))
     ⊎ ((HasSectionWord line → ⊥) × (HasZoneWord line → ⊥) × (line ≢ codes "script") × (cause ≡ cause_number MissingLine)))
 
--- in the script: the line is that of a command without a form, or of none that may stand there
+-- in the script: the line is none that may stand there
 abbrev pub RefusesInScript : Run → List ℕ → (cause : ℕ) → Type 0
 RefusesInScript run line cause =
-    (HasUnplayedWord line × (cause ≡ cause_number NoFormYet))
-    ⊎ ((HasUnplayedWord line → ⊥) × (line ≢ codes "end") × ((command : Command) → SaysCommand run line command → ⊥)
-    × (cause ≡ cause_number BadScript))
+    (line ≢ codes "end") × ((command : Command) → SaysCommand run line command → ⊥) × (cause ≡ cause_number BadScript)
 
 -- In a section, with so many lines of it left behind: the line breaks a rule of crontabs; or it is the last of an anacrontab,
 -- and the refusal is of the first of its logical lines that breaks a rule, at the first line of that one. A line that is only

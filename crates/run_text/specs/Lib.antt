@@ -1,7 +1,6 @@
 pub mod Anacrontab
 pub mod Follow
 pub mod Grammar
-pub mod Rules
 pub mod Reading
 pub mod Run
 pub mod Sound

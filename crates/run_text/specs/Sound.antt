@@ -7,7 +7,6 @@ use Rattle.script_text.specs.Command.{IsInRange}
 use Rattle.script_text.specs.Script.{IsScriptWithinLimits}
 use Rattle.run_text.specs.Follow.{style_of}
 use Rattle.run_text.specs.Grammar.{IsZoneName}
-use Rattle.run_text.specs.Rules.{PlaysCommand}
 use Rattle.run_text.specs.Run.{NamedZone, Section, Run}
 use Rattle.run_text.specs.Table.{AreSaid}
 use Rattle.run_text.specs.Zones.{names_of}
@@ -40,10 +39,9 @@ pub record AreSoundZones (zones : List NamedZone) : Type 0 where
   pub each : AllByRecursion IsSoundZone zones
   pub distinct : AreDistinct (names_of zones)
 
--- each command of the script names what the run has and has a form, and the script is within its limits
+-- each command of the script names what the run has, and the script is within its limits
 pub record IsSoundScript (run : Run) : Type 0 where
   pub in_range : AllByRecursion (IsInRange run.members run.window) run.commands
-  pub played : AllByRecursion PlaysCommand run.commands
   pub limits : IsScriptWithinLimits run.commands
 
 -- there are 1 to 7 replicas

@@ -11,7 +11,6 @@ ghost use Rattle.run_text.specs.declared.table.Tables.{Tables};
 use crate::head::Head;
 use crate::reader::Reader;
 use crate::refusal::{Refusal, RunFault};
-use crate::words::has_unplayed_word;
 use cron_fields::Cause;
 use script_text::{Command, Limits, read_command};
 use std::alloc::Global;
@@ -67,9 +66,6 @@ fn read_line(
     };
     if line == "end" {
         return Ok(None);
-    }
-    if has_unplayed_word(line) {
-        return Err(Refusal::of_line(reader.number, Cause::NoFormYet));
     }
     match command_of(line, head, left) {
         Some(command) => Ok(Some(command)),

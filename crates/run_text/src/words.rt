@@ -1,7 +1,6 @@
 //! The words of the product's own lines.
 ghost use Rattle.std.specs.Prelude.{◌≡◌, ◌≢◌, ◌↔◌, IsTrue, IfSome, IfNone};
 ghost use Rattle.run_text.specs.Grammar.{IsLabelStart, IsLabelByte, IsLabel, IsZoneByte, IsZoneName, first_word, section_word, HasSectionWord};
-ghost use Rattle.run_text.specs.Rules.{HasUnplayedWord};
 ghost use Rattle.run_text.specs.Zones.{HasZoneWord};
 ghost use Rattle.run_text.specs.declared.run.SectionKind.{SectionKind};
 
@@ -82,11 +81,4 @@ pub fn has_zone_word(line: &str) -> bool
     ensures { IsTrue result ↔ HasZoneWord line.now }
 {
     first_word(line) == "zone"
-}
-
-/// Whether the line's first word is that of the command without a form, whatever follows.
-pub fn has_unplayed_word(line: &str) -> bool
-    ensures { IsTrue result ↔ HasUnplayedWord line.now }
-{
-    first_word(line) == "break"
 }

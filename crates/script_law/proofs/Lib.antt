@@ -1,10 +1,16 @@
+pub mod ArmsLemmas
 pub mod CoordinatorLemmas
+pub mod EndLemmas
+pub mod LeftLemmas
 pub mod LetterLemmas
 pub mod ListLemmas
 pub mod MailLemmas
 pub mod RoundLemmas
+pub mod RunningArms
 pub mod RunningLemmas
 pub mod SomeScript
+pub mod SomeStop
 pub mod StartLemmas
+pub mod StopLemmas
 pub mod TurnLemmas
 pub mod WalkLemmas

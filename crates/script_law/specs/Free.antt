@@ -9,8 +9,9 @@ use Rattle.book_law.specs.declared.turn.Cause.{Cause}
 use Rattle.book_law.specs.declared.turn.Cause.TheVariants.{Campaign, Tick, Hear, Answer}
 use Rattle.book_law.specs.declared.turn.Turn.{Turn}
 use Rattle.book_law.specs.declared.turn.Turn.TheVariants.{Did, Stopped, Restarted, Arrived}
+use Rattle.script_law.specs.Arms.{IsTurnByArm}
 use Rattle.script_law.specs.Round.{clock_reading}
-use Rattle.script_law.specs.Situation.{Does, Situation, after_turn, delivered}
+use Rattle.script_law.specs.Situation.{Situation, Do, after_turn, delivered}
 
 -- ---- turns whose letters join the mails at once
 
@@ -76,17 +77,17 @@ next_cause window at who taken seen = next_cause_by (seen.standing.waits who) (s
 
 -- ---- the part
 
--- the turn is the next of so many of a replica that runs, and it is what the replica was to do
-pub record IsFreeTurn (window : Window) (at : ℤ) (turns who : ℕ) (course : Course) (turn : Turn) : Type 0 where
+-- the turn is the next of so many of a replica that runs, and it is what the replica was to do, on its disk
+pub record IsFreeTurn (members : ℕ) (window : Window) (at : ℤ) (turns who : ℕ) (course : Course) (row : Row) : Type 0 where
   pub runs : course.seen.standing.runs who ≡ true
   pub left : course.taken < turns
-  pub does : Does course.seen.fates who (next_cause window at who course.taken course.seen) turn
+  pub does : IsTurnByArm members course.seen (Do who (next_cause window at who course.taken course.seen)) row
 
 -- each turn of the replica is so
 abbrev pub GoesFreely : (members : ℕ) → Window → (at : ℤ) → (turns who : ℕ) → Situation → List Row → Type 0
 GoesFreely members window at turns who situation rows =
     (place : ℕ) (row : Row) → slice_get rows place ≡ Some row → is_turn_of who row.turn ≡ true
-    → IsFreeTurn window at turns who (course_of members who situation (take place rows)) row.turn
+    → IsFreeTurn members window at turns who (course_of members who situation (take place rows)) row
 
 -- the replica has all its turns in the part, unless it is stopped in the last situation that it saw
 pub record TakesFreeTurns (members : ℕ) (window : Window) (at : ℤ) (turns who : ℕ) (situation : Situation) (rows : List Row) : Type 0 where

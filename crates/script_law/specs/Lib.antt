@@ -1,3 +1,4 @@
+pub mod Arms
 pub mod Commands
 pub mod Free
 pub mod Parts

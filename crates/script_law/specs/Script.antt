@@ -2,21 +2,22 @@
 use Rattle.std.specs.Prelude.{ℕ, List, [], ◌∷◌, pos, ◌-ℤ◌}
 use Rattle.due_set.specs.Table.{Table}
 use Rattle.script_text.specs.declared.command.Command.{Command}
-use Rattle.script_text.specs.declared.command.Command.TheVariants.{Round, Settle, Walk, Break, Free}
+use Rattle.script_text.specs.declared.command.Command.TheVariants.{Campaign, Round, Settle, Walk, Break, Free}
 use Rattle.book_law.specs.Book.{Row}
+use Rattle.script_law.specs.Arms.{AreRoundsByArms, PlaysByArms, armed_by}
 use Rattle.script_law.specs.Commands.{Plain, set_by, tasks_for}
 use Rattle.script_law.specs.Free.{IsFreePart}
-use Rattle.script_law.specs.Parts.{Stays, Then}
-use Rattle.script_law.specs.Round.{AreRounds}
+use Rattle.script_law.specs.Parts.{Sets, Stays, Then}
 use Rattle.script_law.specs.Settling.{Settles, Walks}
 use Rattle.script_law.specs.Situation.{Situation, first_situation}
 
--- The part of a command. A disk that is to stop within a call has no part yet: no book obeys it.
+-- The part of a command. Settling and walking know of no arms, since they begin by disarming all disks.
 abbrev pub IsPartOf : ℕ → Table → Command → Situation → List Row → Situation → Type 0
-IsPartOf members table (Round at rounds) = AreRounds members table.window at.0 rounds
+IsPartOf members table (Campaign who) = PlaysByArms members (tasks_for (Campaign who))
+IsPartOf members table (Round at rounds) = AreRoundsByArms members table.window at.0 rounds
 IsPartOf members table (Settle at) = Settles members table at.0
 IsPartOf members table (Walk to) = Walks members table to.0
-IsPartOf members table (Break who pass image) = λ situation rows after. ⊥
+IsPartOf members table (Break who pass image) = Sets (armed_by who pass image)
 IsPartOf members table (Free at turns) = IsFreePart members table.window at.0 turns
 IsPartOf members table command = Plain members (tasks_for command) (set_by command)
 

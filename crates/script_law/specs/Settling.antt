@@ -91,9 +91,9 @@ abbrev pub restart_tasks : ℕ → Situation → List Task
 restart_tasks members situation =
     flat_map (λ who. if situation.standing.runs who then [] else Restart who ∷ []) (range_with_len 0 members)
 
--- no letter waits or is lost, each clock is right, and each call is answered
+-- no letter waits or is lost, each clock is right, each call is answered, and no disk is armed
 abbrev pub calmed : Situation → Situation
-calmed situation = record situation { mails = λ who. []; cuts = []; skews = λ who. pos 0; fates = λ who. fate.Done }
+calmed situation = record situation { mails = λ who. []; cuts = []; skews = λ who. pos 0; fates = λ who. fate.Done; arms = λ who. None }
 
 -- the coordinator stands for leader, and rounds follow until it is quiet
 abbrev pub IsLedToQuiet : ℕ → Table → (at : ℤ) → Situation → List Row → Situation → Type 0

@@ -1,21 +1,31 @@
 -- What a script acts on: the standing of a book, and what is on its way to each replica and set for it; and how turns change it.
-use Rattle.std.specs.Prelude.{◌≡◌, ℕ, ◌-◌, ◌==◌, ◌&&◌, not, Bool, true, false, List, [], ◌∷◌, ◌++◌, length, drop, Option, None, Some, IfSome, ℤ, pos, if◌then◌else◌, slice_get}
+use Rattle.std.specs.Prelude.{◌≡◌, ℕ, ◌+◌, ◌-◌, ◌==◌, ◌&&◌, not, Bool, true, false, List, [], ◌∷◌, ◌++◌, length, drop, Option, None, Some, IfSome, ℤ, pos, if◌then◌else◌, slice_get}
 use Rattle.std.specs.List.{filter, fold, range_with_len}
 use Rattle.std.specs.Int.{int_max}
 use Rattle.cluster_sched.specs.declared.fate.Fate.{Fate}
 use Rattle.cluster_sched.specs.declared.fate.Fate.TheVariants as fate
 use Rattle.due_set.specs.Table.{Table}
 use Rattle.launch_machine.specs.Clerk.{first_rows}
-use Rattle.book_law.specs.Book.{PostedLetter, Row, Standing, after_row, first_standing, with_fact}
+use Rattle.paxos_base.specs.declared.durable.Delta.{Delta}
+use Rattle.save_law.specs.Save.{bases_after, calls_of}
+use Rattle.step_law.specs.Folds.{deltas_of}
+use Rattle.step_law.specs.Step.{Event}
+use Rattle.book_law.specs.Book.{PostedLetter, Row, Standing, acts_at, after_row, first_standing, with_fact}
 use Rattle.book_law.specs.declared.turn.CallRow.{CallRow}
 use Rattle.book_law.specs.declared.turn.Cause.{Cause}
 use Rattle.book_law.specs.declared.turn.Cause.TheVariants.{Tick, Hear}
 use Rattle.book_law.specs.declared.turn.Turn.{Turn}
 use Rattle.book_law.specs.declared.turn.Turn.TheVariants.{Did, Stopped, Restarted, Arrived}
 
+-- How a disk is armed to stop: so many more of the calls that save a change are done, and the next one stops within and leaves the
+-- image of that number.
+pub record Armed : Type 0 where
+  pub left : ℕ
+  pub image : ℕ
+
 -- What stands after the turns so far; for each replica its mail, which are the numbers of the letters that wait for it; from whom
--- to whom letters are lost; for each replica how many minutes its clock is ahead, and what becomes of its next call; and the latest
--- clock reading of any turn.
+-- to whom letters are lost; for each replica how many minutes its clock is ahead, and what becomes of its next call; the latest
+-- clock reading of any turn; and for each replica how its disk is armed, where it is, and how many bases it has kept.
 pub record Situation : Type 0 where
   pub standing : Standing
   pub mails : ℕ → List ℕ
@@ -23,8 +33,10 @@ pub record Situation : Type 0 where
   pub skews : ℕ → ℤ
   pub fates : ℕ → Fate
   pub latest : ℤ
+  pub arms : ℕ → Option Armed
+  pub bases : ℕ → ℕ
 
--- before any turn: no letter waits or is lost, each clock is right, and each call is answered
+-- before any turn: no letter waits or is lost, each clock is right, each call is answered, and no disk is armed
 abbrev pub first_situation : ℕ → Table → Situation
 first_situation members table =
     record {
@@ -34,6 +46,8 @@ first_situation members table =
       skews = λ who. pos 0;
       fates = λ who. fate.Done;
       latest = table.window.from.0;
+      arms = λ who. None;
+      bases = λ who. 0;
     }
 
 -- ---- turns
@@ -80,6 +94,40 @@ latest_after (Did who cause made) latest = latest_with cause latest
 latest_after (Stopped who (Some cause) kept) latest = latest_with cause latest
 latest_after turn latest = latest
 
+-- ---- disks
+
+-- the changes of what is kept that the step of a turn makes, of which there is one at most
+abbrev pub changes_in : ℕ → Standing → Turn → Event → List Delta
+changes_in members standing (Did who cause made) event = deltas_of (acts_at members standing who event)
+changes_in members standing (Stopped who (Some cause) kept) event = deltas_of (acts_at members standing who event)
+changes_in members standing turn event = []
+
+-- how many calls of a disk save them
+abbrev pub calls_for : List Delta → ℕ
+calls_for [] = 0
+calls_for (change ∷ changes) = calls_of change + calls_for changes
+
+-- a disk that is armed has so many calls less left
+abbrev pub armed_after : List Delta → Option Armed → Option Armed
+armed_after changes None = None
+armed_after changes (Some armed) = Some (record armed { left = armed.left - calls_for changes })
+
+-- a step uses up calls of its replica's disk, and a replica that stops has a disk that isn't armed
+abbrev pub arms_after : Turn → List Delta → (ℕ → Option Armed) → ℕ → Option Armed
+arms_after (Did who cause made) changes arms = with_fact who (armed_after changes (arms who)) arms
+arms_after (Stopped who cause kept) changes arms = with_fact who None arms
+arms_after turn changes arms = arms
+
+-- how many bases were kept, with those among these changes
+abbrev pub bases_with : List Delta → ℕ → ℕ
+bases_with changes bases = fold (λ count change. bases_after change count) bases changes
+
+-- a step keeps its change, and so does a stop that kept it
+abbrev pub bases_kept : Turn → List Delta → (ℕ → ℕ) → ℕ → ℕ
+bases_kept (Did who cause made) changes bases = with_fact who (bases_with changes (bases who)) bases
+bases_kept (Stopped who cause true) changes bases = with_fact who (bases_with changes (bases who)) bases
+bases_kept turn changes bases = bases
+
 -- the situation after a turn, before the letters of it have joined the mails
 abbrev pub after_turn : ℕ → Situation → Row → Situation
 after_turn members situation row =
@@ -90,6 +138,8 @@ after_turn members situation row =
       skews = situation.skews;
       fates = fates_after row.turn situation.fates;
       latest = latest_after row.turn situation.latest;
+      arms = arms_after row.turn (changes_in members situation.standing row.turn row.event) situation.arms;
+      bases = bases_kept row.turn (changes_in members situation.standing row.turn row.event) situation.bases;
     }
 
 -- the situation after some turns

@@ -1,27 +1,33 @@
 //! Laws of scripts. Each is the contract of a function that does nothing.
-ghost use Rattle.std.specs.Prelude.{◌≡◌, ◌≢◌, ℕ, ◌-◌, ◌<◌, ◌≤◌, ◌<ℤ◌, ◌≤ℤ◌, ℤ, pos, ◌+ℤ◌, Bool, true, false, List, [], ◌∷◌, ◌++◌, drop, length, Option, None, Some, IsSome, AllPairs, Contains, get_or, slice_get};
+ghost use Rattle.std.specs.Prelude.{◌≡◌, ◌≢◌, ℕ, ◌-◌, ◌<◌, ◌≤◌, ◌<ℤ◌, ◌≤ℤ◌, ℤ, pos, ◌+ℤ◌, Bool, true, false, List, [], ◌∷◌, ◌++◌, drop, length, map, Option, None, Some, IsSome, AllPairs, Contains, get_or, slice_get};
+ghost use Rattle.paxos_base.specs.declared.durable.Delta.{Delta};
+ghost use Rattle.save_law.specs.Save.{bases_after, calls_of, is_kept};
 ghost use Rattle.zone_minutes.specs.Window.{IsInWindow};
 ghost use Rattle.zone_minutes.specs.declared.minute.Minute.{Minute};
 ghost use Rattle.zone_minutes.specs.declared.minute.Window.{Window};
 ghost use Rattle.cluster_sched.specs.declared.fate.Fate.TheVariants as fate;
 ghost use Rattle.cluster_sched.specs.declared.row.SchedRow.{SchedRow};
 ghost use Rattle.due_set.specs.Table.{Table};
+ghost use Rattle.step_law.specs.Folds.{deltas_of};
 ghost use Rattle.step_law.specs.State.{State, prefix_of};
+ghost use Rattle.script_text.specs.declared.command.Command.{Command};
 ghost use Rattle.script_text.specs.declared.command.Command.TheVariants as command;
 ghost use Rattle.script_text.specs.declared.command.FateWord.{FateWord};
 ghost use Rattle.script_text.specs.declared.command.FateWord.TheVariants as word;
-ghost use Rattle.book_law.specs.Book.{PostedLetter, Row, turn_of};
+ghost use Rattle.book_law.specs.Book.{PostedLetter, Row, acts_at, turn_of};
 ghost use Rattle.book_law.specs.Legal.{IsLate, IsLegal};
 ghost use Rattle.book_law.specs.Some.{no_jobs};
 ghost use Rattle.book_law.specs.declared.turn.CallRow.{CallRow};
 ghost use Rattle.book_law.specs.declared.turn.Cause.{Cause};
 ghost use Rattle.book_law.specs.declared.turn.Cause.TheVariants.{Campaign, Tick, Hear, Answer};
-ghost use Rattle.book_law.specs.declared.turn.Turn.TheVariants.{Did, Stopped};
+ghost use Rattle.book_law.specs.declared.turn.Turn.TheVariants.{Did, Stopped, Restarted};
+ghost use Rattle.script_law.specs.Arms.{AreArmsOfRunning, AreTurnsByArms, AreUnarmed, IsTurnByArm, PerformsByArms, armed_by, is_task_of};
 ghost use Rattle.script_law.specs.Commands.{arrival_tasks, each_once, from_one, set_by, tasks_for};
+ghost use Rattle.script_law.specs.Free.{is_turn_of};
 ghost use Rattle.script_law.specs.Round.{clock_reading, round_tasks};
 ghost use Rattle.script_law.specs.Script.{IsPartOf, Obeys};
 ghost use Rattle.script_law.specs.Settling.{AsksNothingUntil, Drains, IsNextMinute, IsQuiet, Settles, Walks, calmed, coordinator, restart_tasks};
-ghost use Rattle.script_law.specs.Situation.{AreTurnsFor, IsTurnFor, Performs, Situation, Task, Arrive, Do, Restart, Stop, after_turn, after_turns, letters_for, reaches};
+ghost use Rattle.script_law.specs.Situation.{AreTurnsFor, Armed, Does, IsTurnFor, Performs, Situation, Task, Arrive, Do, Restart, Stop, after_turn, after_turns, first_situation, letters_for, reaches};
 
 /// A clock reads a minute of the window, however far it is ahead or behind; and where it is right within the window, it reads
 /// the instant.
@@ -85,6 +91,111 @@ pub fn a_stop_loses_the_mail_of_its_replica_alone()
         → row.turn ≡ Stopped who cause kept → other ≢ who → (after_turn members situation row).mails other ≡ situation.mails other }
 {}
 
+/// Where no disk is armed, the turns of tasks by the arms of disks are just those of the tasks; and no disk is armed after any turns.
+pub fn without_arms_turns_are_those_of_the_tasks()
+    ensures plain { (members : ℕ) (tasks : List Task) (situation after : Situation) (rows : List Row) → AreUnarmed situation
+        → PerformsByArms members tasks situation rows after → Performs members tasks situation rows after }
+    ensures by_arms { (members : ℕ) (tasks : List Task) (situation after : Situation) (rows : List Row) → AreUnarmed situation
+        → Performs members tasks situation rows after → PerformsByArms members tasks situation rows after }
+    ensures unarmed { (members : ℕ) (situation : Situation) (rows : List Row) → AreUnarmed situation
+        → AreUnarmed (after_turns members situation rows) }
+{}
+
+/// On a disk that is armed the step of its replica comes whole where the save of the step's change takes no more calls than are left,
+/// and then so many less are left. Where it takes more, the replica stops within the step, by the arm, which ends; and the numbers say
+/// whether the change is kept. A step without a change comes whole, and so does each on a disk that isn't armed; and no arm begins or
+/// changes by the turn of another.
+pub fn a_disk_stops_where_too_few_calls_are_left()
+    ensures unarmed { (members : ℕ) (situation : Situation) (who : ℕ) (cause : Cause) (row : Row)
+        → IsTurnByArm members situation (Do who cause) row → situation.arms who ≡ None
+        → Does situation.fates who cause row.turn × ((after_turn members situation row).arms who ≡ None) }
+    ensures nothing { (members : ℕ) (situation : Situation) (who : ℕ) (cause : Cause) (row : Row) (armed : Armed)
+        → IsTurnByArm members situation (Do who cause) row → situation.arms who ≡ Some armed
+        → deltas_of (acts_at members situation.standing who row.event) ≡ []
+        → Does situation.fates who cause row.turn × ((after_turn members situation row).arms who ≡ Some armed) }
+    ensures saves { (members : ℕ) (situation : Situation) (who : ℕ) (cause : Cause) (row : Row) (armed : Armed) (change : Delta)
+        → IsTurnByArm members situation (Do who cause) row → situation.arms who ≡ Some armed
+        → deltas_of (acts_at members situation.standing who row.event) ≡ change ∷ [] → calls_of change ≤ armed.left
+        → Does situation.fates who cause row.turn
+        × ((after_turn members situation row).arms who ≡ Some (record armed { left = armed.left - calls_of change })) }
+    ensures stops { (members : ℕ) (situation : Situation) (who : ℕ) (cause : Cause) (row : Row) (armed : Armed) (change : Delta)
+        → IsTurnByArm members situation (Do who cause) row → situation.arms who ≡ Some armed
+        → deltas_of (acts_at members situation.standing who row.event) ≡ change ∷ [] → armed.left < calls_of change
+        → (row.turn ≡ Stopped who (Some cause) (is_kept (situation.bases who) change armed.left armed.image))
+        × ((after_turn members situation row).arms who ≡ None) }
+    ensures others { (members : ℕ) (situation : Situation) (row : Row) (other : ℕ) → is_turn_of other row.turn ≡ false
+        → (after_turn members situation row).arms other ≡ situation.arms other }
+{}
+
+/// A replica that has stopped within a step has no further turn among those of the tasks, and so none in the same round. Each task of
+/// another that doesn't stop within a step has its turn.
+pub fn a_replica_that_stops_has_no_further_turn()
+    ensures none { (members : ℕ) (situation : Situation) (tasks : List Task) (rows : List Row) (first second : ℕ) (one other : Row) (who : ℕ)
+        (cause : Cause) (kept : Bool)
+        → AreTurnsByArms members situation tasks rows → slice_get rows first ≡ Some one → slice_get rows second ≡ Some other
+        → first < second → one.turn ≡ Stopped who (Some cause) kept → is_turn_of who other.turn ≡ false }
+    ensures others { (members : ℕ) (situation : Situation) (tasks : List Task) (rows : List Row) (task : Task)
+        → AreTurnsByArms members situation tasks rows → Contains tasks task
+        → ((row : Row) (who : ℕ) (cause : Cause) (kept : Bool) → Contains rows row → row.turn ≡ Stopped who (Some cause) kept
+        → is_task_of who task ≡ false)
+        → (row : Row) × (here : Situation) × Contains rows row × IsTurnByArm members here task row }
+{}
+
+/// A replica that stops, within a step or between two, has a disk that isn't armed, and the arms of others stay; so a command that
+/// stops it takes back its arm. After settling and after a walk no disk is armed.
+pub fn a_stop_ends_the_arm_of_its_replica_alone()
+    ensures own { (members : ℕ) (situation : Situation) (row : Row) (who : ℕ) (cause : Option Cause) (kept : Bool)
+        → row.turn ≡ Stopped who cause kept → (after_turn members situation row).arms who ≡ None }
+    ensures others { (members : ℕ) (situation : Situation) (row : Row) (who other : ℕ) (cause : Option Cause) (kept : Bool)
+        → row.turn ≡ Stopped who cause kept → other ≢ who → (after_turn members situation row).arms other ≡ situation.arms other }
+    ensures stopped { (members : ℕ) (table : Table) (who : ℕ) (situation after : Situation) (rows : List Row) → situation.standing.runs who ≡ true
+        → IsPartOf members table (command.Stop who) situation rows after → after.arms who ≡ None }
+    ensures settled { (members : ℕ) (table : Table) (at : ℤ) (situation after : Situation) (rows : List Row)
+        → Settles members table at situation rows after → AreUnarmed after }
+    ensures walked { (members : ℕ) (table : Table) (to : ℤ) (situation after : Situation) (rows : List Row)
+        → Walks members table to situation rows after → AreUnarmed after }
+{}
+
+/// The part of a break arms a disk, and does nothing else. The disk counts from its first call on, whatever arm it had before; the disk
+/// of a replica that is stopped isn't armed, and no other disk is.
+pub fn an_arm_begins_its_count_anew()
+    ensures armed { (situation : Situation) (who : ℕ) (armed : Armed) → situation.standing.runs who ≡ true
+        → (armed_by who armed.left armed.image situation).arms who ≡ Some armed }
+    ensures part { (members : ℕ) (table : Table) (who pass image : ℕ) (situation after : Situation) (rows : List Row)
+        → IsPartOf members table (command.Break who pass image) situation rows after → after ≡ armed_by who pass image situation }
+    ensures anew { (situation : Situation) (who pass image first had every : ℕ)
+        → (armed_by who pass image (armed_by who first had situation)).arms every ≡ (armed_by who pass image situation).arms every }
+    ensures stopped { (situation : Situation) (who pass image : ℕ) → situation.standing.runs who ≡ false
+        → armed_by who pass image situation ≡ situation }
+    ensures others { (situation : Situation) (who pass image other : ℕ) → other ≢ who
+        → (armed_by who pass image situation).arms other ≡ situation.arms other }
+{}
+
+/// A disk is armed only while its replica runs: so it is before any turn, and after each part of a script before which it is.
+pub fn a_disk_is_armed_only_while_its_replica_runs()
+    ensures first { (members : ℕ) (table : Table) → AreArmsOfRunning (first_situation members table) }
+    ensures on { (members : ℕ) (table : Table) (given : Command) (situation after : Situation) (rows : List Row) → AreArmsOfRunning situation
+        → IsPartOf members table given situation rows after → AreArmsOfRunning after }
+{}
+
+/// Of each replica the bases that it has kept are counted: those of its steps, and those that were kept where it stopped within one; one
+/// that was lost isn't, and no turn counts for another replica.
+pub fn each_base_that_is_kept_counts()
+    ensures step { (members : ℕ) (situation : Situation) (row : Row) (who : ℕ) (cause : Cause) (made : Option CallRow) (change : Delta)
+        → row.turn ≡ Did who cause made → deltas_of (acts_at members situation.standing who row.event) ≡ change ∷ []
+        → (after_turn members situation row).bases who ≡ bases_after change (situation.bases who) }
+    ensures kept { (members : ℕ) (situation : Situation) (row : Row) (who : ℕ) (cause : Cause) (change : Delta)
+        → row.turn ≡ Stopped who (Some cause) true → deltas_of (acts_at members situation.standing who row.event) ≡ change ∷ []
+        → (after_turn members situation row).bases who ≡ bases_after change (situation.bases who) }
+    ensures lost { (members : ℕ) (situation : Situation) (row : Row) (who : ℕ) (cause : Option Cause) → row.turn ≡ Stopped who cause false
+        → (after_turn members situation row).bases ≡ situation.bases }
+    ensures nothing { (members : ℕ) (situation : Situation) (row : Row) (who : ℕ) (cause : Cause) (made : Option CallRow)
+        → row.turn ≡ Did who cause made → deltas_of (acts_at members situation.standing who row.event) ≡ []
+        → (after_turn members situation row).bases who ≡ situation.bases who }
+    ensures others { (members : ℕ) (situation : Situation) (row : Row) (other : ℕ) → is_turn_of other row.turn ≡ false
+        → (after_turn members situation row).bases other ≡ situation.bases other }
+{}
+
 /// A call has the fate that is set for its replica, and spends it; no other turn does, and no other replica's fate is spent.
 pub fn a_fate_is_spent_by_its_replicas_call()
     ensures fate { (situation : Situation) (who : ℕ) (cause : Cause) (made : CallRow)
@@ -99,10 +210,14 @@ pub fn a_fate_is_spent_by_its_replicas_call()
 {}
 
 /// The letters that turns sent join the mails behind what waits there, each its addressee's: no letter that was sent before them,
-/// none to a replica that doesn't run, and each that reaches the replica.
+/// none to a replica that doesn't run, and each that reaches the replica. So they do where a disk that is armed may stop.
 pub fn letters_join_the_mail_of_their_addressee()
     ensures behind { (members : ℕ) (tasks : List Task) (situation after : Situation) (rows : List Row) (who : ℕ)
         → Performs members tasks situation rows after
+        → after.mails who ≡ (after_turns members situation rows).mails who
+        ++ letters_for (after_turns members situation rows) (length situation.standing.posted) who }
+    ensures by_arms { (members : ℕ) (tasks : List Task) (situation after : Situation) (rows : List Row) (who : ℕ)
+        → PerformsByArms members tasks situation rows after
         → after.mails who ≡ (after_turns members situation rows).mails who
         ++ letters_for (after_turns members situation rows) (length situation.standing.posted) who }
     ensures sent { (situation : Situation) (first who number : ℕ) → Contains (letters_for situation first who) number
@@ -213,7 +328,7 @@ pub fn an_arrival_is_of_a_call_that_is_late()
     ensures none { (late : ℕ) (situation : Situation) → (IsLate situation.standing late → ⊥) → arrival_tasks late situation ≡ [] }
 {}
 
-/// Commands that set something have no turn. No book obeys a script that has a disk stop within a call.
+/// Commands that set something have no turn.
 pub fn commands_without_a_turn_have_none()
     ensures cut { (members : ℕ) (table : Table) (from to : ℕ) (situation after : Situation) (rows : List Row)
         → IsPartOf members table (command.Cut from to) situation rows after → rows ≡ [] }
@@ -232,7 +347,7 @@ pub fn commands_without_a_turn_have_none()
     ensures fate { (members : ℕ) (table : Table) (who : ℕ) (word : FateWord) (situation after : Situation) (rows : List Row)
         → IsPartOf members table (command.Fate who word) situation rows after → rows ≡ [] }
     ensures broken { (members : ℕ) (table : Table) (who pass image : ℕ) (situation after : Situation) (rows : List Row)
-        → IsPartOf members table (command.Break who pass image) situation rows after → ⊥ }
+        → IsPartOf members table (command.Break who pass image) situation rows after → rows ≡ [] }
 {}
 
 /// The coordinator is the replica of the greatest prefix, and of those the one with the lowest number.
@@ -245,7 +360,7 @@ pub fn the_coordinator_has_learned_the_most()
 {}
 
 /// As settling begins, all replicas that are stopped start again, with what they had; then no letter waits or is lost, each clock
-/// is right, and each call is answered.
+/// is right, each call is answered, and no disk is armed.
 pub fn settling_starts_all_that_are_stopped()
     ensures runs { (members : ℕ) (situation : Situation) (rows : List Row) (who : ℕ)
         → AreTurnsFor members situation (restart_tasks members situation) rows → who < members
@@ -254,7 +369,7 @@ pub fn settling_starts_all_that_are_stopped()
         → AreTurnsFor members situation (restart_tasks members situation) rows
         → (after_turns members situation rows).standing.replicas ≡ situation.standing.replicas }
     ensures faults { (situation : Situation) (who : ℕ) → ((calmed situation).mails who ≡ []) × ((calmed situation).cuts ≡ [])
-        × ((calmed situation).skews who ≡ pos 0) × ((calmed situation).fates who ≡ fate.Done) }
+        × ((calmed situation).skews who ≡ pos 0) × ((calmed situation).fates who ≡ fate.Done) × ((calmed situation).arms who ≡ None) }
 {}
 
 /// After settling each replica runs.
@@ -289,4 +404,12 @@ pub fn a_walk_leaves_nothing_to_do()
 /// There are turns that obey a script and are a legal book: those of one replica without jobs, for a script without commands.
 pub fn some_turns_obey_a_script()
     ensures { (rows : List Row) × (length rows ≡ 1) × IsLegal 1 no_jobs rows × Obeys 1 no_jobs [] rows }
+{}
+
+/// There are turns that obey a script in which a disk stops within a step, and are a legal book: one replica without jobs is armed, stops
+/// within its campaign at the third call of the save, and keeps its change. The walk starts it again, and it stands for leader.
+pub fn a_disk_may_stop_within_a_step()
+    ensures { (rows : List Row)
+        × (map (λ row. row.turn) rows ≡ Stopped 0 (Some Campaign) true ∷ Restarted 0 ∷ Did 0 Campaign None ∷ [])
+        × IsLegal 1 no_jobs rows × Obeys 1 no_jobs (command.Break 0 2 1 ∷ command.Campaign 0 ∷ []) rows }
 {}

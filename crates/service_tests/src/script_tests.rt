@@ -179,3 +179,45 @@ fn writes_that_fail_behind_a_script(rt: HostRuntime) -> Result<(), Fail> {
     assert_eq!(rt; ok, true);
     Ok(())
 }
+
+// Up to a leader that is to vote for the start of the launch.
+const LEADS: &str = "\
+cronrun 1
+replicas 3
+window 2024-03-31T00:00Z 2024-03-31T04:00Z
+grace 0
+crontab alice UTC 1
+0 1 * * * true
+script
+campaign 0
+round 2024-03-31T01:00Z 1
+";
+
+const LEADS_REPORT: &str = "\
+cron report 1
+window 2024-03-31T00:00Z 2024-03-31T04:00Z
+replicas 3
+jobs 1
+job alice:1 launched 1 void 0
+launch alice:1@20240331T0100Z
+end
+";
+
+// What the last syncs left, the stopped call done, and the bytes 0 and 1 in all that was written since.
+const IMAGES: &[u8] = &[0, 1, 2, 5];
+
+#[test]
+fn a_leader_stops_as_it_votes(rt: HostRuntime) -> Result<(), Fail> {
+    for calls in 0..4_u8 {
+        for image in IMAGES {
+            let input = format!(in rt.alloc();
+                "{LEADS}break 0 {calls} {image}\nround 2024-03-31T01:00Z 1\nend\n"
+            )?;
+            let args = args_of(rt.alloc(), &[])?;
+            let left = play(&rt, rt.alloc(), Ok(args), &input, &[])?;
+            let told = left.report.bytes() == LEADS_REPORT.as_bytes();
+            assert!(rt; left.status == 0 && told, "{calls} {image}");
+        }
+    }
+    Ok(())
+}

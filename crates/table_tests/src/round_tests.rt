@@ -33,9 +33,9 @@ fn refusal_of(alloc: Global, text: &str) -> Result<String, Fail> {
 }
 
 #[test]
-fn a_script_of_four_commands(rt: HostRuntime) -> Result<(), Fail> {
+fn a_script_of_five_commands(rt: HostRuntime) -> Result<(), Fail> {
     let script =
-        "campaign 0\nround 2024-03-31T00:30Z 40\nfate 2 lost-after\nwalk 2024-03-31T00:59Z\nend\n";
+        "campaign 0\nround 2024-03-31T00:30Z 40\nfate 2 lost-after\nbreak 1 3 4294967295\nwalk 2024-03-31T00:59Z\nend\n";
     let text = format!(in rt.alloc(); "{HEAD}{script}")?;
     let run = run_of(rt.alloc(), &text)?;
     assert_eq!(rt; run.members, 3);
@@ -50,6 +50,11 @@ fn a_script_of_four_commands(rt: HostRuntime) -> Result<(), Fail> {
         Command::Fate {
             member: 2,
             fate: FateWord::LostAfter,
+        },
+        Command::Break {
+            member: 1,
+            pass: 3,
+            image: 4_294_967_295,
         },
         Command::Walk { to: last },
     ];
@@ -89,8 +94,8 @@ round 2024-03-31T01:00Z 1¶end¶ => line 8: cause 30 at 0
 settle 2024-03-30T23:59Z¶end¶ => line 8: cause 30 at 0
 rounds¶end¶ => line 8: cause 30 at 0
 round¶end¶ => line 8: cause 30 at 0
-break 0 1 1¶end¶ => line 8: cause 35 at 0
-break¶end¶ => line 8: cause 35 at 0
+break 3 1 1¶end¶ => line 8: cause 30 at 0
+break 2 1 1¶break¶end¶ => line 9: cause 30 at 0
 heal¶free x¶campaign 9¶end¶ => line 9: cause 30 at 0
 breaks 0 1 1¶end¶ => line 8: cause 30 at 0
 end ¶ => line 8: cause 30 at 0

@@ -16,10 +16,11 @@ use Rattle.book_law.specs.declared.turn.Cause.TheVariants.{Campaign, Tick, Hear,
 use Rattle.book_law.specs.declared.turn.Turn.{Turn}
 use Rattle.book_law.specs.declared.turn.Turn.TheVariants.{Did, Stopped, Restarted, Arrived}
 use Rattle.book_law.proofs.Turns.{after_rows}
+use Rattle.script_law.specs.Arms.{AreRoundsByArms, PlaysByArms, armed_by}
 use Rattle.script_law.specs.Commands.{Plain, set_by, tasks_for, with_letter}
 use Rattle.script_law.specs.Free.{IsFreePart, after_all_posted, after_posted}
 use Rattle.script_law.specs.Parts.{Plays, Sets, Stays, Then}
-use Rattle.script_law.specs.Round.{AreRounds, IsRound, round_tasks}
+use Rattle.script_law.specs.Round.{IsRound, round_tasks}
 use Rattle.script_law.specs.Script.{ArePartsOf, IsPartOf}
 use Rattle.script_law.specs.Settling.{Drains, DrainsIn, IsDrainRound, IsLedToQuiet, Settles, Walks, WalksIn, WalksOn, calmed, campaign_tasks, coordinator, restart_tasks}
 use Rattle.script_law.specs.Situation.{Performs, Situation, Task, Do, after_turn, after_turns, latest_after, latest_with}
@@ -122,10 +123,22 @@ walks_come members table to situation rows after walks =
 
 -- ---- commands
 
-rounds_come : (members : ℕ) (table : Table) (at : ℤ) (rounds : ℕ) → Goes members (AreRounds members table.window at rounds)
+plays_by_arms : (members : ℕ) (tasks : Situation → List Task) → Goes members (PlaysByArms members tasks)
+plays_by_arms members tasks situation rows after done =
+    let turns = turns_come members situation rows in
+    record { standing = ap (λ s. s.standing) done.is ∙ turns.standing; latest = ap (λ s. s.latest) done.is ∙ turns.latest }
+
+rounds_come : (members : ℕ) (table : Table) (at : ℤ) (rounds : ℕ) → Goes members (AreRoundsByArms members table.window at rounds)
 rounds_come members table at zero = stays members
 rounds_come members table at (suc more) =
-    both members (IsRound members table.window at) (AreRounds members table.window at more) (plays members (round_tasks members table.window at)) (rounds_come members table at more)
+    both members (PlaysByArms members (round_tasks members table.window at)) (AreRoundsByArms members table.window at more)
+    (plays_by_arms members (round_tasks members table.window at)) (rounds_come members table at more)
+
+arm_keeps : (who pass image : ℕ) → Keeps (armed_by who pass image)
+arm_keeps who pass image = record {
+  standing = λ situation. elim (cases_Bool (situation.standing.runs who)) [ inl runs ↦ rw runs refl | inr stopped ↦ rw stopped refl ];
+  latest = λ situation. elim (cases_Bool (situation.standing.runs who)) [ inl runs ↦ rw runs refl | inr stopped ↦ rw stopped refl ];
+}
 
 -- a letter that comes again leaves what stands
 letter_keeps : (number : ℕ) (letter : Option PostedLetter) (situation : Situation) → ((with_letter number letter situation).standing ≡ situation.standing) × ((with_letter number letter situation).latest ≡ situation.latest)
@@ -166,7 +179,9 @@ part_comes : (members : ℕ) (table : Table) (given : Command) → Goes members 
 part_comes members table (command.Round at rounds) situation rows after part = rounds_come members table at.0 rounds situation rows after part
 part_comes members table (command.Settle at) situation rows after part = settles_come members table at.0 situation rows after part
 part_comes members table (command.Walk to) situation rows after part = walks_come members table to.0 situation rows after part
-part_comes members table (command.Break who pass image) situation rows after part = absurd part
+part_comes members table (command.Campaign who) situation rows after part = plays_by_arms members (tasks_for (command.Campaign who)) situation rows after part
+part_comes members table (command.Break who pass image) situation rows after part =
+    sets members (armed_by who pass image) (arm_keeps who pass image) situation rows after part
 part_comes members table (command.Free at turns) situation rows after part = free_comes members table.window at.0 turns situation rows after part
 part_comes members table given situation rows after part = command_plain members given situation rows after part
 

@@ -17,6 +17,7 @@ use Rattle.script_law.specs.Round.{round_tasks}
 use Rattle.script_law.specs.Script.{ArePartsOf, Obeys}
 use Rattle.script_law.specs.Settling.{IsNextMinute, Settles, Walks, WalksIn, WalksOn, calmed, restart_tasks}
 use Rattle.script_law.specs.Situation.{Situation, Task, Do, first_situation}
+use Rattle.script_law.proofs.ArmsLemmas.{performs_unarmed}
 use Rattle.script_law.proofs.TurnLemmas.{as_many}
 use Rattle.walk_law.specs.Readings.{AreTurnsBy, IsGraceLong, script_turns}
 use Rattle.walk_law.proofs.DrainLemmas.{IsCalm, played, round_by}
@@ -61,7 +62,7 @@ scripted = record {
     middle = ticked.after;
     back = [];
     parts = sym (append-nil ticked.rows);
-    one = ticked.performs;
+    one = performs_unarmed 1 (round_tasks 1 brief.window (minute 0) begun) begun ticked.after ticked.rows (λ who. refl) ticked.performs;
     two = record { none = refl; is = refl };
   };
   two = record { none = refl; is = refl };

@@ -1,6 +1,6 @@
 -- The jobs with which a part begins, by the parts of the world.
-use Rattle.std.proofs.Common.{◌≡◌, ℕ, ◌+◌, ◌<◌, ◌≤◌, ◌^◌, true, false, List, [], ◌∷◌, ◌++◌, length, map, Option, Some, None, refl, sym, ap, ◌∙◌, subst, inl, arith}
-use Rattle.std.specs.List.{AllZip, Contains, slice_get}
+use Rattle.std.proofs.Common.{◌≡◌, ℕ, ◌+◌, ◌<◌, ◌^◌, true, List, [], ◌∷◌, length, map, Option, Some, refl, sym, ap, ◌∙◌, subst, inl, arith}
+use Rattle.std.specs.List.{AllZip, slice_get}
 use Rattle.std.proofs.lemmas.List.{append-nil, length-map}
 use Rattle.std.proofs.lemmas.Option.{slice_get_within}
 use Rattle.disk_model.specs.Images.{Image}
@@ -17,16 +17,15 @@ use Rattle.turn_book.specs.Turns.{AreNewSeats, BeganWith, IsNewSeat, opening_of}
 use Rattle.world_law.specs.Book.{BookState, StandsBehind, posted_as, standing_behind}
 use Rattle.world_law.specs.Rows.{IsBehind}
 use Rattle.world_law.specs.declared.letter.LetterRow.{LetterRow}
-use Rattle.world_law.specs.declared.row.BookRow.{BookRow}
 use Rattle.world_law.proofs.Settled.{come_here}
-use Rattle.world_parts.specs.Nodes.{AreNodesOf, IsNodeOf}
+use Rattle.world_parts.specs.Nodes.{AreNodesOf, IsDiskAt, IsNodeOf, bases_behind}
 use Rattle.world_parts.specs.Parts.{ArePartsAt, IsBookAt, IsMailOf, IsSentTo}
 use Rattle.world_parts.specs.declared.bundle.Bundle.{Bundle}
 use Rattle.world_parts.specs.declared.mail.MemberMail.{MemberMail}
 use Rattle.world_free.specs.Jobs.{AreJobsAt, HasGone, HasPlayed, IsIdle, IsJobAt, IsOfPlan, IsRunner, situation_in}
 use Rattle.world_free.specs.Mails.{HasFirstBytes, IsMailIn, IsPostedTo}
 use Rattle.world_free.specs.Parts.{AreJobsOf, AreKept, mail_in, mail_of, node_in, seat_in}
-use Rattle.world_free.specs.Plan.{ArePlayed, Plan, Seat, SharedBook, plan_of}
+use Rattle.world_free.specs.Plan.{Plan, Seat, SharedBook, plan_of}
 use Rattle.world_free.specs.Seats.{IsSeatAt}
 use Rattle.world_free.specs.declared.job.FreeJob.{FreeJob}
 use Rattle.world_free.specs.declared.job.FreeMail.{FreeMail}
@@ -96,6 +95,7 @@ module _ {D : Type 0} (seen : D → Image) (may_leave : D → Image → Type 0) 
       small = mail.small;
       fate = mail.fate;
       waits = mail.waits;
+      arm = mail.arm;
       looked = kept.0 ∙ sym (length-map plan.book.letters posted_as) ∙ ap length posted;
       sent = λ number has. posted_to plan.book.letters plan.situation.standing.posted who number posted (mail.sent number has);
       bytes = subst (λ letters. HasFirstBytes letters job.mail) posted kept.1;
@@ -108,7 +108,7 @@ module _ {D : Type 0} (seen : D → Image) (may_leave : D → Image → Type 0) 
     runner_begins : plan.situation.standing.runs who ≡ true → IsRunner seen may_leave honest told_of plan book who 0 job
     runner_begins runs = record {
       of_plan = begins.of_plan;
-      node = record { at_rest = node.at_rest; trusted = node.trusted; reliable = node.reliable; identity = node.identity; member = member };
+      node = record { at_rest = node.at_rest; trusted = node.trusted; identity = node.identity; member = member };
       after = [];
       seat = seat_begins;
       some = played;
@@ -116,22 +116,25 @@ module _ {D : Type 0} (seen : D → Image) (may_leave : D → Image → Type 0) 
       state = λ begun more are.
           subst (λ l. (replica_of job.node).state ≡ (situation_in plan l).standing.replicas who) (sym (none_beside IsBehind more are.each))
           (node.state (ap (λ (s : Standing). s.runs who) (sym begins.at.standing) ∙ runs) ∙ ap (λ (s : Standing). s.replicas who) (sym begins.at.standing));
+      disk = λ begun more are.
+          subst (λ l. IsDiskAt told_of ((situation_in plan l).bases who) job.node) (sym (none_beside IsBehind more are.each))
+          (subst (λ (bases : ℕ → ℕ). IsDiskAt told_of (bases who) job.node) (sym begins.at.bases) node.disk);
       mail = λ begun more are. subst (λ l. IsMailIn (situation_in plan l) who job.mail) (sym (none_beside IsBehind more are.each)) (mail_begins runs);
     }
 
     idle_begins : IsIdle seen may_leave honest told_of plan book who job
     idle_begins = record {
       seat = seat_begins;
-      node = λ other at. node_still other (come_here plan.table rows other plan.book begins.at.behind at.behind).stands;
+      node = λ other at. node_still other (come_here plan.table rows other plan.book begins.at.behind at.behind).stands (sym begins.at.bases ∙ at.bases);
       mail = mail;
     }
       where
         node_still : (other : List Row) → standing_behind plan.table rows plan.book ≡ standing_behind plan.table other plan.book
-            → IsNodeOf seen may_leave honest told_of plan.table other plan.book who job.node
-        node_still other same = record {
+            → bases_behind plan.table rows plan.book ≡ bases_behind plan.table other plan.book → IsNodeOf seen may_leave honest told_of plan.table other plan.book who job.node
+        node_still other same bases = record {
           at_rest = node.at_rest;
           trusted = node.trusted;
-          reliable = node.reliable;
+          disk = subst (λ (kept : ℕ → ℕ). IsDiskAt told_of (kept who) job.node) bases node.disk;
           identity = node.identity;
           state = λ runs. node.state (ap (λ (s : Standing). s.runs who) same ∙ runs) ∙ ap (λ (s : Standing). s.replicas who) same;
           kept = node.kept ∙ ap (λ (s : Standing). (s.replicas who).kept) same;
@@ -139,7 +142,7 @@ module _ {D : Type 0} (seen : D → Image) (may_leave : D → Image → Type 0) 
         }
 
     job_begins : IsJobAt seen may_leave honest told_of plan book who 0 job
-    job_begins = record { runs = mail.runs; running = runner_begins; stopped = λ stopped. idle_begins }
+    job_begins = record { running = λ runs. runner_begins (sym mail.runs ∙ runs); stopped = λ stopped. inl idle_begins }
 
   -- **The jobs as a part begins.**
   pub jobs_begin : (plan : Plan) (book : SharedBook) (rows : List Row) (nodes : List (Node D)) (mails : List MemberMail) (kept : List FreeMail)
@@ -162,10 +165,17 @@ module _ {D : Type 0} (seen : D → Image) (may_leave : D → Image → Type 0) 
   pub parts_begin : {M : Type 0} (table : Table) (rows : List Row) (parts : Bundle (Node D) M) (situation : Situation) (book : SharedBook) (setting : Setting)
       (seats : ℕ)
       → ArePartsAt seen may_leave honest told_of table rows parts situation → BeganWith table parts.book seats book → setting.cuts.items ≡ parts.mail.cuts.items
-      → length parts.book.turns < 2 ^ 31
+      → setting.members ≡ parts.book.members → length parts.book.turns < 2 ^ 31
       → Begins (plan_of table book situation setting) book rows parts.nodes.items parts.mail.members.items
-  parts_begin table rows parts situation book setting seats are began cuts few = record {
-    of_plan = record { key = began.key_is; state = refl; rows = rows; at = here; cuts = λ from to. ap (is_cut from to) cuts ∙ are.cuts from to };
+  parts_begin table rows parts situation book setting seats are began cuts members few = record {
+    of_plan = record {
+      key = began.key_is;
+      state = refl;
+      rows = rows;
+      at = here;
+      cuts = λ from to. ap (is_cut from to) cuts ∙ are.cuts from to;
+      members = members ∙ ap (λ (state : BookState). state.members) (sym began.state_is);
+    };
     at = here;
     nodes_are = subst (λ (state : BookState). AreNodesOf seen may_leave honest told_of table rows state parts.nodes.items) (sym began.state_is) are.nodes;
     mails_are = λ who mail there. subst (λ (state : BookState). IsMailOf state.letters situation who [] mail) (sym began.state_is) (are.mails who mail there);

@@ -1,57 +1,54 @@
 -- The end of a part: what the jobs of all threads know, and the book that is closed, make the parts of the world behind it.
-use Rattle.std.proofs.Common.{◌≡◌, ◌⊎◌, ℕ, zero, suc, ◌+◌, ◌-◌, ◌<◌, ◌≤◌, ◌==◌, ◌&&◌, not, Bool, true, false, List, [], ◌∷◌, ◌++◌, length, filter, fold, map, Option, Some, None, ℤ, eqb, eq-eqb, refl, sym, ap, ◌∙◌, subst, inl, inr, arith, append_assoc}
-use Rattle.std.specs.List.{AllZip, Contains, range_with_len, slice_get}
+use Rattle.std.proofs.Common.{◌≡◌, ◌⊎◌, ℕ, zero, suc, ◌-◌, ◌<◌, ◌≤◌, true, false, List, [], ◌∷◌, ◌++◌, length, fold, map, Option, Some, None, ℤ, eq-eqb, refl, sym, ap, ◌∙◌, subst, inl, inr, ⊎_elim, arith}
+use Rattle.std.specs.List.{AllZip, Contains, slice_get}
 use Rattle.std.proofs.lemmas.Bool.{cases_Bool}
 use Rattle.std.proofs.lemmas.List.{append-nil, length-append, length-map}
 use Rattle.std.proofs.lemmas.List.Elements.{Contains-append_cases}
 use Rattle.std.proofs.lemmas.List.Sums.{fold-append}
 use Rattle.disk_model.specs.Images.{Image}
 use Rattle.disk_model.specs.Told.{Told}
-use Rattle.due_set.specs.Table.{Table}
 use Rattle.launch_machine.specs.Clerk.{first_rows}
 use Rattle.step_law.specs.State.{State}
+use Rattle.step_law.proofs.Lists.{nothing_in}
 use Rattle.agree_law.specs.Transition.{identity_of}
 use Rattle.book_law.specs.Book.{PostedLetter, Row, Standing, after_row, first_standing, standing_after}
 use Rattle.book_law.specs.Legal.{IsLegal}
 use Rattle.book_law.specs.declared.turn.Turn.{Turn}
 use Rattle.book_law.specs.declared.turn.Turn.TheVariants.{Did, Stopped, Restarted, Arrived}
 use Rattle.replica_node.specs.Node.{disk_of, replica_of}
-use Rattle.replica_node.specs.declared.node.Node.{Node}
 use Rattle.replica_store.specs.Files.{FilesStand}
-use Rattle.script_law.specs.Free.{GoesFreely, IsFreePart, TakesFreeTurns, course_of, is_turn_of}
-use Rattle.script_law.specs.Situation.{Situation, is_cut, letters_for, reaches}
+use Rattle.script_law.specs.Free.{GoesFreely, TakesFreeTurns, is_turn_of}
+use Rattle.script_law.specs.Situation.{Situation, after_turn, after_turns, first_situation, is_cut, letters_for}
 use Rattle.script_text.specs.Command.{IsSkew}
 use Rattle.free_law.specs.Others.{AreOthers}
 use Rattle.free_law.proofs.MailLemmas.{Passes, others_pass}
 use Rattle.free_law.proofs.PartLemmas.{course_with_others, goes_none, goes_others}
 use Rattle.turn_book.specs.Rows.{BeginsWith}
-use Rattle.turn_book.specs.Turns.{AreAllSeats, HasHistory, IsSeatOf, first_rows_by, number_of, opening_of, own_rows, seats_of, seen_by}
+use Rattle.turn_book.specs.Turns.{HasHistory, first_rows_by, opening_of, own_rows, seats_of, seen_by}
 use Rattle.world_law.specs.Book.{BookState, StandsBehind, posted_as, standing_behind}
 use Rattle.world_law.specs.Rows.{HasRows, IsBehind, seat_of}
 use Rattle.world_law.specs.contracts.turns.BookLaw.TheImpl as law
 use Rattle.world_law.specs.declared.letter.LetterRow.{LetterRow}
 use Rattle.world_law.specs.declared.row.BookRow.{BookRow}
-use Rattle.world_parts.specs.Nodes.{AreNodesOf, IsNodeOf}
-use Rattle.world_parts.specs.Parts.{IsBookAt, IsMailOf, IsSentTo}
+use Rattle.world_parts.specs.Nodes.{IsDiskAt, IsNodeOf, bases_behind}
+use Rattle.world_parts.specs.Parts.{IsBookAt, IsMailOf, IsSentTo, armed_in}
 use Rattle.world_parts.specs.declared.mail.MemberMail.{MemberMail}
-use Rattle.world_steps.proofs.Ended.{running_node}
+use Rattle.world_steps.proofs.Ended.{running_node, stopped_node}
 use Rattle.world_steps.proofs.Foreseen.{found_more}
-use Rattle.world_free.specs.Ends.{HasEnded, HaveEnded, HaveLooked, letters_at_end}
-use Rattle.world_free.specs.Jobs.{AreJobsAt, HasGone, IsIdle, IsJobAt, IsRunner, situation_in}
-use Rattle.world_free.specs.Mails.{IsMailIn, IsPostedTo, coming}
-use Rattle.world_free.specs.Parts.{AreJobsOf, mail_in, node_in, seat_in}
+use Rattle.world_free.specs.Ends.{HasEnded, letters_at_end}
+use Rattle.world_free.specs.Jobs.{HasBroken, HasGone, IsBroken, IsIdle, IsJobAt, IsRunner, situation_in}
+use Rattle.world_free.specs.Mails.{IsMailIn, IsPostedTo, IsStoppedMailIn, coming}
 use Rattle.world_free.specs.Plan.{ArePlayed, Plan, Seat, SharedBook, course_in, plan_of}
 use Rattle.world_free.specs.Seats.{IsSeatAt, rows_by}
 use Rattle.world_free.specs.declared.job.FreeJob.{FreeJob}
-use Rattle.world_free.specs.declared.job.FreeMail.{FreeMail}
 use Rattle.world_free.specs.declared.job.Setting.{Setting}
 use Rattle.world_free.proofs.Begun.{posted_to}
 use Rattle.world_free.proofs.Gone.{cuts_stay, others_behind, others_leave_it}
-use Rattle.world_free.proofs.JobLemmas.{mapped_at, mapped_from, some_at}
-use Rattle.world_free.proofs.Joining.{Since, since}
+use Rattle.world_free.proofs.BaseLemmas.{posted_bases, standing_of}
+use Rattle.world_free.proofs.Since.{since}
 use Rattle.world_free.proofs.Joins.{Joins, joins}
-use Rattle.world_free.proofs.Letters.{coming_is_sent, letters_come}
-use Rattle.world_free.proofs.Played.{Split, posted_stands, split_played}
+use Rattle.world_free.proofs.Letters.{coming_is_sent, letters_come, no_letters}
+use Rattle.world_free.proofs.Played.{posted_stands, split_played}
 use Rattle.world_free.proofs.Stepping.{posted_row}
 
 -- ---- letters
@@ -66,20 +63,6 @@ sent_by letters posted who number are sent =
 posted_more : (posted more all : List PostedLetter) (who number : ℕ) → all ≡ posted ++ more → IsPostedTo posted who number → IsPostedTo all who number
 posted_more posted more all who number are sent =
     record { letter = sent.letter; there = ap (λ l. slice_get l number) are ∙ found_more posted more number sent.letter sent.there; to = sent.to }
-
-filter_none : (test : ℕ → Bool) (xs : List ℕ) → ((x : ℕ) → test x ≡ false) → filter test xs ≡ []
-filter_none test [] none = refl
-filter_none test (x ∷ xs) none = rw (none x) (filter_none test xs none)
-
--- a replica that is stopped has no letter
-unreached : (situation : Situation) (who : ℕ) (letter : Option PostedLetter) → situation.standing.runs who ≡ false → reaches situation who letter ≡ false
-unreached situation who None stopped = refl
-unreached situation who (Some letter) stopped = rw stopped (elim (cases_Bool (letter.to == who)) [ inl is ↦ rw is refl | inr differs ↦ rw differs refl ])
-
-no_letters : (situation : Situation) (first who : ℕ) → situation.standing.runs who ≡ false → letters_for situation first who ≡ []
-no_letters situation first who stopped =
-    filter_none (λ number. reaches situation who (slice_get situation.standing.posted number)) (range_with_len first (length situation.standing.posted - first))
-    (λ number. unreached situation who (slice_get situation.standing.posted number) stopped)
 
 -- ---- the seat of a row
 
@@ -151,6 +134,16 @@ module _ (plan : Plan) (count : ℕ) (seats : List Seat) (new : BookState) (clos
 
   pub stands_behind : StandsBehind plan.table (rows ++ more_of) new
   stands_behind = joined.stands
+
+  pub bases_there : after_of.bases ≡ bases_behind plan.table (rows ++ more_of) new
+  bases_there =
+      posted_bases plan.book.members plan.situation (after_turns plan.book.members begun rows) more_of
+      (at.standing ∙ sym (standing_of plan.book.members begun rows)) at.bases
+      ∙ ap (λ (s : Situation). s.bases) (sym (fold-append (after_turn plan.book.members) begun rows more_of))
+      ∙ ap (λ (n : ℕ). (after_turns n (first_situation n plan.table) (rows ++ more_of)).bases) (sym closed.members)
+    where
+      begun : Situation
+      begun = first_situation plan.book.members plan.table
 
   -- the letters of the book are those that were posted
   posted_there : map posted_as new.letters ≡ after_of.standing.posted
@@ -232,7 +225,8 @@ module _ (plan : Plan) (count : ℕ) (seats : List Seat) (new : BookState) (clos
       runner_node = running_node seen may_leave honest told_of plan.table (rows ++ more_of) new who job.node (record {
         at_rest = runner.node.at_rest;
         trusted = runner.node.trusted;
-        reliable = runner.node.reliable;
+        disk = subst (λ (count : ℕ). IsDiskAt told_of count job.node) (sym passes.bases ∙ ap (λ (bases : ℕ → ℕ). bases who) bases_there)
+            (runner.disk rows last.one last.first);
         first = replica_of job.node;
         stands = record {
           identity = rw (closed.members, runner.node.identity) refl;
@@ -274,6 +268,7 @@ module _ (plan : Plan) (count : ℕ) (seats : List Seat) (new : BookState) (clos
         small = subst IsSkew (sym ends.skew) mail_was.small;
         fate = ends.fate ∙ mail_was.fate ∙ sym passes.fate;
         waits = ends.waits ∙ mail_was.waits ∙ sym passes.waits;
+        arm = ap armed_in ends.arm ∙ mail_was.arm ∙ sym passes.arm;
         sent = λ number has.
             sent_then number (Contains-append_cases job.mail.mail.letters.items come number (subst (λ letters. Contains letters number) letters_then has));
       }
@@ -293,9 +288,12 @@ module _ (plan : Plan) (count : ℕ) (seats : List Seat) (new : BookState) (clos
               sent_by new.letters (map posted_as new.letters) who number refl
               (coming_is_sent plan.cuts who (map posted_as new.letters) job.mail.looked (length new.letters - job.mail.looked) number new_one)
 
-    -- ---- a replica that is stopped
+    -- ---- a replica that was stopped as the part began
 
-    module _ (idle : IsIdle seen may_leave honest told_of plan book who job) (stopped : plan.situation.standing.runs who ≡ false) where
+    module _ (idle : IsIdle seen may_leave honest told_of plan book who job) (halted : job.mail.mail.runs ≡ false) where
+      stopped : plan.situation.standing.runs who ≡ false
+      stopped = sym idle.mail.runs ∙ halted
+
       since_first : SinceLast who []
       since_first = since_last book who [] job.seat idle.seat there
 
@@ -330,7 +328,8 @@ module _ (plan : Plan) (count : ℕ) (seats : List Seat) (new : BookState) (clos
       idle_node = record {
         at_rest = node.at_rest;
         trusted = node.trusted;
-        reliable = node.reliable;
+        disk = subst (λ (count : ℕ). IsDiskAt told_of count job.node)
+            (ap (λ (bases : ℕ → ℕ). bases who) (sym at.bases) ∙ sym left.bases ∙ ap (λ (bases : ℕ → ℕ). bases who) bases_there) node.disk;
         identity = node.identity ∙ ap (λ n. identity_of n who) (sym closed.members);
         state = λ runs. absurd (let no : false ≡ true = sym stopped_there ∙ ap (λ (s : Standing). s.runs who) stands_there ∙ runs in cc);
         kept = node.kept ∙ ap (λ (s : State). s.kept) same;
@@ -352,6 +351,7 @@ module _ (plan : Plan) (count : ℕ) (seats : List Seat) (new : BookState) (clos
         small = subst IsSkew (sym ends.skew) idle.mail.small;
         fate = ends.fate ∙ idle.mail.fate ∙ sym left.fate;
         waits = ends.waits ∙ idle.mail.waits ∙ sym left.waits;
+        arm = ap armed_in ends.arm ∙ idle.mail.arm ∙ sym left.arm;
         sent = λ number has.
             sent_by new.letters after_of.standing.posted who number posted_there
             (posted_more plan.situation.standing.posted left.posted after_of.standing.posted who number left.posted_is
@@ -365,26 +365,81 @@ module _ (plan : Plan) (count : ℕ) (seats : List Seat) (new : BookState) (clos
           posted_then : map posted_as plan.book.letters ≡ plan.situation.standing.posted
           posted_then = at.behind.letters ∙ ap (λ (s : Standing). s.posted) (sym at.standing)
 
+    -- ---- a replica that has stopped within the part
+
+    module _ (ended_in : IsBroken seen may_leave honest told_of plan book who job) where
+      last_of : SinceLast who ended_in.after
+      last_of = since_last book who ended_in.after job.seat ended_in.seat there
+
+      broken : HasBroken plan who last_of.one
+      broken = ended_in.broken rows last_of.one last_of.first
+
+      passed : Passes who (situation_in plan last_of.one) after_of
+      passed = passes_since who ended_in.after last_of
+
+      mail_is : IsStoppedMailIn (situation_in plan last_of.one) who job.mail.mail
+      mail_is = ended_in.mail rows last_of.one last_of.first
+
+      halted_there : after_of.standing.runs who ≡ false
+      halted_there = passed.runs ∙ broken.stopped
+
+      pub broken_takes : TakesFreeTurns plan.book.members plan.table.window plan.at plan.turns who plan.situation more_of
+      broken_takes = record {
+        goes = goes_since who ended_in.after last_of broken.goes;
+        all = λ runs.
+            let saw = (course_since who ended_in.after last_of).0 ∙ broken.last in
+            absurd (let no : false ≡ true = sym broken.stopped ∙ ap (λ (s : Situation). s.standing.runs who) (sym saw) ∙ runs in cc);
+      }
+
+      pub broken_node : IsNodeOf seen may_leave honest told_of plan.table (rows ++ more_of) new who job.node
+      broken_node =
+          stopped_node seen may_leave honest told_of plan.table (rows ++ more_of) new who job.node
+          (ap (λ (s : Standing). s.runs who) (sym stands_there) ∙ halted_there) (record {
+            at_rest = ended_in.node.at_rest;
+            trusted = ended_in.node.trusted;
+            disk = subst (λ (count : ℕ). IsDiskAt told_of count job.node) (sym passed.bases ∙ ap (λ (bases : ℕ → ℕ). bases who) bases_there)
+                (ended_in.disk rows last_of.one last_of.first);
+            identity = ended_in.node.identity ∙ ap (λ n. identity_of n who) (sym closed.members);
+            none = refl;
+            kept = ap (λ (s : Standing). s.replicas who) (sym stands_there) ∙ passed.replica ∙ ended_in.kept rows last_of.one last_of.first;
+          })
+
+      pub broken_mail : (ended : MemberMail) → HasEnded plan.cuts new.letters who job.mail ended → IsMailOf new.letters after_of who [] ended
+      broken_mail ended ends = record {
+        runs = ends.runs ∙ ended_in.halted ∙ sym halted_there;
+        letters_are = passed.mail ∙ ap (λ l. l ++ letters_for after_of (length (situation_in plan last_of.one).standing.posted) who) mail_is.letters_are
+            ∙ no_letters after_of (length (situation_in plan last_of.one).standing.posted) who halted_there ∙ sym none_then;
+        skew = ends.skew ∙ mail_is.skew ∙ ap (λ (skews : ℕ → ℤ). skews who) (sym passed.skews);
+        small = subst IsSkew (sym ends.skew) mail_is.small;
+        fate = ends.fate ∙ mail_is.fate ∙ sym passed.fate;
+        waits = ends.waits ∙ mail_is.waits ∙ sym passed.waits;
+        arm = ap armed_in ends.arm ∙ mail_is.arm ∙ sym passed.arm;
+        sent = λ number has. nothing_in (subst (λ letters. Contains letters number) none_then has);
+      }
+        where
+          none_then : ended.letters.items ≡ []
+          none_then = ends.letters_are ∙ ap (λ runs. letters_at_end runs plan.cuts new.letters who job.mail) ended_in.halted ∙ mail_is.none
+
     -- ---- either way
 
     module _ (ended_job : IsJobAt seen may_leave honest told_of plan book who plan.turns job) where
       pub job_takes : TakesFreeTurns plan.book.members plan.table.window plan.at plan.turns who plan.situation more_of
       job_takes =
-          elim (cases_Bool (plan.situation.standing.runs who)) [
+          elim (cases_Bool job.mail.mail.runs) [
             | inl runs ↦ runner_takes (ended_job.running runs)
-            | inr stopped ↦ idle_takes (ended_job.stopped stopped) stopped
+            | inr stopped ↦ ⊎_elim (λ idle. idle_takes idle stopped) broken_takes (ended_job.stopped stopped)
           ]
 
       pub job_node : IsNodeOf seen may_leave honest told_of plan.table (rows ++ more_of) new who job.node
       job_node =
-          elim (cases_Bool (plan.situation.standing.runs who)) [
+          elim (cases_Bool job.mail.mail.runs) [
             | inl runs ↦ runner_node (ended_job.running runs)
-            | inr stopped ↦ idle_node (ended_job.stopped stopped) stopped
+            | inr stopped ↦ ⊎_elim (λ idle. idle_node idle stopped) broken_node (ended_job.stopped stopped)
           ]
 
       pub job_mail : (ended : MemberMail) → HasEnded plan.cuts new.letters who job.mail ended → IsMailOf new.letters after_of who [] ended
       job_mail ended ends =
-          elim (cases_Bool (plan.situation.standing.runs who)) [
+          elim (cases_Bool job.mail.mail.runs) [
             | inl runs ↦ runner_mail (ended_job.running runs) ended ends
-            | inr stopped ↦ idle_mail (ended_job.stopped stopped) stopped ended ends
+            | inr stopped ↦ ⊎_elim (λ idle. idle_mail idle stopped ended ends) (λ broken. broken_mail broken ended ends) (ended_job.stopped stopped)
           ]

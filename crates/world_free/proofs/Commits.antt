@@ -1,5 +1,6 @@
 -- What a turn of a seat shows of the shared book, and what it leaves.
-use Rattle.std.proofs.Common.{◌≡◌, ℕ, ◌+◌, ◌-◌, ◌<◌, ◌≤◌, ◌^◌, List, [], ◌∷◌, ◌++◌, length, Some, None, Option, IfSome, refl, sym, ap, ◌∙◌, subst, inl, inr, append_assoc}
+use Rattle.std.proofs.Common.{◌≡◌, ℕ, Bool, ◌+◌, ◌<◌, ◌≤◌, ◌^◌, List, [], ◌∷◌, ◌++◌, length, Some, None, Option, IfSome, refl, sym, ap, ◌∙◌, subst, inr, append_assoc}
+use Rattle.std.specs.Prelude.{is_some}
 use Rattle.std.specs.Option.{option_to_list}
 use Rattle.disk_model.specs.Images.{Image}
 use Rattle.disk_model.specs.Told.{Told}
@@ -7,31 +8,51 @@ use Rattle.due_set.specs.Table.{Table}
 use Rattle.book_law.specs.Book.{Row}
 use Rattle.book_law.specs.Legal.{IsMade}
 use Rattle.book_law.specs.declared.turn.CallRow.{CallRow}
+use Rattle.book_law.specs.declared.turn.Cause.{Cause}
+use Rattle.book_law.specs.declared.turn.Turn.TheVariants.{Stopped}
+use Rattle.paxos_base.specs.declared.durable.Delta.{Delta}
+use Rattle.script_law.specs.Situation.{calls_for}
+use Rattle.step_law.specs.State.{started}
 use Rattle.replica_core.specs.declared.out.StepOut.{StepOut}
 use Rattle.replica_node.specs.Node.{replica_of}
 use Rattle.replica_node.specs.declared.node.Node.{Node}
-use Rattle.turn_book.specs.Rows.{BeginsWith, rows_of}
 use Rattle.turn_book.specs.Turns.{IsSeatOf, IsTurnAt, ShowsHistory, ShowsRest, book_at, first_rows_at, first_rows_by, number_at, number_of, opening_at, opening_of, own_at, own_rows, seen_by, shown_at, state_at}
 use Rattle.turn_book.specs.declared.turn.Turn.{Turn}
 use Rattle.turn_book.specs.declared.view.Opening.{Opening}
 use Rattle.turn_book.proofs.RowLemmas.{is_own}
 use Rattle.world_law.specs.contracts.turns.BookLaw.TheImpl as law
 use Rattle.world_law.specs.Book.{BookState, StandsBehind, standing_behind}
-use Rattle.world_law.specs.Rows.{HasRows, seat_of}
+use Rattle.world_law.specs.Replicas.{change_alone}
+use Rattle.world_law.specs.Rows.{HasRows, MayComeNext, seat_of}
 use Rattle.world_law.specs.declared.row.BookRow.{BookRow}
-use Rattle.world_steps.specs.Turns.{MayJoin, noted}
+use Rattle.world_parts.specs.Nodes.{IsDiskAt}
+use Rattle.world_steps.specs.Turns.{IsHalted, MayJoin, noted}
 use Rattle.world_steps.specs.declared.steps.Taken.{Taken}
-use Rattle.world_free.specs.Jobs.{IsOfPlan, IsRunner, IsStepper}
+use Rattle.world_free.specs.Jobs.{IsBroken, IsNodeFit, IsOfPlan, IsRunner, IsStepper, IsStopper, situation_in}
 use Rattle.world_free.specs.Mails.{HasLooked}
 use Rattle.world_free.specs.Plan.{Plan, Seat, SharedBook}
-use Rattle.world_free.specs.Ready.{row_of_step}
+use Rattle.world_free.specs.Ready.{row_of_step, row_of_stop}
 use Rattle.world_free.specs.Seats.{IsSeatAt, rows_by}
 use Rattle.world_free.specs.declared.job.FreeJob.{FreeJob}
 use Rattle.world_free.specs.declared.job.FreeMail.{FreeMail}
-use Rattle.world_free.proofs.Joining.{IsHere, Since, gone_then, is_here, looked_within, mail_then, may_join, played_then, since, state_then}
+use Rattle.world_free.proofs.Halting as halted
+use Rattle.world_free.proofs.Joining.{disk_then, gone_then, looked_within, mail_then, may_join, played_then, state_then}
+use Rattle.world_free.proofs.Since.{IsHere, Since, is_here, since}
 
 abbrev pub SeatTurn : Type 0
 SeatTurn = Turn BookState Table BookRow StepOut
+
+-- a row that may come next after the book's rows may after those that the turn shows
+pub follows_there : (table : Table) (book : SharedBook) (seat : Seat) (turn : SeatTurn) (row : BookRow) (state : BookState) → (opening_of book).key.value ≡ table → IsTurnAt book seat turn
+    → ShowsRest law.ghosts turn → state ≡ state_at turn → ((rows : List BookRow) → HasRows table rows state → MayComeNext state.members table rows row)
+    → MayComeNext (opening_at turn).state.value.members table (shown_at turn) row
+follows_there table book seat turn row state of at rests same next =
+    let opening : opening_at turn ≡ opening_of book = ap (λ (b : SharedBook). opening_of b) at.of_book in
+    let key : (opening_at turn).key.value ≡ table = ap (λ (o : Opening BookState Table). o.key.value) opening ∙ of in
+    subst (λ (n : ℕ). MayComeNext n table (shown_at turn) row) (ap (λ (s : BookState). s.members) same ∙ rests.number)
+    (next (shown_at turn)
+    (subst (λ (s : BookState). HasRows table (shown_at turn) s) (sym same)
+    (subst (λ (t : Table). HasRows t (shown_at turn) (state_at turn)) key rests.rows)))
 
 -- In a turn of the seat the book has what the seat has seen, and rows of others behind that.
 pub record Shows (plan : Plan) (who : ℕ) (after : List BookRow) (seat : Seat) (turn : SeatTurn) : Type 0 where
@@ -121,14 +142,14 @@ module _ {D : Type 0} (seen : D → Image) (may_leave : D → Image → Type 0) 
       → ((rows : List Row) → StandsBehind plan.table rows state → IsMade (standing_behind plan.table rows state).held (option_to_list step.out.call) made)
       → ((rows : List Row) → StandsBehind plan.table rows state → StandsBehind plan.table rows during) → during.pending ≡ made → during.members ≡ state.members
       → length state.turns + 1 < 2 ^ 31 → IfSome made (λ call. call.fate ≡ job.mail.mail.fate) → HasLooked plan.cuts state.letters who step job.mail looked
-      → new.node ≡ job.node → new.mail.mail ≡ noted made looked.mail → new.mail.looked ≡ looked.looked → new.mail.bytes.items ≡ looked.bytes.items
+      → new.node ≡ job.node → new.mail.mail ≡ noted made (calls_for (option_to_list step.out.delta)) looked.mail → new.mail.looked ≡ looked.looked → new.mail.bytes.items ≡ looked.bytes.items
       → IsSeatOf (book_at turn) new.seat → number_of new.seat ≡ number_at turn → first_rows_by new.seat ≡ first_rows_at turn → own_rows new.seat ≡ own_at turn ++ row_of_step who step made ∷ []
       → seen_by new.seat ≡ shown_at turn ++ row_of_step who step made ∷ [] → IsRunner seen may_leave honest told_of plan book who (taken + 1) new
 
   has_committed : Commits (state_at turn)
   has_committed made during looked new call stands pending members few fated looks node mail looked_is bytes of_book number first owns saw = record {
     of_plan = stepper.of_plan;
-    node = rw node stepper.node;
+    node = subst (λ (n : Node D). IsNodeFit seen may_leave honest plan who n) (sym node) stepper.node;
     after = (stepper.after ++ shown.gone) ++ row_of_step who step made ∷ [];
     seat = seat_then plan book who stepper.after job.seat new.seat turn (row_of_step who step made) shown refl (subst (λ (b : SharedBook). IsSeatOf b new.seat) at.of_book of_book)
         (number ∙ shown.number) first owns saw;
@@ -141,6 +162,10 @@ module _ {D : Type 0} (seen : D → Image) (may_leave : D → Image → Type 0) 
         ap (λ (n : Node D). (replica_of n).state) node
         ∙ state_then seen may_leave honest told_of plan book who taken step job stepper shown.gone shown.others (state_at turn) shown.here shown.rest shown.members made
         (call (shown.here.begun ++ shown.here.more) shown.here.behind) during (stands (shown.here.begun ++ shown.here.more) shown.here.behind) pending members few begun more are;
+    disk = λ begun more are.
+        subst (λ (n : Node D). IsDiskAt told_of ((situation_in plan more).bases who) n) (sym node)
+        (disk_then seen may_leave honest told_of plan book who taken step job stepper shown.gone shown.others (state_at turn) shown.here shown.rest shown.members made
+        (call (shown.here.begun ++ shown.here.more) shown.here.behind) during (stands (shown.here.begun ++ shown.here.more) shown.here.behind) pending members few begun more are);
     mail = λ begun more are.
         mail_then seen may_leave honest told_of plan book who taken step job stepper shown.gone shown.others (state_at turn) shown.here shown.rest shown.members made
         (call (shown.here.begun ++ shown.here.more) shown.here.behind) during (stands (shown.here.begun ++ shown.here.more) shown.here.behind) pending members few begun more are looked new.mail looks mail
@@ -156,3 +181,49 @@ module _ {D : Type 0} (seen : D → Image) (may_leave : D → Image → Type 0) 
 
   pub has_committed_in : (state : BookState) → state ≡ state_at turn → Commits state
   has_committed_in state same = subst (λ (s : BookState). Commits s) (sym same) has_committed
+
+-- ---- a stop
+
+pub stop_row : (who : ℕ) (cause : Cause) (change : Option Delta) (kept : Bool) (out : StepOut) → kept ≡ is_some change → out ≡ change_alone change
+    → record { turn = Stopped who (Some cause) kept; out = out } ≡ row_of_stop who cause change
+stop_row who cause change kept out is alone =
+    ap (λ (k : Bool). stopped_row k out) is ∙ ap (stopped_row (is_some change)) alone
+  where
+    stopped_row : Bool → StepOut → BookRow
+    stopped_row k o = record { turn = Stopped who (Some cause) k; out = o }
+
+module _ {D : Type 0} (seen : D → Image) (may_leave : D → Image → Type 0) (honest : D → Type 0) (told_of : D → Option Told) (plan : Plan) (book : SharedBook) (who taken : ℕ) (cause : Cause)
+    (change : Option Delta) (job : FreeJob D) (stopper : IsStopper seen may_leave honest told_of plan book who taken cause change job) (turn : SeatTurn) (at : IsTurnAt book job.seat turn)
+    (shows : ShowsHistory law.ghosts job.seat turn) (rests : ShowsRest law.ghosts turn) where
+  abbrev halts : Shows plan who stopper.after job.seat turn
+  halts = shows_book plan book who stopper.after job.seat turn stopper.of_plan stopper.seat at shows rests
+
+  -- its turn may come next
+  pub stop_comes_in : (state : BookState) → state ≡ state_at turn → (rows : List BookRow) → HasRows plan.table rows state → MayComeNext state.members plan.table rows (row_of_stop who cause change)
+  stop_comes_in state same =
+      subst (λ (s : BookState). (rows : List BookRow) → HasRows plan.table rows s → MayComeNext s.members plan.table rows (row_of_stop who cause change)) (sym same)
+      (halted.stop_comes_next seen may_leave honest told_of plan book who taken cause change job stopper halts.gone halts.others (state_at turn) halts.here halts.rest halts.members)
+
+  -- and once it is one, the replica has stopped within the part
+  pub has_broken : (row : BookRow) (new : FreeJob D) → row ≡ row_of_stop who cause change → new.node ≡ job.node → IsHalted job.mail.mail new.mail.mail → IsSeatOf (book_at turn) new.seat → number_of new.seat ≡ number_at turn
+      → first_rows_by new.seat ≡ first_rows_at turn → own_rows new.seat ≡ own_at turn ++ row ∷ [] → seen_by new.seat ≡ shown_at turn ++ row ∷ []
+      → IsBroken seen may_leave honest told_of plan book who new
+  has_broken row new row_is node mail of_book number first owns saw = record {
+    of_plan = stopper.of_plan;
+    node = subst (λ (n : Node D). IsNodeFit seen may_leave honest plan who n) (sym node)
+        (halted.node_then seen may_leave honest told_of plan book who taken cause change job stopper halts.gone halts.others (state_at turn) halts.here halts.rest halts.members);
+    after = (stopper.after ++ halts.gone) ++ row_of_stop who cause change ∷ [];
+    seat = seat_then plan book who stopper.after job.seat new.seat turn (row_of_stop who cause change) halts refl (subst (λ (b : SharedBook). IsSeatOf b new.seat) at.of_book of_book)
+        (number ∙ halts.number) first (owns ∙ ap (λ (r : BookRow). own_at turn ++ r ∷ []) row_is) (saw ∙ ap (λ (r : BookRow). shown_at turn ++ r ∷ []) row_is);
+    halted = mail.runs;
+    broken = halted.broken_then seen may_leave honest told_of plan book who taken cause change job stopper halts.gone halts.others (state_at turn) halts.here halts.rest halts.members;
+    kept = λ begun more are.
+        halted.kept_then seen may_leave honest told_of plan book who taken cause change job stopper halts.gone halts.others (state_at turn) halts.here halts.rest halts.members begun more are
+        ∙ ap (λ (n : Node D). started who (replica_of n).state.kept) (sym node);
+    disk = λ begun more are.
+        subst (λ (n : Node D). IsDiskAt told_of ((situation_in plan more).bases who) n) (sym node)
+        (halted.disk_then seen may_leave honest told_of plan book who taken cause change job stopper halts.gone halts.others (state_at turn) halts.here halts.rest halts.members begun more are);
+    mail = λ begun more are.
+        halted.mail_then seen may_leave honest told_of plan book who taken cause change job stopper halts.gone halts.others (state_at turn) halts.here halts.rest halts.members begun more are
+        new.mail.mail mail;
+  }

@@ -1,5 +1,5 @@
 -- All jobs of a part that has ended make the part, and the parts of the world behind it.
-use Rattle.std.proofs.Common.{◌≡◌, ℕ, ◌+◌, ◌<◌, ◌≤◌, ◌≤ℤ◌, Bool, true, false, List, [], ◌∷◌, ◌++◌, length, drop, map, Option, Some, None, ℤ, refl, sym, ap, ◌∙◌, subst, inl, inr, arith}
+use Rattle.std.proofs.Common.{◌≡◌, ℕ, ◌≤◌, ◌≤ℤ◌, List, [], ◌++◌, length, drop, map, Option, Some, ℤ, refl, sym, ap, ◌∙◌, subst, inl, inr, ⊎_elim, arith}
 use Rattle.std.specs.List.{slice_get}
 use Rattle.std.proofs.lemmas.Bool.{cases_Bool}
 use Rattle.std.proofs.lemmas.Int.{ints}
@@ -24,7 +24,7 @@ use Rattle.world_free.specs.Plan.{Plan, Seat, SharedBook, plan_of}
 use Rattle.world_free.specs.declared.job.FreeJob.{FreeJob}
 use Rattle.world_free.specs.declared.job.FreeMail.{FreeMail}
 use Rattle.world_free.specs.declared.job.Setting.{Setting}
-use Rattle.world_free.proofs.Closed.{IsClosed, after_of, job_mail, job_node, job_takes, more_of, named_there, runner_looked, stands_behind, stands_there}
+use Rattle.world_free.proofs.Closed.{IsClosed, after_of, bases_there, job_mail, job_node, job_takes, more_of, named_there, runner_looked, stands_behind, stands_there}
 use Rattle.world_free.proofs.EndLemmas.{drop_front, latest_of, none_earlier}
 use Rattle.world_free.proofs.Gone.{cuts_stay}
 use Rattle.world_free.proofs.JobLemmas.{mapped_at, mapped_from, some_at}
@@ -33,9 +33,9 @@ module _ {D : Type 0} (seen : D → Image) (may_leave : D → Image → Type 0) 
   -- the seat of a job, whether its replica runs or not
   seat_of_job : (plan : Plan) (book : SharedBook) (who : ℕ) (job : FreeJob D) → IsJobAt seen may_leave honest told_of plan book who plan.turns job
       → IsSeatOf book job.seat × (number_of job.seat ≡ who)
-  seat_of_job plan book who job ended = elim (cases_Bool (plan.situation.standing.runs who)) [
+  seat_of_job plan book who job ended = elim (cases_Bool job.mail.mail.runs) [
     | inl runs ↦ (let runner = ended.running runs in (runner.seat.of_book, runner.seat.number))
-    | inr stopped ↦ (let idle = ended.stopped stopped in (idle.seat.of_book, idle.seat.number))
+    | inr stopped ↦ ⊎_elim (λ idle. (idle.seat.of_book, idle.seat.number)) (λ broken. (broken.seat.of_book, broken.seat.number)) (ended.stopped stopped)
   ]
 
   module _ (book : SharedBook) (setting : Setting) (situation : Situation) (jobs : List (FreeJob D))
@@ -63,7 +63,7 @@ module _ {D : Type 0} (seen : D → Image) (may_leave : D → Image → Type 0) 
     all_looked new closed who mail there runs =
         let from = mapped_from mail_in jobs who mail (ap (λ l. slice_get l who) (sym are.mails_are) ∙ there) in
         let ended = run who from.0 from.1 in
-        let runner = ended.running (sym ended.runs ∙ ap (λ (m : FreeMail). m.mail.runs) from.2 ∙ runs) in
+        let runner = ended.running (ap (λ (m : FreeMail). m.mail.runs) from.2 ∙ runs) in
         subst (λ (m : FreeMail). m.looked ≤ length new.letters) from.2
         (runner_looked plan (seats_of book) seats new closed runner.of_plan.rows runner.of_plan.at seen may_leave honest told_of book who from.0
         (seat_there who from.0 from.1) runner)
@@ -98,6 +98,7 @@ module _ {D : Type 0} (seen : D → Image) (may_leave : D → Image → Type 0) 
           few = subst (λ n. n ≤ 7) (sym closed.members) begins.at.few;
           standing = stands_there plan (seats_of book) seats new.book closed rows begins.at;
           since = since;
+          bases = bases_there plan (seats_of book) seats new.book closed rows begins.at;
         };
         nodes = record { count = ap length (sym nodes_are ∙ are.nodes_are) ∙ length-map jobs node_in ∙ count ∙ members ∙ sym closed.members; each = node_of };
         count = as_many;

@@ -1,8 +1,7 @@
 -- A replica that goes freely: turns of others, and then its own.
-use Rattle.std.proofs.Common.{◌≡◌, ℕ, ◌+◌, ◌<◌, Bool, true, false, List, [], ◌∷◌, ◌++◌, Some, None, Option, IfSome, eq-eqb, inl, inr, refl, sym, ap, ◌∙◌, subst, append_assoc}
+use Rattle.std.proofs.Common.{◌≡◌, ℕ, ◌+◌, ◌<◌, Bool, true, false, List, [], ◌∷◌, ◌++◌, Some, Option, IfSome, eq-eqb, inl, inr, refl, sym, ap, ◌∙◌, subst}
 use Rattle.std.specs.List.{AllZip, Contains}
 use Rattle.std.proofs.lemmas.Bool.{cases_Bool}
-use Rattle.std.proofs.lemmas.List.{append-nil}
 use Rattle.std.proofs.lemmas.List.Sums.{fold-append}
 use Rattle.step_law.specs.Step.{Event}
 use Rattle.step_law.specs.declared.out.OutLetter.{OutLetter}
@@ -13,17 +12,20 @@ use Rattle.book_law.specs.declared.turn.Cause.{Cause}
 use Rattle.book_law.specs.declared.turn.Cause.TheVariants.{Campaign, Tick, Hear, Answer}
 use Rattle.book_law.specs.declared.turn.Turn.{Turn}
 use Rattle.book_law.specs.declared.turn.Turn.TheVariants.{Did, Stopped, Restarted, Arrived}
-use Rattle.cluster_sched.specs.declared.fate.Fate.{Fate}
-use Rattle.script_law.specs.Free.{Course, after_all_posted, after_posted, course_of, is_turn_of, next_cause}
-use Rattle.script_law.specs.Situation.{Situation, after_turn}
+use Rattle.paxos_base.specs.declared.durable.Delta.{Delta}
+use Rattle.save_law.specs.Save.{is_kept}
+use Rattle.script_law.specs.Arms.{IsEnough, StopsInStep}
+use Rattle.script_law.specs.Free.{Course, after_all_posted, after_posted, is_turn_of, next_cause}
+use Rattle.script_law.specs.Situation.{Situation, after_turn, changes_in}
 use Rattle.free_law.specs.Others.{AreOthers, mail_behind}
 use Rattle.free_law.proofs.MailLemmas.{Passes, others_pass}
-use Rattle.free_law.proofs.PartLemmas.{course_with_others, goes_others, goes_own, here_is, seen_next, taken_next}
+use Rattle.free_law.proofs.PartLemmas.{course_with_others, goes_others, goes_own, seen_next, taken_next}
 use Rattle.turn_book.specs.Rows.{is_seat}
 use Rattle.world_law.specs.Rows.{IsBehind, seat_of}
 use Rattle.world_law.specs.declared.row.BookRow.{BookRow}
 use Rattle.world_steps.proofs.AfterTurn.{did_runs}
-use Rattle.world_free.specs.Jobs.{HasGone, situation_in}
+use Rattle.world_steps.proofs.Facts.{fact_here}
+use Rattle.world_free.specs.Jobs.{HasBroken, HasGone, situation_in}
 use Rattle.world_free.specs.Plan.{Plan, course_in}
 use Rattle.world_free.specs.Seats.{rows_by}
 
@@ -63,7 +65,7 @@ others_leave_it plan who more others none =
 
 -- ---- its own turn
 
-own_turn : (who : ℕ) (cause : Cause) (made : Option CallRow) (turn : Turn) → turn ≡ Did who cause made → is_turn_of who turn ≡ true
+pub own_turn : (who : ℕ) (cause : Cause) (made : Option CallRow) (turn : Turn) → turn ≡ Did who cause made → is_turn_of who turn ≡ true
 own_turn who cause made turn is = ap (is_turn_of who) is ∙ rw (eq-eqb who who refl) refl
 
 pub turn_runs : (members who : ℕ) (situation : Situation) (row : Row) (cause : Cause) (made : Option CallRow) → row.turn ≡ Did who cause made → situation.standing.runs who ≡ true
@@ -93,21 +95,25 @@ cuts_stay members situation (row ∷ rows) = cuts_stay members (after_posted mem
 
 -- **A replica that has gone freely has with its next turn**, whatever turns of others came between, where the turn is the one that it was to take
 -- by what it saw last.
-pub gone_next : (plan : Plan) (who taken : ℕ) (more others : List Row) (row : Row) (cause : Cause) (made : Option CallRow) → HasGone plan who taken more → taken < plan.turns → AreOthers who others
-    → row.turn ≡ Did who cause made → cause ≡ next_cause plan.table.window plan.at who taken (situation_in plan more)
-    → IfSome made (λ call. call.fate ≡ (situation_in plan more).fates who) → HasGone plan who (taken + 1) ((more ++ others) ++ row ∷ [])
-gone_next plan who taken more others row cause made gone left none is next fated = record {
+pub gone_next : (plan : Plan) (who taken : ℕ) (more others : List Row) (row : Row) (cause : Cause) (made : Option CallRow) (changes : List Delta) → HasGone plan who taken more → taken < plan.turns
+    → AreOthers who others → row.turn ≡ Did who cause made → cause ≡ next_cause plan.table.window plan.at who taken (situation_in plan more)
+    → IfSome made (λ call. call.fate ≡ (situation_in plan more).fates who) → changes_in plan.book.members (situation_in plan more).standing row.turn row.event ≡ changes
+    → IsEnough ((situation_in plan more).arms who) changes → HasGone plan who (taken + 1) ((more ++ others) ++ row ∷ [])
+gone_next plan who taken more others row cause made changes gone left none is next fated brings saved = record {
   goes =
       goes_own plan.book.members who plan.table.window plan.at plan.turns plan.situation (more ++ others) row
       (goes_others plan.book.members who plan.table.window plan.at plan.turns plan.situation more others gone.goes none)
       (record {
         runs = ap (λ (s : Situation). s.standing.runs who) seen ∙ gone.runs;
         left = rw taken_is left;
-        does = record {
-          made = made;
-          is = is ∙ ap (λ (c : Cause). Did who c made) (next ∙ rw (taken_is, seen) refl);
-          fate = rw seen fated;
-        };
+        does = inl (record {
+          does = record {
+            made = made;
+            is = is ∙ ap (λ (c : Cause). Did who c made) (next ∙ rw (taken_is, seen) refl);
+            fate = rw seen fated;
+          };
+          saved = rw seen (subst (λ (l : List Delta). IsEnough ((situation_in plan more).arms who) l) (sym brings) saved);
+        });
       });
   taken_is = taken_next plan.book.members who plan.situation (more ++ others) row own ∙ ap (λ n. n + 1) taken_is;
   last = seen_next plan.book.members who plan.situation (more ++ others) row own;
@@ -127,3 +133,53 @@ gone_next plan who taken more others row cause made gone left none is next fated
 
     taken_is : (course_in plan who (more ++ others)).taken ≡ taken
     taken_is = course.1 ∙ gone.taken_is
+
+-- ---- its stop
+
+own_stop : (who : ℕ) (cause : Option Cause) (kept : Bool) (turn : Turn) → turn ≡ Stopped who cause kept → is_turn_of who turn ≡ true
+own_stop who cause kept turn is = ap (is_turn_of who) is ∙ rw (eq-eqb who who refl) refl
+
+stop_halts : (n : ℕ) (s : Standing) (who : ℕ) (cause : Option Cause) (kept : Bool) (event : Event) (letters : List OutLetter)
+    → (after_row n s (Stopped who cause kept) event letters).runs who ≡ false
+unfolding after_row
+stop_halts n s who cause kept event letters = fact_here who false s.runs
+
+pub turn_halts : (members who : ℕ) (situation : Situation) (row : Row) (cause : Option Cause) (kept : Bool) → row.turn ≡ Stopped who cause kept
+    → (after_posted members situation row).standing.runs who ≡ false
+turn_halts members who situation row cause kept is =
+    ap (λ (turn : Turn). (after_turn members situation (record row { turn = turn })).standing.runs who) is ∙ stop_halts members situation.standing who cause kept row.event row.letters
+
+-- **A replica that has gone freely has, and has stopped, with such a stop**, whatever turns of others came between.
+pub broken_next : (plan : Plan) (who taken : ℕ) (more others : List Row) (row : Row) (cause : Cause) → HasGone plan who taken more → taken < plan.turns
+    → AreOthers who others → cause ≡ next_cause plan.table.window plan.at who taken (situation_in plan more)
+    → StopsInStep plan.book.members (situation_in plan more) who cause row → HasBroken plan who ((more ++ others) ++ row ∷ [])
+broken_next plan who taken more others row cause gone left none next stop = record {
+  goes =
+      goes_own plan.book.members who plan.table.window plan.at plan.turns plan.situation (more ++ others) row
+      (goes_others plan.book.members who plan.table.window plan.at plan.turns plan.situation more others gone.goes none)
+      (record {
+        runs = ap (λ (s : Situation). s.standing.runs who) seen ∙ gone.runs;
+        left = rw taken_is left;
+        does = inr (subst (λ (here : Situation). StopsInStep plan.book.members here who (next_cause plan.table.window plan.at who course.taken here) row) (sym seen)
+            (subst (λ (c : Cause). StopsInStep plan.book.members (situation_in plan more) who c row) (next ∙ rw taken_is refl) stop));
+      });
+  last = seen_next plan.book.members who plan.situation (more ++ others) row (own_stop who (Some cause) kept row.turn stop.is);
+  stopped =
+      ap (λ (s : Situation). s.standing.runs who) (situation_next plan (more ++ others) row)
+      ∙ turn_halts plan.book.members who (situation_in plan (more ++ others)) row (Some cause) kept stop.is;
+}
+  where
+    kept : Bool
+    kept = is_kept ((situation_in plan more).bases who) stop.change stop.armed.left stop.armed.image
+
+    course : Course
+    course = course_in plan who (more ++ others)
+
+    still : (course.seen ≡ (course_in plan who more).seen) × (course.taken ≡ (course_in plan who more).taken)
+    still = course_with_others plan.book.members who plan.situation more others none
+
+    seen : course.seen ≡ situation_in plan more
+    seen = still.0 ∙ gone.last
+
+    taken_is : course.taken ≡ taken
+    taken_is = still.1 ∙ gone.taken_is

@@ -1,5 +1,5 @@
 -- What the threads of a part are handed, by the parts of the world; and what comes back when they have run.
-use Rattle.std.proofs.Common.{◌≡◌, ℕ, ◌<◌, ◌^◌, List, ◌++◌, length, drop, take, map, Option, Result, Ok, Err, IfOk, refl, sym, ap, ◌∙◌, subst, arith}
+use Rattle.std.proofs.Common.{◌≡◌, ℕ, ◌<◌, ◌^◌, List, ◌++◌, length, drop, take, map, Option, Result, Ok, Err, IfOk, sym, ap, ◌∙◌, subst}
 use Rattle.std.proofs.Math.Seq.{take-append_seam}
 use Rattle.disk_model.specs.Images.{Image}
 use Rattle.disk_model.specs.Told.{Told}
@@ -42,6 +42,7 @@ module _ {D M : Type 0} (table : Table) (parts : Bundle (Node D) M) (book : Shar
     pub seats : List Seat
     pub began : BeganWith table parts.book count book
     pub cuts : setting.cuts.items ≡ parts.mail.cuts.items
+    pub members : setting.members ≡ parts.book.members
     pub few : length parts.book.turns < 2 ^ 31
     pub mails : map mail_of kept ≡ parts.mail.members.items
     pub are_kept : AreKept parts.book.letters kept
@@ -50,15 +51,16 @@ module _ {D M : Type 0} (table : Table) (parts : Bundle (Node D) M) (book : Shar
 
   pub hand : (count : ℕ) (turns : List Turn) (letters : List LetterRow) (kept : List FreeMail) (seats : List Seat) (jobs : List (FreeJob D))
       → BeganWith table parts.book count book
-      → setting.cuts.items ≡ parts.mail.cuts.items → turns ≡ parts.book.turns → length turns < 2 ^ 31 → map mail_of kept ≡ parts.mail.members.items
+      → setting.cuts.items ≡ parts.mail.cuts.items → setting.members ≡ parts.book.members → turns ≡ parts.book.turns → length turns < 2 ^ 31 → map mail_of kept ≡ parts.mail.members.items
       → letters ≡ parts.book.letters
       → AreKept letters kept → AreNewSeats book 0 seats → AreJobsOf parts.nodes.items kept seats jobs → AreHanded jobs
-  hand count turns letters kept seats jobs began cuts turns_are few mails letters_are are_kept new are = record {
+  hand count turns letters kept seats jobs began cuts members turns_are few mails letters_are are_kept new are = record {
     count = count;
     kept = kept;
     seats = seats;
     began = began;
     cuts = cuts;
+    members = members;
     few = subst (λ (turns : List Turn). length turns < 2 ^ 31) turns_are few;
     mails = mails;
     are_kept = subst (λ letters. AreKept letters kept) letters_are are_kept;
@@ -84,7 +86,7 @@ module _ {D M : Type 0} (seen : D → Image) (may_leave : D → Image → Type 0
       begun now is =
           subst (λ l. AreJobsAt seen may_leave honest told_of plan book 0 l) (sym is)
           (jobs_begin seen may_leave honest told_of plan book rows parts.nodes.items parts.mail.members.items handed.kept handed.seats jobs
-          (parts_begin seen may_leave honest told_of table rows parts situation book setting handed.count at handed.began handed.cuts handed.few) handed.mails
+          (parts_begin seen may_leave honest told_of table rows parts situation book setting handed.count at handed.began handed.cuts handed.members handed.few) handed.mails
           (subst (λ (state : BookState). AreKept state.letters handed.kept) (sym handed.began.state_is) handed.are_kept) handed.new handed.are)
 
       -- and those that were lent to the threads, after all their turns

@@ -1,18 +1,28 @@
 -- What a look at a book adds to a mail.
-use Rattle.std.proofs.Common.{◌≡◌, ℕ, zero, suc, ◌+◌, ◌-◌, ◌<◌, ◌≤◌, ◌==◌, ◌&&◌, not, Bool, true, false, if◌then◌else◌, List, [], ◌∷◌, ◌++◌, Some, None, Option, length, map, filter, refl, sym, ap, ◌∙◌, subst, arith, append_assoc, inl, inr}
+use Rattle.std.proofs.Common.{◌≡◌, ℕ, ◌+◌, ◌-◌, ◌≤◌, ◌==◌, ◌&&◌, not, Bool, true, false, if◌then◌else◌, List, [], ◌∷◌, ◌++◌, Some, None, Option, length, filter, refl, sym, ap, ◌∙◌, subst, arith, inl, inr}
 use Rattle.std.specs.List.{Contains, range_with_len, slice_get}
 use Rattle.std.proofs.lemmas.Bool.{cases_Bool, eqb-true}
-use Rattle.std.proofs.lemmas.List.{append-nil, length-append, length-map}
+use Rattle.std.proofs.lemmas.List.{length-append}
 use Rattle.std.proofs.lemmas.List.Elements.{filter-append}
-use Rattle.std.proofs.lemmas.Option.{slice_get-map}
-use Rattle.book_law.specs.Book.{PostedLetter, post}
-use Rattle.step_law.specs.declared.out.OutLetter.{OutLetter}
+use Rattle.book_law.specs.Book.{PostedLetter}
 use Rattle.step_law.proofs.Lists.{cons_cases, nothing_in}
 use Rattle.script_law.specs.Situation.{Situation, is_cut, letters_for, reaches}
 use Rattle.free_law.proofs.MailLemmas.{found_still, same_passes, split_range}
-use Rattle.world_law.specs.Book.{posted_as}
-use Rattle.world_law.specs.declared.letter.LetterRow.{LetterRow}
 use Rattle.world_free.specs.Mails.{IsPostedTo, comes_to, coming}
+
+filter_none : (test : ℕ → Bool) (xs : List ℕ) → ((x : ℕ) → test x ≡ false) → filter test xs ≡ []
+filter_none test [] none = refl
+filter_none test (x ∷ xs) none = rw (none x) (filter_none test xs none)
+
+-- a replica that is stopped has no letter
+unreached : (situation : Situation) (who : ℕ) (letter : Option PostedLetter) → situation.standing.runs who ≡ false → reaches situation who letter ≡ false
+unreached situation who None stopped = refl
+unreached situation who (Some letter) stopped = rw stopped (elim (cases_Bool (letter.to == who)) [ inl is ↦ rw is refl | inr differs ↦ rw differs refl ])
+
+pub no_letters : (situation : Situation) (first who : ℕ) → situation.standing.runs who ≡ false → letters_for situation first who ≡ []
+no_letters situation first who stopped =
+    filter_none (λ number. reaches situation who (slice_get situation.standing.posted number)) (range_with_len first (length situation.standing.posted - first))
+    (λ number. unreached situation who (slice_get situation.standing.posted number) stopped)
 
 module _ (cuts : List (ℕ × ℕ)) (who : ℕ) where
   -- ---- one letter more

@@ -1,9 +1,11 @@
+pub mod BaseLemmas
 pub mod Begun
 pub mod Closed
 pub mod Commits
 pub mod EndLemmas
 pub mod Ending
 pub mod Gone
+pub mod Halting
 pub mod Handed
 pub mod JobLemmas
 pub mod Joining
@@ -14,4 +16,5 @@ pub mod MailSteps
 pub mod Played
 pub mod Readying
 pub mod Runs
+pub mod Since
 pub mod Stepping

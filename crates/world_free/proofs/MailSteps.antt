@@ -1,8 +1,7 @@
 -- The loops that look at letters.
-use Rattle.std.proofs.Common.{◌≡◌, ℕ, zero, suc, ◌+◌, ◌-◌, ◌<◌, ◌≤◌, List, [], ◌∷◌, ◌++◌, Some, None, Option, length, map, if◌then◌else◌, refl, sym, ap, ◌∙◌, subst, arith, append_assoc}
+use Rattle.std.proofs.Common.{◌≡◌, ℕ, zero, suc, ◌+◌, ◌-◌, ◌≤◌, List, [], ◌∷◌, ◌++◌, Some, length, map, refl, sym, ap, ◌∙◌, arith, append_assoc}
 use Rattle.std.specs.List.{slice_get}
 use Rattle.std.proofs.lemmas.List.{append-nil, length-append, length-map}
-use Rattle.std.proofs.lemmas.Option.{slice_get-map}
 use Rattle.book_law.specs.Book.{PostedLetter, post}
 use Rattle.step_law.specs.declared.out.OutLetter.{OutLetter}
 use Rattle.world_law.specs.Book.{posted_as}
@@ -10,7 +9,7 @@ use Rattle.world_law.specs.declared.letter.LetterRow.{LetterRow}
 use Rattle.free_law.specs.Others.{mail_behind}
 use Rattle.world_parts.specs.declared.mail.MemberMail.{MemberMail}
 use Rattle.world_steps.specs.declared.steps.Taken.{Taken}
-use Rattle.world_free.specs.Mails.{HasFirstBytes, HasLooked, KeepsSet, comes_to, coming, posted_with}
+use Rattle.world_free.specs.Mails.{HasFirstBytes, HasLooked, KeepsSet, coming, posted_with}
 use Rattle.world_free.specs.declared.job.FreeMail.{FreeMail}
 use Rattle.world_free.proofs.Letters.{coming_in_two, coming_next, one_coming}
 
@@ -21,7 +20,7 @@ pub record Looking (cuts : List (ℕ × ℕ)) (who : ℕ) (posted : List PostedL
   pub letters_are : now.mail.letters.items ≡ old.mail.letters.items ++ coming cuts who posted first (number - first)
 
 pub set_none : (mail : FreeMail) → KeepsSet mail mail
-set_none mail = record { runs = refl; skew = refl; fate = refl; waits = refl }
+set_none mail = record { runs = refl; skew = refl; fate = refl; waits = refl; arm = refl }
 
 pub set_on : (one two three : FreeMail) → KeepsSet one two → KeepsSet two three → KeepsSet one three
 set_on one two three first second = record {
@@ -29,6 +28,7 @@ set_on one two three first second = record {
   skew = second.skew ∙ first.skew;
   fate = second.fate ∙ first.fate;
   waits = second.waits ∙ first.waits;
+  arm = second.arm ∙ first.arm;
 }
 
 pub looking_none : (cuts : List (ℕ × ℕ)) (who : ℕ) (posted : List PostedLetter) (first : ℕ) (mail : FreeMail) → Looking cuts who posted first first mail mail
@@ -112,6 +112,7 @@ looked_all cuts letters who taken old heard book step new first count within hea
       skew = ap (λ (m : MemberMail). m.skew) mail;
       fate = ap (λ (m : MemberMail). m.fate) mail;
       waits = ap (λ (m : MemberMail). m.waits) mail;
+      arm = ap (λ (m : MemberMail). m.arm) mail;
     }
 
     both : coming cuts who (map posted_as letters) heard.looked (length letters - heard.looked) ++ coming cuts who (posted_with letters who taken) first (length taken.out.letters)

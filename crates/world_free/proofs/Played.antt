@@ -1,25 +1,23 @@
 -- Rows of a part that threads take: whichever of them have what the shared book has, the same stands after them.
-use Rattle.std.proofs.Common.{◌≡◌, ℕ, List, [], ◌∷◌, ◌++◌, map, fold, Some, refl, sym, ap, ◌∙◌, subst, append_assoc}
-use Rattle.std.specs.List.{AllZip, slice_get}
+use Rattle.std.proofs.Common.{◌≡◌, ℕ, List, [], ◌∷◌, ◌++◌, map, fold, refl, sym, ap, ◌∙◌, subst, append_assoc}
+use Rattle.std.specs.List.{AllZip}
 use Rattle.std.proofs.lemmas.List.{append-nil, map-append}
 use Rattle.std.proofs.lemmas.List.Sums.{fold-append}
 use Rattle.due_set.specs.Table.{Table}
 use Rattle.launch_machine.specs.Clerk.{first_rows}
 use Rattle.book_law.specs.Book.{Row, Standing, after_row, first_standing, standing_after}
-use Rattle.book_law.specs.Legal.{IsLegal, MayFollow}
+use Rattle.book_law.specs.Legal.{IsLegal}
 use Rattle.book_law.specs.declared.turn.Turn.{Turn}
 use Rattle.book_law.proofs.Turns.{legal_push}
 use Rattle.script_law.specs.Free.{after_all_posted, after_posted}
 use Rattle.script_law.specs.Situation.{Situation}
-use Rattle.world_law.specs.Book.{BookState, StandsBehind, standing_behind}
 use Rattle.world_law.specs.Rows.{IsBehind}
 use Rattle.world_law.specs.declared.row.BookRow.{BookRow}
 use Rattle.world_law.proofs.Rows.{turns_behind}
 use Rattle.world_law.proofs.Settled.{may_next, turns_settle}
-use Rattle.world_parts.specs.Parts.{IsBookAt}
 use Rattle.world_free.specs.Jobs.{IsOfPlan, situation_in}
 use Rattle.world_free.specs.Plan.{ArePlayed, Plan, SharedBook}
-use Rattle.world_free.proofs.Lists.{InTwo, zip_split}
+use Rattle.world_free.proofs.Lists.{zip_split}
 
 abbrev turns_of : List Row → List Turn
 turns_of rows = map (λ (row : Row). row.turn) rows
@@ -66,7 +64,7 @@ split_played plan after gone begun more are =
 
 -- ---- one standing
 
-played_turns : (plan : Plan) (after : List BookRow) (begun more : List Row) → ArePlayed plan after begun more → turns_of (begun ++ more) ≡ plan.book.turns ++ map (λ (row : BookRow). row.turn) after
+pub played_turns : (plan : Plan) (after : List BookRow) (begun more : List Row) → ArePlayed plan after begun more → turns_of (begun ++ more) ≡ plan.book.turns ++ map (λ (row : BookRow). row.turn) after
 played_turns plan after begun more are =
     map-append (λ (row : Row). row.turn) begun more ∙ ap (λ l. l ++ turns_of more) (sym are.turns) ∙ ap (λ l. plan.book.turns ++ l) (turns_behind after more are.each)
 
@@ -84,7 +82,7 @@ pub posted_stands : (members : ℕ) (situation : Situation) (rows : List Row)
 posted_stands members situation [] = refl
 posted_stands members situation (row ∷ rows) = posted_stands members (after_posted members situation row) rows
 
-begun_stands : (plan : Plan) (book : SharedBook) (after : List BookRow) (begun more : List Row) → IsOfPlan plan book → ArePlayed plan after begun more
+pub begun_stands : (plan : Plan) (book : SharedBook) (after : List BookRow) (begun more : List Row) → IsOfPlan plan book → ArePlayed plan after begun more
     → plan.situation.standing ≡ stands_in plan begun
 begun_stands plan book after begun more of are =
     of.at.standing

@@ -1,9 +1,8 @@
 -- A book that is ready for the turn of a step.
-use Rattle.std.proofs.Common.{◌≡◌, ℕ, List, length, Option, None, Some, refl, sym, ap, ◌∙◌, subst}
+use Rattle.std.proofs.Common.{ℕ, List, Option, subst}
 use Rattle.std.specs.Option.{option_to_list}
 use Rattle.due_set.specs.Table.{Table}
-use Rattle.launch_machine.specs.Clerk.{first_rows}
-use Rattle.book_law.specs.Book.{Row, Standing, standing_after}
+use Rattle.book_law.specs.Book.{Row, Standing}
 use Rattle.book_law.specs.Legal.{IsMade, MayFollow}
 use Rattle.book_law.specs.declared.turn.CallRow.{CallRow}
 use Rattle.replica_core.specs.Replica.{ReplicaState}

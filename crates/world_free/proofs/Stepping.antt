@@ -1,17 +1,20 @@
 -- A replica takes the step of its next turn beside the shared book.
-use Rattle.std.proofs.Common.{◌≡◌, ℕ, ◌+◌, ◌<◌, ◌≤◌, ◌^◌, ◌&&◌, not, Bool, true, false, if◌then◌else◌, List, [], ◌∷◌, ◌++◌, Some, None, Option, length, map, refl, sym, ap, ◌∙◌, subst, ℤ, ◌<ℤ◌, zero, suc, arith}
+use Rattle.std.proofs.Common.{◌≡◌, ℕ, ◌<◌, ◌≤◌, ◌&&◌, not, Bool, true, false, if◌then◌else◌, List, [], ◌∷◌, ◌++◌, Some, None, Option, map, refl, sym, ap, ◌∙◌, subst, ℤ, ◌<ℤ◌, zero, suc, arith}
 use Rattle.std.specs.List.{Contains, slice_get}
+use Rattle.std.specs.Option.{option_to_list}
+use Rattle.std.proofs.lemmas.List.{append-nil}
 use Rattle.std.proofs.lemmas.Int.{clamps, ints}
 use Rattle.zone_minutes.specs.Window.{IsInWindow}
 use Rattle.zone_minutes.specs.declared.minute.Minute.{Minute}
 use Rattle.zone_minutes.specs.declared.minute.Window.{Window}
 use Rattle.disk_model.specs.Images.{Image}
 use Rattle.disk_model.specs.Told.{Told}
+use Rattle.disk_model.specs.declared.armed.Arm.{Arm}
+use Rattle.paxos_base.specs.declared.durable.Delta.{Delta}
 use Rattle.cluster_sched.specs.declared.row.SchedRow.{SchedRow}
 use Rattle.term_core.specs.Term.{is_leader}
 use Rattle.step_law.specs.State.{State}
 use Rattle.step_law.proofs.Lists.{in_first}
-use Rattle.agree_law.specs.Transition.{identity_of}
 use Rattle.book_law.specs.Book.{PostedLetter, Row, Standing}
 use Rattle.book_law.specs.declared.turn.Cause.{Cause}
 use Rattle.book_law.specs.declared.turn.Cause.TheVariants.{Campaign, Tick, Hear, Answer}
@@ -19,25 +22,28 @@ use Rattle.replica_core.specs.Replica.{ReplicaState}
 use Rattle.replica_core.specs.Step.{IsInputInside}
 use Rattle.replica_core.specs.declared.input.Input.{Input}
 use Rattle.replica_core.specs.declared.input.Input.TheVariants as given
-use Rattle.replica_node.specs.Node.{disk_of, replica_of}
-use Rattle.replica_node.specs.declared.node.Node.{Node}
+use Rattle.replica_node.specs.Node.{replica_of}
 use Rattle.script_law.specs.Free.{is_time_to_stand, next_cause, next_cause_by}
 use Rattle.script_law.specs.Round.{clock_reading}
-use Rattle.script_law.specs.Situation.{Situation}
-use Rattle.world_law.specs.Book.{BookState, StandsBehind, posted_as, standing_behind}
+use Rattle.script_law.specs.Arms.{IsEnough}
+use Rattle.script_law.specs.Situation.{Armed, bases_with}
+use Rattle.world_law.specs.Book.{posted_as, standing_behind}
 use Rattle.world_law.specs.Replicas.{IsLetterInput, StandsAt}
 use Rattle.world_law.specs.declared.letter.LetterRow.{LetterRow}
-use Rattle.world_law.specs.declared.row.BookRow.{BookRow}
+use Rattle.world_parts.specs.Nodes.{IsDiskAt, bases_behind}
+use Rattle.world_parts.specs.Parts.{armed_in}
 use Rattle.world_steps.specs.Steps.{IsBeside, IsToldOf, MayStep, WasToldOf, waits_in}
-use Rattle.world_steps.specs.Turns.{IsNextStep}
+use Rattle.world_steps.specs.Stops.{HasOutcome, HasStopped}
+use Rattle.world_steps.specs.declared.armed.Outcome.{Outcome}
+use Rattle.world_steps.specs.declared.armed.Outcome.TheVariants as ended
 use Rattle.world_steps.specs.declared.steps.Taken.{Taken}
-use Rattle.world_free.specs.Jobs.{IsNodeFit, IsRunner, IsStepper, situation_in}
-use Rattle.world_free.specs.Mails.{IsMailIn, IsPostedTo, IsToldHere}
+use Rattle.world_free.specs.Jobs.{HasTried, IsRunner, IsStepper, IsStopper, situation_in}
+use Rattle.world_free.specs.Mails.{IsMailIn, IsToldHere}
 use Rattle.world_free.specs.Next.{idle_cause_by}
 use Rattle.world_free.specs.Plan.{ArePlayed, Plan, SharedBook}
 use Rattle.world_free.specs.declared.job.FreeJob.{FreeJob}
-use Rattle.world_free.specs.declared.job.FreeMail.{FreeMail}
-use Rattle.world_free.proofs.Played.{situation_stands, stands_in}
+use Rattle.world_free.proofs.BaseLemmas.{bases_still, situation_bases}
+use Rattle.world_free.proofs.Played.{situation_stands}
 
 clock_inside : (window : Window) (at skew : ℤ) → window.from.0 <ℤ window.until.0 → IsInWindow window (clock_reading window at skew).0
 clock_inside window at skew ordered = record { since = omega (arith, ints, clamps); before = omega (arith, ints, clamps) }
@@ -100,6 +106,16 @@ module _ {D : Type 0} (seen : D → Image) (may_leave : D → Image → Type 0) 
   few : plan.book.members ≤ 7
   few = runner.of_plan.at.few
 
+  -- as its thread has it
+  pub is_member : who < plan.members
+  is_member = subst (λ (n : ℕ). who < n) (sym runner.of_plan.members) runner.node.member
+
+  pub few_members : plan.members ≤ 7
+  few_members = subst (λ (n : ℕ). n ≤ 7) (sym runner.of_plan.members) few
+
+  pub members_then : runner.some.book.members ≡ plan.members
+  members_then = runner.some.members ∙ sym runner.of_plan.members
+
   mail_here : IsMailIn (situation_in plan runner.some.more) who job.mail
   mail_here = runner.mail runner.some.begun runner.some.more runner.some.are
 
@@ -118,6 +134,12 @@ module _ {D : Type 0} (seen : D → Image) (may_leave : D → Image → Type 0) 
     of_table = runner.node.at_rest.of_table;
   }
 
+  -- it has kept as many bases
+  bases_now : (begun more : List Row) → ArePlayed plan runner.after begun more → (situation_in plan more).bases who ≡ bases_behind plan.table behind_it runner.some.book who
+  bases_now begun more are =
+      bases_still plan book who runner.after begun more runner.some.begun runner.some.more runner.of_plan are runner.some.are
+      ∙ ap (λ (bases : ℕ → ℕ). bases who) (situation_bases plan book runner.after runner.some.begun runner.some.more runner.of_plan runner.some.are) ∙ rw runner.some.members refl
+
   pub beside : IsBeside seen may_leave honest told_of plan.table behind_it runner.some.book who [] job.node
   beside = record {
     sound = runner.of_plan.at.sound;
@@ -127,7 +149,7 @@ module _ {D : Type 0} (seen : D → Image) (may_leave : D → Image → Type 0) 
     ahead = record {
       at_rest = runner.node.at_rest;
       trusted = runner.node.trusted;
-      reliable = runner.node.reliable;
+      disk = subst (λ (count : ℕ). IsDiskAt told_of count job.node) (bases_now runner.some.begun runner.some.more runner.some.are) (runner.disk runner.some.begun runner.some.more runner.some.are);
       first = replica_of job.node;
       stands = stands_at;
       me = rw runner.node.identity refl;
@@ -193,15 +215,14 @@ module _ {D : Type 0} (seen : D → Image) (may_leave : D → Image → Type 0) 
 
   -- ---- and has stepped
 
-  pub stepped : (cause : Cause) (step : Taken) (new : FreeJob D) → cause ≡ cause_kept → step.cause ≡ cause → taken < plan.turns
-      → IsBeside seen may_leave honest told_of plan.table behind_it runner.some.book who (step ∷ []) new.node → new.seat ≡ job.seat → new.mail ≡ job.mail
+  stepped : (cause : Cause) (step : Taken) (new : FreeJob D) → cause ≡ cause_kept → step.cause ≡ cause → taken < plan.turns
+      → IsEnough (armed_in job.mail.mail.arm) (option_to_list step.out.delta) → IsBeside seen may_leave honest told_of plan.table behind_it runner.some.book who (step ∷ []) new.node → new.seat ≡ job.seat → new.mail ≡ job.mail
       → IsStepper seen may_leave honest told_of plan book who taken step new
-  stepped cause step new is of left after seat mail = record {
+  stepped cause step new is of left enough after seat mail = record {
     of_plan = runner.of_plan;
     node = record {
       at_rest = after.ahead.at_rest;
       trusted = after.ahead.trusted;
-      reliable = after.ahead.reliable;
       identity = ap (λ (r : ReplicaState). r.identity) after.ahead.took.2 ∙ after.ahead.took.1.steps.took.identity ∙ after.ahead.stands.identity ∙ rw (runner.some.members, after.ahead.me) refl;
       member = runner.node.member;
     };
@@ -220,5 +241,38 @@ module _ {D : Type 0} (seen : D → Image) (may_leave : D → Image → Type 0) 
     };
     gone = runner.gone;
     cause = λ begun more are. of ∙ is ∙ cause_is begun more are;
+    saved = λ begun more are. subst (λ (armed : Option Armed). IsEnough armed (option_to_list step.out.delta)) (runner.mail begun more are).arm enough;
+    disk = λ begun more are.
+        subst (λ (count : ℕ). IsDiskAt told_of count new.node)
+        (ap (λ (changes : List Delta). bases_with changes (bases_behind plan.table behind_it runner.some.book who)) (append-nil (option_to_list step.out.delta))
+        ∙ ap (bases_with (option_to_list step.out.delta)) (sym (bases_now begun more are)))
+        after.ahead.disk;
     mail = λ begun more are. rw mail (runner.mail begun more are);
   }
+
+  -- ---- or the disk has stopped
+
+  stopped : (cause : Cause) (change : Option Delta) (arm : Arm) (new : FreeJob D) → cause ≡ cause_kept → taken < plan.turns → job.mail.mail.arm ≡ Some arm
+      → HasStopped seen may_leave honest told_of plan.table behind_it runner.some.book who cause arm change new.node → new.seat ≡ job.seat → new.mail ≡ job.mail
+      → IsStopper seen may_leave honest told_of plan book who taken cause change new
+  stopped cause change arm new is left armed stop seat mail = record {
+    of_plan = runner.of_plan;
+    after = runner.after;
+    seat = rw seat runner.seat;
+    some = runner.some;
+    left = left;
+    arm = arm;
+    armed = rw mail armed;
+    stop = stop;
+    gone = runner.gone;
+    cause_is = λ begun more are. is ∙ cause_is begun more are;
+    mail = λ begun more are. rw mail (runner.mail begun more are);
+  }
+
+  -- ---- either way
+
+  pub tried : (cause : Cause) (outcome : Outcome) (new : FreeJob D) → cause ≡ cause_kept → taken < plan.turns
+      → HasOutcome seen may_leave honest told_of plan.table behind_it runner.some.book who cause job.mail.mail.arm outcome new.node → new.seat ≡ job.seat → new.mail ≡ job.mail
+      → HasTried seen may_leave honest told_of plan book who taken cause outcome new
+  tried cause (ended.Taken step) new is left after seat mail = stepped cause step new is after.0 left after.1 after.2 seat mail
+  tried cause (ended.Stopped change) new is left after seat mail = stopped cause change after.0 new is left after.1 after.2 seat mail

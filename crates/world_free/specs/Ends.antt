@@ -33,6 +33,7 @@ pub record HasEnded (cuts : List (ℕ × ℕ)) (letters : List LetterRow) (who :
   pub skew : ended.skew ≡ mail.mail.skew
   pub fate : ended.fate ≡ mail.mail.fate
   pub waits : ended.waits ≡ mail.mail.waits
+  pub arm : ended.arm ≡ mail.mail.arm
   pub letters_are : ended.letters.items ≡ letters_at_end mail.mail.runs cuts letters who mail
 
 -- so it is of each

@@ -1,24 +1,31 @@
 -- What the thread of a replica knows between its turns, and when it has taken a step that is no turn yet.
-use Rattle.std.specs.Prelude.{◌≡◌, ℕ, ◌<◌, ◌≤◌, ◌^◌, true, false, List, [], ◌++◌, length, Option, None, Some, slice_get, slice_index_or}
+use Rattle.std.specs.Option.{option_to_list}
+use Rattle.std.specs.Prelude.{◌≡◌, ◌⊎◌, ℕ, ◌<◌, ◌^◌, true, false, List, [], ◌++◌, length, Option, None, Some, slice_get}
 use Rattle.disk_model.specs.Images.{Image}
 use Rattle.disk_model.specs.Told.{Told}
+use Rattle.disk_model.specs.declared.armed.Arm.{Arm}
+use Rattle.paxos_base.specs.declared.durable.Delta.{Delta}
+use Rattle.step_law.specs.State.{started}
 use Rattle.agree_law.specs.Transition.{identity_of}
 use Rattle.book_law.specs.Book.{Row}
+use Rattle.book_law.specs.declared.turn.Cause.{Cause}
 use Rattle.replica_core.specs.Replica.{ReplicaState}
 use Rattle.replica_node.specs.Node.{IsNodeAtRest, disk_of, replica_of}
-use Rattle.replica_node.specs.Reliable.{IsReliable}
 use Rattle.replica_node.specs.declared.node.Node.{Node}
+use Rattle.script_law.specs.Arms.{IsEnough}
 use Rattle.script_law.specs.Free.{GoesFreely, after_all_posted, next_cause}
-use Rattle.script_law.specs.Situation.{Situation, is_cut}
+use Rattle.script_law.specs.Situation.{Situation, bases_with, is_cut}
 use Rattle.turn_book.specs.Turns.{opening_of}
-use Rattle.world_law.specs.Book.{BookState, StandsBehind, standing_behind}
+use Rattle.world_law.specs.Book.{BookState, StandsBehind}
 use Rattle.world_law.specs.declared.row.BookRow.{BookRow}
-use Rattle.world_parts.specs.Nodes.{IsNodeOf}
+use Rattle.world_parts.specs.Nodes.{IsDiskAt, IsNodeOf}
 use Rattle.world_parts.specs.Parts.{IsBookAt, IsMailOf}
-use Rattle.world_steps.specs.Steps.{IsBeside}
+use Rattle.world_steps.specs.Stops.{HasStopped}
 use Rattle.world_steps.specs.Turns.{IsNextStep}
-use Rattle.world_steps.specs.declared.steps.Taken.{Taken}
-use Rattle.world_free.specs.Mails.{IsMailIn}
+use Rattle.world_steps.specs.declared.armed.Outcome.{Outcome}
+use Rattle.world_steps.specs.declared.armed.Outcome.TheVariants.{Taken, Stopped}
+use Rattle.world_steps.specs.declared.steps.Taken.{Taken as Step}
+use Rattle.world_free.specs.Mails.{IsMailIn, IsStoppedMailIn}
 use Rattle.world_free.specs.Plan.{ArePlayed, Plan, SharedBook, course_in, plan_of}
 use Rattle.world_free.specs.Seats.{IsSeatAt}
 use Rattle.world_free.specs.declared.job.FreeJob.{FreeJob}
@@ -26,14 +33,15 @@ use Rattle.world_free.specs.declared.job.Setting.{Setting}
 
 -- ---- the part
 
--- The shared book is that of the plan: it has its table and began with its book, behind which rows stand in the plan's situation, and
--- letters are lost as there.
+-- The shared book is that of the plan: it has its table and began with its book, behind which rows stand in the plan's situation; there
+-- are as many replicas, and letters are lost as there.
 pub record IsOfPlan (plan : Plan) (book : SharedBook) : Type 0 where
   pub key : (opening_of book).key.value ≡ plan.table
   pub state : (opening_of book).state.value ≡ plan.book
   pub rows : List Row
   pub at : IsBookAt plan.table rows plan.book plan.situation
   pub cuts : (from to : ℕ) → is_cut from to plan.cuts ≡ is_cut from to plan.situation.cuts
+  pub members : plan.members ≡ plan.book.members
 
 -- some rows of the part have what these have, and stand behind a book at rest of few turns
 pub record HasPlayed (plan : Plan) (after : List BookRow) : Type 0 where
@@ -57,34 +65,41 @@ pub record HasGone (plan : Plan) (who taken : ℕ) (more : List Row) : Type 0 wh
   pub last : (course_in plan who more).seen ≡ situation_in plan more
   pub runs : (situation_in plan more).standing.runs who ≡ true
 
+-- A replica has gone freely by these rows, and has stopped in the last of its own.
+pub record HasBroken (plan : Plan) (who : ℕ) (more : List Row) : Type 0 where
+  pub goes : GoesFreely plan.book.members plan.table.window plan.at plan.turns who plan.situation more
+  pub last : (course_in plan who more).seen ≡ situation_in plan more
+  pub stopped : (situation_in plan more).standing.runs who ≡ false
+
 -- ---- between two turns
 
--- a node that runs, on a disk that can't fail
-pub record IsNodeFit {D : Type 0} (seen : D → Image) (may_leave : D → Image → Type 0) (honest : D → Type 0) (told_of : D → Option Told) (plan : Plan) (who : ℕ) (node : Node D) : Type 0 where
+-- the node of a replica
+pub record IsNodeFit {D : Type 0} (seen : D → Image) (may_leave : D → Image → Type 0) (honest : D → Type 0) (plan : Plan) (who : ℕ) (node : Node D) : Type 0 where
   pub at_rest : IsNodeAtRest seen may_leave honest plan.table node
   pub trusted : honest (disk_of node)
-  pub reliable : IsReliable (told_of (disk_of node))
   pub identity : (replica_of node).identity ≡ identity_of plan.book.members who
   pub member : who < plan.book.members
 
 -- **What the thread of a replica that runs has, after so many turns**: whatever rows of the part have what its seat has seen, the replica has
--- gone freely by them, its node is where they leave it, and its mail is the one that they leave.
+-- gone freely by them, its node and its disk are where they leave them, and its mail is the one that they leave.
 pub record IsRunner {D : Type 0} (seen : D → Image) (may_leave : D → Image → Type 0) (honest : D → Type 0) (told_of : D → Option Told) (plan : Plan) (book : SharedBook) (who taken : ℕ) (job : FreeJob D) : Type 0 where
   pub of_plan : IsOfPlan plan book
-  pub node : IsNodeFit seen may_leave honest told_of plan who job.node
+  pub node : IsNodeFit seen may_leave honest plan who job.node
   pub after : List BookRow
   pub seat : IsSeatAt book who after job.seat
   pub some : HasPlayed plan after
   pub gone : (begun more : List Row) → ArePlayed plan after begun more → HasGone plan who taken more
   pub state : (begun more : List Row) → ArePlayed plan after begun more → (replica_of job.node).state ≡ (situation_in plan more).standing.replicas who
+  pub disk : (begun more : List Row) → ArePlayed plan after begun more → IsDiskAt told_of ((situation_in plan more).bases who) job.node
   pub mail : (begun more : List Row) → ArePlayed plan after begun more → IsMailIn (situation_in plan more) who job.mail
 
 -- ---- with a step that is no turn yet
 
--- **The replica has taken a step, for the cause that was next**: the node is one step ahead of all that the seat has seen.
-pub record IsStepper {D : Type 0} (seen : D → Image) (may_leave : D → Image → Type 0) (honest : D → Type 0) (told_of : D → Option Told) (plan : Plan) (book : SharedBook) (who taken : ℕ) (step : Taken) (job : FreeJob D) : Type 0 where
+-- **The replica has taken a step, for the cause that was next**: the node is one step ahead of all that the seat has seen, and its disk
+-- had calls enough left for the save of the step's change.
+pub record IsStepper {D : Type 0} (seen : D → Image) (may_leave : D → Image → Type 0) (honest : D → Type 0) (told_of : D → Option Told) (plan : Plan) (book : SharedBook) (who taken : ℕ) (step : Step) (job : FreeJob D) : Type 0 where
   pub of_plan : IsOfPlan plan book
-  pub node : IsNodeFit seen may_leave honest told_of plan who job.node
+  pub node : IsNodeFit seen may_leave honest plan who job.node
   pub after : List BookRow
   pub seat : IsSeatAt book who after job.seat
   pub some : HasPlayed plan after
@@ -94,9 +109,47 @@ pub record IsStepper {D : Type 0} (seen : D → Image) (may_leave : D → Image 
   pub gone : (begun more : List Row) → ArePlayed plan after begun more → HasGone plan who taken more
   pub cause : (begun more : List Row) → ArePlayed plan after begun more
       → step.cause ≡ next_cause plan.table.window plan.at who taken (situation_in plan more)
+  pub saved : (begun more : List Row) → ArePlayed plan after begun more → IsEnough ((situation_in plan more).arms who) (option_to_list step.out.delta)
+  pub disk : (begun more : List Row) → ArePlayed plan after begun more
+      → IsDiskAt told_of (bases_with (option_to_list step.out.delta) ((situation_in plan more).bases who)) job.node
   pub mail : (begun more : List Row) → ArePlayed plan after begun more → IsMailIn (situation_in plan more) who job.mail
 
+-- **The disk of the replica has stopped within the step for the cause that was next**, and the node was attached again; the stop is no turn
+-- yet.
+pub record IsStopper {D : Type 0} (seen : D → Image) (may_leave : D → Image → Type 0) (honest : D → Type 0) (told_of : D → Option Told) (plan : Plan) (book : SharedBook) (who taken : ℕ) (cause : Cause) (change : Option Delta) (job : FreeJob D) : Type 0 where
+  pub of_plan : IsOfPlan plan book
+  pub after : List BookRow
+  pub seat : IsSeatAt book who after job.seat
+  pub some : HasPlayed plan after
+  pub left : taken < plan.turns
+  pub arm : Arm
+  pub armed : job.mail.mail.arm ≡ Some arm
+  pub stop : HasStopped seen may_leave honest told_of plan.table (some.begun ++ some.more) some.book who cause arm change job.node
+  pub gone : (begun more : List Row) → ArePlayed plan after begun more → HasGone plan who taken more
+  pub cause_is : (begun more : List Row) → ArePlayed plan after begun more
+      → cause ≡ next_cause plan.table.window plan.at who taken (situation_in plan more)
+  pub mail : (begun more : List Row) → ArePlayed plan after begun more → IsMailIn (situation_in plan more) who job.mail
+
+-- what came of the step for a cause: it was taken, or the disk has stopped within it
+abbrev pub HasTried : {D : Type 0} → (seen : D → Image) → (may_leave : D → Image → Type 0) → (honest : D → Type 0) → (told_of : D → Option Told) → (plan : Plan) → (book : SharedBook) → (who taken : ℕ) → Cause → Outcome → FreeJob D → Type 0
+HasTried seen may_leave honest told_of plan book who taken cause (Taken step) job = IsStepper seen may_leave honest told_of plan book who taken step job
+HasTried seen may_leave honest told_of plan book who taken cause (Stopped change) job = IsStopper seen may_leave honest told_of plan book who taken cause change job
+
 -- ---- a replica that is stopped
+
+-- **The replica has stopped within the part**: whatever rows of the part have what its seat has seen, the last of its own is the stop; its
+-- node keeps what they leave it, and nothing is on its way to it.
+pub record IsBroken {D : Type 0} (seen : D → Image) (may_leave : D → Image → Type 0) (honest : D → Type 0) (told_of : D → Option Told) (plan : Plan) (book : SharedBook) (who : ℕ) (job : FreeJob D) : Type 0 where
+  pub of_plan : IsOfPlan plan book
+  pub node : IsNodeFit seen may_leave honest plan who job.node
+  pub after : List BookRow
+  pub seat : IsSeatAt book who after job.seat
+  pub halted : job.mail.mail.runs ≡ false
+  pub broken : (begun more : List Row) → ArePlayed plan after begun more → HasBroken plan who more
+  pub kept : (begun more : List Row) → ArePlayed plan after begun more
+      → (situation_in plan more).standing.replicas who ≡ started who (replica_of job.node).state.kept
+  pub disk : (begun more : List Row) → ArePlayed plan after begun more → IsDiskAt told_of ((situation_in plan more).bases who) job.node
+  pub mail : (begun more : List Row) → ArePlayed plan after begun more → IsStoppedMailIn (situation_in plan more) who job.mail.mail
 
 -- the thread has done nothing: the node and the mail are as the part began
 pub record IsIdle {D : Type 0} (seen : D → Image) (may_leave : D → Image → Type 0) (honest : D → Type 0) (told_of : D → Option Told) (plan : Plan) (book : SharedBook) (who : ℕ) (job : FreeJob D) : Type 0 where
@@ -106,11 +159,11 @@ pub record IsIdle {D : Type 0} (seen : D → Image) (may_leave : D → Image →
 
 -- ---- jobs
 
--- **The job of a replica after so many turns, where it runs**; one that is stopped has none.
+-- **The job of a replica after so many turns, where it runs**; one that is stopped has been so since the part began, or has stopped within
+-- it.
 pub record IsJobAt {D : Type 0} (seen : D → Image) (may_leave : D → Image → Type 0) (honest : D → Type 0) (told_of : D → Option Told) (plan : Plan) (book : SharedBook) (who taken : ℕ) (job : FreeJob D) : Type 0 where
-  pub runs : job.mail.mail.runs ≡ plan.situation.standing.runs who
-  pub running : plan.situation.standing.runs who ≡ true → IsRunner seen may_leave honest told_of plan book who taken job
-  pub stopped : plan.situation.standing.runs who ≡ false → IsIdle seen may_leave honest told_of plan book who job
+  pub running : job.mail.mail.runs ≡ true → IsRunner seen may_leave honest told_of plan book who taken job
+  pub stopped : job.mail.mail.runs ≡ false → IsIdle seen may_leave honest told_of plan book who job ⊎ IsBroken seen may_leave honest told_of plan book who job
 
 -- each replica's job is so
 abbrev pub AreJobsAt : {D : Type 0} → (seen : D → Image) → (may_leave : D → Image → Type 0) → (honest : D → Type 0) → (told_of : D → Option Told) → (plan : Plan) → (book : SharedBook) → (taken : ℕ) → List (FreeJob D) → Type 0

@@ -1,5 +1,5 @@
 -- A replica's mail as its thread keeps it, and what a look at a book adds to it.
-use Rattle.std.specs.Prelude.{◌≡◌, ℕ, ◌+◌, ◌-◌, ◌==◌, ◌&&◌, not, Bool, false, true, List, ◌∷◌, ◌++◌, length, map, filter, Option, None, Some, Contains, slice_get}
+use Rattle.std.specs.Prelude.{◌≡◌, ℕ, ◌-◌, ◌==◌, ◌&&◌, not, Bool, false, true, List, [], ◌∷◌, ◌++◌, length, map, filter, Option, None, Some, Contains, slice_get}
 use Rattle.std.specs.List.{range_with_len}
 use Rattle.cluster_sched.specs.declared.row.SchedRow.{SchedRow}
 use Rattle.book_law.specs.Book.{PostedLetter, post}
@@ -12,6 +12,8 @@ use Rattle.script_text.specs.Command.{IsSkew}
 use Rattle.world_law.specs.Book.{posted_as}
 use Rattle.world_law.specs.Replicas.{IsLetterInput}
 use Rattle.world_law.specs.declared.letter.LetterRow.{LetterRow}
+use Rattle.world_parts.specs.Parts.{armed_in}
+use Rattle.world_parts.specs.declared.mail.MemberMail.{MemberMail}
 use Rattle.free_law.specs.Others.{mail_behind}
 use Rattle.world_free.specs.declared.job.FreeMail.{FreeMail}
 use Rattle.world_steps.specs.declared.steps.Taken.{Taken}
@@ -41,6 +43,7 @@ pub record KeepsSet (old new : FreeMail) : Type 0 where
   pub skew : new.mail.skew ≡ old.mail.skew
   pub fate : new.mail.fate ≡ old.mail.fate
   pub waits : new.mail.waits ≡ old.mail.waits
+  pub arm : new.mail.arm ≡ old.mail.arm
 
 -- The thread has looked at a book, into which its replica's step is to come: the mail has lost the letter that the step has heard, and
 -- has gained the letters from the last look on.
@@ -74,6 +77,17 @@ pub record IsMailIn (situation : Situation) (who : ℕ) (mail : FreeMail) : Type
   pub small : IsSkew mail.mail.skew
   pub fate : mail.mail.fate ≡ situation.fates who
   pub waits : mail.mail.waits ≡ situation.standing.waits who
+  pub arm : armed_in mail.mail.arm ≡ situation.arms who
   pub looked : mail.looked ≡ length situation.standing.posted
   pub sent : (number : ℕ) → Contains mail.mail.letters.items number → IsPostedTo situation.standing.posted who number
   pub bytes : HasFirstBytes situation.standing.posted mail
+
+-- what is set for a replica that is stopped, and has no letter, is what the situation has
+pub record IsStoppedMailIn (situation : Situation) (who : ℕ) (mail : MemberMail) : Type 0 where
+  pub none : mail.letters.items ≡ []
+  pub letters_are : situation.mails who ≡ []
+  pub skew : mail.skew ≡ situation.skews who
+  pub small : IsSkew mail.skew
+  pub fate : mail.fate ≡ situation.fates who
+  pub waits : mail.waits ≡ situation.standing.waits who
+  pub arm : armed_in mail.arm ≡ situation.arms who

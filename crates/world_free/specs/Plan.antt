@@ -13,7 +13,6 @@ use Rattle.turn_book.specs.declared.book.TurnSeat.{TurnSeat}
 use Rattle.world_law.specs.Book.{BookState}
 use Rattle.world_law.specs.Rows.{IsBehind}
 use Rattle.world_law.specs.declared.row.BookRow.{BookRow}
-use Rattle.world_parts.specs.Parts.{IsBookAt}
 use Rattle.world_free.specs.declared.job.Setting.{Setting}
 
 -- a book that threads share, and a seat at it
@@ -23,14 +22,15 @@ SharedBook = TurnBook BookState Table BookRow StepOut
 abbrev pub Seat : Type 0
 Seat = TurnSeat BookState Table BookRow StepOut
 
--- The table of jobs, the book and the situation with which the part begins, its instant, how many turns each replica has, and from
--- whom to whom letters are lost, as the threads have it.
+-- The table of jobs, the book and the situation with which the part begins, its instant, and how many turns each replica has; and, as
+-- the threads have it, how many replicas there are, and from whom to whom letters are lost.
 pub record Plan : Type 0 where
   pub table : Table
   pub book : BookState
   pub situation : Situation
   pub at : ℤ
   pub turns : ℕ
+  pub members : ℕ
   pub cuts : List (ℕ × ℕ)
 
 -- the plan of a part that begins in this situation, by what its threads are handed
@@ -42,6 +42,7 @@ plan_of table book situation setting =
       situation = situation;
       at = setting.at.0;
       turns = setting.turns;
+      members = setting.members;
       cuts = setting.cuts.items;
     }
 

@@ -4,6 +4,7 @@ ghost use Rattle.script_law.specs.Situation.{latest_after};
 ghost use Rattle.world_free.specs.Ends.{HasEnded, HaveEnded, HaveLooked, latest_by};
 
 use crate::job::FreeMail;
+use crate::jobs::MOST_MEMBERS;
 use book_law::Turn;
 use cron_io::OutOfMemory;
 use std::alloc::Global;
@@ -11,9 +12,6 @@ use world_law::LetterRow;
 use world_parts::MemberMail;
 use world_steps::reading_with;
 use zone_minutes::Minute;
-
-// The lists of a world's parts have room for so many replicas.
-const MOST_MEMBERS: usize = 7;
 
 // The mail of a replica whose thread has ended. Where it runs, it takes the letters that it hasn't looked at.
 fn mail_ended(

@@ -14,10 +14,10 @@ ghost use Rattle.zone_minutes.specs.Window.{IsInWindow};
 use crate::ends::{latest_reading, mails_ended};
 use crate::gate::TurnGate;
 use crate::job::{FreeJob, Setting};
-use crate::jobs::{had_memory, jobs_of, mails_kept, parts_of};
+use crate::jobs::{MOST_MEMBERS, had_memory, jobs_of, mails_kept, parts_of};
 use crate::ready::MOST_TURNS;
 use cron_io::OutOfMemory;
-use disk_model::Disk;
+use disk_model::{ArmedDisk, Disk};
 use due_set::JobTable;
 use replica_node::Node;
 use std::alloc::Global;
@@ -29,11 +29,8 @@ use world_law::Book;
 use world_parts::{Bundle, MailState};
 use zone_minutes::Minute;
 
-// At most seven replicas, and a thread for each.
-const MOST_MEMBERS: usize = 7;
-
-// Each replica takes its turns in a thread of its own.
-fn run_all<D: Disk + Send, R: Threads + Wait + Sync, G: TurnGate + Sync>(
+// Each replica takes its turns in a thread of its own, of which there are as many as replicas at most.
+fn run_all<D: ArmedDisk + Send, R: Threads + Wait + Sync, G: TurnGate + Sync>(
     rt: &R,
     book: &TurnBook<Book>,
     gate: &G,
@@ -60,7 +57,7 @@ fn run_all<D: Disk + Send, R: Threads + Wait + Sync, G: TurnGate + Sync>(
 }
 
 // So they do, or memory is wanting.
-fn run_jobs<D: Disk + Send, R: Threads + Wait + Sync, G: TurnGate + Sync>(
+fn run_jobs<D: ArmedDisk + Send, R: Threads + Wait + Sync, G: TurnGate + Sync>(
     rt: &R,
     book: &TurnBook<Book>,
     gate: &G,
@@ -128,7 +125,7 @@ fn finish<D: Disk, M: Drop>(
 /// # Errors
 ///
 /// Want of memory, and a book of more than 2^31 - 2 turns.
-pub fn run_free<D: Disk + Send, M: Drop, R: Threads + Wait + Sync, G: TurnGate + Sync>(
+pub fn run_free<D: ArmedDisk + Send, M: Drop, R: Threads + Wait + Sync, G: TurnGate + Sync>(
     rt: &R,
     alloc: Global,
     table: &JobTable,
@@ -166,7 +163,13 @@ pub fn run_free<D: Disk + Send, M: Drop, R: Threads + Wait + Sync, G: TurnGate +
     let seats = nodes.len() as u8;
     let (shared, places) = TurnBook::new(alloc, table, book, seats)?;
     let mut jobs = jobs_of(alloc, nodes, mails, places)?;
-    let setting = Setting { at, turns, cuts };
+    let setting = Setting {
+        alloc,
+        members: seats,
+        at,
+        turns,
+        cuts,
+    };
     run_jobs(rt, &shared, gate, table, &setting, jobs.as_mut_slice())?;
     finish(alloc, shared, setting, jobs, latest, first, room)
 }

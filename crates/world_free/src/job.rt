@@ -1,13 +1,17 @@
 //! What the thread of a replica has.
 use replica_node::Node;
+use std::alloc::Global;
 use turn_book::TurnSeat;
 use world_law::Book;
 use world_parts::MemberMail;
 use zone_minutes::Minute;
 
-/// What is set for all threads of a part: its instant, how many turns each replica has, and from whom to whom letters are lost.
+/// What is set for all threads of a part: whence they have memory, how many replicas there are, the part's instant, how many turns
+/// each replica has, and from whom to whom letters are lost.
 #[derive(Debug, Drop)]
 pub(crate) struct Setting {
+    pub(crate) alloc: Global,
+    pub(crate) members: u8,
     pub(crate) at: Minute,
     pub(crate) turns: u32,
     pub(crate) cuts: Vec<(u8, u8)>,

@@ -12,8 +12,8 @@ use turn_book::TurnSeat;
 use world_law::{Book, LetterRow};
 use world_parts::MemberMail;
 
-// The lists of a world's parts have room for so many replicas.
-const MOST_MEMBERS: usize = 7;
+/// The replicas that a world has at most: its lists have room for so many.
+pub(crate) const MOST_MEMBERS: usize = 7;
 
 /// The mails of replicas as their threads keep them, which have looked at all letters.
 pub(crate) fn mails_kept(

@@ -1,7 +1,7 @@
 //! The turns of one thread.
 ghost use Rattle.std.specs.Prelude.{◌≡◌, ◌+◌, ◌<◌, ◌≤◌, ℕ, false, IfOk, OnOk};
 ghost use Rattle.script_law.specs.Situation.{Situation as Here};
-ghost use Rattle.world_free.specs.Jobs.{IsJobAt, IsRunner, IsStepper};
+ghost use Rattle.world_free.specs.Jobs.{HasTried, IsBroken, IsJobAt, IsRunner, IsStepper, IsStopper};
 ghost use Rattle.world_free.specs.Mails.{IsToldHere};
 ghost use Rattle.world_free.specs.Plan.{SharedBook, plan_of};
 ghost use Rattle.zone_minutes.specs.Window.{IsInWindow};
@@ -12,13 +12,14 @@ use crate::next::next_cause;
 use crate::ready::{MOST_TURNS, make_ready};
 use book_law::{Cause, Turn};
 use cron_io::OutOfMemory;
-use disk_model::Disk;
+use disk_model::ArmedDisk;
 use due_set::JobTable;
+use paxos_base::Delta;
 use replica_core::Input;
 use std::sync::Wait;
 use turn_book::TurnBook;
 use world_law::{Book, BookRow};
-use world_steps::{Taken, note_call, take_step};
+use world_steps::{Outcome, Taken, calls_to_save, change_alone, note_step, note_stop, take_by_arm};
 
 // By which input a replica is told of a cause.
 fn input_for(mail: &FreeMail, cause: Cause) -> Input<'_>
@@ -41,21 +42,22 @@ fn input_for(mail: &FreeMail, cause: Cause) -> Input<'_>
     }
 }
 
-impl<D: Disk> FreeJob<D> {
-    // The replica takes the step of its next turn, beside the book: it decodes, and its change is saved.
+impl<D: ArmedDisk> FreeJob<D> {
+    // The replica takes the step of its next turn, beside the book: it decodes, and its change is saved, or its disk stops within that.
     fn step(
         &mut self,
         table: &JobTable,
         setting: &Setting,
         who: u8,
         turn: u32,
-    ) -> Result<Taken, OutOfMemory>
+    ) -> Result<(Cause, Outcome), OutOfMemory>
         requires inside { IsInWindow table.now.window setting.now.at.0 }
-        requires may { (book : SharedBook) × (situation : Here) × IsRunner D.seen D.may_leave D.honest D.told (plan_of table.now book situation setting.now) book who turn self.old }
+        requires may { (book : SharedBook) × (situation : Here)
+            × IsRunner D.seen D.may_leave D.honest D.told (plan_of table.now book situation setting.now) book who turn self.old }
         requires left { turn < setting.now.turns }
-        ensures steps { IfOk result (λ step. (book : SharedBook) (situation : Here)
+        ensures steps { IfOk result (λ tried. (book : SharedBook) (situation : Here)
             → IsRunner D.seen D.may_leave D.honest D.told (plan_of table.now book situation setting.now) book who turn self.old
-            → IsStepper D.seen D.may_leave D.honest D.told (plan_of table.now book situation setting.now) book who turn step self.new) }
+            → HasTried D.seen D.may_leave D.honest D.told (plan_of table.now book situation setting.now) book who turn tried.0 tried.1 self.new) }
     {
         let cause = next_cause(
             &self.mail.mail,
@@ -65,9 +67,20 @@ impl<D: Disk> FreeJob<D> {
             who,
             turn,
         );
+        let arm = self.mail.mail.arm;
         let input = input_for(&self.mail, cause);
-        let taken = take_step(&mut self.node, table, MOST_TURNS, cause, input)?;
-        Ok(taken)
+        let ended = take_by_arm(
+            &mut self.node,
+            setting.alloc,
+            table,
+            who,
+            setting.members,
+            arm,
+            MOST_TURNS,
+            cause,
+            input,
+        )?;
+        Ok((cause, ended))
     }
 
     // The step becomes a turn in a turn of the seat, with the call that the step asks for.
@@ -80,7 +93,8 @@ impl<D: Disk> FreeJob<D> {
         who: u8,
         taken: Taken,
     ) -> Result<(), OutOfMemory>
-        requires may { (situation : Here) × (turn : ℕ) × IsStepper D.seen D.may_leave D.honest D.told (plan_of table.now book.now situation setting.now) book.now who turn taken self.old }
+        requires may { (situation : Here) × (turn : ℕ)
+            × IsStepper D.seen D.may_leave D.honest D.told (plan_of table.now book.now situation setting.now) book.now who turn taken self.old }
         ensures goes { OnOk result ((situation : Here) (turn : ℕ)
             → IsStepper D.seen D.may_leave D.honest D.told (plan_of table.now book.now situation setting.now) book.now who turn taken self.old
             → IsRunner D.seen D.may_leave D.honest D.told (plan_of table.now book.now situation setting.now) book.now who (turn + 1) self.new) }
@@ -96,9 +110,10 @@ impl<D: Disk> FreeJob<D> {
         ) {
             Ok(call) => {
                 let Taken { cause, out } = taken;
+                let calls = calls_to_save(&out.delta);
                 let did = Turn::Did { who, cause, call };
                 turn.commit(table, BookRow { turn: did, out });
-                note_call(&mut self.mail.mail, call);
+                note_step(&mut self.mail.mail, call, calls);
                 Ok(())
             }
             Err(full) => {
@@ -108,7 +123,46 @@ impl<D: Disk> FreeJob<D> {
         }
     }
 
-    // Takes its next turn: the step beside the book, and then its turn.
+    // The stop becomes a turn in a turn of the seat, with the change that was kept. It posts no letter.
+    fn commit_stop<R: Wait>(
+        &mut self,
+        rt: &R,
+        book: &TurnBook<Book>,
+        table: &JobTable,
+        setting: &Setting,
+        who: u8,
+        cause: Cause,
+        change: Option<Delta>,
+    ) -> Result<(), OutOfMemory>
+        requires may { (situation : Here) × (turn : ℕ)
+            × IsStopper D.seen D.may_leave D.honest D.told (plan_of table.now book.now situation setting.now)
+            book.now who turn cause change self.old }
+        ensures stops { OnOk result ((situation : Here) (turn : ℕ)
+            → IsStopper D.seen D.may_leave D.honest D.told (plan_of table.now book.now situation setting.now) book.now who turn cause change self.old
+            → IsBroken D.seen D.may_leave D.honest D.told (plan_of table.now book.now situation setting.now) book.now who self.new) }
+    {
+        let kept = change.is_some();
+        let out = change_alone(setting.alloc, change);
+        let mut turn = book.enter(rt, &mut self.seat);
+        match turn.state().reserve(&out) {
+            Ok(()) => {
+                let stopped = Turn::Stopped {
+                    who,
+                    cause: Some(cause),
+                    kept,
+                };
+                turn.commit(table, BookRow { turn: stopped, out });
+                note_stop(&mut self.mail.mail);
+                Ok(())
+            }
+            Err(full) => {
+                turn.leave();
+                Err(full)
+            }
+        }
+    }
+
+    // Takes its next turn: the step beside the book, and then its turn, or that of the stop within the step.
     fn take_turn<R: Wait>(
         &mut self,
         rt: &R,
@@ -119,17 +173,23 @@ impl<D: Disk> FreeJob<D> {
         turn: u32,
     ) -> Result<(), OutOfMemory>
         requires inside { IsInWindow table.now.window setting.now.at.0 }
-        requires may { (situation : Here) × IsRunner D.seen D.may_leave D.honest D.told (plan_of table.now book.now situation setting.now) book.now who turn self.old }
+        requires may { (situation : Here)
+            × IsRunner D.seen D.may_leave D.honest D.told (plan_of table.now book.now situation setting.now) book.now who turn self.old }
         requires left { turn < setting.now.turns }
         ensures goes { OnOk result ((situation : Here)
             → IsRunner D.seen D.may_leave D.honest D.told (plan_of table.now book.now situation setting.now) book.now who turn self.old
-            → IsRunner D.seen D.may_leave D.honest D.told (plan_of table.now book.now situation setting.now) book.now who (turn + 1) self.new) }
+            → IsJobAt D.seen D.may_leave D.honest D.told (plan_of table.now book.now situation setting.now) book.now who (turn + 1) self.new) }
     {
-        let taken = self.step(table, setting, who, turn)?;
-        self.commit(rt, book, table, setting, who, taken)
+        let (cause, ended) = self.step(table, setting, who, turn)?;
+        match ended {
+            Outcome::Taken(taken) => self.commit(rt, book, table, setting, who, taken),
+            Outcome::Stopped(change) => {
+                self.commit_stop(rt, book, table, setting, who, cause, change)
+            }
+        }
     }
 
-    // Takes its turns one after another, where it runs and as long as there is memory.
+    // Takes its turns one after another, as long as it runs and there is memory.
     pub(crate) fn run<R: Wait, G: TurnGate>(
         &mut self,
         rt: &R,
@@ -141,16 +201,17 @@ impl<D: Disk> FreeJob<D> {
     )
         requires small { who < 7 }
         requires inside { IsInWindow table.now.window setting.now.at.0 }
-        requires may { (situation : Here) × IsJobAt D.seen D.may_leave D.honest D.told (plan_of table.now book.now situation setting.now) book.now who 0 self.old }
+        requires may { (situation : Here)
+            × IsJobAt D.seen D.may_leave D.honest D.told (plan_of table.now book.now situation setting.now) book.now who 0 self.old }
         requires has_memory { self.old.short ≡ false }
         ensures runs { self.new.short ≡ false → (situation : Here)
             → IsJobAt D.seen D.may_leave D.honest D.told (plan_of table.now book.now situation setting.now) book.now who 0 self.old
             → IsJobAt D.seen D.may_leave D.honest D.told (plan_of table.now book.now situation setting.now) book.now who setting.now.turns self.new }
     {
-        if !self.mail.mail.runs {
-            return;
-        }
         'turns: for turn in 0..setting.turns {
+            if !self.mail.mail.runs {
+                return;
+            }
             gate.pass(who as u8, turn);
             match self.take_turn(rt, book, table, setting, who as u8, turn) {
                 Ok(()) => {}

@@ -5,18 +5,32 @@ use Rattle.disk_model.specs.Told.{Told}
 use Rattle.due_set.specs.Table.{Table}
 use Rattle.agree_law.specs.Transition.{identity_of}
 use Rattle.book_law.specs.Book.{Row}
-use Rattle.replica_node.specs.Node.{IsNodeAtRest, disk_of, replica_of}
+use Rattle.replica_node.specs.Kept.{IsNodeClean, area_by}
+use Rattle.replica_node.specs.Node.{IsNodeAtRest, disk_of, replica_of, store_of}
 use Rattle.replica_node.specs.Reliable.{IsReliable}
 use Rattle.replica_node.specs.declared.node.Node.{Node}
 use Rattle.replica_store.specs.Files.{FilesStand}
+use Rattle.replica_store.specs.Store.{area_of}
+use Rattle.script_law.specs.Situation.{after_turns, first_situation}
 use Rattle.world_law.specs.Book.{BookState, standing_behind}
 
+-- how many bases each replica has kept by the rows behind a book
+abbrev pub bases_behind : Table → List Row → BookState → ℕ → ℕ
+bases_behind table rows book = (after_turns book.members (first_situation book.members table) rows).bases
+
+-- The disk of a node that has kept so many bases: it can't fail and isn't armed, nothing that the node uses of it waits for a sync, and
+-- the area in use is the one to which so many bases have led.
+pub record IsDiskAt {D : Type 0} (told_of : D → Option Told) (bases : ℕ) (node : Node D) : Type 0 where
+  pub reliable : IsReliable (told_of (disk_of node))
+  pub clean : IsNodeClean told_of node
+  pub area : area_of (store_of node) ≡ area_by bases
+
 -- A node between two calls is that of a replica of the book, behind which these rows stand: it has the replica's state, where that runs,
--- and keeps what the replica keeps. The files of its disk, as a read gives them, stand for what the replica keeps.
+-- and keeps what the replica keeps. Its disk is such as the rows have left it, and the files, as a read gives them, stand for what the replica keeps.
 pub record IsNodeOf {D : Type 0} (seen : D → Image) (may_leave : D → Image → Type 0) (honest : D → Type 0) (told_of : D → Option Told) (table : Table) (rows : List Row) (book : BookState) (who : ℕ) (node : Node D) : Type 0 where
   pub at_rest : IsNodeAtRest seen may_leave honest table node
   pub trusted : honest (disk_of node)
-  pub reliable : IsReliable (told_of (disk_of node))
+  pub disk : IsDiskAt told_of (bases_behind table rows book who) node
   pub identity : (replica_of node).identity ≡ identity_of book.members who
   pub state : (standing_behind table rows book).runs who ≡ true → (replica_of node).state ≡ (standing_behind table rows book).replicas who
   pub kept : (replica_of node).state.kept ≡ ((standing_behind table rows book).replicas who).kept

@@ -1,15 +1,16 @@
 -- The parts of a world, by the situation in which they are.
 use Rattle.std.specs.Prelude.{◌≡◌, ℕ, ◌≤◌, ◌≤ℤ◌, List, [], ◌++◌, length, Option, None, Some, Contains, slice_get, vec_capacity}
+use Rattle.disk_model.specs.declared.armed.Arm.{Arm}
 use Rattle.disk_model.specs.Images.{Image}
 use Rattle.disk_model.specs.Told.{Told}
 use Rattle.due_set.specs.Table.{IsSound, Table}
 use Rattle.book_law.specs.Book.{Row}
 use Rattle.replica_node.specs.declared.node.Node.{Node}
 use Rattle.script_text.specs.Command.{IsSkew}
-use Rattle.script_law.specs.Situation.{Situation, is_cut}
+use Rattle.script_law.specs.Situation.{Armed, Situation, is_cut}
 use Rattle.world_law.specs.Book.{BookState, StandsBehind, standing_behind}
 use Rattle.world_law.specs.declared.letter.LetterRow.{LetterRow}
-use Rattle.world_parts.specs.Nodes.{AreNodesOf}
+use Rattle.world_parts.specs.Nodes.{AreNodesOf, bases_behind}
 use Rattle.world_parts.specs.declared.bundle.Bundle.{Bundle}
 use Rattle.world_parts.specs.declared.mail.MemberMail.{MemberMail}
 
@@ -19,8 +20,8 @@ pub record IsSentTo (letters : List LetterRow) (who number : ℕ) : Type 0 where
   pub there : slice_get letters number ≡ Some letter
   pub to : letter.to ≡ who
 
--- The rows stand behind a book at rest, of a table of jobs and at most seven replicas, and this is the situation after them, whose
--- latest clock reading is of the window or later.
+-- The rows stand behind a book at rest, of a table of jobs and at most seven replicas, and this is the situation after them: its
+-- latest clock reading is of the window or later, and the replicas have kept as many bases as the rows have.
 pub record IsBookAt (table : Table) (rows : List Row) (book : BookState) (situation : Situation) : Type 0 where
   pub sound : IsSound table
   pub behind : StandsBehind table rows book
@@ -28,6 +29,12 @@ pub record IsBookAt (table : Table) (rows : List Row) (book : BookState) (situat
   pub few : book.members ≤ 7
   pub standing : situation.standing ≡ standing_behind table rows book
   pub since : table.window.from.0 ≤ℤ situation.latest
+  pub bases : situation.bases ≡ bases_behind table rows book
+
+-- how a disk is armed, by what is set for its replica
+abbrev pub armed_in : Option Arm → Option Armed
+armed_in None = None
+armed_in (Some arm) = Some (record { left = arm.left; image = arm.image })
 
 -- What is set for a replica is what the situation has, but for letters that it has heard in steps that aren't turns yet; and the letters
 -- of its mail go to it.
@@ -38,6 +45,7 @@ pub record IsMailOf (letters : List LetterRow) (situation : Situation) (who : �
   pub small : IsSkew mail.skew
   pub fate : mail.fate ≡ situation.fates who
   pub waits : mail.waits ≡ situation.standing.waits who
+  pub arm : armed_in mail.arm ≡ situation.arms who
   pub sent : (number : ℕ) → Contains mail.letters.items number → IsSentTo letters who number
 
 -- **The parts are those of a world in this situation**, and behind their book stand these rows: there is a node and a mail for each of

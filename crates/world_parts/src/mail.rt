@@ -1,5 +1,6 @@
 //! What is on its way to the replicas of a world, and what is set for them.
 use cluster_sched::{Fate, SchedRow};
+use disk_model::Arm;
 use zone_minutes::Minute;
 
 /// What is on its way to a replica, and what is set for it.
@@ -15,6 +16,8 @@ pub struct MemberMail {
     pub fate: Fate,
     /// The answer that waits for it.
     pub waits: Option<SchedRow>,
+    /// How its disk is armed to stop, where it is: the disk itself is armed for the length of each step, and else reliable.
+    pub arm: Option<Arm>,
 }
 
 /// What is set for the replicas of a world.

@@ -8,7 +8,7 @@ ghost use Rattle.zone_minutes.specs.Window.{IsInWindow};
 
 use crate::start::empty_world;
 use cron_io::OutOfMemory;
-use disk_model::{Disk, MemDisk};
+use disk_model::{ArmedDisk, MemDisk};
 use due_set::JobTable;
 use script_text::Command;
 use std::alloc::Global;
@@ -19,7 +19,7 @@ use world_rounds::World;
 use zone_minutes::Minute;
 
 // Each replica that runs takes so many turns by itself.
-fn play_free<D: Disk + Send, R: Threads + Wait + Sync, G: TurnGate + Sync>(
+fn play_free<D: ArmedDisk + Send, R: Threads + Wait + Sync, G: TurnGate + Sync>(
     rt: &R,
     alloc: Global,
     world: World<D>,
@@ -39,7 +39,7 @@ fn play_free<D: Disk + Send, R: Threads + Wait + Sync, G: TurnGate + Sync>(
 }
 
 // Does what a command says, rounds in so many lanes.
-fn play_command<D: Disk + Send, R: Threads + Wait + Sync, G: TurnGate + Sync>(
+fn play_command<D: ArmedDisk + Send, R: Threads + Wait + Sync, G: TurnGate + Sync>(
     rt: &R,
     alloc: Global,
     mut world: World<D>,
@@ -69,7 +69,7 @@ fn play_command<D: Disk + Send, R: Threads + Wait + Sync, G: TurnGate + Sync>(
 /// # Errors
 ///
 /// Want of memory, and more turns than a book takes in one command; the world is gone then.
-pub fn play<D: Disk + Send, R: Threads + Wait + Sync, G: TurnGate + Sync>(
+pub fn play<D: ArmedDisk + Send, R: Threads + Wait + Sync, G: TurnGate + Sync>(
     rt: &R,
     alloc: Global,
     mut world: World<D>,

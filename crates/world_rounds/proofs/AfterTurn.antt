@@ -1,15 +1,18 @@
 -- What a turn leaves of the replicas of a world.
 use Rattle.std.proofs.Common.{◌≡◌, ℕ, Bool, true, false, List, [], ◌∷◌, ◌++◌, Option, sym, ap, ◌∙◌, inl, inr}
 use Rattle.std.proofs.lemmas.Bool.{cases_Bool}
+use Rattle.std.specs.Option.{option_to_list}
 use Rattle.disk_model.specs.Images.{Image}
 use Rattle.disk_model.specs.Told.{Told}
 use Rattle.due_set.specs.Table.{Table}
 use Rattle.book_law.specs.Book.{Row, Standing}
 use Rattle.book_law.specs.declared.turn.CallRow.{CallRow}
-use Rattle.script_law.specs.Situation.{Situation, after_turn}
+use Rattle.script_law.specs.Situation.{Situation, after_turn, calls_for, changes_in}
 use Rattle.world_law.specs.Book.{BookState, standing_behind}
+use Rattle.world_parts.specs.Nodes.{bases_behind}
 use Rattle.world_parts.specs.Parts.{IsBookAt}
-use Rattle.world_steps.proofs.AfterTurn.{Leaves, mail_did, mail_stays, node_did, node_stays, row_runs, stands_after, stopped_stays}
+use Rattle.world_steps.proofs.AfterTurn.{Leaves, mail_did, mail_stays, node_did, node_stays, row_runs, next_step, stands_after, stopped_stays}
+use Rattle.world_steps.proofs.Bases.{bases_then, changes_joined}
 use Rattle.world_steps.specs.Steps.{IsNodeAhead, causes_of, heard_in}
 use Rattle.world_steps.specs.Turns.{HasJoinedAt, HasLetters, noted}
 use Rattle.world_steps.specs.declared.steps.Taken.{Taken}
@@ -23,9 +26,10 @@ module _ {D : Type 0} (seen : D → Image) (may_leave : D → Image → Type 0) 
       → IsMemberAhead seen may_leave honest told_of table (rows ++ row ∷ []) after (after_turn book.members situation row) other steps member
   member_stays rows row book after situation other steps member at members has leaves ahead = record {
     mail = mail_stays book.members situation row other (heard_in (causes_of steps)) book.letters after member.mail has leaves ahead.mail;
-    running = λ runs. node_stays seen may_leave honest told_of table rows row book after other steps member.node members has replica runs waits (ahead.running (sym running ∙ runs));
+    running = λ runs. node_stays seen may_leave honest told_of table rows row book after other steps member.node members has replica runs waits bases (ahead.running (sym running ∙ runs));
     stopped = λ stopped.
-        stopped_stays seen may_leave honest told_of table book.members after.members other (standing_behind table rows book) (standing_behind table (rows ++ row ∷ []) after) steps member.node members replica
+        stopped_stays seen may_leave honest told_of table book.members after.members other (standing_behind table rows book) (standing_behind table (rows ++ row ∷ []) after)
+        (bases_behind table rows book other) (bases_behind table (rows ++ row ∷ []) after other) steps member.node members replica bases
         (ahead.stopped (sym running ∙ stopped));
   }
     where
@@ -41,6 +45,11 @@ module _ {D : Type 0} (seen : D → Image) (may_leave : D → Image → Type 0) 
       waits : (standing_behind table (rows ++ row ∷ []) after).waits other ≡ (standing_behind table rows book).waits other
       waits = ap (λ (s : Standing). s.waits other) next ∙ leaves.waits ∙ ap (λ (s : Standing). s.waits other) at.standing
 
+      bases : bases_behind table (rows ++ row ∷ []) after other ≡ bases_behind table rows book other
+      bases =
+          ap (λ (counts : ℕ → ℕ). counts other) (sym (bases_then table rows row book after situation at members)) ∙ leaves.base
+          ∙ ap (λ (counts : ℕ → ℕ). counts other) at.bases
+
 -- a replica that is a step ahead runs
 pub runs_ahead : {D : Type 0} (seen : D → Image) (may_leave : D → Image → Type 0) (honest : D → Type 0) (told_of : D → Option Told) (table : Table) (rows : List Row) (book : BookState) (situation : Situation) (who : ℕ) (taken : Taken)
     (more : List Taken) (member : Member D) → IsMemberAhead seen may_leave honest told_of table rows book situation who (taken ∷ more) member → (standing_behind table rows book).runs who ≡ true
@@ -55,15 +64,22 @@ module _ {D : Type 0} (seen : D → Image) (may_leave : D → Image → Type 0) 
       → (at : IsBookAt table rows book situation) → (ahead : IsMemberAhead seen may_leave honest told_of table rows book situation who (taken ∷ more) member)
       → (node : IsNodeAhead seen may_leave honest told_of table rows book who (taken ∷ more) member.node)
       → (joined : HasJoinedAt table rows book after who taken member.mail.fate made node.took.0)
-      → IsMemberAhead seen may_leave honest told_of table (rows ++ joined.row ∷ []) after (after_turn book.members situation joined.row) who more (record member { mail = noted made member.mail })
+      → IsMemberAhead seen may_leave honest told_of table (rows ++ joined.row ∷ []) after (after_turn book.members situation joined.row) who more
+      (record member { mail = noted made (calls_for (option_to_list taken.out.delta)) member.mail })
   member_did rows book after situation who taken more made member at ahead node joined = record {
-    mail = mail_did book.members situation joined.row who taken more made book.letters after member.mail joined.joined.turn joined.joined.has ahead.mail;
-    running = λ here. node_did seen may_leave honest told_of table rows book after who taken more member.mail.fate made member.node node joined;
+    mail = mail_did book.members situation joined.row who taken more made book.letters after member.mail joined.joined.turn changes joined.joined.has ahead.mail;
+    running = λ here. node_did seen may_leave honest told_of table rows book after who taken more member.mail.fate made member.node at.behind at.rest at.few node joined;
     stopped = λ stopped. absurd (let e : true ≡ false = sym was ∙ sym running ∙ stopped in cc);
   }
     where
       runs : (after_turn book.members situation joined.row).standing.runs ≡ situation.standing.runs
       runs = row_runs book.members situation.standing joined.row who taken.cause made joined.joined.turn
+
+      changes : changes_in book.members situation.standing joined.row.turn joined.row.event ≡ option_to_list taken.out.delta
+      changes =
+          ap (λ (s : Standing). changes_in book.members s joined.row.turn joined.row.event) at.standing
+          ∙ changes_joined table rows book after who taken node.first node.took.0 member.mail.fate made joined.row
+          (next_step seen may_leave honest told_of table rows book situation who taken more member.node at node) joined.joined
 
       was : (standing_behind table rows book).runs who ≡ true
       was = runs_ahead seen may_leave honest told_of table rows book situation who taken more member ahead

@@ -1,5 +1,5 @@
 -- Late calls that arrive.
-use Rattle.std.proofs.Common.{◌≡◌, ℕ, ◌<◌, ◌==◌, ◌&&◌, nat_lt, not, Bool, true, false, List, [], ◌∷◌, length, Some, refl, sym, ap, ◌∙◌, subst, inl, inr, arith, if◌then◌else◌, Option}
+use Rattle.std.proofs.Common.{◌≡◌, ℕ, ◌<◌, ◌==◌, ◌&&◌, nat_lt, not, Bool, true, false, List, [], ◌∷◌, length, None, Some, refl, sym, ap, ◌∙◌, subst, inl, inr, arith, if◌then◌else◌, Option}
 use Rattle.std.specs.List.{list_any, slice_get}
 use Rattle.std.proofs.lemmas.Bool.{cases_Bool, ltb-true}
 use Rattle.std.proofs.lemmas.Option.{slice_get_cases}
@@ -63,7 +63,7 @@ module _ {D : Type 0} (seen : D → Image) (may_leave : D → Image → Type 0) 
   asks_arrival rows world situation late may is answer = ap (λ (b : Bool). if b then Arrive late ∷ [] else []) (sym (late_alike rows world situation late is) ∙ answer)
 
   arrives_alone : (rows : List Row) (world : World D) (situation : Situation) (late : ℕ) → IsWorldAt seen may_leave honest told_of table rows world situation
-      → (nat_lt late (length world.book.ledger.late) && not (has_number late world.book.arrived)) ≡ true → IsAlone table rows world.book (Arrived late) (row_arrived late)
+      → (nat_lt late (length world.book.ledger.late) && not (has_number late world.book.arrived)) ≡ true → IsAlone table rows world.book (Arrived late) None (row_arrived late)
   arrives_alone rows world situation late is answer =
       let within : late < length situation.standing.late =
       ltb-true late (length situation.standing.late) (both _ _ (sym (late_alike rows world situation late is) ∙ answer)) in
@@ -79,12 +79,12 @@ module _ {D : Type 0} (seen : D → Image) (may_leave : D → Image → Type 0) 
       }
 
   pub may_come : (world : World D) (late : ℕ) → IsWorld seen may_leave honest told_of table world
-      → (nat_lt late (length world.book.ledger.late) && not (has_number late world.book.arrived)) ≡ true → (rows : List Row) × (row : Row) × IsAlone table rows world.book (Arrived late) row
+      → (nat_lt late (length world.book.ledger.late) && not (has_number late world.book.arrived)) ≡ true → (rows : List Row) × (row : Row) × IsAlone table rows world.book (Arrived late) None row
   may_come world late is answer = (is.rows, row_arrived late, arrives_alone is.rows world is.situation late is.is answer)
 
   pub arrival_goes : (world new : World D) (late : ℕ) → (nat_lt late (length world.book.ledger.late) && not (has_number late world.book.arrived)) ≡ true
       → new.members ≡ world.members → new.cuts ≡ world.cuts → new.latest ≡ world.latest
-      → ((rows : List Row) (row : Row) → IsAlone table rows world.book (Arrived late) row → HasJoinedAlone table rows world.book new.book row)
+      → ((rows : List Row) (row : Row) → IsAlone table rows world.book (Arrived late) None row → HasJoinedAlone table rows world.book new.book row)
       → GoesOnBy seen may_leave honest told_of table (Plain world.book.members (arrival_tasks late) (λ situation. situation)) world new
   arrival_goes world new late answer members cuts latest joins = λ rows situation is.
       let row = row_arrived late in

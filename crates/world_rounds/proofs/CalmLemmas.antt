@@ -18,11 +18,11 @@ use Rattle.script_law.proofs.StartLemmas.{all_run}
 use Rattle.script_law.specs.Commands.{Plain}
 use Rattle.script_law.specs.Script.{IsPartOf}
 use Rattle.script_law.specs.Settling.{calmed, furthest, restart_tasks}
-use Rattle.script_law.specs.Situation.{AreTurnsFor, Restart, Situation, Task, after_turn, after_turns, delivered, is_cut, latest_after}
+use Rattle.script_law.specs.Situation.{AreTurnsFor, Restart, Situation, Task, after_turn, after_turns, bases_kept, changes_in, delivered, is_cut, latest_after}
 use Rattle.script_text.specs.Command.{IsSkew}
 use Rattle.script_text.specs.declared.command.Command.TheVariants as command
 use Rattle.world_law.specs.Book.{BookState}
-use Rattle.world_steps.proofs.AfterTurn.{fact_there}
+use Rattle.world_steps.proofs.Facts.{fact_there}
 use Rattle.world_rounds.proofs.Chains.{after_append, turns_append}
 use Rattle.world_rounds.proofs.Delivery.{range_next}
 use Rattle.world_rounds.proofs.QuietLemmas.{found_at, node_state}
@@ -35,6 +35,7 @@ use Rattle.world_rounds.specs.Mails.{Changes}
 use Rattle.world_rounds.specs.Quiet.{AllRun}
 use Rattle.world_rounds.specs.World.{GoesOnBy, IsWorld, IsWorldAt}
 use Rattle.world_rounds.specs.declared.member.Member.{Member}
+use Rattle.world_parts.specs.Parts.{armed_in}
 use Rattle.world_rounds.specs.declared.world.World.{World}
 
 no_skew : IsSkew (pos 0)
@@ -48,6 +49,14 @@ pub same_stand : (n : ℕ) (one other : Situation) (rows : List Row) → one.sta
 same_stand n one other [] standing latest = (standing, latest)
 same_stand n one other (row ∷ rows) standing latest =
     same_stand n (after_turn n one row) (after_turn n other row) rows (ap (λ s. after_row n s row.turn row.event row.letters) standing) (ap (latest_after row.turn) latest)
+
+-- and so are the bases that were kept
+pub same_bases : (n : ℕ) (one other : Situation) (rows : List Row) → one.standing ≡ other.standing → one.bases ≡ other.bases
+    → (after_turns n one rows).bases ≡ (after_turns n other rows).bases
+same_bases n one other [] standing bases = bases
+same_bases n one other (row ∷ rows) standing bases =
+    same_bases n (after_turn n one row) (after_turn n other row) rows (ap (λ s. after_row n s row.turn row.event row.letters) standing)
+    (ap (λ (s : Standing). bases_kept row.turn (changes_in n s row.turn row.event) one.bases) standing ∙ ap (bases_kept row.turn (changes_in n other.standing row.turn row.event)) bases)
 
 -- those of these that are stopped start again
 abbrev pub start_tasks : (ℕ → Bool) → List ℕ → List Task
@@ -91,6 +100,7 @@ pub record RestartsBelow (n count : ℕ) (situation : Situation) (rows : List Ro
   pub turns : AreTurnsFor n situation (start_tasks situation.standing.runs (range_with_len 0 count)) rows
   pub standing : after.standing ≡ (after_turns n situation rows).standing
   pub latest : after.latest ≡ (after_turns n situation rows).latest
+  pub bases : after.bases ≡ (after_turns n situation rows).bases
 
 restarts_more : (n count : ℕ) (table : Table) (situation here after : Situation) (rows more : List Row) → RestartsBelow n count situation rows here
     → IsPartOf n table (command.Restart count) here more after → RestartsBelow n (count + 1) situation (rows ++ more) after
@@ -101,6 +111,9 @@ restarts_more n count table situation here after rows more so_far part = record 
       (turns_append n situation (start_tasks situation.standing.runs (range_with_len 0 count)) (start_tasks situation.standing.runs (count ∷ [])) rows more so_far.turns mine));
   standing = ap (λ (s : Situation). s.standing) is ∙ stands.0 ∙ ap (λ (s : Situation). s.standing) (sym (after_append n situation rows more));
   latest = ap (λ (s : Situation). s.latest) is ∙ stands.1 ∙ ap (λ (s : Situation). s.latest) (sym (after_append n situation rows more));
+  bases =
+      ap (λ (s : Situation). s.bases) is ∙ same_bases n here (after_turns n situation rows) more so_far.standing so_far.bases
+      ∙ ap (λ (s : Situation). s.bases) (sym (after_append n situation rows more));
 }
   where
     front : more ≡ part.front
@@ -182,7 +195,7 @@ module _ {D : Type 0} (seen : D → Image) (may_leave : D → Image → Type 0) 
   pub world_calmed : (old new : World D) → new.book ≡ old.book → new.latest ≡ old.latest → new.cuts.items ≡ [] → AreCalmed old.members.items new.members.items
       → Changes seen may_leave honest told_of calmed old new
   world_calmed old new book latest cuts members = λ table rows situation is.
-      world_set seen may_leave honest told_of table rows old new situation (calmed situation) is book latest members.count refl refl (λ from to. ap (is_cut from to) cuts)
+      world_set seen may_leave honest told_of table rows old new situation (calmed situation) is book latest members.count refl refl refl (λ from to. ap (is_cut from to) cuts)
       (λ who next found.
       let below : who < length new.members.items = slice_get_within new.members.items who next found in
       let count = members.count in
@@ -200,6 +213,7 @@ module _ {D : Type 0} (seen : D → Image) (may_leave : D → Image → Type 0) 
           small = subst IsSkew (sym calms.skew) no_skew;
           fate = calms.fate;
           waits = calms.waits ∙ mail.waits;
+          arm = ap armed_in calms.arm;
           sent = λ number has. nothing_in (subst (λ items. Contains items number) calms.letters has);
         },
       ))
@@ -215,7 +229,7 @@ module _ {D : Type 0} (seen : D → Image) (may_leave : D → Image → Type 0) 
     goes = λ rows situation here. (
       [],
       situation,
-      record { turns = refl; standing = refl; latest = refl },
+      record { turns = refl; standing = refl; latest = refl; bases = refl },
       subst (λ rows. IsWorldAt seen may_leave honest told_of table rows world situation) (sym (append_nil rows)) here,
     );
     members = refl;
@@ -249,11 +263,17 @@ module _ {D : Type 0} (seen : D → Image) (may_leave : D → Image → Type 0) 
           turns = subst (λ n. AreTurnsFor old.book.members situation (start_tasks situation.standing.runs (range_with_len 0 n)) part.0) all part.2.turns;
           standing = part.2.standing;
           latest = part.2.latest;
+          bases = part.2.bases;
         },
         part.3,
       )
 
   -- ---- both
+
+  same_calm : (n : ℕ) (situation here : Situation) (rows : List Row) → RestartsAll n situation rows here → calmed here ≡ calmed (delivered (length situation.standing.posted) (after_turns n situation rows))
+  same_calm n situation here rows all =
+      ap₂ (λ standing latest. calmed (record here { standing = standing; latest = latest })) all.standing all.latest
+      ∙ ap (λ (bases : ℕ → ℕ). calmed (record here { standing = (after_turns n situation rows).standing; latest = (after_turns n situation rows).latest; bases = bases })) all.bases
 
   calm_same : (n : ℕ) (situation here : Situation) (rows : List Row) → RestartsAll n situation rows here → Plain n (restart_tasks n) calmed situation rows (calmed here)
   calm_same n situation here rows all =
@@ -264,7 +284,7 @@ module _ {D : Type 0} (seen : D → Image) (may_leave : D → Image → Type 0) 
         back = [];
         parts = sym (append_nil rows);
         one = record { turns = all.turns; is = refl };
-        two = record { none = refl; is = ap₂ (λ standing latest. calmed (record here { standing = standing; latest = latest })) all.standing all.latest };
+        two = record { none = refl; is = same_calm n situation here rows all };
       }
 
   pub started_over : (n : ℕ) (old now new : World D) → GoesOnBy seen may_leave honest told_of table (RestartsAll n) old now → Changes seen may_leave honest told_of calmed now new

@@ -47,6 +47,7 @@ module _ {D : Type 0} (seen : D → Image) (may_leave : D → Image → Type 0) 
         small = idle.ahead.mail.small;
         fate = idle.ahead.mail.fate;
         waits = idle.ahead.mail.waits;
+        arm = idle.ahead.mail.arm;
         sent = idle.ahead.mail.sent;
       });
       running = λ here. beside.ahead;
@@ -60,7 +61,7 @@ module _ {D : Type 0} (seen : D → Image) (may_leave : D → Image → Type 0) 
 
   -- ---- the world
 
-  idle_steps : (rows : List Row) (world : World D) (situation : Situation) (who : ℕ) → IsWorldAt seen may_leave honest told_of table rows world situation → steps_at world who ≡ []
+  pub idle_steps : (rows : List Row) (world : World D) (situation : Situation) (who : ℕ) → IsWorldAt seen may_leave honest told_of table rows world situation → steps_at world who ≡ []
   idle_steps rows world situation who is = go (slice_get world.members.items who) refl
     where
       go : (found : Option (Member D)) → slice_get world.members.items who ≡ found → steps_of found ≡ []

@@ -20,7 +20,7 @@ use Rattle.world_law.specs.declared.letter.LetterRow.{LetterRow}
 use Rattle.world_rounds.proofs.StepsAt.{cases_number}
 use Rattle.world_rounds.proofs.Worlds.{set_cases}
 use Rattle.world_rounds.specs.Mails.{Changes, arrival_of, arrived}
-use Rattle.world_parts.specs.Parts.{IsSentTo}
+use Rattle.world_parts.specs.Parts.{IsSentTo, armed_in}
 use Rattle.script_text.specs.Command.{IsSkew}
 use Rattle.world_parts.specs.Parts.{IsMailOf}
 use Rattle.world_rounds.specs.World.{IsMemberAhead, IsWorld, IsWorldAt}
@@ -89,22 +89,23 @@ module _ {D : Type 0} (seen : D → Image) (may_leave : D → Image → Type 0) 
 
   -- a mail with what has arrived
   mail_more : (letters : List LetterRow) (situation : Situation) (number who : ℕ) (more : List ℕ) (old new : MemberMail) → IsMailOf letters situation who [] old → arrival_of situation number who ≡ more
-      → new.letters.items ≡ old.letters.items ++ more → new.runs ≡ old.runs → new.skew ≡ old.skew → new.fate ≡ old.fate → new.waits ≡ old.waits
+      → new.letters.items ≡ old.letters.items ++ more → new.runs ≡ old.runs → new.skew ≡ old.skew → new.fate ≡ old.fate → new.waits ≡ old.waits → new.arm ≡ old.arm
       → ((number : ℕ) → Contains new.letters.items number → IsSentTo letters who number) → IsMailOf letters (arrived number situation) who [] new
-  mail_more letters situation number who more old new mail arrives items runs skew fate waits sent = record {
+  mail_more letters situation number who more old new mail arrives items runs skew fate waits arm sent = record {
     runs = runs ∙ mail.runs;
     letters_are = ap (λ more. situation.mails who ++ more) arrives ∙ ap (λ front. front ++ more) mail.letters_are ∙ sym items;
     skew = skew ∙ mail.skew;
     small = subst IsSkew (sym skew) mail.small;
     fate = fate ∙ mail.fate;
     waits = waits ∙ mail.waits;
+    arm = ap armed_in arm ∙ mail.arm;
     sent = sent;
   }
 
   same_mail : (letters : List LetterRow) (situation : Situation) (number who : ℕ) (mail : MemberMail) → IsMailOf letters situation who [] mail → arrival_of situation number who ≡ []
       → IsMailOf letters (arrived number situation) who [] mail
   same_mail letters situation number who mail is none =
-      mail_more letters situation number who [] mail mail is none (sym (append_nil mail.letters.items)) refl refl refl refl is.sent
+      mail_more letters situation number who [] mail mail is none (sym (append_nil mail.letters.items)) refl refl refl refl refl is.sent
 
   member_same : (rows : List Row) (book : BookState) (situation : Situation) (number who : ℕ) (member : Member D) → IsMemberAhead seen may_leave honest told_of table rows book situation who [] member
       → arrival_of situation number who ≡ [] → IsMemberAhead seen may_leave honest told_of table rows book (arrived number situation) who [] member
@@ -117,7 +118,7 @@ module _ {D : Type 0} (seen : D → Image) (may_leave : D → Image → Type 0) 
       → IsWorldAt seen may_leave honest told_of table rows world (arrived number situation)
   unmoved rows world situation number is none = record {
     ahead = record {
-      at = record { sound = is.ahead.at.sound; behind = is.ahead.at.behind; rest = is.ahead.at.rest; few = is.ahead.at.few; standing = is.ahead.at.standing; since = is.ahead.at.since };
+      at = record { sound = is.ahead.at.sound; behind = is.ahead.at.behind; rest = is.ahead.at.rest; few = is.ahead.at.few; standing = is.ahead.at.standing; since = is.ahead.at.since; bases = is.ahead.at.bases };
       count = is.ahead.count;
       each = λ who member found. member_same rows world.book situation number who member (is.ahead.each who member found) (none who member found);
       cuts = is.ahead.cuts;
@@ -131,10 +132,10 @@ module _ {D : Type 0} (seen : D → Image) (may_leave : D → Image → Type 0) 
       → slice_get world.book.letters number ≡ Some letter → slice_get world.members.items letter.to ≡ Some member → is_cut letter.from letter.to world.cuts.items ≡ false → member.mail.runs ≡ true
       → after.book ≡ world.book → after.members.items ≡ set world.members.items letter.to next → after.cuts ≡ world.cuts → after.latest ≡ world.latest
       → next.node ≡ member.node → next.steps ≡ member.steps → next.mail.letters.items ≡ member.mail.letters.items ++ number ∷ [] → next.mail.runs ≡ member.mail.runs → next.mail.skew ≡ member.mail.skew
-      → next.mail.fate ≡ member.mail.fate → next.mail.waits ≡ member.mail.waits → IsWorldAt seen may_leave honest told_of table rows after (arrived number situation)
-  moved rows world after situation number letter member next is there mine whole runs book members cuts latest node steps letters running skew fate waits = record {
+      → next.mail.fate ≡ member.mail.fate → next.mail.waits ≡ member.mail.waits → next.mail.arm ≡ member.mail.arm → IsWorldAt seen may_leave honest told_of table rows after (arrived number situation)
+  moved rows world after situation number letter member next is there mine whole runs book members cuts latest node steps letters running skew fate waits arm = record {
     ahead = record {
-      at = record { sound = is.ahead.at.sound; behind = rw book is.ahead.at.behind; rest = rw book is.ahead.at.rest; few = rw book is.ahead.at.few; standing = rw book is.ahead.at.standing; since = is.ahead.at.since };
+      at = record { sound = is.ahead.at.sound; behind = rw book is.ahead.at.behind; rest = rw book is.ahead.at.rest; few = rw book is.ahead.at.few; standing = rw book is.ahead.at.standing; since = is.ahead.at.since; bases = rw book is.ahead.at.bases };
       count = rw book (ap length members ∙ length-set world.members.items letter.to next ∙ is.ahead.count);
       each = λ who x found. rw book (elim (set_cases world.members.items letter.to next who x (subst (λ members. slice_get members who ≡ Some x) members found)) [
         | inl here ↦ subst (λ w. IsMemberAhead seen may_leave honest told_of table rows world.book (arrived number situation) w [] x) (sym here.0)
@@ -167,7 +168,7 @@ module _ {D : Type 0} (seen : D → Image) (may_leave : D → Image → Type 0) 
 
       mine_moved : IsMemberAhead seen may_leave honest told_of table rows world.book (arrived number situation) letter.to [] next
       mine_moved = record {
-        mail = mail_more world.book.letters situation number letter.to (number ∷ []) member.mail next.mail was.mail arrives letters running skew fate waits sent;
+        mail = mail_more world.book.letters situation number letter.to (number ∷ []) member.mail next.mail was.mail arrives letters running skew fate waits arm sent;
         running = rw node was.running;
         stopped = rw node was.stopped;
       }
@@ -194,14 +195,14 @@ module _ {D : Type 0} (seen : D → Image) (may_leave : D → Image → Type 0) 
   mail_like : (letters : List LetterRow) (situation : Situation) (mails : ℕ → List ℕ) (who : ℕ) (mail : MemberMail) → situation.mails who ≡ mails who → IsMailOf letters situation who [] mail
       → IsMailOf letters (record situation { mails = mails }) who [] mail
   mail_like letters situation mails who mail same is =
-      record { runs = is.runs; letters_are = sym same ∙ is.letters_are; skew = is.skew; small = is.small; fate = is.fate; waits = is.waits; sent = is.sent }
+      record { runs = is.runs; letters_are = sym same ∙ is.letters_are; skew = is.skew; small = is.small; fate = is.fate; waits = is.waits; arm = is.arm; sent = is.sent }
 
   -- a situation with the same mails, each by each
   pub same_mails : (table : Table) (rows : List Row) (world : World D) (situation : Situation) (mails : ℕ → List ℕ) → ((who : ℕ) → situation.mails who ≡ mails who)
       → IsWorldAt seen may_leave honest told_of table rows world situation → IsWorldAt seen may_leave honest told_of table rows world (record situation { mails = mails })
   same_mails table rows world situation mails same is = record {
     ahead = record {
-      at = record { sound = is.ahead.at.sound; behind = is.ahead.at.behind; rest = is.ahead.at.rest; few = is.ahead.at.few; standing = is.ahead.at.standing; since = is.ahead.at.since };
+      at = record { sound = is.ahead.at.sound; behind = is.ahead.at.behind; rest = is.ahead.at.rest; few = is.ahead.at.few; standing = is.ahead.at.standing; since = is.ahead.at.since; bases = is.ahead.at.bases };
       count = is.ahead.count;
       each = λ who member found. let was = is.ahead.each who member found in
           record { mail = mail_like world.book.letters situation mails who member.mail (same who) was.mail; running = was.running; stopped = was.stopped };

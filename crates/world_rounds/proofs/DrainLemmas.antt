@@ -17,14 +17,13 @@ use Rattle.book_law.specs.declared.turn.Turn.TheVariants.{Did}
 use Rattle.step_law.proofs.Lists.{in_first, in_rest, cons_cases, nothing_in}
 use Rattle.script_law.proofs.RoundLemmas.{is_step}
 use Rattle.script_law.proofs.StartLemmas.{same_coordinator}
-use Rattle.script_law.specs.Commands.{Plain, tasks_for}
+use Rattle.script_law.specs.Commands.{Plain, set_by, tasks_for}
 use Rattle.script_law.specs.Parts.{Plays, Then}
 use Rattle.script_law.specs.Round.{IsRound, round_tasks}
-use Rattle.script_law.specs.Script.{IsPartOf}
 use Rattle.script_law.specs.Settling.{Drains, IsDrainRound, IsQuiet, Settles, calmed, campaign_tasks, coordinator, restart_tasks}
 use Rattle.script_law.specs.Situation.{AreTurnsFor, Do, Does, IsTurnFor, Performs, Situation, Task, after_turn, after_turns, delivered, fates_after, letters_for}
 use Rattle.script_text.specs.declared.command.Command.TheVariants as command
-use Rattle.world_steps.proofs.AfterTurn.{fact_here, fact_there}
+use Rattle.world_steps.proofs.Facts.{fact_here, fact_there}
 use Rattle.world_rounds.proofs.Delivery.{same_mails}
 use Rattle.world_rounds.proofs.StepsAt.{cases_number}
 use Rattle.world_rounds.proofs.QuietLemmas.{found_at}
@@ -140,7 +139,7 @@ drained_calm n table who at situation after rows parts =
 
 module _ {D : Type 0} (seen : D → Image) (may_leave : D → Image → Type 0) (honest : D → Type 0) (told_of : D → Option Told) (table : Table) where
   -- the campaign of one that runs
-  pub campaign_plays : (n who : ℕ) (situation after : Situation) (rows : List Row) → situation.standing.runs who ≡ true → IsPartOf n table (command.Campaign who) situation rows after
+  pub campaign_plays : (n who : ℕ) (situation after : Situation) (rows : List Row) → situation.standing.runs who ≡ true → Plain n (tasks_for (command.Campaign who)) (set_by (command.Campaign who)) situation rows after
       → Plays n (λ here. Do who Campaign ∷ []) situation rows after
   campaign_plays n who situation after rows runs part =
       let whole : rows ≡ part.front = part.parts ∙ ap (λ back. part.front ++ back) part.two.none ∙ append_nil part.front in
@@ -165,7 +164,7 @@ module _ {D : Type 0} (seen : D → Image) (may_leave : D → Image → Type 0) 
   other_tasks who (Candidate ballot first heard best) not = refl
   other_tasks who (Leader ballot best flight) not = refl
 
-  pub lead_goes : (who : ℕ) (old new : World D) → AllRun old → who < length old.members.items → GoesOnBy seen may_leave honest told_of table (IsPartOf old.book.members table (command.Campaign who)) old new
+  pub lead_goes : (who : ℕ) (old new : World D) → AllRun old → who < length old.members.items → GoesOnBy seen may_leave honest told_of table (Plain old.book.members (tasks_for (command.Campaign who)) (set_by (command.Campaign who))) old new
       → GoesOnBy seen may_leave honest told_of table (Plays old.book.members (λ here. Do who Campaign ∷ [])) old new
   lead_goes who old new run below goes = λ rows situation is.
       let part = goes rows situation is in

@@ -6,6 +6,7 @@ use Rattle.std.proofs.lemmas.List.{length-set}
 use Rattle.disk_model.specs.Images.{Image}
 use Rattle.disk_model.specs.Told.{Told}
 use Rattle.due_set.specs.Table.{Table}
+use Rattle.paxos_base.specs.declared.durable.Delta.{Delta}
 use Rattle.step_law.specs.State.{started}
 use Rattle.step_law.specs.Step.{Event}
 use Rattle.step_law.specs.declared.out.OutLetter.{OutLetter}
@@ -14,18 +15,22 @@ use Rattle.book_law.specs.Book.{Row, Standing, after_row, turn_of}
 use Rattle.book_law.specs.declared.turn.Turn.{Turn}
 use Rattle.book_law.specs.declared.turn.Turn.TheVariants.{Stopped}
 use Rattle.replica_core.specs.Replica.{ReplicaState}
+use Rattle.replica_core.specs.declared.out.StepOut.{StepOut}
 use Rattle.script_law.specs.Commands.{Plain}
-use Rattle.script_law.specs.Situation.{IsTurnFor, Situation, fates_after, Stop, Task, after_turn, delivered, latest_after, letters_for, mails_after}
+use Rattle.script_law.specs.Situation.{IsTurnFor, Situation, arms_after, bases_kept, changes_in, fates_after, Stop, Task, after_turn, delivered, latest_after, letters_for, mails_after}
 use Rattle.step_law.proofs.Lists.{nothing_in}
 use Rattle.world_law.proofs.Stops.{stop_between}
 use Rattle.world_law.proofs.Called.{alike_stands}
 use Rattle.world_law.specs.Book.{BookState, Commits, IsAlike, IsNext, IsRowOf, StandsBehind, letter_rows, standing_behind}
 use Rattle.book_law.specs.Legal.{MayFollow}
-use Rattle.step_law.specs.declared.out.LearntRow.{LearntRow}
-use Rattle.world_law.specs.Replicas.{IsStopOf}
-use Rattle.world_steps.proofs.AfterTurn.{fact_here, leaves_other}
+use Rattle.world_law.specs.Replicas.{IsStopOf, change_alone}
+use Rattle.world_parts.specs.Nodes.{IsDiskAt, bases_behind}
+use Rattle.world_parts.specs.Parts.{armed_in}
+use Rattle.world_steps.proofs.Bases.{bases_same}
+use Rattle.world_steps.proofs.AfterTurn.{leaves_other}
+use Rattle.world_steps.proofs.Facts.{fact_here}
 use Rattle.world_steps.specs.Steps.{IsNodeAhead, IsNodeStopped}
-use Rattle.world_steps.specs.Turns.{HasLetters}
+use Rattle.world_steps.specs.Turns.{HasLetters, IsHalted}
 use Rattle.world_rounds.proofs.AfterTurn.{member_stays}
 use Rattle.world_rounds.proofs.Delivery.{same_mails}
 use Rattle.world_rounds.proofs.RoundsOfAll.{posted_so_far}
@@ -39,30 +44,30 @@ pub has_same : (old new : BookState) → new.letters ≡ old.letters → HasLett
 has_same old new same = λ number letter there. ap (λ letters. slice_get letters number) same ∙ there
 
 -- a turn that may come next in a book may come in the book with more room
-pub next_alone : (table : Table) (rows : List Row) (book during : BookState) (turn : Turn) (row : Row) (letters : List OutLetter) (learnt : List LearntRow) → IsAlike during book
-    → IsAlone table rows book turn row → letters ≡ [] → learnt ≡ [] → IsNext table during turn (record { delta = None; letters = letters; learnt = learnt; call = None })
-next_alone table rows book during turn row letters learnt alike alone no_letters no_learnt = record {
+pub next_alone : (table : Table) (rows : List Row) (book during : BookState) (turn : Turn) (change : Option Delta) (row : Row) (out : StepOut) → IsAlike during book
+    → IsAlone table rows book turn change row → out ≡ change_alone change → IsNext table during turn out
+next_alone table rows book during turn change row out alike alone same = record {
   rows = rows;
   behind = alike_stands table rows book during alike alone.behind;
   row = row;
-  is = record { turn_is = alone.is.turn_is; letters = alone.is.letters ∙ sym no_letters; votes = alone.is.votes; learnt = alone.is.learnt ∙ sym no_learnt };
+  is = subst (λ (o : StepOut). IsRowOf turn o row) (sym same) alone.is;
   may = rw alike.members alone.may;
 }
 
-pub joined_alone : (table : Table) (rows : List Row) (book during after : BookState) (turn : Turn) (row : Row) (letters : List OutLetter) (learnt : List LearntRow) → IsAlike during book
-    → IsAlone table rows book turn row → letters ≡ [] → learnt ≡ [] → Commits turn letters during after
-    → ((rows : List Row) (row : Row) → StandsBehind table rows during → IsRowOf turn (record { delta = None; letters = letters; learnt = learnt; call = None }) row
+pub joined_alone : (table : Table) (rows : List Row) (book during after : BookState) (turn : Turn) (change : Option Delta) (row : Row) (out : StepOut) → IsAlike during book
+    → IsAlone table rows book turn change row → out ≡ change_alone change → Commits turn out.letters during after
+    → ((rows : List Row) (row : Row) → StandsBehind table rows during → IsRowOf turn out row
     → MayFollow during.members table (standing_behind table rows during) row.turn row → StandsBehind table (rows ++ row ∷ []) after)
     → HasJoinedAlone table rows book after row
 unfolding next_alone
-joined_alone table rows book during after turn row letters learnt alike alone no_letters no_learnt commits added =
-    let next = next_alone table rows book during turn row letters learnt alike alone no_letters no_learnt in
+joined_alone table rows book during after turn change row out alike alone same commits added =
+    let next = next_alone table rows book during turn change row out alike alone same in
     record {
       behind = added rows row next.behind next.is next.may;
       rest = commits.pending;
       members = commits.members ∙ alike.members;
       letters =
-          commits.posted ∙ ap (λ letters. during.letters ++ letter_rows (turn_of turn) (length during.turns) letters) no_letters ∙ append_nil during.letters
+          commits.posted ∙ ap (λ (o : StepOut). during.letters ++ letter_rows (turn_of turn) (length during.turns) o.letters) same ∙ append_nil during.letters
           ∙ alike.letters;
     }
 
@@ -120,10 +125,10 @@ module _ {D : Type 0} (seen : D → Image) (may_leave : D → Image → Type 0) 
   -- a replica that runs can stop, in a turn of its own
   pub record CanStop (rows : List Row) (world : World D) (who : ℕ) (member : Member D) : Type 0 where
     pub row : Row
-    pub alone : IsAlone table rows world.book (Stopped who None false) row
+    pub alone : IsAlone table rows world.book (Stopped who None false) None row
     pub stopped : (after : BookState) → after.members ≡ world.book.members → (standing_behind table (rows ++ row ∷ []) after).runs who ≡ false
     pub node : (after : BookState) → after.members ≡ world.book.members
-        → IsNodeStopped seen may_leave honest told_of table after.members (standing_behind table (rows ++ row ∷ []) after) who [] member.node
+        → IsNodeStopped seen may_leave honest told_of table after.members (standing_behind table (rows ++ row ∷ []) after) (bases_behind table (rows ++ row ∷ []) after who) who [] member.node
 
   can_stop : (rows : List Row) (world : World D) (situation : Situation) (who : ℕ) (member : Member D) → IsWorldAt seen may_leave honest told_of table rows world situation
       → slice_get world.members.items who ≡ Some member → member.mail.runs ≡ true → CanStop rows world who member
@@ -134,7 +139,7 @@ module _ {D : Type 0} (seen : D → Image) (may_leave : D → Image → Type 0) 
     node = λ after members. record {
       at_rest = node.at_rest;
       trusted = node.trusted;
-      reliable = node.reliable;
+      disk = subst (λ (count : ℕ). IsDiskAt told_of count member.node) (sym (ap (λ (counts : ℕ → ℕ). counts who) (bases_same table rows stop.row world.book after members none_kept))) node.disk;
       identity = ap (λ (r : ReplicaState). r.identity) node.took ∙ node.stands.identity ∙ ap (identity_of world.book.members) node.me ∙ ap (λ n. identity_of n who) (sym members);
       none = refl;
       kept = (stop.stands after members).state ∙ ap (λ (r : ReplicaState). started who r.state.kept) (sym node.took);
@@ -150,16 +155,19 @@ module _ {D : Type 0} (seen : D → Image) (may_leave : D → Image → Type 0) 
       stop : IsStopOf table rows world.book who None None node.first.state.kept
       stop = subst (λ who. IsStopOf table rows world.book who None None node.first.state.kept) node.me (stop_between table rows world.book node.first node.stands)
 
+      none_kept : (changes : List Delta) (counts : ℕ → ℕ) → bases_kept stop.row.turn changes counts ≡ counts
+      none_kept changes counts = ap (λ (turn : Turn). bases_kept turn changes counts) stop.is.turn_is
+
   pub may_stop : (world : World D) (who : ℕ) (member : Member D) → IsWorld seen may_leave honest told_of table world → slice_get world.members.items who ≡ Some member → member.mail.runs ≡ true
-      → (rows : List Row) × (row : Row) × IsAlone table rows world.book (Stopped who None false) row
+      → (rows : List Row) × (row : Row) × IsAlone table rows world.book (Stopped who None false) None row
   may_stop world who member is there runs = let can = can_stop is.rows world is.situation who member is.is there runs in (is.rows, can.row, can.alone)
 
   pub stop_goes : (world new : World D) (who : ℕ) (member next : Member D) → slice_get world.members.items who ≡ Some member → member.mail.runs ≡ true
-      → ((rows : List Row) (row : Row) → IsAlone table rows world.book (Stopped who None false) row → HasJoinedAlone table rows world.book new.book row)
-      → new.members.items ≡ set world.members.items who next → next.node ≡ member.node → next.steps ≡ member.steps → next.mail.runs ≡ false → next.mail.letters.items ≡ []
-      → next.mail.waits ≡ None → next.mail.skew ≡ member.mail.skew → next.mail.fate ≡ member.mail.fate → new.cuts ≡ world.cuts → new.latest ≡ world.latest
+      → ((rows : List Row) (row : Row) → IsAlone table rows world.book (Stopped who None false) None row → HasJoinedAlone table rows world.book new.book row)
+      → new.members.items ≡ set world.members.items who next → next.node ≡ member.node → next.steps ≡ member.steps → IsHalted member.mail next.mail
+      → new.cuts ≡ world.cuts → new.latest ≡ world.latest
       → GoesOnBy seen may_leave honest told_of table (Plain world.book.members (λ situation. if situation.standing.runs who then Stop who ∷ [] else []) (λ situation. situation)) world new
-  stop_goes world new who member next there runs joins members node steps runs_not letters waits skew fate cuts latest = λ rows situation is.
+  stop_goes world new who member next there runs joins members node steps halted cuts latest = λ rows situation is.
       let can = can_stop rows world situation who member is there runs in
       let joined = joins rows can.row can.alone in
       let stands : situation.standing.runs who ≡ true = sym (is.ahead.each who member there).mail.runs ∙ runs in
@@ -189,18 +197,22 @@ module _ {D : Type 0} (seen : D → Image) (may_leave : D → Image → Type 0) 
           record {
             mail = record {
               runs =
-                  runs_not
+                  halted.runs
                   ∙ sym (ap (λ turn. (after_row world.book.members situation.standing turn can.row.event can.row.letters).runs who) turn
                   ∙ stop_runs world.book.members situation.standing who can.row.event can.row.letters);
-              letters_are = ap (λ turn. mails_after turn situation.mails who) turn ∙ fact_here who [] situation.mails ∙ sym letters;
-              skew = skew ∙ was.mail.skew;
-              small = rw skew was.mail.small;
-              fate = fate ∙ was.mail.fate ∙ sym (ap (λ turn. fates_after turn situation.fates who) turn);
+              letters_are = ap (λ turn. mails_after turn situation.mails who) turn ∙ fact_here who [] situation.mails ∙ sym halted.letters;
+              skew = halted.skew ∙ was.mail.skew;
+              small = rw halted.skew was.mail.small;
+              fate = halted.fate ∙ was.mail.fate ∙ sym (ap (λ turn. fates_after turn situation.fates who) turn);
               waits =
-                  waits
+                  halted.waits
                   ∙ sym (ap (λ turn. (after_row world.book.members situation.standing turn can.row.event can.row.letters).waits who) turn
                   ∙ stop_waits world.book.members situation.standing who can.row.event can.row.letters);
-              sent = λ number has. nothing_in (subst (λ items. Contains items number) letters has);
+              arm =
+                  ap armed_in halted.arm
+                  ∙ sym (ap (λ (turn : Turn). arms_after turn (changes_in world.book.members situation.standing can.row.turn can.row.event) situation.arms who) turn
+                  ∙ fact_here who None situation.arms);
+              sent = λ number has. nothing_in (subst (λ items. Contains items number) halted.letters has);
             };
             running = λ running. absurd (let e : true ≡ false = sym running ∙ can.stopped new.book joined.members in cc);
             stopped = λ stopped. rw node (can.node new.book joined.members);

@@ -24,3 +24,7 @@ pub mod Ended
 pub mod Apart
 pub mod Together
 pub mod Limits
+pub mod Led
+pub mod OneByOne
+pub mod InOrder
+pub mod Next

@@ -14,21 +14,27 @@ use Rattle.agree_law.specs.Transition.{identity_of}
 use Rattle.book_law.specs.Book.{Row, Standing, after_row, turn_of}
 use Rattle.book_law.specs.declared.turn.Turn.TheVariants.{Restarted}
 use Rattle.paxos_base.specs.declared.durable.Durable.{Durable}
-use Rattle.replica_node.specs.Node.{replica_of}
+use Rattle.replica_node.specs.Node.{replica_of, store_of}
 use Rattle.script_law.specs.Commands.{Plain}
-use Rattle.script_law.specs.Situation.{Restart, Situation, after_turn, fates_after, latest_after, mails_after}
+use Rattle.script_law.specs.Situation.{Restart, Situation, after_turn, arms_after, bases_kept, changes_in, fates_after, latest_after, mails_after}
 use Rattle.world_law.proofs.Stops.{restarts}
 use Rattle.world_law.specs.Book.{BookState, IsRowOf, standing_behind}
 use Rattle.world_law.specs.Replicas.{IsRestartOf, StandsAt, StandsStopped, change_alone}
-use Rattle.world_steps.proofs.AfterTurn.{fact_here, leaves_other}
+use Rattle.world_steps.proofs.AfterTurn.{leaves_other}
+use Rattle.world_steps.proofs.Facts.{fact_here}
 use Rattle.world_steps.specs.Steps.{IsNodeStopped}
 use Rattle.world_rounds.proofs.AfterTurn.{member_stays}
 use Rattle.world_rounds.proofs.Halts.{goes_alone, has_same}
 use Rattle.world_rounds.proofs.Worlds.{set_cases}
 use Rattle.world_rounds.specs.Alone.{HasJoinedAlone, HasStartedAgain, IsAlone}
-use Rattle.world_parts.specs.Parts.{IsSentTo}
+use Rattle.world_parts.specs.Parts.{IsSentTo, armed_in}
 use Rattle.world_rounds.specs.World.{GoesOnBy, IsMemberAhead, IsWorld, IsWorldAt}
 use Rattle.world_rounds.specs.declared.member.Member.{Member}
+use Rattle.world_parts.specs.Nodes.{bases_behind}
+use Rattle.replica_node.specs.Kept.{area_by}
+use Rattle.replica_store.specs.Store.{area_of}
+use Rattle.world_steps.proofs.Bases.{bases_same}
+use Rattle.book_law.specs.declared.turn.Turn.{Turn}
 use Rattle.world_rounds.specs.declared.world.World.{World}
 
 -- an element that is taken out, and another put into its place
@@ -49,7 +55,7 @@ module _ {D : Type 0} (seen : D → Image) (may_leave : D → Image → Type 0) 
   -- what a replica that is stopped keeps
   pub node_stopped : (rows : List Row) (world : World D) (situation : Situation) (who : ℕ) (member : Member D) → IsWorldAt seen may_leave honest told_of table rows world situation
       → slice_get world.members.items who ≡ Some member → member.mail.runs ≡ false
-      → ((standing_behind table rows world.book).runs who ≡ false) × IsNodeStopped seen may_leave honest told_of table world.book.members (standing_behind table rows world.book) who [] member.node
+      → ((standing_behind table rows world.book).runs who ≡ false) × IsNodeStopped seen may_leave honest told_of table world.book.members (standing_behind table rows world.book) (bases_behind table rows world.book who) who [] member.node
   node_stopped rows world situation who member is there runs =
       let ahead = is.ahead.each who member there in
       let stopped : (standing_behind table rows world.book).runs who ≡ false = sym (ap (λ (s : Standing). s.runs who) is.ahead.at.standing) ∙ sym ahead.mail.runs ∙ runs in
@@ -58,7 +64,7 @@ module _ {D : Type 0} (seen : D → Image) (may_leave : D → Image → Type 0) 
   -- a replica that is stopped can start again, in a turn of its own
   pub record CanRestart (rows : List Row) (world : World D) (who : ℕ) (next : Member D) : Type 0 where
     pub row : Row
-    pub alone : IsAlone table rows world.book (Restarted who) row
+    pub alone : IsAlone table rows world.book (Restarted who) None row
     pub stands : (after : BookState) → after.members ≡ world.book.members → StandsAt table (rows ++ row ∷ []) after (replica_of next.node)
 
   can_restart : (rows : List Row) (world : World D) (situation : Situation) (who : ℕ) (member next : Member D) → IsWorldAt seen may_leave honest told_of table rows world situation
@@ -94,14 +100,14 @@ module _ {D : Type 0} (seen : D → Image) (may_leave : D → Image → Type 0) 
           (again.identity ∙ ap (identity_of world.book.members) (sym me)) (again.state ∙ ap (λ who. started who kept) (sym me)) again.at_rest.of_table
 
   pub may_restart : (world : World D) (who : ℕ) (member next : Member D) → IsWorld seen may_leave honest told_of table world → slice_get world.members.items who ≡ Some member → member.mail.runs ≡ false
-      → HasStartedAgain seen may_leave honest told_of table world.book.members who member next → (rows : List Row) × (row : Row) × IsAlone table rows world.book (Restarted who) row
+      → HasStartedAgain seen may_leave honest told_of table world.book.members who member next → (rows : List Row) × (row : Row) × IsAlone table rows world.book (Restarted who) None row
   may_restart world who member next is there runs again =
       let can = can_restart is.rows world is.situation who member next is.is there runs again in (is.rows, can.row, can.alone)
 
   pub restart_goes : (world new : World D) (who : ℕ) (member next : Member D) → slice_get world.members.items who ≡ Some member → member.mail.runs ≡ false
       → HasStartedAgain seen may_leave honest told_of table world.book.members who member next
       → new.members.items ≡ set world.members.items who next → new.cuts ≡ world.cuts → new.latest ≡ world.latest
-      → ((rows : List Row) (row : Row) → IsAlone table rows world.book (Restarted who) row → HasJoinedAlone table rows world.book new.book row)
+      → ((rows : List Row) (row : Row) → IsAlone table rows world.book (Restarted who) None row → HasJoinedAlone table rows world.book new.book row)
       → GoesOnBy seen may_leave honest told_of table (Plain world.book.members (λ situation. if situation.standing.runs who then [] else Restart who ∷ []) (λ situation. situation)) world new
   restart_goes world new who member next there runs again members cuts latest joins = λ rows situation is.
       let can = can_restart rows world situation who member next is there runs again in
@@ -127,6 +133,15 @@ module _ {D : Type 0} (seen : D → Image) (may_leave : D → Image → Type 0) 
       me : (replica_of next.node).identity.me ≡ who
       me = ap (λ (self : Identity). self.me) again.identity
 
+      -- its store goes on in the area that it had
+      area : (rows : List Row) (situation : Situation) → IsWorldAt seen may_leave honest told_of table rows world situation → (can : CanRestart rows world who next)
+          → HasJoinedAlone table rows world.book new.book can.row → area_of (store_of next.node) ≡ area_by (bases_behind table (rows ++ can.row ∷ []) new.book who)
+      area rows situation is can joined =
+          let node = (node_stopped rows world situation who member is there runs).1 in
+          again.area ∙ node.at_rest.settled.selects ∙ node.disk.area
+          ∙ ap area_by (sym (ap (λ (counts : ℕ → ℕ). counts who) (bases_same table rows can.row world.book new.book joined.members
+          (λ changes counts. ap (λ (turn : Turn). bases_kept turn changes counts) can.alone.is.turn_is))))
+
       mine : (rows : List Row) (situation : Situation) → IsWorldAt seen may_leave honest told_of table rows world situation → (can : CanRestart rows world who next)
           → HasJoinedAlone table rows world.book new.book can.row
           → IsMemberAhead seen may_leave honest told_of table (rows ++ can.row ∷ []) new.book (after_turn world.book.members situation can.row) who [] next
@@ -148,9 +163,20 @@ module _ {D : Type 0} (seen : D → Image) (may_leave : D → Image → Type 0) 
                   again.waits ∙ was.mail.waits
                   ∙ sym (ap (λ turn. (after_row world.book.members situation.standing turn can.row.event can.row.letters).waits who) turn
                   ∙ restart_waits world.book.members situation.standing who can.row.event can.row.letters);
+              arm =
+                  ap armed_in again.arm ∙ was.mail.arm
+                  ∙ sym (ap (λ (turn : Turn). arms_after turn (changes_in world.book.members situation.standing can.row.turn can.row.event) situation.arms who) turn);
               sent = λ number has. subst (λ letters. IsSentTo letters who number) (sym joined.letters) (was.mail.sent number (subst (λ letters. Contains letters.items number) again.letters has));
             };
-            running = λ running. record { at_rest = again.at_rest; trusted = again.trusted; reliable = again.reliable; first = replica_of next.node; stands = stands; me = me; took = refl };
+            running = λ running. record {
+              at_rest = again.at_rest;
+              trusted = again.trusted;
+              disk = record { reliable = again.reliable; clean = again.clean; area = area rows situation is can joined };
+              first = replica_of next.node;
+              stands = stands;
+              me = me;
+              took = refl;
+            };
             stopped = λ stopped.
                 let here : (standing_behind table (rows ++ can.row ∷ []) new.book).runs who ≡ true =
                 subst (λ who. (standing_behind table (rows ++ can.row ∷ []) new.book).runs who ≡ true) me stands.runs in

@@ -27,6 +27,7 @@ use Rattle.world_rounds.specs.Hearing.{MayHear, MayTakeAnswer, answer_causes, he
 use Rattle.world_rounds.specs.Taking.{tasks_by}
 use Rattle.script_text.specs.Command.{IsSkew}
 use Rattle.world_rounds.specs.World.{IsMemberAhead}
+use Rattle.world_parts.specs.Parts.{armed_in}
 use Rattle.world_rounds.specs.declared.member.Member.{Member}
 
 pub clock_inside : (window : Window) (at skew : ℤ) → window.from.0 <ℤ window.until.0 → IsInWindow window (clock_reading window at skew).0
@@ -100,9 +101,9 @@ module _ {D : Type 0} (seen : D → Image) (may_leave : D → Image → Type 0) 
   pub round_taken : (rows : List Row) (situation : Situation) (who : ℕ) (at : ℤ) (now : Minute) (old new : Member D) → IsMemberIdle seen may_leave honest told_of table rows book situation who old
       → old.mail.runs ≡ true → IsBeside seen may_leave honest told_of table rows book who new.steps.items new.node
       → causes_of new.steps.items ≡ (answer_causes old.mail.waits ++ hear_causes old.mail.letters.items) ++ Tick now ∷ [] → now ≡ clock_reading table.window at old.mail.skew
-      → new.mail.letters.items ≡ [] → new.mail.runs ≡ old.mail.runs → new.mail.skew ≡ old.mail.skew → new.mail.fate ≡ old.mail.fate → new.mail.waits ≡ old.mail.waits
+      → new.mail.letters.items ≡ [] → new.mail.runs ≡ old.mail.runs → new.mail.skew ≡ old.mail.skew → new.mail.fate ≡ old.mail.fate → new.mail.waits ≡ old.mail.waits → new.mail.arm ≡ old.mail.arm
       → HasTakenRound seen may_leave honest told_of table rows book situation at who new
-  round_taken rows situation who at now old new idle runs beside causes reading none running skew fate waits = record {
+  round_taken rows situation who at now old new idle runs beside causes reading none running skew fate waits arm = record {
     ahead = record {
       mail = record {
         runs = running ∙ idle.ahead.mail.runs;
@@ -113,6 +114,7 @@ module _ {D : Type 0} (seen : D → Image) (may_leave : D → Image → Type 0) 
         small = subst IsSkew (sym skew) idle.ahead.mail.small;
         fate = fate ∙ idle.ahead.mail.fate;
         waits = waits ∙ idle.ahead.mail.waits;
+        arm = ap armed_in arm ∙ idle.ahead.mail.arm;
         sent = λ number has. absurd (nothing_in (subst (λ items. Contains items number) none has));
       };
       running = λ here. beside.ahead;

@@ -1,5 +1,5 @@
 -- Rounds of a world.
-use Rattle.std.proofs.Common.{Err, List, Ok, OnErr, OnOk, Option, Result, Some, [], add-one, ap, append-nil as append_nil, append_assoc, arith, drop, inl, inr, length, refl, subst, suc, sym, take, zero, ℕ, ℤ, ◌++◌, ◌+◌, ◌<◌, ◌∙◌, ◌∷◌, ◌≡◌, ◌≢◌, ◌≤◌}
+use Rattle.std.proofs.Common.{Err, List, None, Ok, OnErr, OnOk, Option, Result, Some, [], add-one, ap, append-nil as append_nil, append_assoc, arith, drop, inl, inr, length, refl, subst, suc, sym, take, zero, ℕ, ℤ, ◌++◌, ◌+◌, ◌<◌, ◌∙◌, ◌∷◌, ◌≡◌, ◌≢◌, ◌≤◌}
 use Rattle.std.specs.List.{flat_map, range_with_len, slice_get}
 use Rattle.std.specs.Vec.{with_items}
 use Rattle.std.proofs.Math.ListN.{set}
@@ -12,12 +12,15 @@ use Rattle.disk_model.specs.Told.{Told}
 use Rattle.due_set.specs.Table.{Table}
 use Rattle.zone_minutes.specs.declared.minute.Window.{Window}
 use Rattle.book_law.specs.Book.{Row, Standing}
-use Rattle.script_law.specs.Round.{AreRounds, IsRound, round_tasks, tasks_of}
+use Rattle.script_law.specs.Arms.{AreRoundsByArms, PlaysByArms}
+use Rattle.script_law.specs.Round.{IsRound, round_tasks, tasks_of}
 use Rattle.script_law.specs.Situation.{Performs, Situation, Task, after_turns, delivered, is_cut}
 use Rattle.world_law.specs.Book.{BookState, IsLegalBook, posted_as}
 use Rattle.world_steps.specs.Steps.{causes_of}
 use Rattle.world_rounds.proofs.Chains.{taken_none, taken_then}
+use Rattle.world_parts.specs.Parts.{armed_in}
 use Rattle.world_rounds.proofs.Delivery.{range_next}
+use Rattle.world_rounds.proofs.Led.{plain_turns, round_below}
 use Rattle.world_rounds.proofs.StepsAt.{ahead_same, cases_number, get_set_there}
 use Rattle.world_rounds.proofs.Worlds.{set_cases}
 use Rattle.world_rounds.specs.Mails.{Changes}
@@ -260,16 +263,42 @@ module _ {D : Type 0} (seen : D → Image) (may_leave : D → Image → Type 0) 
         is = put_down (may.rows ++ taken.more) now (after_turns middle.book.members may.situation taken.more) taken.ahead commits.down;
       }
 
+-- ---- rounds in which no disk is armed
+
+module _ {D : Type 0} (seen : D → Image) (may_leave : D → Image → Type 0) (honest : D → Type 0) (told_of : D → Option Told) (table : Table) where
+  -- no replica of the world has a disk that is armed
+  pub none_armed : (rows : List Row) (world : World D) (situation : Situation) → IsWorldAt seen may_leave honest told_of table rows world situation
+      → ((who : ℕ) (member : Member D) → slice_get world.members.items who ≡ Some member → member.mail.arm ≡ None) → (who : ℕ) → who < world.book.members → situation.arms who ≡ None
+  none_armed rows world situation is none who below =
+      let found = found_below world.members.items who (let same = is.ahead.count in omega (arith, same, below)) in
+      sym (is.ahead.each who found.0 found.1).mail.arm ∙ ap armed_in (none who found.0 found.1)
+
+  pub unarmed_goes : (world new : World D) (at : ℤ) → ((who : ℕ) (member : Member D) → slice_get world.members.items who ≡ Some member → member.mail.arm ≡ None)
+      → GoesOnBy seen may_leave honest told_of table (IsRound world.book.members table.window at) world new
+      → GoesOnBy seen may_leave honest told_of table (PlaysByArms world.book.members (round_tasks world.book.members table.window at)) world new
+  unarmed_goes world new at none goes = λ rows situation is.
+      let part = goes rows situation is in (
+        part.0,
+        part.1,
+        record {
+          turns =
+              plain_turns world.book.members world.book.members situation (round_tasks world.book.members table.window at situation) part.0 (none_armed rows world situation is none)
+              (round_below table.window at situation world.book.members) part.2.turns;
+          is = part.2.is;
+        },
+        part.3,
+      )
+
 -- ---- rounds after rounds
 
-rounds_push : (n : ℕ) (window : Window) (at : ℤ) (count : ℕ) (situation middle after : Situation) (rows more : List Row) → AreRounds n window at count situation rows middle
-    → IsRound n window at middle more after → AreRounds n window at (suc count) situation (rows ++ more) after
+rounds_push : (n : ℕ) (window : Window) (at : ℤ) (count : ℕ) (situation middle after : Situation) (rows more : List Row) → AreRoundsByArms n window at count situation rows middle
+    → PlaysByArms n (round_tasks n window at) middle more after → AreRoundsByArms n window at (suc count) situation (rows ++ more) after
 rounds_push n window at zero situation middle after rows more rounds round = record {
   front = more;
   middle = after;
   back = [];
   parts = ap (λ rows. rows ++ more) rounds.none ∙ sym (append_nil more);
-  one = subst (λ s. IsRound n window at s more after) rounds.is round;
+  one = subst (λ (s : Situation). PlaysByArms n (round_tasks n window at) s more after) rounds.is round;
   two = record { none = refl; is = refl };
 }
 rounds_push n window at (suc count) situation middle after rows more rounds round = record {
@@ -281,14 +310,14 @@ rounds_push n window at (suc count) situation middle after rows more rounds roun
   two = rounds_push n window at count rounds.middle middle after rounds.back more rounds.two round;
 }
 
-rounds_then : (n : ℕ) (window : Window) (at : ℤ) (count : ℕ) (situation middle after : Situation) (rows more : List Row) → AreRounds n window at count situation rows middle
-    → IsRound n window at middle more after → AreRounds n window at (count + 1) situation (rows ++ more) after
+rounds_then : (n : ℕ) (window : Window) (at : ℤ) (count : ℕ) (situation middle after : Situation) (rows more : List Row) → AreRoundsByArms n window at count situation rows middle
+    → PlaysByArms n (round_tasks n window at) middle more after → AreRoundsByArms n window at (count + 1) situation (rows ++ more) after
 rounds_then n window at count situation middle after rows more rounds round =
-    subst (λ k. AreRounds n window at k situation (rows ++ more) after) (sym (add-one count)) (rounds_push n window at count situation middle after rows more rounds round)
+    subst (λ k. AreRoundsByArms n window at k situation (rows ++ more) after) (sym (add-one count)) (rounds_push n window at count situation middle after rows more rounds round)
 
 module _ {D : Type 0} (seen : D → Image) (may_leave : D → Image → Type 0) (honest : D → Type 0) (told_of : D → Option Told) (table : Table) where
   pub record HasGone (at : ℤ) (count : ℕ) (old new : World D) : Type 0 where
-    pub goes : GoesOnBy seen may_leave honest told_of table (AreRounds old.book.members table.window at count) old new
+    pub goes : GoesOnBy seen may_leave honest told_of table (AreRoundsByArms old.book.members table.window at count) old new
     pub members : new.book.members ≡ old.book.members
     pub world : IsWorld seen may_leave honest told_of table new
 
@@ -299,7 +328,7 @@ module _ {D : Type 0} (seen : D → Image) (may_leave : D → Image → Type 0) 
     world = is;
   }
 
-  pub gone_next : (at : ℤ) (count : ℕ) (old now new : World D) → HasGone at count old now → GoesOnBy seen may_leave honest told_of table (IsRound now.book.members table.window at) now new
+  pub gone_next : (at : ℤ) (count : ℕ) (old now new : World D) → HasGone at count old now → GoesOnBy seen may_leave honest told_of table (PlaysByArms now.book.members (round_tasks now.book.members table.window at)) now new
       → new.book.members ≡ now.book.members → HasGone at (count + 1) old new
   gone_next at count old now new so_far goes members = record {
     goes = λ rows situation is.
@@ -307,7 +336,7 @@ module _ {D : Type 0} (seen : D → Image) (may_leave : D → Image → Type 0) 
         let back = goes (rows ++ front.0) front.1 front.3 in (
           front.0 ++ back.0,
           back.1,
-          rounds_then old.book.members table.window at count situation front.1 back.1 front.0 back.0 front.2 (subst (λ n. IsRound n table.window at front.1 back.0 back.1) so_far.members back.2),
+          rounds_then old.book.members table.window at count situation front.1 back.1 front.0 back.0 front.2 (subst (λ n. PlaysByArms n (round_tasks n table.window at) front.1 back.0 back.1) so_far.members back.2),
           subst (λ rows. IsWorldAt seen may_leave honest told_of table rows new back.1) (append_assoc rows front.0 back.0) back.3,
         );
     members = members ∙ so_far.members;

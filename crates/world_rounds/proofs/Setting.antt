@@ -1,5 +1,5 @@
 -- What a command sets in a world.
-use Rattle.std.proofs.Common.{List, Option, Some, [], ap, append-nil as append_nil, arith, eqb, if◌then◌else◌, inl, inr, length, refl, subst, sym, true, ℕ, ℤ, ◌&&◌, ◌++◌, ◌-◌, ◌∙◌, ◌∷◌, ◌≡◌, ◌≢◌, ◌≤ℤ◌}
+use Rattle.std.proofs.Common.{List, Option, Some, [], ap, append-nil as append_nil, arith, eqb, if◌then◌else◌, inl, inr, length, refl, subst, sym, true, ℕ, ℤ, ◌&&◌, ◌++◌, ◌-◌, ◌∙◌, ◌∷◌, ◌≡◌, ◌≢◌, ◌≤ℤ◌, false}
 use Rattle.std.specs.List.{slice_get}
 use Rattle.std.proofs.Math.ListN.{set}
 use Rattle.std.proofs.lemmas.Bool.{cases_Bool}
@@ -12,7 +12,7 @@ use Rattle.book_law.specs.Book.{Row, Standing, with_fact}
 use Rattle.script_law.specs.Commands.{Plain}
 use Rattle.script_law.specs.Situation.{Situation, Task, delivered, is_cut, letters_for}
 use Rattle.world_law.specs.declared.letter.LetterRow.{LetterRow}
-use Rattle.world_steps.proofs.AfterTurn.{fact_here, fact_there}
+use Rattle.world_steps.proofs.Facts.{fact_here, fact_there}
 use Rattle.world_rounds.proofs.Delivery.{same_mails}
 use Rattle.world_rounds.proofs.Worlds.{set_cases}
 use Rattle.world_rounds.specs.Mails.{Changes}
@@ -21,6 +21,8 @@ use Rattle.world_parts.specs.Parts.{IsMailOf}
 use Rattle.world_rounds.specs.World.{GoesOnBy, IsWorldAt}
 use Rattle.world_parts.specs.declared.mail.MemberMail.{MemberMail}
 use Rattle.world_rounds.specs.declared.member.Member.{Member}
+use Rattle.script_law.specs.Arms.{armed_by}
+use Rattle.script_law.specs.Parts.{Sets}
 use Rattle.world_rounds.specs.declared.world.World.{World}
 
 -- one pair more from whom to whom letters are lost
@@ -36,14 +38,15 @@ cut_pushed from to pairs others pair same = cut_last from to pairs pair ∙ ap (
 
 -- what is set for another replica leaves a mail
 mail_as : (letters : List LetterRow) (one other : Situation) (who : ℕ) (mail : MemberMail) → other.standing ≡ one.standing → other.mails who ≡ one.mails who → other.skews who ≡ one.skews who
-    → other.fates who ≡ one.fates who → IsMailOf letters one who [] mail → IsMailOf letters other who [] mail
-mail_as letters one other who mail standing mails skews fates is = record {
+    → other.fates who ≡ one.fates who → other.arms who ≡ one.arms who → IsMailOf letters one who [] mail → IsMailOf letters other who [] mail
+mail_as letters one other who mail standing mails skews fates arms is = record {
   runs = is.runs ∙ ap (λ (s : Standing). s.runs who) (sym standing);
   letters_are = mails ∙ is.letters_are;
   skew = is.skew ∙ sym skews;
   small = is.small;
   fate = is.fate ∙ sym fates;
   waits = is.waits ∙ ap (λ (s : Standing). s.waits who) (sym standing);
+  arm = is.arm ∙ sym arms;
   sent = is.sent;
 }
 
@@ -55,9 +58,9 @@ module _ {D : Type 0} (seen : D → Image) (may_leave : D → Image → Type 0) 
       → (member : Member D) × (slice_get old.members.items who ≡ Some member) × (next.node ≡ member.node) × (next.steps ≡ member.steps) × IsMailOf old.book.letters situation who [] next.mail
 
   pub world_set : (table : Table) (rows : List Row) (old new : World D) (situation other : Situation) → IsWorldAt seen may_leave honest told_of table rows old situation → new.book ≡ old.book → new.latest ≡ old.latest
-      → length new.members.items ≡ length old.members.items → other.standing ≡ situation.standing → other.latest ≡ situation.latest
+      → length new.members.items ≡ length old.members.items → other.standing ≡ situation.standing → other.latest ≡ situation.latest → other.bases ≡ situation.bases
       → ((from to : ℕ) → is_cut from to new.cuts.items ≡ is_cut from to other.cuts) → AreSet old new other → IsWorldAt seen may_leave honest told_of table rows new other
-  world_set table rows old new situation other is book latest count standing last cuts each = record {
+  world_set table rows old new situation other is book latest count standing last bases cuts each = record {
     ahead = record {
       at = record {
         sound = is.ahead.at.sound;
@@ -66,6 +69,7 @@ module _ {D : Type 0} (seen : D → Image) (may_leave : D → Image → Type 0) 
         few = rw book is.ahead.at.few;
         standing = rw book (standing ∙ is.ahead.at.standing);
         since = subst (λ latest. table.window.from.0 ≤ℤ latest) (sym last) is.ahead.at.since;
+        bases = rw book (bases ∙ is.ahead.at.bases);
       };
       count = rw book (count ∙ is.ahead.count);
       each = λ who next found.
@@ -83,24 +87,25 @@ module _ {D : Type 0} (seen : D → Image) (may_leave : D → Image → Type 0) 
       → ((situation : List (ℕ × ℕ)) → ((from to : ℕ) → is_cut from to old.cuts.items ≡ is_cut from to situation) → (from to : ℕ) → is_cut from to new.cuts.items ≡ is_cut from to (change situation))
       → Changes seen may_leave honest told_of (λ situation. record situation { cuts = change situation.cuts }) old new
   cuts_set old new change book latest members cuts = λ table rows situation is.
-      world_set table rows old new situation (record situation { cuts = change situation.cuts }) is book latest (ap (λ members. length members.items) members) refl refl (cuts situation.cuts is.ahead.cuts)
+      world_set table rows old new situation (record situation { cuts = change situation.cuts }) is book latest (ap (λ members. length members.items) members) refl refl refl (cuts situation.cuts is.ahead.cuts)
       (λ who next found.
       let there : slice_get old.members.items who ≡ Some next = ap (λ members. slice_get members.items who) (sym members) ∙ found in
-      (next, there, refl, refl, mail_as old.book.letters situation (record situation { cuts = change situation.cuts }) who next.mail refl refl refl refl (is.ahead.each who next there).mail))
+      (next, there, refl, refl, mail_as old.book.letters situation (record situation { cuts = change situation.cuts }) who next.mail refl refl refl refl refl (is.ahead.each who next there).mail))
 
   -- what is set for one replica
   pub member_set : (old new : World D) (who : ℕ) (member next : Member D) (change : Situation → Situation) → new.book ≡ old.book → new.latest ≡ old.latest → new.cuts ≡ old.cuts
       → slice_get old.members.items who ≡ Some member → new.members.items ≡ set old.members.items who next → next.node ≡ member.node → next.steps ≡ member.steps
       → ((situation : Situation) → (change situation).standing ≡ situation.standing) → ((situation : Situation) → (change situation).latest ≡ situation.latest)
-      → ((situation : Situation) → (change situation).cuts ≡ situation.cuts)
+      → ((situation : Situation) → (change situation).cuts ≡ situation.cuts) → ((situation : Situation) → (change situation).bases ≡ situation.bases)
       → ((situation : Situation) (other : ℕ) → other ≢ who → (change situation).mails other ≡ situation.mails other)
       → ((situation : Situation) (other : ℕ) → other ≢ who → (change situation).skews other ≡ situation.skews other)
       → ((situation : Situation) (other : ℕ) → other ≢ who → (change situation).fates other ≡ situation.fates other)
+      → ((situation : Situation) (other : ℕ) → other ≢ who → (change situation).arms other ≡ situation.arms other)
       → ((table : Table) (rows : List Row) (situation : Situation) → IsWorldAt seen may_leave honest told_of table rows old situation → IsMailOf old.book.letters situation who [] member.mail
       → IsMailOf old.book.letters (change situation) who [] next.mail)
       → Changes seen may_leave honest told_of change old new
-  member_set old new who member next change book latest cuts there members node steps standing last same_cuts mails skews fates mine = λ table rows situation is.
-      world_set table rows old new situation (change situation) is book latest (ap length members ∙ length-set old.members.items who next) (standing situation) (last situation)
+  member_set old new who member next change book latest cuts there members node steps standing last same_cuts bases mails skews fates arms mine = λ table rows situation is.
+      world_set table rows old new situation (change situation) is book latest (ap length members ∙ length-set old.members.items who next) (standing situation) (last situation) (bases situation)
       (λ from to. ap (λ cuts. is_cut from to cuts.items) cuts ∙ is.ahead.cuts from to ∙ ap (is_cut from to) (sym (same_cuts situation)))
       (λ k x found. elim (set_cases old.members.items who next k x (subst (λ members. slice_get members k ≡ Some x) members found)) [
         | inl here ↦ (
@@ -116,7 +121,7 @@ module _ {D : Type 0} (seen : D → Image) (may_leave : D → Image → Type 0) 
           other.1,
           refl,
           refl,
-          mail_as old.book.letters situation (change situation) k x.mail (standing situation) (mails situation k other.0) (skews situation k other.0) (fates situation k other.0)
+          mail_as old.book.letters situation (change situation) k x.mail (standing situation) (mails situation k other.0) (skews situation k other.0) (fates situation k other.0) (arms situation k other.0)
               (is.ahead.each k x other.1).mail,
         )
       ])
@@ -125,17 +130,56 @@ module _ {D : Type 0} (seen : D → Image) (may_leave : D → Image → Type 0) 
       → new.members.items ≡ set old.members.items who next → next.node ≡ member.node → next.steps ≡ member.steps → next.mail ≡ record member.mail { skew = minutes } → IsSkew minutes
       → Changes seen may_leave honest told_of (λ situation. record situation { skews = with_fact who minutes situation.skews }) old new
   skew_set old new who minutes member next book latest cuts there members node steps mail small =
-      member_set old new who member next (λ situation. record situation { skews = with_fact who minutes situation.skews }) book latest cuts there members node steps (λ s. refl) (λ s. refl) (λ s. refl)
-      (λ s other differs. refl) (λ s other differs. fact_there who minutes s.skews other differs) (λ s other differs. refl)
-      (λ table rows s at is. rw mail (record { runs = is.runs; letters_are = is.letters_are; skew = sym (fact_here who minutes s.skews); small = small; fate = is.fate; waits = is.waits; sent = is.sent }))
+      member_set old new who member next (λ situation. record situation { skews = with_fact who minutes situation.skews }) book latest cuts there members node steps (λ s. refl) (λ s. refl) (λ s. refl) (λ s. refl)
+      (λ s other differs. refl) (λ s other differs. fact_there who minutes s.skews other differs) (λ s other differs. refl) (λ s other differs. refl)
+      (λ table rows s at is. rw mail (record { runs = is.runs; letters_are = is.letters_are; skew = sym (fact_here who minutes s.skews); small = small; fate = is.fate; waits = is.waits; arm = is.arm; sent = is.sent }))
 
   pub fate_set : (old new : World D) (who : ℕ) (becomes : Fate) (member next : Member D) → new.book ≡ old.book → new.latest ≡ old.latest → new.cuts ≡ old.cuts → slice_get old.members.items who ≡ Some member
       → new.members.items ≡ set old.members.items who next → next.node ≡ member.node → next.steps ≡ member.steps → next.mail ≡ record member.mail { fate = becomes }
       → Changes seen may_leave honest told_of (λ situation. record situation { fates = with_fact who becomes situation.fates }) old new
   fate_set old new who becomes member next book latest cuts there members node steps mail =
-      member_set old new who member next (λ situation. record situation { fates = with_fact who becomes situation.fates }) book latest cuts there members node steps (λ s. refl) (λ s. refl) (λ s. refl)
-      (λ s other differs. refl) (λ s other differs. refl) (λ s other differs. fact_there who becomes s.fates other differs)
-      (λ table rows s at is. rw mail (record { runs = is.runs; letters_are = is.letters_are; skew = is.skew; small = is.small; fate = sym (fact_here who becomes s.fates); waits = is.waits; sent = is.sent }))
+      member_set old new who member next (λ situation. record situation { fates = with_fact who becomes situation.fates }) book latest cuts there members node steps (λ s. refl) (λ s. refl) (λ s. refl) (λ s. refl)
+      (λ s other differs. refl) (λ s other differs. refl) (λ s other differs. fact_there who becomes s.fates other differs) (λ s other differs. refl)
+      (λ table rows s at is. rw mail (record { runs = is.runs; letters_are = is.letters_are; skew = is.skew; small = is.small; fate = sym (fact_here who becomes s.fates); waits = is.waits; arm = is.arm; sent = is.sent }))
+
+  pub arm_set : (old new : World D) (who pass image : ℕ) (member next : Member D) → new.book ≡ old.book → new.latest ≡ old.latest → new.cuts ≡ old.cuts → slice_get old.members.items who ≡ Some member
+      → member.mail.runs ≡ true → new.members.items ≡ set old.members.items who next → next.node ≡ member.node → next.steps ≡ member.steps
+      → next.mail ≡ record member.mail { arm = Some (record { left = pass; image = image }) } → Changes seen may_leave honest told_of (armed_by who pass image) old new
+  arm_set old new who pass image member next book latest cuts there runs members node steps mail = λ table rows situation is.
+      let armed : armed_by who pass image situation ≡ record situation { arms = with_fact who (Some (record { left = pass; image = image })) situation.arms } =
+      rw (sym (is.ahead.each who member there).mail.runs ∙ runs) refl in
+      subst (λ (here : Situation). IsWorldAt seen may_leave honest told_of table rows new here) (sym armed)
+      (member_set old new who member next (λ here. record here { arms = with_fact who (Some (record { left = pass; image = image })) here.arms }) book latest cuts there members node steps (λ s. refl)
+      (λ s. refl) (λ s. refl) (λ s. refl) (λ s other differs. refl) (λ s other differs. refl) (λ s other differs. refl) (λ s other differs. fact_there who _ s.arms other differs)
+      (λ table rows s at is. rw mail (record {
+        runs = is.runs;
+        letters_are = is.letters_are;
+        skew = is.skew;
+        small = is.small;
+        fate = is.fate;
+        waits = is.waits;
+        arm = sym (fact_here who (Some (record { left = pass; image = image })) s.arms);
+        sent = is.sent;
+      })) table rows situation is)
+
+  -- a stopped replica's disk isn't armed, and the world is put back as it was
+  pub put_back : (old new : World D) (who pass image : ℕ) (member : Member D) → slice_get old.members.items who ≡ Some member → member.mail.runs ≡ false → new.members.items ≡ set old.members.items who member
+      → new.book ≡ old.book → new.latest ≡ old.latest → new.cuts ≡ old.cuts → Changes seen may_leave honest told_of (armed_by who pass image) old new
+  put_back old new who pass image member there stopped members book latest cuts = λ table rows situation is.
+      let unarmed : armed_by who pass image situation ≡ situation = rw (sym (is.ahead.each who member there).mail.runs ∙ stopped) refl in
+      subst (λ (here : Situation). IsWorldAt seen may_leave honest told_of table rows new here) (sym unarmed)
+      (world_set table rows old new situation situation is book latest (ap length members ∙ length-set old.members.items who member) refl refl refl (λ from to. ap (λ cuts. is_cut from to cuts.items) cuts ∙ is.ahead.cuts from to)
+      (λ k x found. elim (set_cases old.members.items who member k x (subst (λ members. slice_get members k ≡ Some x) members found)) [
+        | inl here ↦ (
+          member,
+          ap (slice_get old.members.items) here.0 ∙ there,
+          ap (λ (m : Member D). m.node) here.1,
+          ap (λ (m : Member D). m.steps) here.1,
+          subst (λ k. IsMailOf old.book.letters situation k [] x.mail) (sym here.0)
+              (subst (λ (m : Member D). IsMailOf old.book.letters situation who [] m.mail) (sym here.1) (is.ahead.each who member there).mail),
+        )
+        | inr other ↦ (x, other.1, refl, refl, (is.ahead.each k x other.1).mail)
+      ]))
 
   -- nobody has a turn, and something is set
   pub sets_go : (table : Table) (n : ℕ) (old new : World D) (tasks : Situation → List Task) (change : Situation → Situation)
@@ -158,3 +202,12 @@ module _ {D : Type 0} (seen : D → Image) (may_leave : D → Image → Type 0) 
         },
         subst (λ rows. IsWorldAt seen may_leave honest told_of table rows new (change middle)) (sym (append_nil rows)) (changes table rows middle same),
       )
+
+  -- something is set, and nothing else comes of it
+  pub sets_alone : (table : Table) (old new : World D) (change : Situation → Situation) → Changes seen may_leave honest told_of change old new → GoesOnBy seen may_leave honest told_of table (Sets change) old new
+  sets_alone table old new change changes = λ rows situation is. (
+    [],
+    change situation,
+    record { none = refl; is = refl },
+    subst (λ rows. IsWorldAt seen may_leave honest told_of table rows new (change situation)) (sym (append_nil rows)) (changes table rows situation is),
+  )

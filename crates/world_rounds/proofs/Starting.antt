@@ -1,11 +1,15 @@
 -- A world before any turn.
-use Rattle.std.proofs.Common.{◌≡◌, ◌⊎◌, ℕ, zero, suc, ◌+◌, ◌<◌, ◌≤◌, nat_lt, true, false, List, [], ◌∷◌, ◌++◌, length, None, Some, refl, sym, ap, ◌∙◌, subst, inl, inr, arith, Option}
+use Rattle.std.proofs.Common.{◌≡◌, ◌⊎◌, ℕ, zero, suc, ◌+◌, ◌<◌, ◌≤◌, nat_lt, true, false, List, [], ◌∷◌, ◌++◌, get_or, length, None, Some, refl, sym, ap, ◌∙◌, subst, inl, inr, arith, Option}
 use Rattle.std.specs.List.{Contains, slice_get}
 use Rattle.std.proofs.lemmas.Bool.{lt-ltb}
 use Rattle.std.proofs.lemmas.Int.{ints}
 use Rattle.std.proofs.lemmas.List.{length_push}
 use Rattle.std.proofs.lemmas.Option.{slice_get_within}
-use Rattle.disk_model.specs.Images.{Image}
+use Rattle.disk_model.specs.Images.{Image, file_of}
+use Rattle.disk_model.specs.declared.fault.FileNo.{FileNo}
+use Rattle.disk_model.specs.declared.fault.FileNo.TheVariants.{Chooser}
+use Rattle.replica_node.specs.Kept.{area_by}
+use Rattle.replica_store.specs.Files.{selected, selected_by}
 use Rattle.disk_model.specs.Told.{Told}
 use Rattle.due_set.specs.Table.{IsSound, Table}
 use Rattle.launch_machine.specs.Clerk.{first_rows}
@@ -18,11 +22,17 @@ use Rattle.book_law.specs.Book.{first_standing}
 use Rattle.replica_node.specs.Node.{replica_of}
 use Rattle.script_law.specs.Situation.{first_situation, is_cut}
 use Rattle.world_law.specs.Book.{BookState, StandsBehind, standing_behind}
+use Rattle.world_parts.specs.Parts.{armed_in}
 use Rattle.world_rounds.specs.Start.{IsFreshMember}
 use Rattle.script_text.specs.Command.{IsSkew}
 use Rattle.world_rounds.specs.World.{IsMemberAhead, IsWorldAt}
 use Rattle.world_rounds.specs.declared.member.Member.{Member}
 use Rattle.world_rounds.specs.declared.world.World.{World}
+
+-- an empty disk has its first area in use
+pub first_area : {D : Type 0} (seen : D → Image) (may_leave : D → Image → Type 0) (disk : D) → ((image : Image) → may_leave disk image → (file : FileNo) → file_of file image ≡ []) → may_leave disk (seen disk)
+    → selected (seen disk) ≡ area_by 0
+first_area seen may_leave disk empty left = ap (λ (bytes : List ℕ). selected_by (get_or bytes 0 0)) (empty (seen disk) left Chooser)
 
 pub either_way : (kept first : Durable) → (kept ≡ first) ⊎ (kept ≡ first) → kept ≡ first
 either_way kept first (inl is) = is
@@ -42,12 +52,13 @@ module _ {D : Type 0} (seen : D → Image) (may_leave : D → Image → Type 0) 
       small = subst IsSkew (sym new.skew) (omega (arith, ints), omega (arith, ints));
       fate = new.fate;
       waits = new.waits;
+      arm = ap armed_in new.arm;
       sent = λ number has. absurd (nothing_in (subst (λ letters. Contains letters number) new.letters has));
     };
     running = λ here. record {
       at_rest = new.at_rest;
       trusted = new.trusted;
-      reliable = new.reliable;
+      disk = new.disk;
       first = replica_of member.node;
       stands = record {
         identity = new.identity ∙ ap (λ n. identity_of n who) (sym same) ∙ ap (identity_of book.members) (sym me);
@@ -73,7 +84,7 @@ module _ {D : Type 0} (seen : D → Image) (may_leave : D → Image → Type 0) 
       → world.cuts.items ≡ [] → world.latest ≡ table.window.from → IsWorldAt seen may_leave honest told_of table [] world (first_situation members table)
   world_starts members world sound few behind rest same count fresh_each cuts latest = record {
     ahead = record {
-      at = record { sound = sound; behind = behind; rest = rest; few = rw same few; standing = standing_first members world.book same; since = omega (arith, ints) };
+      at = record { sound = sound; behind = behind; rest = rest; few = rw same few; standing = standing_first members world.book same; since = omega (arith, ints); bases = refl };
       count = count ∙ sym same;
       each = λ who member found.
           let within : who < length world.members.items = slice_get_within world.members.items who member found in

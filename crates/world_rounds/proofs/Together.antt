@@ -15,7 +15,7 @@ use Rattle.replica_node.specs.declared.node.Node.{Node}
 use Rattle.script_law.specs.Situation.{Situation, is_cut}
 use Rattle.world_law.specs.Book.{BookState, StandsBehind, standing_behind}
 use Rattle.world_parts.proofs.Stopped.{stands_stopped}
-use Rattle.world_parts.specs.Nodes.{IsNodeOf}
+use Rattle.world_parts.specs.Nodes.{IsNodeOf, bases_behind}
 use Rattle.world_parts.specs.Parts.{ArePartsAt, IsBookAt}
 use Rattle.world_parts.specs.declared.bundle.Bundle.{Bundle}
 use Rattle.world_parts.specs.declared.mail.MemberMail.{MemberMail}
@@ -84,7 +84,7 @@ module _ {D : Type 0} (seen : D → Image) (may_leave : D → Image → Type 0) 
   running rows book who node member runs is = record {
     at_rest = is.at_rest;
     trusted = is.trusted;
-    reliable = is.reliable;
+    disk = is.disk;
     first = replica_of node;
     stands = record {
       identity = is.identity ∙ ap (identity_of book.members) (sym me);
@@ -102,11 +102,11 @@ module _ {D : Type 0} (seen : D → Image) (may_leave : D → Image → Type 0) 
 
   ended : (rows : List Row) (book : BookState) (who : ℕ) (node : Node D) → StandsBehind table rows book → who < book.members → (standing_behind table rows book).runs who ≡ false
       → IsNodeOf seen may_leave honest told_of table rows book who node
-      → IsNodeStopped seen may_leave honest told_of table book.members (standing_behind table rows book) who [] node
+      → IsNodeStopped seen may_leave honest told_of table book.members (standing_behind table rows book) (bases_behind table rows book who) who [] node
   ended rows book who node behind member stopped is = record {
     at_rest = is.at_rest;
     trusted = is.trusted;
-    reliable = is.reliable;
+    disk = is.disk;
     identity = is.identity;
     none = refl;
     kept = (stands_stopped table rows book who behind member stopped).state ∙ ap (started who) (sym is.kept);

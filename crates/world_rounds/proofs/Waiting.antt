@@ -16,10 +16,10 @@ use Rattle.script_text.specs.declared.command.Command.TheVariants as command
 use Rattle.step_law.proofs.Lists.{in_first, in_rest, cons_cases, nothing_in}
 use Rattle.world_law.specs.Book.{posted_as}
 use Rattle.world_law.specs.declared.letter.LetterRow.{LetterRow}
-use Rattle.world_steps.proofs.AfterTurn.{fact_here, fact_there}
+use Rattle.world_steps.proofs.Facts.{fact_here, fact_there}
 use Rattle.world_rounds.proofs.Setting.{member_set}
 use Rattle.world_rounds.specs.Mails.{Changes}
-use Rattle.world_parts.specs.Parts.{IsSentTo}
+use Rattle.world_parts.specs.Parts.{IsSentTo, armed_in}
 use Rattle.world_rounds.specs.World.{IsWorldAt}
 use Rattle.world_rounds.specs.declared.member.Member.{Member}
 use Rattle.world_rounds.specs.declared.world.World.{World}
@@ -41,13 +41,14 @@ module _ {D : Type 0} (seen : D → Image) (may_leave : D → Image → Type 0) 
   -- another mail of one replica
   pub mail_put : (old new : World D) (who : ℕ) (change : List PostedLetter → List ℕ → List ℕ) (member next : Member D) → new.book ≡ old.book → new.latest ≡ old.latest → new.cuts ≡ old.cuts
       → slice_get old.members.items who ≡ Some member → new.members.items ≡ set old.members.items who next → next.node ≡ member.node → next.steps ≡ member.steps
-      → next.mail.runs ≡ member.mail.runs → next.mail.skew ≡ member.mail.skew → next.mail.fate ≡ member.mail.fate → next.mail.waits ≡ member.mail.waits
+      → next.mail.runs ≡ member.mail.runs → next.mail.skew ≡ member.mail.skew → next.mail.fate ≡ member.mail.fate → next.mail.waits ≡ member.mail.waits → next.mail.arm ≡ member.mail.arm
       → next.mail.letters.items ≡ change (map posted_as old.book.letters) member.mail.letters.items
       → (((number : ℕ) → Contains member.mail.letters.items number → IsSentTo old.book.letters who number) → (number : ℕ) → Contains next.mail.letters.items number → IsSentTo old.book.letters who number)
       → Changes seen may_leave honest told_of (λ situation. with_mail who (change situation.standing.posted (situation.mails who)) situation) old new
-  mail_put old new who change member next book latest cuts there members node steps runs skew fate waits letters sent =
+  mail_put old new who change member next book latest cuts there members node steps runs skew fate waits arm letters sent =
       member_set seen may_leave honest told_of old new who member next (λ situation. with_mail who (change situation.standing.posted (situation.mails who)) situation) book latest cuts there members node steps
-      (λ s. refl) (λ s. refl) (λ s. refl) (λ s other differs. fact_there who (change s.standing.posted (s.mails who)) s.mails other differs) (λ s other differs. refl) (λ s other differs. refl)
+      (λ s. refl) (λ s. refl) (λ s. refl) (λ s. refl) (λ s other differs. fact_there who (change s.standing.posted (s.mails who)) s.mails other differs) (λ s other differs. refl) (λ s other differs. refl)
+      (λ s other differs. refl)
       (λ table rows s at is. record {
         runs = runs ∙ is.runs;
         letters_are =
@@ -57,6 +58,7 @@ module _ {D : Type 0} (seen : D → Image) (may_leave : D → Image → Type 0) 
         small = rw skew is.small;
         fate = fate ∙ is.fate;
         waits = waits ∙ is.waits;
+        arm = ap armed_in arm ∙ is.arm;
         sent = sent is.sent;
       })
 
@@ -83,13 +85,13 @@ module _ {D : Type 0} (seen : D → Image) (may_leave : D → Image → Type 0) 
   pub again_moved : (world new : World D) (number : ℕ) (letter : LetterRow) (member next : Member D) → slice_get world.book.letters number ≡ Some letter
       → slice_get world.members.items letter.to ≡ Some member → member.mail.runs ≡ true → new.book ≡ world.book → new.latest ≡ world.latest → new.cuts ≡ world.cuts
       → new.members.items ≡ set world.members.items letter.to next → next.node ≡ member.node → next.steps ≡ member.steps
-      → next.mail.runs ≡ member.mail.runs → next.mail.skew ≡ member.mail.skew → next.mail.fate ≡ member.mail.fate → next.mail.waits ≡ member.mail.waits
+      → next.mail.runs ≡ member.mail.runs → next.mail.skew ≡ member.mail.skew → next.mail.fate ≡ member.mail.fate → next.mail.waits ≡ member.mail.waits → next.mail.arm ≡ member.mail.arm
       → next.mail.letters.items ≡ member.mail.letters.items ++ number ∷ [] → Changes seen may_leave honest told_of (set_by (command.Again number)) world new
-  again_moved world new number letter member next there mine running book latest cuts members node steps runs skew fate waits letters = λ table rows situation is.
+  again_moved world new number letter member next there mine running book latest cuts members node steps runs skew fate waits arm letters = λ table rows situation is.
       let running_there : situation.standing.runs letter.to ≡ true = sym (is.ahead.each letter.to member mine).mail.runs ∙ running in
       subst (λ found. IsWorldAt seen may_leave honest told_of table rows new (with_letter number found situation)) (sym (found_letter table rows world situation number letter is there))
       (subst (λ runs. IsWorldAt seen may_leave honest told_of table rows new (if runs then with_mail letter.to (situation.mails letter.to ++ number ∷ []) situation else situation)) (sym running_there)
-      (mail_put world new letter.to (λ posted mail. mail ++ number ∷ []) member next book latest cuts mine members node steps runs skew fate waits letters
+      (mail_put world new letter.to (λ posted mail. mail ++ number ∷ []) member next book latest cuts mine members node steps runs skew fate waits arm letters
       (λ sent k has. elim (Contains-append_cases member.mail.letters.items (number ∷ []) k (subst (λ items. Contains items k) letters has)) [
         | inl old ↦ sent k old
         | inr last ↦ elim (cons_cases number [] k last) [

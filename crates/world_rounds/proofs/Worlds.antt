@@ -1,6 +1,7 @@
 -- A world goes on by a turn.
 use Rattle.std.proofs.Common.{◌≡◌, ◌≢◌, ◌⊎◌, ℕ, zero, suc, List, [], ◌∷◌, ◌++◌, length, ℤ, ◌≤ℤ◌, Option, None, Some, IfSome, refl, sym, ap, ◌∙◌, subst, inl, inr, arith}
 use Rattle.std.specs.List.{slice_get}
+use Rattle.std.specs.Option.{option_to_list}
 use Rattle.std.proofs.Math.ListN.{set}
 use Rattle.std.proofs.lemmas.Int.{clamps, ints}
 use Rattle.std.proofs.lemmas.List.{length-set}
@@ -14,9 +15,11 @@ use Rattle.book_law.specs.declared.turn.Cause.TheVariants.{Answer, Campaign, Hea
 use Rattle.book_law.specs.declared.turn.Turn.{Turn}
 use Rattle.book_law.specs.declared.turn.Turn.TheVariants.{Arrived, Did, Restarted, Stopped}
 use Rattle.replica_core.specs.Replica.{ReplicaState}
-use Rattle.script_law.specs.Situation.{Situation, after_turn, is_cut, latest_after, latest_with}
+use Rattle.script_law.specs.Situation.{Situation, after_turn, calls_for, is_cut, latest_after, latest_with}
 use Rattle.world_law.specs.Book.{StandsBehind}
-use Rattle.world_steps.proofs.AfterTurn.{fact_here, fact_there, leaves_other, next_step, stands_after}
+use Rattle.world_steps.proofs.AfterTurn.{leaves_other, next_step, stands_after}
+use Rattle.world_steps.proofs.Bases.{bases_then}
+use Rattle.world_steps.proofs.Facts.{fact_here, fact_there}
 use Rattle.world_steps.specs.Steps.{IsNodeAhead, causes_of}
 use Rattle.world_steps.specs.Turns.{HasJoinedAt, IsNextStep, MayJoin, noted}
 use Rattle.world_steps.specs.declared.steps.Taken.{Taken}
@@ -67,6 +70,7 @@ module _ {D : Type 0} (seen : D → Image) (may_leave : D → Image → Type 0) 
       few = rw members ahead.at.few;
       standing = sym (stands_after table rows row world.book after.book situation ahead.at members);
       since = later_reading table.window.from.0 row.turn situation.latest ahead.at.since;
+      bases = bases_then table rows row world.book after.book situation ahead.at members;
     };
     count = count ∙ ahead.count ∙ sym members;
     each = each;
@@ -77,7 +81,7 @@ module _ {D : Type 0} (seen : D → Image) (may_leave : D → Image → Type 0) 
   pub world_did : (rows : List Row) (world after : World D) (situation : Situation) (ahead_by : ℕ → List Taken) (who : ℕ) (taken : Taken) (more : List Taken) (member : Member D) (made : Option CallRow)
       → IsWorldAhead seen may_leave honest told_of table rows world situation ahead_by → ahead_by who ≡ taken ∷ more → slice_get world.members.items who ≡ Some member
       → ((rows : List Row) (old new : ReplicaState) → IsNextStep table rows world.book who taken old new → HasJoinedAt table rows world.book after.book who taken member.mail.fate made new)
-      → after.members.items ≡ set world.members.items who (record member { mail = noted made member.mail }) → after.cuts ≡ world.cuts
+      → after.members.items ≡ set world.members.items who (record member { mail = noted made (calls_for (option_to_list taken.out.delta)) member.mail }) → after.cuts ≡ world.cuts
       → after.latest.0 ≡ latest_with taken.cause world.latest.0
       → HasTaken seen may_leave honest told_of table world.book.members rows situation (tasks_by who (causes_of (taken ∷ []))) (with_fact who more ahead_by) after
   world_did rows world after situation ahead_by who taken more member made ahead mine there joins members cuts latest =
@@ -100,11 +104,12 @@ module _ {D : Type 0} (seen : D → Image) (may_leave : D → Image → Type 0) 
       joined : HasJoinedAt table rows world.book after.book who taken member.mail.fate made node.took.0
       joined = joins rows node.first node.took.0 (next_step seen may_leave honest told_of table rows world.book situation who taken more member.node ahead.at node)
 
-      here : (x : Member D) → x ≡ record member { mail = noted made member.mail }
+      here : (x : Member D) → x ≡ record member { mail = noted made (calls_for (option_to_list taken.out.delta)) member.mail }
           → IsMemberAhead seen may_leave honest told_of table (rows ++ joined.row ∷ []) after.book (after_turn world.book.members situation joined.row) who (with_fact who more ahead_by who) x
       here x is =
           subst (λ x. IsMemberAhead seen may_leave honest told_of table (rows ++ joined.row ∷ []) after.book (after_turn world.book.members situation joined.row) who (with_fact who more ahead_by who) x) (sym is)
-          (subst (λ steps. IsMemberAhead seen may_leave honest told_of table (rows ++ joined.row ∷ []) after.book (after_turn world.book.members situation joined.row) who steps (record member { mail = noted made member.mail }))
+          (subst (λ steps. IsMemberAhead seen may_leave honest told_of table (rows ++ joined.row ∷ []) after.book (after_turn world.book.members situation joined.row) who steps
+          (record member { mail = noted made (calls_for (option_to_list taken.out.delta)) member.mail }))
           (sym (fact_here who more ahead_by)) (member_did seen may_leave honest told_of table rows world.book after.book situation who taken more made member ahead.at ahead_mine node joined))
 
       other : (k : ℕ) (x : Member D) → k ≢ who → slice_get world.members.items k ≡ Some x

@@ -3,23 +3,27 @@ use Rattle.std.specs.Prelude.{◌≡◌, ℕ, true, List, [], ◌∷◌, ◌++�
 use Rattle.disk_model.specs.Images.{Image}
 use Rattle.disk_model.specs.Told.{Told}
 use Rattle.due_set.specs.Table.{Table}
+use Rattle.paxos_base.specs.declared.durable.Delta.{Delta}
 use Rattle.step_law.specs.State.{started}
 use Rattle.agree_law.specs.Transition.{identity_of}
 use Rattle.book_law.specs.Book.{Row}
 use Rattle.book_law.specs.Legal.{MayFollow}
 use Rattle.book_law.specs.declared.turn.Turn.{Turn}
 use Rattle.world_law.specs.Book.{BookState, IsRowOf, StandsBehind, call_of, standing_behind}
-use Rattle.replica_node.specs.Node.{IsNodeAtRest, disk_of, replica_of}
+use Rattle.replica_node.specs.Kept.{IsNodeClean}
+use Rattle.replica_node.specs.Node.{IsNodeAtRest, disk_of, replica_of, store_of}
 use Rattle.replica_node.specs.Reliable.{IsReliable}
+use Rattle.replica_store.specs.Files.{selected}
+use Rattle.replica_store.specs.Store.{area_of}
 use Rattle.world_law.specs.Replicas.{change_alone}
 use Rattle.world_rounds.specs.declared.member.Member.{Member}
 
--- The turn may come next in a book at rest, as this row; it is no step and keeps no change.
-pub record IsAlone (table : Table) (rows : List Row) (book : BookState) (turn : Turn) (row : Row) : Type 0 where
+-- The turn may come next in a book at rest, as this row; it is no step that is taken, and has this change alone, where it has one.
+pub record IsAlone (table : Table) (rows : List Row) (book : BookState) (turn : Turn) (change : Option Delta) (row : Row) : Type 0 where
   pub behind : StandsBehind table rows book
   pub rest : book.pending ≡ None
   pub call : call_of turn ≡ None
-  pub is : IsRowOf turn (change_alone None) row
+  pub is : IsRowOf turn (change_alone change) row
   pub may : MayFollow book.members table (standing_behind table rows book) row.turn row
 
 -- The row has joined the book, and no letter has.
@@ -34,6 +38,8 @@ pub record HasStartedAgain {D : Type 0} (seen : D → Image) (may_leave : D → 
   pub at_rest : IsNodeAtRest seen may_leave honest table new.node
   pub trusted : honest (disk_of new.node)
   pub reliable : IsReliable (told_of (disk_of new.node))
+  pub clean : IsNodeClean told_of new.node
+  pub area : area_of (store_of new.node) ≡ selected (seen (disk_of old.node))
   pub identity : (replica_of new.node).identity ≡ identity_of members who
   pub state : (replica_of new.node).state ≡ started who (replica_of old.node).state.kept
   pub runs : new.mail.runs ≡ true
@@ -41,4 +47,5 @@ pub record HasStartedAgain {D : Type 0} (seen : D → Image) (may_leave : D → 
   pub skew : new.mail.skew ≡ old.mail.skew
   pub fate : new.mail.fate ≡ old.mail.fate
   pub waits : new.mail.waits ≡ old.mail.waits
+  pub arm : new.mail.arm ≡ old.mail.arm
   pub steps : new.steps ≡ old.steps

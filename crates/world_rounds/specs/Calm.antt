@@ -1,5 +1,5 @@
 -- What settling begins with, in a world.
-use Rattle.std.specs.Prelude.{◌≡◌, ℕ, [], List, pos, length, Some, slice_get}
+use Rattle.std.specs.Prelude.{◌≡◌, ℕ, [], List, pos, length, None, Some, slice_get}
 use Rattle.cluster_sched.specs.declared.fate.Fate.TheVariants.{Done}
 use Rattle.step_law.specs.State.{State, prefix_of}
 use Rattle.replica_node.specs.Node.{replica_of}
@@ -8,7 +8,7 @@ use Rattle.script_law.specs.Settling.{restart_tasks}
 use Rattle.script_law.specs.Situation.{AreTurnsFor, Situation, after_turns}
 use Rattle.world_rounds.specs.declared.member.Member.{Member}
 
--- no letter waits for the replica, its clock is right, and its next call is answered; all else is as it was
+-- no letter waits for the replica, its clock is right, its next call is answered, and its disk isn't armed; all else is as it was
 pub record IsCalmed {D : Type 0} (old new : Member D) : Type 0 where
   pub node : new.node ≡ old.node
   pub steps : new.steps ≡ old.steps
@@ -17,6 +17,7 @@ pub record IsCalmed {D : Type 0} (old new : Member D) : Type 0 where
   pub letters : new.mail.letters.items ≡ []
   pub skew : new.mail.skew ≡ pos 0
   pub fate : new.mail.fate ≡ Done
+  pub arm : new.mail.arm ≡ None
 
 -- so it is of each of them
 pub record AreCalmed {D : Type 0} (old new : List (Member D)) : Type 0 where
@@ -28,6 +29,7 @@ pub record RestartsAll (members : ℕ) (situation : Situation) (rows : List Row)
   pub turns : AreTurnsFor members situation (restart_tasks members situation) rows
   pub standing : after.standing ≡ (after_turns members situation rows).standing
   pub latest : after.latest ≡ (after_turns members situation rows).latest
+  pub bases : after.bases ≡ (after_turns members situation rows).bases
 
 -- the replicas have learned as much as these
 abbrev pub HaveLearned : {D : Type 0} → (ℕ → State) → List (Member D) → Type 0

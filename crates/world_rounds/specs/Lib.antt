@@ -7,6 +7,7 @@ pub mod Drains
 pub mod Hearing
 pub mod Mails
 pub mod Nodes
+pub mod OneByOne
 pub mod Parts
 pub mod Start
 pub mod Taking

@@ -12,6 +12,7 @@ use Rattle.agree_law.specs.World.{fresh}
 use Rattle.replica_node.specs.Node.{IsNodeAtRest, disk_of, replica_of}
 use Rattle.replica_node.specs.Reliable.{IsReliable}
 use Rattle.std.specs.Prelude.{pos}
+use Rattle.world_parts.specs.Nodes.{IsDiskAt}
 use Rattle.world_rounds.specs.declared.member.Member.{Member}
 
 -- The disk is honest and reliable: it is neither armed nor stopped, and can't fail. Its files are empty, whatever a stop leaves.
@@ -24,7 +25,7 @@ pub record IsFreshDisk {D : Type 0} (may_leave : D → Image → Type 0) (honest
 pub record IsFreshMember {D : Type 0} (seen : D → Image) (may_leave : D → Image → Type 0) (honest : D → Type 0) (told_of : D → Option Told) (table : Table) (members who : ℕ) (member : Member D) : Type 0 where
   pub at_rest : IsNodeAtRest seen may_leave honest table member.node
   pub trusted : honest (disk_of member.node)
-  pub reliable : IsReliable (told_of (disk_of member.node))
+  pub disk : IsDiskAt told_of 0 member.node
   pub identity : (replica_of member.node).identity ≡ identity_of members who
   pub state : (replica_of member.node).state ≡ started who (fresh (first_rows table))
   pub runs : member.mail.runs ≡ true
@@ -32,4 +33,5 @@ pub record IsFreshMember {D : Type 0} (seen : D → Image) (may_leave : D → Im
   pub skew : member.mail.skew ≡ pos 0
   pub fate : member.mail.fate ≡ Done
   pub waits : member.mail.waits ≡ None
+  pub arm : member.mail.arm ≡ None
   pub none : member.steps.items ≡ []

@@ -6,6 +6,7 @@ use Rattle.due_set.specs.Table.{Table}
 use Rattle.book_law.specs.Book.{Row}
 use Rattle.script_law.specs.Situation.{Situation, is_cut}
 use Rattle.world_law.specs.Book.{BookState, standing_behind}
+use Rattle.world_parts.specs.Nodes.{bases_behind}
 use Rattle.world_parts.specs.Parts.{IsBookAt, IsMailOf}
 use Rattle.world_steps.specs.Steps.{IsNodeAhead, IsNodeStopped, causes_of, heard_in}
 use Rattle.world_steps.specs.declared.steps.Taken.{Taken}
@@ -17,7 +18,7 @@ use Rattle.zone_minutes.specs.declared.minute.Minute.{Minute}
 pub record IsMemberAhead {D : Type 0} (seen : D → Image) (may_leave : D → Image → Type 0) (honest : D → Type 0) (told_of : D → Option Told) (table : Table) (rows : List Row) (book : BookState) (situation : Situation) (who : ℕ) (steps : List Taken) (member : Member D) : Type 0 where
   pub mail : IsMailOf book.letters situation who (heard_in (causes_of steps)) member.mail
   pub running : (standing_behind table rows book).runs who ≡ true → IsNodeAhead seen may_leave honest told_of table rows book who steps member.node
-  pub stopped : (standing_behind table rows book).runs who ≡ false → IsNodeStopped seen may_leave honest told_of table book.members (standing_behind table rows book) who steps member.node
+  pub stopped : (standing_behind table rows book).runs who ≡ false → IsNodeStopped seen may_leave honest told_of table book.members (standing_behind table rows book) (bases_behind table rows book who) who steps member.node
 
 -- The world is in this situation, and behind its book stand these rows; of each replica there may be steps that aren't turns yet.
 pub record IsWorldAhead {D : Type 0} (seen : D → Image) (may_leave : D → Image → Type 0) (honest : D → Type 0) (told_of : D → Option Told) (table : Table) (rows : List Row) (world : World D) (situation : Situation) (steps : ℕ → List Taken) : Type 0 where

@@ -16,34 +16,25 @@ use book_law::Turn;
 use cron_io::OutOfMemory;
 use disk_model::Disk;
 use due_set::JobTable;
-use replica_core::{LearntList, StepOut};
-use replica_draft::LetterList;
+use paxos_base::Delta;
 use replica_node::Node;
 use std::alloc::Global;
 use world_law::Book;
-use world_steps::memory_of;
+use world_steps::{change_alone, memory_of, note_stop};
 
-// A turn that is no step joins the book.
-fn commit_alone(
+// A turn that is no step joins the book, with the change that was kept, where one was.
+pub(crate) fn commit_alone(
     alloc: Global,
     book: &mut Book,
     table: &JobTable,
     turn: Turn,
+    change: Option<Delta>,
 ) -> Result<(), OutOfMemory>
-    requires alone { (rows : List Row) × (row : Row) × IsAlone table.now rows book.old turn row }
-    ensures joins { OnOk result ((rows : List Row) (row : Row) → IsAlone table.now rows book.old turn row → HasJoinedAlone table.now rows book.old book.new row) }
+    requires alone { (rows : List Row) × (row : Row) × IsAlone table.now rows book.old turn change row }
+    ensures joins { OnOk result ((rows : List Row) (row : Row) → IsAlone table.now rows book.old turn change row → HasJoinedAlone table.now rows book.old book.new row) }
     ensures legal { OnErr result (IsLegalBook table.now book.new) }
 {
-    let out = StepOut {
-        delta: None,
-        letters: LetterList {
-            items: Vec::new(alloc),
-        },
-        learnt: LearntList {
-            items: Vec::new(alloc),
-        },
-        call: None,
-    };
+    let out = change_alone(alloc, change);
     book.reserve(&out)?;
     book.commit(table, turn, out);
     Ok(())
@@ -92,7 +83,7 @@ fn start_again<D: Disk>(
 }
 
 impl<D: Disk> World<D> {
-    // A replica stops, if it runs: it loses its mail and the answer that waits for it.
+    // A replica stops, if it runs: it loses its mail and the answer that waits for it, and its disk isn't armed any more.
     pub(crate) fn stop(&mut self, table: &JobTable, who: u8) -> Result<(), OutOfMemory>
         requires world { IsWorld D.seen D.may_leave D.honest D.told table.now self.old }
         requires member { who < length self.old.members.items }
@@ -108,11 +99,8 @@ impl<D: Disk> World<D> {
             cause: None,
             kept: false,
         };
-        commit_alone(self.alloc, &mut self.book, table, turn)?;
-        let mail = &mut self.members[who as usize].mail;
-        mail.runs = false;
-        mail.letters.clear();
-        mail.waits = None;
+        commit_alone(self.alloc, &mut self.book, table, turn, None)?;
+        note_stop(&mut self.members[who as usize].mail);
         Ok(())
     }
 
@@ -131,7 +119,13 @@ impl<D: Disk> World<D> {
         let stopped = self.members.remove(who as usize);
         let started = start_again(self.alloc, table, who, members, stopped)?;
         self.members.insert(who as usize, started)?;
-        commit_alone(self.alloc, &mut self.book, table, Turn::Restarted { who })
+        commit_alone(
+            self.alloc,
+            &mut self.book,
+            table,
+            Turn::Restarted { who },
+            None,
+        )
     }
 
     // A late call arrives, if there is one of this number that has not.
@@ -144,6 +138,12 @@ impl<D: Disk> World<D> {
         if !may_arrive(&self.book, late) {
             return Ok(());
         }
-        commit_alone(self.alloc, &mut self.book, table, Turn::Arrived { late })
+        commit_alone(
+            self.alloc,
+            &mut self.book,
+            table,
+            Turn::Arrived { late },
+            None,
+        )
     }
 }

@@ -19,7 +19,7 @@ use cron_io::OutOfMemory;
 use disk_model::Disk;
 use due_set::JobTable;
 
-// No letter waits for a replica, its clock is right, and its next call is answered.
+// No letter waits for a replica, its clock is right, its next call is answered, and its disk isn't armed.
 fn calm_all<D>(members: &mut [Member<D>])
     ensures { AreCalmed members.old members.new }
 {
@@ -27,6 +27,7 @@ fn calm_all<D>(members: &mut [Member<D>])
         member.mail.letters.clear();
         member.mail.skew = 0;
         member.mail.fate = Fate::Done;
+        member.mail.arm = None;
     }
 }
 
@@ -74,7 +75,7 @@ impl<D: Disk> World<D> {
         Ok(())
     }
 
-    // No letter waits or is lost, each clock is right, and each call is answered.
+    // No letter waits or is lost, each clock is right, each call is answered, and no disk is armed.
     fn calm(&mut self)
         ensures sets { Changes D.seen D.may_leave D.honest D.told calmed self.old self.new }
         ensures book { book_of self.new ≡ book_of self.old }

@@ -1,7 +1,8 @@
 //! The commands of a script.
 ghost use Rattle.std.specs.Prelude.{◌≡◌, ◌<◌, OnOk, OnErr, length};
 ghost use Rattle.cluster_sched.specs.declared.fate.Fate.{Fate as Becomes};
-ghost use Rattle.script_law.specs.Commands.{fate_of, set_by};
+ghost use Rattle.script_law.specs.Arms.{armed_by};
+ghost use Rattle.script_law.specs.Commands.{Plain, fate_of, set_by, tasks_for};
 ghost use Rattle.script_law.specs.Script.{IsPartOf};
 ghost use Rattle.script_text.specs.declared.command.Command.TheVariants as command;
 ghost use Rattle.world_law.specs.Book.{IsLegalBook};
@@ -13,7 +14,7 @@ ghost use Rattle.world_rounds.specs.World.{GoesOnBy, IsWorld, book_of};
 use crate::world::World;
 use cluster_sched::Fate;
 use cron_io::OutOfMemory;
-use disk_model::Disk;
+use disk_model::{Arm, ArmedDisk, Disk};
 use due_set::JobTable;
 use script_text::{Command, FateWord};
 use std::thread::Threads;
@@ -67,11 +68,24 @@ impl<D: Disk> World<D> {
         self.members[who as usize].mail.fate = fate_of(word);
     }
 
-    // A replica stands for leader, if it runs.
-    pub(crate) fn campaign(&mut self, table: &JobTable, who: u8) -> Result<(), OutOfMemory>
+    // The disk of a replica is armed anew, if the replica runs.
+    fn arm(&mut self, who: u8, pass: u32, image: u32)
+        requires member { who < length self.old.members.items }
+        ensures sets { Changes D.seen D.may_leave D.honest D.told (armed_by who pass image) self.old self.new }
+        ensures book { book_of self.new ≡ book_of self.old }
+    {
+        let mail = &mut self.members[who as usize].mail;
+        if mail.runs {
+            mail.arm = Some(Arm { left: pass, image });
+        }
+    }
+
+    // A replica stands for leader, if it runs, on a disk that isn't armed.
+    pub(crate) fn stand(&mut self, table: &JobTable, who: u8) -> Result<(), OutOfMemory>
         requires world { IsWorld D.seen D.may_leave D.honest D.told table.now self.old }
         requires member { who < length self.old.members.items }
-        ensures goes { OnOk result (GoesOnBy D.seen D.may_leave D.honest D.told table.now (IsPartOf (book_of self.old).members table.now (command.Campaign who)) self.old self.new) }
+        ensures goes { OnOk result (GoesOnBy D.seen D.may_leave D.honest D.told table.now
+            (Plain (book_of self.old).members (tasks_for (command.Campaign who)) (set_by (command.Campaign who))) self.old self.new) }
         ensures members { OnOk result ((book_of self.new).members ≡ (book_of self.old).members) }
         ensures legal { OnErr result (IsLegalBook table.now (book_of self.new)) }
     {
@@ -86,7 +100,7 @@ impl<D: Disk> World<D> {
     }
 }
 
-impl<D: Disk + Send> World<D> {
+impl<D: ArmedDisk + Send> World<D> {
     /// Does what a command says, rounds in so many lanes: the turns that it adds are those of its part.
     ///
     /// # Errors
@@ -137,7 +151,15 @@ impl<D: Disk + Send> World<D> {
             Command::Arrive { late } => self.arrive(table, late),
             Command::Settle { at } => self.settle(table, at),
             Command::Walk { to } => self.walk(table, to),
-            _ => unreachable!(),
+            Command::Break {
+                member,
+                pass,
+                image,
+            } => {
+                self.arm(member, pass, image);
+                Ok(())
+            }
+            Command::Free { .. } => unreachable!(),
         }
     }
 }

@@ -10,6 +10,7 @@ mod laws;
 mod letters;
 mod mails;
 mod member;
+mod one_by_one;
 mod parts;
 mod quiet;
 mod rooms;

@@ -1,7 +1,8 @@
 //! Rounds: each replica takes its steps on its own, and then their turns join the book in the order of the replicas' numbers.
 ghost use Rattle.std.specs.Prelude.{◌≡◌, ◌<◌, ℕ, Some, OnOk, OnErr, slice_get};
 ghost use Rattle.zone_minutes.specs.Window.{IsInWindow};
-ghost use Rattle.script_law.specs.Round.{AreRounds, IsRound};
+ghost use Rattle.script_law.specs.Arms.{AreRoundsByArms, PlaysByArms};
+ghost use Rattle.script_law.specs.Round.{IsRound, round_tasks};
 ghost use Rattle.world_law.specs.Book.{IsLegalBook};
 ghost use Rattle.world_rounds.specs.Rounds.{AllTakeRounds, CommitsAll, MayTakeRound};
 ghost use Rattle.world_rounds.specs.Taking.{MayCommitOwn};
@@ -12,7 +13,7 @@ use crate::lanes::share_rounds;
 use crate::member::Member;
 use crate::world::World;
 use cron_io::OutOfMemory;
-use disk_model::Disk;
+use disk_model::{ArmedDisk, Disk};
 use due_set::JobTable;
 use std::thread::Threads;
 use world_law::Book;
@@ -65,7 +66,7 @@ impl<D: Disk> World<D> {
     }
 }
 
-impl<D: Disk + Send> World<D> {
+impl<D: ArmedDisk + Send> World<D> {
     // A round at an instant, in so many lanes.
     fn round_in_lanes<R: Threads + Sync>(
         &mut self,
@@ -88,8 +89,31 @@ impl<D: Disk + Send> World<D> {
         Ok(())
     }
 
+    // A round at an instant: where a disk is armed each step becomes a turn before the next one is taken, and else they are taken in lanes.
+    fn round_by_arms<R: Threads + Sync>(
+        &mut self,
+        rt: &R,
+        table: &JobTable,
+        at: Minute,
+        lanes: u8,
+    ) -> Result<(), OutOfMemory>
+        requires lanes { 0 < lanes }
+        requires world { IsWorld D.seen D.may_leave D.honest D.told table.now self.old }
+        requires inside { IsInWindow table.now.window at.0 }
+        ensures goes { OnOk result (GoesOnBy D.seen D.may_leave D.honest D.told table.now
+            (PlaysByArms (book_of self.old).members (round_tasks (book_of self.old).members table.now.window at.0)) self.old self.new) }
+        ensures members { OnOk result ((book_of self.new).members ≡ (book_of self.old).members) }
+        ensures legal { OnErr result (IsLegalBook table.now (book_of self.new)) }
+    {
+        if self.is_armed() {
+            self.round_one_by_one(table, at)
+        } else {
+            self.round_in_lanes(rt, table, at, lanes)
+        }
+    }
+
     /// So many rounds at an instant, in so many lanes. One lane makes no thread, and more than there are replicas are as good as
-    /// one for each. The turns are the same for every number of lanes.
+    /// one for each. The turns are the same for every number of lanes; a round in which a disk is armed goes in one.
     pub fn round<R: Threads + Sync>(
         &mut self,
         rt: &R,
@@ -101,12 +125,12 @@ impl<D: Disk + Send> World<D> {
         requires lanes { 0 < lanes }
         requires world { IsWorld D.seen D.may_leave D.honest D.told table.now self.old }
         requires inside { IsInWindow table.now.window at.0 }
-        ensures goes { OnOk result (GoesOnBy D.seen D.may_leave D.honest D.told table.now (AreRounds (book_of self.old).members table.now.window at.0 rounds) self.old self.new) }
+        ensures goes { OnOk result (GoesOnBy D.seen D.may_leave D.honest D.told table.now (AreRoundsByArms (book_of self.old).members table.now.window at.0 rounds) self.old self.new) }
         ensures members { OnOk result ((book_of self.new).members ≡ (book_of self.old).members) }
         ensures legal { OnErr result (IsLegalBook table.now (book_of self.new)) }
     {
         'rounds: for _round in 0..rounds {
-            self.round_in_lanes(rt, table, at, lanes)?;
+            self.round_by_arms(rt, table, at, lanes)?;
         }
         Ok(())
     }

@@ -30,7 +30,7 @@ impl<D: Disk> World<D> {
         ensures members { OnOk result ((book_of self.new).members ≡ (book_of self.old).members) }
         ensures legal { OnErr result (IsLegalBook table.now (book_of self.new)) }
     {
-        self.campaign(table, who)
+        self.stand(table, who)
     }
 
     // The replica stands for leader where it follows, and a round comes after that.

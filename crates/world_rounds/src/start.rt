@@ -43,6 +43,7 @@ fn start_member<D: Disk>(
                 skew: 0,
                 fate: Fate::Done,
                 waits: None,
+                arm: None,
             },
             steps: Vec::new(alloc),
             short: false,

@@ -10,11 +10,16 @@ use cron_io::OutOfMemory;
 use disk_model::Disk;
 use due_set::JobTable;
 use std::mem;
-use world_steps::{Taken, commit_step, note_call, reading_with};
+use world_steps::{Taken, calls_to_save, commit_step, note_step, reading_with};
 
 impl<D: Disk> World<D> {
     // The turn of a replica's step joins the book.
-    fn commit_taken(&mut self, table: &JobTable, who: u8, taken: Taken) -> Result<(), OutOfMemory>
+    pub(crate) fn commit_taken(
+        &mut self,
+        table: &JobTable,
+        who: u8,
+        taken: Taken,
+    ) -> Result<(), OutOfMemory>
         requires may { (more : List Step) × MayCommit D.seen D.may_leave D.honest D.told table.now self.old who (taken ∷ more) }
         ensures did { OnOk result ((more : List Step) → Commits D.seen D.may_leave D.honest D.told table.now who (taken ∷ []) more self.old self.new) }
         ensures steps { OnOk result (KeepsSteps self.old self.new) }
@@ -22,8 +27,9 @@ impl<D: Disk> World<D> {
     {
         let cause = taken.cause;
         let fate = self.members[who as usize].mail.fate;
+        let calls = calls_to_save(&taken.out.delta);
         let call = commit_step(&mut self.book, table, who, taken, fate)?;
-        note_call(&mut self.members[who as usize].mail, call);
+        note_step(&mut self.members[who as usize].mail, call, calls);
         self.latest = reading_with(cause, self.latest);
         Ok(())
     }

@@ -1,12 +1,14 @@
 -- What a turn leaves of replicas, of their mails and of steps beside the book that are no turns yet.
-use Rattle.std.proofs.Common.{◌≡◌, ◌≢◌, ℕ, Bool, true, List, [], ◌∷◌, ◌++◌, drop, Option, None, Some, eq-eqb, refl, sym, ap, ◌∙◌, append_assoc}
+use Rattle.std.proofs.Common.{◌≡◌, ◌≢◌, ℕ, ◌≤◌, Bool, true, List, [], ◌∷◌, ◌++◌, drop, Option, None, Some, refl, sym, ap, ◌∙◌, subst, append_assoc}
 use Rattle.std.proofs.lemmas.Bool.{ne_eqb}
+use Rattle.std.specs.Option.{option_to_list}
 use Rattle.cluster_sched.specs.declared.fate.Fate.{Fate}
 use Rattle.cluster_sched.specs.declared.row.SchedRow.{SchedRow}
 use Rattle.disk_model.specs.Images.{Image}
 use Rattle.disk_model.specs.Told.{Told}
 use Rattle.due_set.specs.Table.{Table}
 use Rattle.launch_machine.specs.Clerk.{first_rows}
+use Rattle.paxos_base.specs.declared.durable.Delta.{Delta}
 use Rattle.step_law.specs.State.{Identity, State}
 use Rattle.step_law.specs.Step.{Event}
 use Rattle.step_law.specs.declared.out.OutLetter.{OutLetter}
@@ -22,20 +24,17 @@ use Rattle.replica_core.specs.Replica.{ReplicaState}
 use Rattle.replica_core.specs.declared.input.Input.{Input}
 use Rattle.replica_node.specs.declared.node.Node.{Node}
 use Rattle.replica_node.specs.Node.{replica_of}
-use Rattle.script_law.specs.Situation.{Situation, after_turn, fates_after, mails_after}
-use Rattle.world_law.specs.Book.{BookState, standing_behind}
+use Rattle.script_law.specs.Situation.{Armed, Situation, after_turn, armed_after, arms_after, bases_with, calls_for, changes_in, fates_after, mails_after}
+use Rattle.world_law.specs.Book.{BookState, StandsBehind, standing_behind}
 use Rattle.world_law.specs.declared.letter.LetterRow.{LetterRow}
-use Rattle.world_parts.specs.Parts.{IsBookAt, IsMailOf, IsSentTo}
+use Rattle.world_parts.specs.Nodes.{IsDiskAt, bases_behind}
+use Rattle.world_parts.specs.Parts.{IsBookAt, IsMailOf, IsSentTo, armed_in}
 use Rattle.world_parts.specs.declared.mail.MemberMail.{MemberMail}
-use Rattle.world_steps.specs.Steps.{IsNodeAhead, IsNodeStopped, IsToldOf, TookSteps, causes_of, heard_for, heard_in, waits_in}
-use Rattle.world_steps.specs.Turns.{HasJoinedAt, HasLetters, IsNextStep, fate_then, noted}
+use Rattle.world_steps.proofs.Bases.{arm_spent, bases_here, bases_more, others_armed, others_keep}
+use Rattle.world_steps.proofs.Facts.{fact_here, fact_there}
+use Rattle.world_steps.specs.Steps.{IsNodeAhead, IsNodeStopped, IsToldOf, TookSteps, causes_of, changes_of, heard_for, heard_in, waits_in}
+use Rattle.world_steps.specs.Turns.{HasJoinedAt, HasLetters, IsNextStep, arm_then, fate_then, noted}
 use Rattle.world_steps.specs.declared.steps.Taken.{Taken}
-
-pub fact_there : {A : Type 0} (who : ℕ) (fact : A) (facts : ℕ → A) (other : ℕ) → other ≢ who → with_fact who fact facts other ≡ facts other
-fact_there who fact facts other differs = rw (ne_eqb other who differs) refl
-
-pub fact_here : {A : Type 0} (who : ℕ) (fact : A) (facts : ℕ → A) → with_fact who fact facts who ≡ fact
-fact_here who fact facts = rw (eq-eqb who who refl) refl
 
 replica_there : (who : ℕ) (state : State) (replicas : ℕ → State) (other : ℕ) → other ≢ who → with_replica who state replicas other ≡ replicas other
 replica_there who state replicas other differs = rw (ne_eqb other who differs) refl
@@ -49,6 +48,8 @@ pub record Leaves (n : ℕ) (situation : Situation) (row : Row) (other : ℕ) : 
   pub waits : (after_turn n situation row).standing.waits other ≡ situation.standing.waits other
   pub mail : (after_turn n situation row).mails other ≡ situation.mails other
   pub fate : (after_turn n situation row).fates other ≡ situation.fates other
+  pub arm : (after_turn n situation row).arms other ≡ situation.arms other
+  pub base : (after_turn n situation row).bases other ≡ situation.bases other
 
 others_stay : (n : ℕ) (s : Standing) (turn : Turn) (event : Event) (letters : List OutLetter) (other : ℕ) → other ≢ turn_of turn
     → (after_row n s turn event letters).replicas other ≡ s.replicas other
@@ -97,12 +98,15 @@ leaves_other n situation row other differs = record {
   waits = others_wait n situation.standing row.turn row.event row.letters other differs;
   mail = others_mail row.turn situation.mails other differs;
   fate = others_fate row.turn situation.fates other differs;
+  arm = others_armed row.turn (changes_in n situation.standing row.turn row.event) situation.arms other differs;
+  base = others_keep row.turn (changes_in n situation.standing row.turn row.event) situation.bases other differs;
 }
 
 -- an arrival leaves all
 pub leaves_all : (n : ℕ) (situation : Situation) (row : Row) (number other : ℕ) → row.turn ≡ Arrived number → Leaves n situation row other
 unfolding after_row
-leaves_all n situation row number other is = record { replica = rw is refl; runs = rw is refl; waits = rw is refl; mail = rw is refl; fate = rw is refl }
+leaves_all n situation row number other is =
+    record { replica = rw is refl; runs = rw is refl; waits = rw is refl; mail = rw is refl; fate = rw is refl; arm = rw is refl; base = rw is refl }
 
 -- ---- steps that aren't turns yet
 
@@ -139,11 +143,12 @@ module _ {D : Type 0} (seen : D → Image) (may_leave : D → Image → Type 0) 
   pub node_stays : (rows : List Row) (row : Row) (book after : BookState) (other : ℕ) (steps : List Taken) (node : Node D) → after.members ≡ book.members → HasLetters book.letters after
       → (standing_behind table (rows ++ row ∷ []) after).replicas other ≡ (standing_behind table rows book).replicas other
       → (standing_behind table (rows ++ row ∷ []) after).runs other ≡ true → (standing_behind table (rows ++ row ∷ []) after).waits other ≡ (standing_behind table rows book).waits other
+      → bases_behind table (rows ++ row ∷ []) after other ≡ bases_behind table rows book other
       → IsNodeAhead seen may_leave honest told_of table rows book other steps node → IsNodeAhead seen may_leave honest told_of table (rows ++ row ∷ []) after other steps node
-  node_stays rows row book after other steps node members has replica runs waits ahead = record {
+  node_stays rows row book after other steps node members has replica runs waits bases ahead = record {
     at_rest = ahead.at_rest;
     trusted = ahead.trusted;
-    reliable = ahead.reliable;
+    disk = subst (λ (count : ℕ). IsDiskAt told_of (bases_with (changes_of steps) count) node) (sym bases) ahead.disk;
     first = ahead.first;
     stands = record {
       identity = rw members ahead.stands.identity;
@@ -157,12 +162,12 @@ module _ {D : Type 0} (seen : D → Image) (may_leave : D → Image → Type 0) 
   }
 
   -- the node of a replica that is stopped keeps what the replica does
-  pub stopped_stays : (members count other : ℕ) (old new : Standing) (steps : List Taken) (node : Node D) → count ≡ members → new.replicas other ≡ old.replicas other
-      → IsNodeStopped seen may_leave honest told_of table members old other steps node → IsNodeStopped seen may_leave honest told_of table count new other steps node
-  stopped_stays members count other old new steps node same replica was = record {
+  pub stopped_stays : (members count other : ℕ) (old new : Standing) (before after : ℕ) (steps : List Taken) (node : Node D) → count ≡ members → new.replicas other ≡ old.replicas other → after ≡ before
+      → IsNodeStopped seen may_leave honest told_of table members old before other steps node → IsNodeStopped seen may_leave honest told_of table count new after other steps node
+  stopped_stays members count other old new before after steps node same replica bases was = record {
     at_rest = was.at_rest;
     trusted = was.trusted;
-    reliable = was.reliable;
+    disk = subst (λ (count : ℕ). IsDiskAt told_of count node) (sym bases) was.disk;
     identity = rw same was.identity;
     none = was.none;
     kept = replica ∙ was.kept;
@@ -177,6 +182,7 @@ mail_stays n situation row other heard letters after mail has leaves is = record
   small = is.small;
   fate = is.fate ∙ sym leaves.fate;
   waits = is.waits ∙ sym leaves.waits;
+  arm = is.arm ∙ sym leaves.arm;
   sent = λ number there. sent_later letters after other number has (is.sent number there);
 }
 
@@ -199,6 +205,10 @@ pub did_fate : (who : ℕ) (cause : Cause) (made : Option CallRow) (fates : ℕ 
 did_fate who cause None fates = refl
 did_fate who cause (Some made) fates = fact_here who _ fates
 
+-- and the disk has so many calls less left, where it is armed
+pub did_arm : (who : ℕ) (cause : Cause) (made : Option CallRow) (changes : List Delta) (arms : ℕ → Option Armed) → arms_after (Did who cause made) changes arms who ≡ armed_after changes (arms who)
+did_arm who cause made changes arms = fact_here who (armed_after changes (arms who)) arms
+
 -- the letter that is heard leaves the mail
 pub did_mail : (who : ℕ) (cause : Cause) (made : Option CallRow) (mails : ℕ → List ℕ) (rest : List ℕ) → mails who ≡ heard_for cause ++ rest
     → mails_after (Did who cause made) mails who ≡ rest
@@ -209,9 +219,10 @@ did_mail who Answer made mails rest is = is
 
 -- its mail has lost the letter that it heard, and an answer of its call waits for it
 pub mail_did : (n : ℕ) (situation : Situation) (row : Row) (who : ℕ) (taken : Taken) (more : List Taken) (made : Option CallRow) (letters : List LetterRow) (after : BookState) (mail : MemberMail)
-    → row.turn ≡ Did who taken.cause made → HasLetters letters after → IsMailOf letters situation who (heard_in (causes_of (taken ∷ more))) mail
-    → IsMailOf after.letters (after_turn n situation row) who (heard_in (causes_of more)) (noted made mail)
-mail_did n situation row who taken more made letters after mail turn has is = record {
+    → row.turn ≡ Did who taken.cause made → changes_in n situation.standing row.turn row.event ≡ option_to_list taken.out.delta
+    → HasLetters letters after → IsMailOf letters situation who (heard_in (causes_of (taken ∷ more))) mail
+    → IsMailOf after.letters (after_turn n situation row) who (heard_in (causes_of more)) (noted made (calls_for (option_to_list taken.out.delta)) mail)
+mail_did n situation row who taken more made letters after mail turn changes has is = record {
   runs = is.runs ∙ sym (ap (λ (runs : ℕ → Bool). runs who) (row_runs n situation.standing row who taken.cause made turn));
   letters_are =
       ap (λ turn. mails_after turn situation.mails who) turn
@@ -221,6 +232,12 @@ mail_did n situation row who taken more made letters after mail turn has is = re
   small = is.small;
   fate = ap (fate_then made) is.fate ∙ sym (did_fate who taken.cause made situation.fates) ∙ sym (ap (λ turn. fates_after turn situation.fates who) turn);
   waits = sym (ap (λ turn. (after_row n situation.standing turn row.event row.letters).waits who) turn ∙ did_waits n situation.standing who taken.cause made row.event row.letters);
+  arm =
+      arm_spent (option_to_list taken.out.delta) mail.arm
+      ∙ ap (armed_after (option_to_list taken.out.delta)) is.arm
+      ∙ sym (did_arm who taken.cause made (option_to_list taken.out.delta) situation.arms)
+      ∙ ap (λ (deltas : List Delta). arms_after (Did who taken.cause made) deltas situation.arms who) (sym changes)
+      ∙ ap (λ (had : Turn). arms_after had (changes_in n situation.standing row.turn row.event) situation.arms who) (sym turn);
   sent = λ number there. sent_later letters after who number has (is.sent number there);
 }
 
@@ -233,14 +250,22 @@ module _ {D : Type 0} (seen : D → Image) (may_leave : D → Image → Type 0) 
 
   -- and is a turn then: the node is ahead by the other steps
   pub node_did : (rows : List Row) (book after : BookState) (who : ℕ) (taken : Taken) (more : List Taken) (set : Fate) (made : Option CallRow) (node : Node D)
-      → (ahead : IsNodeAhead seen may_leave honest told_of table rows book who (taken ∷ more) node) → (joined : HasJoinedAt table rows book after who taken set made ahead.took.0)
+      → StandsBehind table rows book → book.pending ≡ None → book.members ≤ 7 → (ahead : IsNodeAhead seen may_leave honest told_of table rows book who (taken ∷ more) node) → (joined : HasJoinedAt table rows book after who taken set made ahead.took.0)
       → IsNodeAhead seen may_leave honest told_of table (rows ++ joined.row ∷ []) after who more node
-  node_did rows book after who taken more set made node ahead joined = record {
+  node_did rows book after who taken more set made node behind rest few ahead joined = record {
     at_rest = ahead.at_rest;
     trusted = ahead.trusted;
-    reliable = ahead.reliable;
+    disk = subst (λ (count : ℕ). IsDiskAt told_of count node) (sym bases) ahead.disk;
     first = ahead.took.0;
     stands = joined.stands;
     me = ap (λ (self : Identity). self.me) ahead.took.1.steps.took.identity ∙ ahead.me;
     took = took_later table book.letters after None (waits_in table (rows ++ joined.row ∷ []) after who) who more ahead.took.0 (replica_of node) joined.joined.has (λ row is. absurd cc) ahead.took.2;
   }
+    where
+      next : IsNextStep table rows book who taken ahead.first ahead.took.0
+      next = record { behind = behind; rest = rest; few = few; stands = ahead.stands; me = ahead.me; step = ahead.took.1 }
+
+      bases : bases_with (changes_of more) (bases_behind table (rows ++ joined.row ∷ []) after who) ≡ bases_with (changes_of (taken ∷ more)) (bases_behind table rows book who)
+      bases =
+          ap (bases_with (changes_of more)) (bases_here table rows book after who taken ahead.first ahead.took.0 set made joined.row next joined.joined)
+          ∙ sym (bases_more (option_to_list taken.out.delta) (changes_of more) (bases_behind table rows book who))

@@ -15,7 +15,7 @@ use Rattle.replica_store.proofs.KeptLemmas.{stands_in}
 use Rattle.replica_store.specs.Files.{BodiesStand, FilesStand}
 use Rattle.replica_store.specs.Store.{area_of, records_of}
 use Rattle.world_law.specs.Book.{BookState, standing_behind}
-use Rattle.world_parts.specs.Nodes.{IsNodeOf}
+use Rattle.world_parts.specs.Nodes.{IsNodeOf, bases_behind}
 use Rattle.world_steps.specs.Steps.{IsNodeAhead, IsNodeStopped}
 
 module _ {D : Type 0} (seen : D → Image) (may_leave : D → Image → Type 0) (honest : D → Type 0) (told_of : D → Option Told) (table : Table) where
@@ -32,7 +32,7 @@ module _ {D : Type 0} (seen : D → Image) (may_leave : D → Image → Type 0) 
   running_node rows book who node ahead = record {
     at_rest = ahead.at_rest;
     trusted = ahead.trusted;
-    reliable = ahead.reliable;
+    disk = ahead.disk;
     identity = ap (λ (r : ReplicaState). r.identity) ahead.took ∙ ahead.stands.identity ∙ ap (identity_of book.members) ahead.me;
     state = λ runs. state_is;
     kept = kept_is;
@@ -46,12 +46,12 @@ module _ {D : Type 0} (seen : D → Image) (may_leave : D → Image → Type 0) 
       kept_is = ap (λ (s : State). s.kept) state_is
 
   pub stopped_node : (rows : List Row) (book : BookState) (who : ℕ) (node : Node D) → (standing_behind table rows book).runs who ≡ false
-      → IsNodeStopped seen may_leave honest told_of table book.members (standing_behind table rows book) who [] node
+      → IsNodeStopped seen may_leave honest told_of table book.members (standing_behind table rows book) (bases_behind table rows book who) who [] node
       → IsNodeOf seen may_leave honest told_of table rows book who node
   stopped_node rows book who node ended stopped = record {
     at_rest = stopped.at_rest;
     trusted = stopped.trusted;
-    reliable = stopped.reliable;
+    disk = stopped.disk;
     identity = stopped.identity;
     state = λ runs. absurd (let both : true ≡ false = sym runs ∙ ended in cc);
     kept = kept_is;

@@ -1,7 +1,10 @@
 pub mod Calls
+pub mod Facts
 pub mod Foreseen
 pub mod StepLemmas
 pub mod MemoryLemmas
+pub mod Bases
+pub mod Stopping
 pub mod Joined
 pub mod AfterTurn
 pub mod Ended

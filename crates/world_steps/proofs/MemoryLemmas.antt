@@ -20,6 +20,7 @@ use Rattle.replica_core.specs.declared.input.Input.{Input}
 use Rattle.replica_core.specs.declared.input.Input.TheVariants as input
 use Rattle.replica_node.specs.Faults.{EndsRun, letter_told}
 use Rattle.replica_node.specs.Node.{replica_of}
+use Rattle.replica_node.specs.Reliable.{IsUnfailingAfter}
 use Rattle.replica_node.specs.declared.fault.NodeFault.{NodeFault}
 use Rattle.replica_node.specs.declared.fault.NodeFault.TheVariants as Node
 use Rattle.replica_node.specs.declared.node.Node.{Node as Seat}
@@ -38,6 +39,15 @@ memory_alone {T} answer Node.DiskFault is ends damaged letter = absurd (ends (su
 memory_alone answer Node.OutOfMemory is ends damaged letter = refl
 memory_alone answer (Node.Damaged gate) is ends damaged letter = absurd (damaged gate is)
 memory_alone answer (Node.Letter broken) is ends damaged letter = absurd (letter broken is)
+
+-- so it is of a disk that can't fail, where the disk has not stopped
+pub memory_unless_stopped : {T : Type 0} (answer : Result T NodeFault) (fault : NodeFault) (told : Option Told) → answer ≡ Err fault → (fault ≡ Node.Stopped → ⊥) → IsUnfailingAfter answer told
+    → ((gate : ℕ) → answer ≡ Err (Node.Damaged gate) → ⊥) → ((letter : LetterFault) → answer ≡ Err (Node.Letter letter) → ⊥) → fault ≡ Node.OutOfMemory
+memory_unless_stopped answer Node.Stopped told is stopped unfailing damaged letter = absurd (stopped refl)
+memory_unless_stopped {T} answer Node.DiskFault told is stopped unfailing damaged letter = absurd (subst (λ (r : Result T NodeFault). IsUnfailingAfter r told) is unfailing)
+memory_unless_stopped answer Node.OutOfMemory told is stopped unfailing damaged letter = refl
+memory_unless_stopped answer (Node.Damaged gate) told is stopped unfailing damaged letter = absurd (damaged gate is)
+memory_unless_stopped answer (Node.Letter broken) told is stopped unfailing damaged letter = absurd (letter broken is)
 
 pub no_letter : {T : Type 0} (answer : Result T NodeFault) → letter_told answer ≡ None → (letter : LetterFault) → answer ≡ Err (Node.Letter letter) → ⊥
 no_letter answer none letter is =

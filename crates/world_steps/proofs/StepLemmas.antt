@@ -1,10 +1,14 @@
 -- A node that takes a step beside a book.
-use Rattle.std.proofs.Common.{◌≡◌, ℕ, ◌+◌, ◌<◌, ◌≤◌, ◌^◌, List, [], ◌∷◌, ◌++◌, length, Option, None, refl, sym, ap, subst, arith}
+use Rattle.std.proofs.Common.{◌≡◌, ℕ, ◌+◌, ◌<◌, ◌≤◌, ◌^◌, List, [], ◌∷◌, ◌++◌, length, Option, None, Some, refl, sym, ap, ◌∙◌, subst, arith}
+use Rattle.std.proofs.Common.{append-nil as append_nil}
 use Rattle.std.proofs.lemmas.List.{length-map}
+use Rattle.std.proofs.lemmas.List.Concat.{flat_map-append}
+use Rattle.std.specs.Option.{option_to_list}
 use Rattle.cluster_sched.specs.declared.row.SchedRow.{SchedRow}
 use Rattle.disk_model.specs.Images.{Image}
 use Rattle.disk_model.specs.Told.{Told}
 use Rattle.due_set.specs.Table.{Table}
+use Rattle.paxos_base.specs.declared.durable.Delta.{Delta}
 use Rattle.step_law.specs.Step.{IsLaunchTable}
 use Rattle.book_law.specs.Book.{Row}
 use Rattle.book_law.specs.declared.turn.Cause.{Cause}
@@ -14,13 +18,19 @@ use Rattle.replica_core.specs.Replica.{IsSmall, ReplicaState}
 use Rattle.replica_core.specs.Step.{Steps}
 use Rattle.replica_core.specs.declared.input.Input.{Input}
 use Rattle.replica_core.specs.declared.out.StepOut.{StepOut}
-use Rattle.replica_node.specs.Node.{IsNodeAtRest, disk_of, replica_of}
+use Rattle.replica_node.proofs.ArmLemmas.{area_by_bases}
+use Rattle.replica_node.specs.Kept.{IsNodeClean, area_by, area_for}
+use Rattle.replica_node.specs.Node.{IsChangeOf, IsNodeAtRest, disk_of, replica_of, store_of}
 use Rattle.replica_node.specs.Reliable.{IsReliable}
 use Rattle.replica_node.specs.declared.node.Node.{Node}
+use Rattle.replica_store.specs.Store.{area_of}
+use Rattle.script_law.specs.Situation.{bases_with}
 use Rattle.world_law.specs.Book.{BookState, standing_behind}
 use Rattle.world_law.specs.declared.letter.LetterRow.{LetterRow}
+use Rattle.world_parts.specs.Nodes.{bases_behind}
+use Rattle.world_steps.proofs.Bases.{bases_more}
 use Rattle.world_steps.proofs.Foreseen.{Foreseen, foresee}
-use Rattle.world_steps.specs.Steps.{IsBeside, TookStep, TookSteps, WasToldOf, waits_behind, waits_in}
+use Rattle.world_steps.specs.Steps.{IsBeside, TookStep, changes_of, TookSteps, WasToldOf, waits_behind, waits_in}
 use Rattle.world_steps.specs.declared.steps.Taken.{Taken}
 
 none_behind : (steps : List Taken) → waits_behind steps None ≡ None
@@ -34,6 +44,19 @@ pub took_next : (table : Table) (letters : List LetterRow) (waits : Option Sched
 took_next table letters waits who [] taken old middle new took step = (new, subst (λ r. TookStep table letters waits who taken r new) took step, refl)
 took_next table letters waits who (first ∷ more) taken old middle new took step =
     (took.0, took.1, took_next table letters None who more taken took.0 middle new took.2 (subst (λ w. TookStep table letters w who taken middle new) (sym (none_behind more)) step))
+
+-- the area that a change leads to is that of the bases with it
+pub area_with : (change : Option Delta) (bases : ℕ) → area_for change (area_by bases) ≡ area_by (bases_with (option_to_list change) bases)
+area_with None bases = refl
+area_with (Some change) bases = area_by_bases bases change
+
+-- the change of a step
+pub change_in : (table : Table) (input : Input) (old new : ReplicaState) (out : StepOut) → Steps table input old new out → IsChangeOf table input old out.delta
+change_in table input old new out steps = record { event = steps.event; event_is = steps.event_is; change_is = steps.took.delta }
+
+-- the changes with those of one step more
+pub changes_next : (steps : List Taken) (taken : Taken) → changes_of (steps ++ taken ∷ []) ≡ changes_of steps ++ option_to_list taken.out.delta
+changes_next steps taken = flat_map-append (λ (t : Taken). option_to_list t.out.delta) steps (taken ∷ []) ∙ ap (λ (last : List Delta). changes_of steps ++ last) (append_nil (option_to_list taken.out.delta))
 
 module _ {D : Type 0} (seen : D → Image) (may_leave : D → Image → Type 0) (honest : D → Type 0) (told_of : D → Option Told) where
   -- a node ahead of a book is small
@@ -85,9 +108,10 @@ module _ {D : Type 0} (seen : D → Image) (may_leave : D → Image → Type 0) 
 
   -- and is one step more ahead of it after the next
   pub beside_next : (table : Table) (rows : List Row) (book : BookState) (who : ℕ) (steps : List Taken) (old new : Node D) (cause : Cause) (input : Input) (out : StepOut)
-      → WasToldOf seen may_leave honest told_of table rows book who steps old cause input → IsNodeAtRest seen may_leave honest table new → honest (disk_of new) → IsReliable (told_of (disk_of new))
+      → WasToldOf seen may_leave honest told_of table rows book who steps old cause input → IsNodeAtRest seen may_leave honest table new → honest (disk_of new)
+      → IsReliable (told_of (disk_of new)) → IsNodeClean told_of new → area_of (store_of new) ≡ area_for out.delta (area_of (store_of old))
       → Steps table input (replica_of old) (replica_of new) out → IsBeside seen may_leave honest told_of table rows book who (steps ++ record { cause = cause; out = out } ∷ []) new
-  beside_next table rows book who steps old new cause input out told rest trusted reliable stepped = record {
+  beside_next table rows book who steps old new cause input out told rest trusted reliable clean area stepped = record {
     sound = told.beside.sound;
     behind = told.beside.behind;
     rest = told.beside.rest;
@@ -95,7 +119,7 @@ module _ {D : Type 0} (seen : D → Image) (may_leave : D → Image → Type 0) 
     ahead = record {
       at_rest = rest;
       trusted = trusted;
-      reliable = reliable;
+      disk = record { reliable = reliable; clean = clean; area = area_is };
       first = told.beside.ahead.first;
       stands = told.beside.ahead.stands;
       me = told.beside.ahead.me;
@@ -104,3 +128,11 @@ module _ {D : Type 0} (seen : D → Image) (may_leave : D → Image → Type 0) 
           told.beside.ahead.took (record { input = input; is_told = told.is_told; inside = told.inside; steps = stepped });
     };
   }
+    where
+      bases : ℕ
+      bases = bases_behind table rows book who
+
+      area_is : area_of (store_of new) ≡ area_by (bases_with (changes_of (steps ++ record { cause = cause; out = out } ∷ [])) bases)
+      area_is =
+          area ∙ ap (area_for out.delta) told.beside.ahead.disk.area ∙ area_with out.delta (bases_with (changes_of steps) bases)
+          ∙ ap area_by (sym (bases_more (changes_of steps) (option_to_list out.delta) bases) ∙ ap (λ (changes : List Delta). bases_with changes bases) (sym (changes_next steps (record { cause = cause; out = out }))))

@@ -1,10 +1,12 @@
 -- The steps that a replica has taken beside a book, which has no turns of them yet.
 use Rattle.std.specs.Prelude.{◌≡◌, ℕ, ◌<◌, ◌≤◌, ◌^◌, List, [], ◌∷◌, Option, None, Some, length, map}
 use Rattle.std.specs.List.{flat_map}
+use Rattle.std.specs.Option.{option_to_list}
 use Rattle.cluster_sched.specs.declared.row.SchedRow.{SchedRow}
 use Rattle.disk_model.specs.Images.{Image}
 use Rattle.disk_model.specs.Told.{Told}
 use Rattle.due_set.specs.Table.{IsSound, Table}
+use Rattle.paxos_base.specs.declared.durable.Delta.{Delta}
 use Rattle.step_law.specs.State.{started}
 use Rattle.agree_law.specs.Transition.{identity_of}
 use Rattle.book_law.specs.Book.{Row, Standing}
@@ -15,11 +17,12 @@ use Rattle.replica_core.specs.Step.{IsInputInside, Steps}
 use Rattle.replica_core.specs.declared.input.Input.{Input}
 use Rattle.replica_core.specs.declared.input.Input.TheVariants as told
 use Rattle.replica_node.specs.Node.{IsNodeAtRest, disk_of, replica_of}
-use Rattle.replica_node.specs.Reliable.{IsReliable}
 use Rattle.replica_node.specs.declared.node.Node.{Node}
+use Rattle.script_law.specs.Situation.{bases_with}
 use Rattle.world_law.specs.Book.{BookState, StandsBehind, standing_behind}
 use Rattle.world_law.specs.Replicas.{IsLetterInput, StandsAt}
 use Rattle.world_law.specs.declared.letter.LetterRow.{LetterRow}
+use Rattle.world_parts.specs.Nodes.{IsDiskAt, bases_behind}
 use Rattle.world_parts.specs.Parts.{IsSentTo}
 use Rattle.world_steps.specs.declared.steps.Taken.{Taken}
 
@@ -63,22 +66,26 @@ waits_behind (taken ∷ more) waits = None
 abbrev pub waits_in : Table → List Row → BookState → ℕ → Option SchedRow
 waits_in table rows book who = (standing_behind table rows book).waits who
 
+-- the changes that steps have made
+abbrev pub changes_of : List Taken → List Delta
+changes_of steps = flat_map (λ taken. option_to_list taken.out.delta) steps
+
 -- A node that runs, and is as many steps ahead of the book behind which these rows stand: its replica stood where the book has it, and
 -- has taken the steps since.
 pub record IsNodeAhead {D : Type 0} (seen : D → Image) (may_leave : D → Image → Type 0) (honest : D → Type 0) (told_of : D → Option Told) (table : Table) (rows : List Row) (book : BookState) (who : ℕ) (steps : List Taken) (node : Node D) : Type 0 where
   pub at_rest : IsNodeAtRest seen may_leave honest table node
   pub trusted : honest (disk_of node)
-  pub reliable : IsReliable (told_of (disk_of node))
+  pub disk : IsDiskAt told_of (bases_with (changes_of steps) (bases_behind table rows book who)) node
   pub first : ReplicaState
   pub stands : StandsAt table rows book first
   pub me : first.identity.me ≡ who
   pub took : TookSteps table book.letters (waits_in table rows book who) who steps first (replica_of node)
 
--- the node of a replica that is stopped: it keeps what the replica does, and has taken no step
-pub record IsNodeStopped {D : Type 0} (seen : D → Image) (may_leave : D → Image → Type 0) (honest : D → Type 0) (told_of : D → Option Told) (table : Table) (members : ℕ) (standing : Standing) (who : ℕ) (steps : List Taken) (node : Node D) : Type 0 where
+-- the node of a replica that is stopped and has kept so many bases: it keeps what the replica does, and has taken no step
+pub record IsNodeStopped {D : Type 0} (seen : D → Image) (may_leave : D → Image → Type 0) (honest : D → Type 0) (told_of : D → Option Told) (table : Table) (members : ℕ) (standing : Standing) (bases : ℕ) (who : ℕ) (steps : List Taken) (node : Node D) : Type 0 where
   pub at_rest : IsNodeAtRest seen may_leave honest table node
   pub trusted : honest (disk_of node)
-  pub reliable : IsReliable (told_of (disk_of node))
+  pub disk : IsDiskAt told_of bases node
   pub identity : (replica_of node).identity ≡ identity_of members who
   pub none : steps ≡ []
   pub kept : standing.replicas who ≡ started who (replica_of node).state.kept

@@ -1,7 +1,8 @@
 -- A step that becomes a turn of a book.
-use Rattle.std.specs.Prelude.{◌≡◌, ℕ, ◌≤◌, List, [], ◌∷◌, ◌++◌, Option, None, Some, IfSome, slice_get}
+use Rattle.std.specs.Prelude.{◌≡◌, ℕ, ◌-◌, ◌≤◌, List, [], ◌∷◌, ◌++◌, Option, None, Some, IfSome, false, slice_get}
 use Rattle.cluster_sched.specs.declared.fate.Fate.{Fate}
 use Rattle.cluster_sched.specs.declared.fate.Fate.TheVariants as becomes
+use Rattle.disk_model.specs.declared.armed.Arm.{Arm}
 use Rattle.due_set.specs.Table.{Table}
 use Rattle.book_law.specs.Book.{Row, answer_to}
 use Rattle.book_law.specs.declared.turn.CallRow.{CallRow}
@@ -57,6 +58,21 @@ abbrev pub fate_then : Option CallRow → Fate → Fate
 fate_then None set = set
 fate_then (Some made) set = becomes.Done
 
--- what is set for a replica behind its step: an answer of the call that the step has made waits for it
-abbrev pub noted : Option CallRow → MemberMail → MemberMail
-noted made mail = record mail { waits = answer_to made; fate = fate_then made mail.fate }
+-- how a disk is armed behind a step whose change took so many calls to save
+abbrev pub arm_then : (calls : ℕ) → Option Arm → Option Arm
+arm_then calls None = None
+arm_then calls (Some arm) = Some (record arm { left = arm.left - calls })
+
+-- What is set for a replica behind its step: an answer of the call that the step has made waits for it, and its disk has so many calls less
+-- left, where it is armed.
+abbrev pub noted : Option CallRow → (calls : ℕ) → MemberMail → MemberMail
+noted made calls mail = record mail { waits = answer_to made; fate = fate_then made mail.fate; arm = arm_then calls mail.arm }
+
+-- what is set for a replica that has stopped: no letter and no answer waits for it, and its disk isn't armed
+pub record IsHalted (old new : MemberMail) : Type 0 where
+  pub runs : new.runs ≡ false
+  pub letters : new.letters.items ≡ []
+  pub skew : new.skew ≡ old.skew
+  pub fate : new.fate ≡ old.fate
+  pub waits : new.waits ≡ None
+  pub arm : new.arm ≡ None

@@ -14,7 +14,7 @@ use replica_core::{Input, StepOut};
 use replica_node::Node;
 
 // The turns that a book has at most, where a step is taken beside it.
-const MOST_TURNS: usize = 1 << 31;
+pub(crate) const MOST_TURNS: usize = 1 << 31;
 
 /// A step that was taken, and what it was taken for.
 #[derive(Debug, Drop)]

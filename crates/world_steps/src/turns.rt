@@ -6,6 +6,7 @@ ghost use Rattle.book_law.specs.Legal.{IsMade};
 ghost use Rattle.replica_core.specs.Replica.{ReplicaState};
 ghost use Rattle.script_law.specs.Situation.{latest_with};
 ghost use Rattle.world_law.specs.Book.{HasRoom, IsAlike, IsLegalBook, MayCall, StandsBehind, standing_behind};
+ghost use Rattle.world_law.specs.Replicas.{change_alone};
 ghost use Rattle.world_steps.specs.Turns.{HasJoinedAt, IsNextStep, MayJoin};
 
 use crate::steps::Taken;
@@ -13,6 +14,10 @@ use book_law::{CallRow, Cause, Turn};
 use cluster_sched::{Fate, SchedRow};
 use cron_io::OutOfMemory;
 use due_set::JobTable;
+use paxos_base::Delta;
+use replica_core::{LearntList, StepOut};
+use replica_draft::LetterList;
+use std::alloc::Global;
 use world_law::Book;
 use zone_minutes::Minute;
 
@@ -71,6 +76,22 @@ pub fn commit_step(
     };
     book.commit(table, turn, taken.out);
     Ok(call)
+}
+
+/// What comes of a turn that is no step: the change that was kept, where one was. It takes no memory.
+pub fn change_alone(alloc: Global, change: Option<Delta>) -> StepOut
+    ensures alone { result ≡ change_alone change }
+{
+    StepOut {
+        delta: change,
+        letters: LetterList {
+            items: Vec::new(alloc),
+        },
+        learnt: LearntList {
+            items: Vec::new(alloc),
+        },
+        call: None,
+    }
 }
 
 /// The latest clock reading, with that of a cause.

@@ -14,6 +14,12 @@ returns-clause-waits c = λ members who situation rows others. (others_pass memb
 pub returns-clause-fate : goal.returns-clause-fate
 returns-clause-fate c = λ members who situation rows others. (others_pass members who situation rows others).fate
 
+pub returns-clause-arm : goal.returns-clause-arm
+returns-clause-arm c = λ members who situation rows others. (others_pass members who situation rows others).arm
+
+pub returns-clause-bases : goal.returns-clause-bases
+returns-clause-bases c = λ members who situation rows others. (others_pass members who situation rows others).bases
+
 pub returns-clause-seen : goal.returns-clause-seen
 returns-clause-seen c = λ members who situation rows more others. (course_with_others members who situation rows more others).0
 

@@ -1,4 +1,4 @@
-use Rattle.free_law.proofs.SeenLemmas.{still_fate, still_first, still_runs, still_waits}
+use Rattle.free_law.proofs.SeenLemmas.{still_by_arm, still_fate, still_first, still_runs, still_waits}
 use Rattle.free_law.proofs.laws.what_a_replica_saw_last_still_stands.Goals as goal
 
 pub returns-clause-runs : goal.returns-clause-runs
@@ -12,3 +12,6 @@ returns-clause-answered c = still_waits
 
 pub returns-clause-fate : goal.returns-clause-fate
 returns-clause-fate c = still_fate
+
+pub returns-clause-by_arm : goal.returns-clause-by_arm
+returns-clause-by_arm c = still_by_arm

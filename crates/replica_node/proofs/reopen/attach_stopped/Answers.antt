@@ -2,7 +2,9 @@ use Rattle.std.proofs.Common.{length, ap, ◌∙◌, subst}
 use Rattle.disk_model.specs.Images.{Image, file_of}
 use Rattle.gate_file.specs.Gates.{HasBodies}
 use Rattle.gate_file.proofs.GateLemmas.{some_list}
+use Rattle.replica_node.proofs.KeptLemmas.{tells_attached}
 use Rattle.replica_store.specs.Files.{FilesStand, selected}
+use Rattle.replica_store.specs.Store.{area_of}
 use Rattle.replica_store.specs.Made.{attach_calls, look_calls}
 use Rattle.replica_store.proofs.FileLemmas.{fewer_recoverable}
 use Rattle.replica_node.proofs.FaultLemmas.{damaged_below, stopped_below}
@@ -103,3 +105,11 @@ pub returns-clause-recoverable : goal.returns-clause-recoverable
 returns-clause-recoverable g c before after honest recoverable =
     c.attach.ensures.recoverable before after (c.revive.ensures.honest.1 honest)
     (fewer_recoverable c.args.jobs before after (g.D.Disk.may_leave c.args.disk.now) (g.D.Disk.may_leave c.revive.new.self) (c.revive.ensures.no_new_image honest) recoverable)
+
+pub returns-clause-clean : goal.returns-clause-clean
+returns-clause-clean g c =
+    let mid = c.revive.new.self in
+    let image = g.D.Disk.seen mid in
+    let found = c.in_ok-attach.ensures.stand in
+    tells_attached image (length found.bodies) (area_of c.in_ok-attach.field-0.0) c.in_ok-attach.field-0 (g.D.Disk.told mid) (g.D.Disk.told c.attach.new.disk) (g.met.D.ArmedDisk.tells mid)
+    c.in_ok-attach.ensures.area (c.in_ok-attach.ensures.told found.bodies found.has)

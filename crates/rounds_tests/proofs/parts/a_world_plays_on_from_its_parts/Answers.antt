@@ -6,9 +6,9 @@ use Rattle.rounds_tests.proofs.parts.a_world_plays_on_from_its_parts.Goals as go
 pub world_after-requires-clause-taken : goal.world_after-requires-clause-taken
 world_after-requires-clause-taken g c = λ borrowed.
     let later = later_in c.in_ok-table.table.window c.in_ok-table.ensures in
-    (omega arith, (later, (omega arith, ((omega arith, (omega (arith, ints), omega (arith, ints))), (later, (later, (tt, (omega arith, (tt, (later, (omega arith, (tt, ((omega arith, later), tt)))))))))))))
+    (omega arith, (omega arith, (later, (later, (omega arith, (omega arith, ((omega arith, (omega (arith, ints), omega (arith, ints))), (later, (later, (tt, (omega arith, (tt, (later, (omega arith, (tt, ((omega arith, later), tt))))))))))))))))
 
 pub other_place-requires-clause-taken : goal.other_place-requires-clause-taken
 other_place-requires-clause-taken g c = λ borrowed.
     let later = later_in c.in_ok-table.table.window c.in_ok-table.ensures in
-    (omega arith, (later, (omega arith, ((omega arith, (omega (arith, ints), omega (arith, ints))), (later, (later, (tt, (omega arith, (tt, (later, (omega arith, (tt, ((omega arith, later), tt)))))))))))))
+    (omega arith, (omega arith, (later, (later, (omega arith, (omega arith, ((omega arith, (omega (arith, ints), omega (arith, ints))), (later, (later, (tt, (omega arith, (tt, (later, (omega arith, (tt, ((omega arith, later), tt))))))))))))))))

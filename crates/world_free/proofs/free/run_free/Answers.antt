@@ -12,11 +12,11 @@ new-requires-clause-rows g c = has_lawful c.args.table.now c.requires.parts.rows
 
 pub run_jobs-requires-clause-begun : goal.run_jobs-requires-clause-begun
 run_jobs-requires-clause-begun g c =
-    let setting : Setting = record { at = c.args.at; turns = c.args.turns; cuts = c.args.parts.mail.cuts } in
+    let setting : Setting = record { alloc = c.args.alloc; members = c.len-seats.result; at = c.args.at; turns = c.args.turns; cuts = c.args.parts.mail.cuts } in
     let few : length c.turns-first.result.now < 2 ^ 31 = omega (arith, c.if-first-gt-MOST_TURNS.false) in
     let handed =
     hand c.args.table.now c.args.parts c.in_ok-shared.shared setting c.len-seats.result c.turns-first.result.now c.letters.result.now c.in_ok-mails.mails.items
-    c.in_ok-shared.places.items c.in_ok-jobs.jobs.items c.in_ok-shared.ensures.began refl c.turns-first.ensures few c.in_ok-mails.ensures.mails c.letters.ensures
+    c.in_ok-shared.places.items c.in_ok-jobs.jobs.items c.in_ok-shared.ensures.began refl (c.len-seats.ensures ∙ c.args.parts.nodes.ok.0 ∙ c.requires.parts.are.nodes.count) c.turns-first.ensures few c.in_ok-mails.ensures.mails c.letters.ensures
     c.in_ok-mails.ensures.kept c.in_ok-shared.ensures.seats c.in_ok-jobs.ensures.jobs in
     let all =
     begun g.D.Disk.seen g.D.Disk.may_leave g.D.Disk.honest g.D.Disk.told c.args.table.now c.args.parts c.in_ok-shared.shared setting
@@ -30,11 +30,11 @@ run_jobs-requires-clause-memory g c = λ lives borrowed who none within.
 
 pub finish-requires-clause-taken : goal.finish-requires-clause-taken
 finish-requires-clause-taken g c =
-    let setting : Setting = record { at = c.args.at; turns = c.args.turns; cuts = c.args.parts.mail.cuts } in
+    let setting : Setting = record { alloc = c.args.alloc; members = c.len-seats.result; at = c.args.at; turns = c.args.turns; cuts = c.args.parts.mail.cuts } in
     let few : length c.turns-first.result.now < 2 ^ 31 = omega (arith, c.if-first-gt-MOST_TURNS.false) in
     let handed =
     hand c.args.table.now c.args.parts c.in_ok-shared.shared setting c.len-seats.result c.turns-first.result.now c.letters.result.now c.in_ok-mails.mails.items
-    c.in_ok-shared.places.items c.in_ok-jobs.jobs.items c.in_ok-shared.ensures.began refl c.turns-first.ensures few c.in_ok-mails.ensures.mails c.letters.ensures
+    c.in_ok-shared.places.items c.in_ok-jobs.jobs.items c.in_ok-shared.ensures.began refl (c.len-seats.ensures ∙ c.args.parts.nodes.ok.0 ∙ c.requires.parts.are.nodes.count) c.turns-first.ensures few c.in_ok-mails.ensures.mails c.letters.ensures
     c.in_ok-mails.ensures.kept c.in_ok-shared.ensures.seats c.in_ok-jobs.ensures.jobs in
     let run =
     ran g.D.Disk.seen g.D.Disk.may_leave g.D.Disk.honest g.D.Disk.told c.args.table.now c.args.parts c.in_ok-shared.shared setting
@@ -45,11 +45,11 @@ finish-requires-clause-taken g c =
 
 pub returns-clause-goes : goal.returns-clause-goes
 returns-clause-goes g c =
-    let setting : Setting = record { at = c.args.at; turns = c.args.turns; cuts = c.args.parts.mail.cuts } in
+    let setting : Setting = record { alloc = c.args.alloc; members = c.len-seats.result; at = c.args.at; turns = c.args.turns; cuts = c.args.parts.mail.cuts } in
     let few : length c.turns-first.result.now < 2 ^ 31 = omega (arith, c.if-first-gt-MOST_TURNS.false) in
     let handed =
     hand c.args.table.now c.args.parts c.in_ok-shared.shared setting c.len-seats.result c.turns-first.result.now c.letters.result.now c.in_ok-mails.mails.items
-    c.in_ok-shared.places.items c.in_ok-jobs.jobs.items c.in_ok-shared.ensures.began refl c.turns-first.ensures few c.in_ok-mails.ensures.mails c.letters.ensures
+    c.in_ok-shared.places.items c.in_ok-jobs.jobs.items c.in_ok-shared.ensures.began refl (c.len-seats.ensures ∙ c.args.parts.nodes.ok.0 ∙ c.requires.parts.are.nodes.count) c.turns-first.ensures few c.in_ok-mails.ensures.mails c.letters.ensures
     c.in_ok-mails.ensures.kept c.in_ok-shared.ensures.seats c.in_ok-jobs.ensures.jobs in
     if_ok c.finish.result _ _
     (λ new ends rows situation are.

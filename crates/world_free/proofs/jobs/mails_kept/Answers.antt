@@ -1,4 +1,4 @@
-use Rattle.std.proofs.Common.{◌≡◌, ◌++◌, [], map, subst}
+use Rattle.std.proofs.Common.{map, subst}
 use Rattle.std.proofs.lemmas.List.{append-nil}
 use Rattle.world_law.specs.Book.{posted_as}
 use Rattle.world_free.specs.Mails.{HasFirstBytes}

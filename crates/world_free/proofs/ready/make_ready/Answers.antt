@@ -1,4 +1,4 @@
-use Rattle.std.proofs.Common.{ℕ, ◌∙◌, refl, subst}
+use Rattle.std.proofs.Common.{ℕ, refl, subst}
 use Rattle.world_law.specs.Rows.{MayComeNext}
 use Rattle.world_law.proofs.Rows.{rows_stay}
 use Rattle.world_steps.proofs.Joined.{may_call, next_alike}

@@ -1,10 +1,11 @@
 use Rattle.std.proofs.Common.{length, refl, sym, ap, ◌∙◌, subst}
-use Rattle.replica_store.specs.Files.{IsRecoverable}
+use Rattle.replica_store.specs.Files.{IsRecoverable, selected}
 use Rattle.replica_node.specs.Node.{fault_of, replica_of}
 use Rattle.replica_node.specs.Reliable.{IsReliable}
 use Rattle.replica_node.proofs.RestLemmas.{recoverable_at_rest}
 use Rattle.step_law.specs.State.{started}
 use Rattle.world_steps.proofs.MemoryLemmas.{memory_alone}
+use Rattle.world_steps.proofs.Stopping.{and_some}
 use Rattle.world_rounds.proofs.Starting.{either_way}
 use Rattle.world_rounds.proofs.alone.start_again.Goals as goal
 
@@ -19,6 +20,8 @@ returns-in-Ok g c =
       at_rest = c.in-Ok.ensures.at_rest;
       trusted = c.in-Ok.ensures.answer.honest_still.1 trusted;
       reliable = c.in-Ok.ensures.reliable (subst (λ disk. IsReliable (g.D.Disk.told disk)) (sym c.into_disk.ensures) c.requires.reliable);
+      clean = c.in-Ok.ensures.clean (and_some _ (g.D.Disk.told c.into_disk.result) (subst (λ disk. IsReliable (g.D.Disk.told disk)) (sym c.into_disk.ensures) c.requires.reliable));
+      area = c.in-Ok.ensures.area ∙ ap (λ disk. selected (g.D.Disk.seen disk)) c.into_disk.ensures;
       identity = c.in-Ok.ensures.identity;
       state = c.in-Ok.ensures.started ∙ ap (started c.args.who) (either_way _ kept found);
       runs = refl;
@@ -26,6 +29,7 @@ returns-in-Ok g c =
       skew = refl;
       fate = refl;
       waits = refl;
+      arm = refl;
       steps = refl;
     }
 

@@ -5,7 +5,8 @@ use Rattle.agree_law.specs.World.{fresh}
 use Rattle.replica_store.proofs.FileLemmas.{empty_recoverable}
 use Rattle.replica_node.specs.Node.{fault_of}
 use Rattle.world_steps.proofs.MemoryLemmas.{memory_alone}
-use Rattle.world_rounds.proofs.Starting.{either_way}
+use Rattle.world_rounds.proofs.Starting.{either_way, first_area}
+use Rattle.world_steps.proofs.Stopping.{and_some}
 use Rattle.world_rounds.proofs.start.start_member.Goals as goal
 
 pub returns-in-Ok : goal.returns-in-Ok
@@ -16,7 +17,11 @@ returns-in-Ok g c =
     record {
       at_rest = c.in-Ok.ensures.at_rest;
       trusted = c.in-Ok.ensures.answer.honest_still.1 c.requires.fresh.trusted;
-      reliable = c.in-Ok.ensures.reliable c.requires.fresh.reliable;
+      disk = record {
+        reliable = c.in-Ok.ensures.reliable c.requires.fresh.reliable;
+        clean = c.in-Ok.ensures.clean (and_some _ (g.D.Disk.told c.args.disk) c.requires.fresh.reliable);
+        area = c.in-Ok.ensures.area ∙ first_area g.D.Disk.seen g.D.Disk.may_leave c.args.disk c.requires.fresh.empty (g.met.D.Disk.seen_is_left c.args.disk c.requires.fresh.trusted);
+      };
       identity = c.in-Ok.ensures.identity;
       state = c.in-Ok.ensures.started ∙ ap (started c.args.me) (either_way _ start found);
       runs = refl;
@@ -24,6 +29,7 @@ returns-in-Ok g c =
       skew = refl;
       fate = refl;
       waits = refl;
+      arm = refl;
       none = c.new-in-Ok.ensures.items;
     }
 

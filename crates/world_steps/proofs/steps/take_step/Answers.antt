@@ -1,6 +1,7 @@
 use Rattle.std.proofs.Common.{length, ◌<◌, ◌≤◌, ◌^◌, ◌∙◌, arith}
+use Rattle.replica_node.specs.Node.{replica_of}
 use Rattle.world_steps.proofs.MemoryLemmas.{cause_breaks_none, memory_alone, no_letter}
-use Rattle.world_steps.proofs.StepLemmas.{ahead_small, beside_next}
+use Rattle.world_steps.proofs.StepLemmas.{ahead_small, beside_next, change_in}
 use Rattle.world_steps.proofs.steps.take_step.Goals as goal
 
 pub handle-requires : goal.handle-requires
@@ -20,7 +21,7 @@ memory_of-requires g c =
     let none =
     cause_breaks_none g.D.Disk.seen g.D.Disk.may_leave g.D.Disk.honest g.D.Disk.told c.args.table.now may.rows may.book may.who may.steps c.args.node.now c.args.cause c.args.input may.told in
     record {
-      alone = memory_alone c.handle.result c.in-Err.fault c.in-Err.is (c.handle.ensures.unended may.told.beside.ahead.reliable) c.handle.ensures.undamaged
+      alone = memory_alone c.handle.result c.in-Err.fault c.in-Err.is (c.handle.ensures.unended may.told.beside.ahead.disk.reliable) c.handle.ensures.undamaged
           (no_letter c.handle.result (c.handle.ensures.fault ∙ none));
     }
 
@@ -28,4 +29,5 @@ pub returns-clause-beside : goal.returns-clause-beside
 returns-clause-beside g c =
     λ rows book who steps told.
     beside_next g.D.Disk.seen g.D.Disk.may_leave g.D.Disk.honest g.D.Disk.told c.args.table.now rows book who steps c.args.node.now c.handle.new.self c.args.cause
-    c.args.input c.in-Ok.out told c.in-Ok.ensures.at_rest (c.handle.ensures.answer.honest_still.1 told.beside.ahead.trusted) (c.in-Ok.ensures.reliable told.beside.ahead.reliable) c.in-Ok.ensures.steps
+    c.args.input c.in-Ok.out told c.in-Ok.ensures.at_rest (c.handle.ensures.answer.honest_still.1 told.beside.ahead.trusted) (c.in-Ok.ensures.reliable told.beside.ahead.disk.reliable)
+    (c.in-Ok.ensures.clean told.beside.ahead.disk.clean) (c.in-Ok.ensures.area c.in-Ok.out.delta (change_in c.args.table.now c.args.input (replica_of c.args.node.now) (replica_of c.handle.new.self) c.in-Ok.out c.in-Ok.ensures.steps)) c.in-Ok.ensures.steps

@@ -1,20 +1,26 @@
 use Rattle.std.proofs.Common.{◌≡◌, ℕ, arith, subst}
 use Rattle.world_free.specs.Jobs.{IsJobAt}
 use Rattle.world_free.specs.Plan.{plan_of}
-use Rattle.world_free.proofs.Runs.{has_run}
+use Rattle.world_free.proofs.Runs.{has_rested}
 use Rattle.world_free.proofs.job.FreeJob.run.Goals as goal
 
 pub take_turn-requires-clause-may : goal.take_turn-requires-clause-may
-take_turn-requires-clause-may g c = (c.requires.may.0, c.turns.invariant c.requires.may.0 c.requires.may.1)
+take_turn-requires-clause-may g c = (c.requires.may.0, (c.turns.invariant c.requires.may.0 c.requires.may.1).running c.if-not-self.false)
 
 pub turns-preserved : goal.turns-preserved
-turns-preserved g c = λ situation job. c.in-Ok.ensures.goes situation (c.turns.invariant situation job)
+turns-preserved g c = λ situation job. c.in-Ok.ensures.goes situation ((c.turns.invariant situation job).running c.if-not-self.false)
+
+pub returns-then-not-self : goal.returns-then-not-self
+returns-then-not-self g c = record {
+  runs = λ had situation job.
+      has_rested g.D.Disk.seen g.D.Disk.may_leave g.D.Disk.honest g.D.Disk.told (plan_of c.args.table.now c.args.book.now situation c.args.setting.now) c.args.book.now c.args.who c.turns.turn
+      c.args.setting.now.turns c.turns.self c.if-not-self.true (c.turns.invariant situation job);
+}
 
 pub returns : goal.returns
 returns g c = record {
   runs = λ had situation job.
       let all : c.turns.turn ≡ c.args.setting.now.turns = omega (arith, c.turns-test.false, c.turns.auto.turn-end) in
       subst (λ (turns : ℕ). IsJobAt g.D.Disk.seen g.D.Disk.may_leave g.D.Disk.honest g.D.Disk.told (plan_of c.args.table.now c.args.book.now situation c.args.setting.now) c.args.book.now c.args.who turns c.turns.self) all
-      (has_run g.D.Disk.seen g.D.Disk.may_leave g.D.Disk.honest g.D.Disk.told (plan_of c.args.table.now c.args.book.now situation c.args.setting.now) c.args.book.now c.args.who c.turns.turn c.args.self.now
-      c.turns.self job c.if-not-self.false (c.turns.invariant situation job));
+      (c.turns.invariant situation job);
 }

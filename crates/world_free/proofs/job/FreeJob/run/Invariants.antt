@@ -1,10 +1,9 @@
-use Rattle.std.proofs.Common.{◌≡◌, false}
 use Rattle.script_law.specs.Situation.{Situation}
-use Rattle.world_free.specs.Jobs.{IsJobAt, IsRunner}
+use Rattle.world_free.specs.Jobs.{IsJobAt}
 use Rattle.world_free.specs.Plan.{plan_of}
 use Rattle.world_free.proofs.job.FreeJob.run.Given as goal
 
 abbrev pub invariant-turns : goal.invariant-turns
 invariant-turns g l =
     (situation : Situation) → IsJobAt g.D.Disk.seen g.D.Disk.may_leave g.D.Disk.honest g.D.Disk.told (plan_of l.table l.book situation l.setting) l.book l.who 0 l.fn.self
-    → IsRunner g.D.Disk.seen g.D.Disk.may_leave g.D.Disk.honest g.D.Disk.told (plan_of l.table l.book situation l.setting) l.book l.who l.turn l.self
+    → IsJobAt g.D.Disk.seen g.D.Disk.may_leave g.D.Disk.honest g.D.Disk.told (plan_of l.table l.book situation l.setting) l.book l.who l.turn l.self

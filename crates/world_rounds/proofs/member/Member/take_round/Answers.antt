@@ -29,7 +29,7 @@ returns g c = record {
       round_taken g.D.Disk.seen g.D.Disk.may_leave g.D.Disk.honest g.D.Disk.told c.args.table.now c.args.book.now rows situation who c.args.at.0 c.reading_of-now.result c.args.self.now _ idle c.if-not-self.false
       (c.in_ok-keep_step.ensures.beside rows who told)
       (c.in_ok-keep_step.ensures.causes ∙ ap (λ causes. causes ++ Tick c.reading_of-now.result ∷ []) (c.in_ok-hear_letters.ensures.causes ∙ rw (c.in_ok-take_answer.ensures.causes, c.deref.ensures.value) refl))
-      (rw (sym c.window.ensures.window) c.reading_of-now.ensures.reading) c.clear.ensures.items refl refl refl refl;
+      (rw (sym c.window.ensures.window) c.reading_of-now.ensures.reading) c.clear.ensures.items refl refl refl refl refl;
 }
 
 pub returns-then-not-self : goal.returns-then-not-self

@@ -2,6 +2,7 @@ use Rattle.std.proofs.Common.{OnOk, ap, arith, of_z, refl, subst, sym, to_z, ◌
 use Rattle.std.specs.Int.{w64}
 use Rattle.std.specs.Prelude.{FitsSigned}
 use Rattle.std.proofs.lemmas.Int.{ints, to_z-of_z}
+use Rattle.script_law.specs.Arms.{armed_by}
 use Rattle.script_law.specs.Commands.{set_by, tasks_for}
 use Rattle.script_law.specs.Script.{IsPartOf}
 use Rattle.script_text.specs.declared.command.Command.TheVariants as command
@@ -10,7 +11,7 @@ use Rattle.world_rounds.specs.Commands.{IsTaken}
 use Rattle.world_rounds.specs.Mails.{Changes}
 use Rattle.world_rounds.specs.World.{GoesOnBy}
 use Rattle.world_rounds.proofs.RoundsOfAll.{on_any, on_ok}
-use Rattle.world_rounds.proofs.Setting.{sets_go}
+use Rattle.world_rounds.proofs.Setting.{sets_alone, sets_go}
 use Rattle.world_rounds.proofs.world.World.command.Goals as goal
 
 pub returns-in-Round-clause-goes : goal.returns-in-Round-clause-goes
@@ -114,3 +115,9 @@ pub returns-in-Walk-clause-goes : goal.returns-in-Walk-clause-goes
 returns-in-Walk-clause-goes g c =
     subst (λ command. OnOk c.walk.result (GoesOnBy g.D.Disk.seen g.D.Disk.may_leave g.D.Disk.honest g.D.Disk.told c.args.table.now (IsPartOf c.args.self.now.book.members c.args.table.now command) c.args.self.now c.walk.new.self))
     (sym c.in-Walk.is) c.walk.ensures.goes
+
+pub returns-in-Break-clause-goes : goal.returns-in-Break-clause-goes
+returns-in-Break-clause-goes g c =
+    subst (λ command. GoesOnBy g.D.Disk.seen g.D.Disk.may_leave g.D.Disk.honest g.D.Disk.told c.args.table.now (IsPartOf c.args.self.now.book.members c.args.table.now command) c.args.self.now c.arm.new.self)
+    (sym c.in-Break.is)
+    (sets_alone g.D.Disk.seen g.D.Disk.may_leave g.D.Disk.honest g.D.Disk.told c.args.table.now c.args.self.now c.arm.new.self (armed_by c.in-Break.member c.in-Break.pass c.in-Break.image) c.arm.ensures.sets)

@@ -30,4 +30,4 @@ returns-clause-did g c =
     (λ rows old new next.
     subst (λ member. HasJoinedAt c.args.table.now rows c.args.self.now.book c.commit_step.new.book c.args.who c.args.taken member.mail.fate c.in_ok-call.call new) same
     (c.in_ok-call.ensures.joined rows old new next))
-    (rw c.note_call.ensures.noted refl) refl c.reading_with-self.ensures.latest
+    (rw (c.note_step.ensures.noted, c.calls_to_save-calls.ensures.calls) refl) refl c.reading_with-self.ensures.latest

@@ -7,13 +7,13 @@ use Rattle.world_rounds.proofs.RoundsOfAll.{on_ok}
 use Rattle.world_rounds.proofs.world.World.lead.Goals as goal
 
 pub returns-clause-goes : goal.returns-clause-goes
-returns-clause-goes g c = on_ok c.campaign.result _ _ (lead_goes g.D.Disk.seen g.D.Disk.may_leave g.D.Disk.honest g.D.Disk.told c.args.table.now c.args.who c.args.self.now c.campaign.new.self c.requires.run c.requires.member) c.campaign.ensures.goes
+returns-clause-goes g c = on_ok c.stand.result _ _ (lead_goes g.D.Disk.seen g.D.Disk.may_leave g.D.Disk.honest g.D.Disk.told c.args.table.now c.args.who c.args.self.now c.stand.new.self c.requires.run c.requires.member) c.stand.ensures.goes
 
 pub returns-clause-run : goal.returns-clause-run
 returns-clause-run g c =
-    on_both c.campaign.result _ _ _
+    on_both c.stand.result _ _ _
     (λ goes members.
-    run_on g.D.Disk.seen g.D.Disk.may_leave g.D.Disk.honest g.D.Disk.told c.args.table.now (Plays c.args.self.now.book.members (λ here. Do c.args.who Campaign ∷ [])) c.args.self.now c.campaign.new.self
+    run_on g.D.Disk.seen g.D.Disk.may_leave g.D.Disk.honest g.D.Disk.told c.args.table.now (Plays c.args.self.now.book.members (λ here. Do c.args.who Campaign ∷ [])) c.args.self.now c.stand.new.self
     (λ situation rows after plays. campaigned_calm c.args.self.now.book.members c.args.who situation after rows plays) c.requires.world c.requires.run members
-    (lead_goes g.D.Disk.seen g.D.Disk.may_leave g.D.Disk.honest g.D.Disk.told c.args.table.now c.args.who c.args.self.now c.campaign.new.self c.requires.run c.requires.member goes))
-    c.campaign.ensures.goes c.campaign.ensures.members
+    (lead_goes g.D.Disk.seen g.D.Disk.may_leave g.D.Disk.honest g.D.Disk.told c.args.table.now c.args.who c.args.self.now c.stand.new.self c.requires.run c.requires.member goes))
+    c.stand.ensures.goes c.stand.ensures.members

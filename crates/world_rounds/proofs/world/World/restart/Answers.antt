@@ -48,7 +48,7 @@ start_again-requires-clause-reliable g c =
     slice_get_read c.args.self.now.members.items (length c.args.self.now.members.items) c.args.who c.remove-stopped.result refl c.requires.member c.remove-stopped.ensures.value in
     let same : c.index.result.now ≡ c.remove-stopped.result = some_same (slice_get c.args.self.now.members.items c.args.who) c.index.result.now c.remove-stopped.result one there in
     (node_stopped g.D.Disk.seen g.D.Disk.may_leave g.D.Disk.honest g.D.Disk.told c.args.table.now c.requires.world.rows c.args.self.now c.requires.world.situation c.args.who c.remove-stopped.result c.requires.world.is there
-    (ap (λ member. member.mail.runs) (sym same) ∙ c.if-index.false)).1.reliable
+    (ap (λ member. member.mail.runs) (sym same) ∙ c.if-index.false)).1.disk.reliable
 
 pub commit_alone-requires : goal.commit_alone-requires
 commit_alone-requires g c =

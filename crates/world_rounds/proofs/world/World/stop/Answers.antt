@@ -31,7 +31,7 @@ returns-clause-goes g c =
     slice_get_read c.args.self.now.members.items (length c.args.self.now.members.items) c.args.who c.index_mut.result.now refl c.requires.member c.index_mut.ensures.value in
     let same : c.index.result.now ≡ c.index_mut.result.now = some_same (slice_get c.args.self.now.members.items c.args.who) c.index.result.now c.index_mut.result.now one there in
     stop_goes g.D.Disk.seen g.D.Disk.may_leave g.D.Disk.honest g.D.Disk.told c.args.table.now c.args.self.now _ c.args.who c.index_mut.result.now _ there (ap (λ member. member.mail.runs) (sym same) ∙ c.if-not-index.false)
-    c.in_ok-commit_alone.ensures.joins refl refl refl refl c.clear.ensures.items refl refl refl refl refl
+    c.in_ok-commit_alone.ensures.joins refl refl refl c.note_stop.ensures.stopped refl refl
 
 pub returns-clause-members : goal.returns-clause-members
 returns-clause-members g c =

@@ -1,0 +1,7 @@
+use Rattle.world_rounds.proofs.RoundsOfAll.{on_ok, unarmed_goes}
+use Rattle.world_rounds.proofs.world.World.round_by_arms.Goals as goal
+
+pub returns-else-is_armed-clause-goes : goal.returns-else-is_armed-clause-goes
+returns-else-is_armed-clause-goes g c =
+    on_ok c.round_in_lanes.result _ _ (unarmed_goes g.D.Disk.seen g.D.Disk.may_leave g.D.Disk.honest g.D.Disk.told c.args.table.now c.args.self.now c.round_in_lanes.new.self c.args.at.0 (c.is_armed.ensures c.if-is_armed.false))
+    c.round_in_lanes.ensures.goes

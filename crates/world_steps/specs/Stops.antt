@@ -1,0 +1,81 @@
+-- A step of a replica on a disk that is armed: it is taken, or the disk stops within the save of its change.
+use Rattle.std.specs.Prelude.{◌≡◌, ℕ, ◌<◌, ◌≤◌, Bool, true, false, List, [], ◌∷◌, Option, None, Some}
+use Rattle.std.specs.Option.{option_to_list}
+use Rattle.cluster_sched.specs.declared.row.SchedRow.{SchedRow}
+use Rattle.disk_model.specs.Images.{Image}
+use Rattle.disk_model.specs.Told.{Told}
+use Rattle.disk_model.specs.declared.armed.Arm.{Arm}
+use Rattle.due_set.specs.Table.{Table}
+use Rattle.paxos_base.specs.declared.durable.Delta.{Delta}
+use Rattle.save_law.specs.Save.{calls_of, is_kept}
+use Rattle.step_law.specs.Folds.{deltas_of}
+use Rattle.step_law.specs.State.{started}
+use Rattle.step_law.specs.Step.{Event, step}
+use Rattle.agree_law.specs.Transition.{identity_of}
+use Rattle.book_law.specs.Book.{Row}
+use Rattle.book_law.specs.declared.turn.Cause.{Cause}
+use Rattle.replica_core.specs.Commit.{kept_after}
+use Rattle.replica_core.specs.Replica.{ReplicaState}
+use Rattle.replica_core.specs.Step.{IsEventOf, IsInputInside}
+use Rattle.replica_core.specs.declared.input.Input.{Input}
+use Rattle.replica_node.specs.Node.{IsNodeAtRest, disk_of, replica_of}
+use Rattle.replica_node.specs.declared.node.Node.{Node}
+use Rattle.script_law.specs.Arms.{IsEnough}
+use Rattle.script_law.specs.Situation.{bases_with}
+use Rattle.world_law.specs.Book.{BookState, StandsBehind}
+use Rattle.world_law.specs.Replicas.{StandsAt}
+use Rattle.world_law.specs.declared.letter.LetterRow.{LetterRow}
+use Rattle.world_parts.specs.Nodes.{IsDiskAt, bases_behind}
+use Rattle.world_parts.specs.Parts.{armed_in}
+use Rattle.world_steps.specs.Steps.{IsBeside, IsToldOf, waits_in}
+use Rattle.world_steps.specs.declared.armed.Outcome.{Outcome}
+use Rattle.world_steps.specs.declared.armed.Outcome.TheVariants.{Taken, Stopped}
+
+-- the change of a step in which a disk has stopped, where it is kept
+abbrev pub change_kept : Bool → Delta → Option Delta
+change_kept true change = Some change
+change_kept false change = None
+
+-- a replica was told of a cause, and its step changes what it keeps
+pub record BeganStep (table : Table) (letters : List LetterRow) (waits : Option SchedRow) (who : ℕ) (cause : Cause) (old : ReplicaState) (change : Delta) : Type 0 where
+  pub input : Input
+  pub is_told : IsToldOf letters waits who cause input
+  pub inside : IsInputInside table input
+  pub event : Event
+  pub event_is : IsEventOf table old input event
+  pub changes : deltas_of (step old.identity event old.state) ≡ change ∷ []
+
+-- A replica that stands where these rows of a book leave it has begun such a step beside the book.
+pub record IsNextStop (table : Table) (rows : List Row) (book : BookState) (who : ℕ) (cause : Cause) (old : ReplicaState) (change : Delta) : Type 0 where
+  pub behind : StandsBehind table rows book
+  pub rest : book.pending ≡ None
+  pub few : book.members ≤ 7
+  pub stands : StandsAt table rows book old
+  pub me : old.identity.me ≡ who
+  pub began : BeganStep table book.letters (waits_in table rows book who) who cause old change
+
+-- The node of one of so many replicas that has stopped and was attached again: it keeps this, and has kept so many bases.
+pub record IsAttached {D : Type 0} (seen : D → Image) (may_leave : D → Image → Type 0) (honest : D → Type 0) (told_of : D → Option Told) (table : Table) (members who bases : ℕ) (node : Node D) : Type 0 where
+  pub at_rest : IsNodeAtRest seen may_leave honest table node
+  pub trusted : honest (disk_of node)
+  pub disk : IsDiskAt told_of bases node
+  pub identity : (replica_of node).identity ≡ identity_of members who
+  pub started_with : (replica_of node).state ≡ started who (replica_of node).state.kept
+
+-- **The disk has stopped within the save of the step's change**: there were too few calls left, and the numbers of the arm say whether the
+-- change is kept. The node is attached again, and keeps what it kept before the step, with the change or without.
+pub record HasStopped {D : Type 0} (seen : D → Image) (may_leave : D → Image → Type 0) (honest : D → Type 0) (told_of : D → Option Told) (table : Table) (rows : List Row) (book : BookState) (who : ℕ) (cause : Cause) (arm : Arm) (answer : Option Delta) (node : Node D) : Type 0 where
+  pub old : ReplicaState
+  pub change : Delta
+  pub next : IsNextStop table rows book who cause old change
+  pub few : arm.left < calls_of change
+  pub is_kept : answer ≡ change_kept (is_kept (bases_behind table rows book who) change arm.left arm.image) change
+  pub attached : IsAttached seen may_leave honest told_of table book.members who (bases_with (option_to_list answer) (bases_behind table rows book who)) node
+  pub keeps : (replica_of node).state.kept ≡ kept_after answer old.state.kept
+
+-- what came of a step on a disk that is armed so, or not: it was taken, and the calls that were left were enough, or the disk has stopped
+abbrev pub HasOutcome : {D : Type 0} → (seen : D → Image) → (may_leave : D → Image → Type 0) → (honest : D → Type 0) → (told_of : D → Option Told) → Table → List Row → BookState → (who : ℕ) → Cause → Option Arm → Outcome → Node D → Type 0
+HasOutcome seen may_leave honest told_of table rows book who cause arm (Taken taken) node =
+    (taken.cause ≡ cause) × IsEnough (armed_in arm) (option_to_list taken.out.delta) × IsBeside seen may_leave honest told_of table rows book who (taken ∷ []) node
+HasOutcome seen may_leave honest told_of table rows book who cause arm (Stopped answer) node =
+    (some : Arm) × (arm ≡ Some some) × HasStopped seen may_leave honest told_of table rows book who cause some answer node
