@@ -16,6 +16,9 @@ turns a second of the clock, the seconds of the processor by those of the clock,
 ticket looks again and again, and gives up its processor in between: what free turns take of the processor beyond as many turns in
 rounds is told as waiting, in which what threads cost besides is contained.
 
+Then comes a run of seven replicas in which disks stop within a save, three of them in each part, with rounds and restarts after them,
+beside the same script with stops in place of the breaks.
+
 Last comes the first run once more, as the program makes it with the word --make, and a run of some 1,000,000 turns: the seconds
 of the processor that it takes without and with its journal, and those in which `cat` copies what was written.
 """
@@ -43,6 +46,8 @@ TRIES = 3
 JOURNAL_JOBS = 680
 # How many parts of free turns a run has, with how many turns of each replica: as many as a script may have.
 FREE_PARTS = ((5, 20_000), (100, 1_000))
+# In so many parts three disks stop each, with so many rounds after that.
+BREAK_PARTS, BREAK_ROUNDS = 134, 300
 
 
 def run_file(members, window, entries):
@@ -140,6 +145,23 @@ def measure_free(program, folder, members, parts, each):
     print(f"    {free.turns / free.clock / (rounds.turns / rounds.clock):.2f} of their turns a second, {waited:.0%} of the processor waits")
 
 
+def broken(command):
+    """A script in which three replicas stop in each part, by a command on one of them, and start again after rounds."""
+    for part in range(BREAK_PARTS):
+        who = [(part + place) % 6 + 1 for place in range(3)]
+        yield from (command(member, part) for member in who)
+        yield f"round 2024-01-01T{part // 60:02}:{part % 60:02}Z {BREAK_ROUNDS}"
+        yield from (f"restart {member}" for member in who)
+
+
+def measure_breaks(program, folder):
+    """A run in which disks stop within a save, and the same with stops in place of the breaks."""
+    breaks = clocked(program, folder, scripted(7, broken(lambda member, part: f"break {member} {part % 4} {part}")))
+    stops = clocked(program, folder, scripted(7, broken(lambda member, part: f"stop {member}")))
+    print(f"seven replicas, {3 * BREAK_PARTS} breaks and restarts: {breaks.told()}")
+    print(f"    with stops {stops.told()}, {breaks.processor / stops.processor:.2f} times their time")
+
+
 def write_run(folder, text):
     with open(os.path.join(folder, "run"), "w", encoding="utf-8") as file:
         file.write(text)
@@ -182,6 +204,7 @@ def main():
             print(f"    in plain Rust {plain_rate:,.0f} turns a second, {plain_size:.0f} bytes a turn")
         for members, (parts, each) in product((1, 3, 7), FREE_PARTS):
             measure_free(program, folder, members, parts, each)
+        measure_breaks(program, folder)
         measure_made(program, folder)
         measure_journal(program, folder)
 

@@ -12,7 +12,7 @@ import unittest
 
 from script_lib.command import explained, is_run_file, plain_text, run_faults
 from script_lib.run_lines import lines_of
-from small_world.made import script_run
+from small_world.made import break_run, script_run
 from small_world.manual import examples
 
 ROOT = os.path.dirname(os.path.dirname(os.path.abspath(__file__)))
@@ -65,6 +65,17 @@ MISTAKES = [
     ("again -1", 7, "`-1` is no number; L is 0 to 4,294,967,295"),
     ("arrive 4294967296", 8, "C is 0 to 4,294,967,295"),
     ("arrive " + "9" * 5000, 8, "C is 0 to 4,294,967,295"),
+    ("break", 6, "R is missing in `break R C I`: the number of a replica"),
+    ("break 0", 8, "C is missing in `break R C I`: how many more calls the disk does"),
+    ("break 0 3", 10, "I is missing in `break R C I`: the number of the image that is left"),
+    ("break 3 3 1", 7, "replicas are numbered from 0 on, and R is 0 to 2"),
+    ("break 0 4294967296 1", 9, "C is 0 to 4,294,967,295"),
+    ("break 0 3 4294967296", 11, "I is 0 to 4,294,967,295"),
+    ("break 0 -1 1", 9, "`-1` is no number; C is 0 to 4,294,967,295"),
+    ("break 0 3 01", 11, "a number has no leading zeros: write 1"),
+    ("break 0 3 1 2", 13, "nothing stands behind `break R C I`"),
+    ("break 0  3 1", 8, "words stand one space apart"),
+    ("power 0", 1, "there is no command `power`; `break R C I` has the disk of R stop within a write"),
     ("cut \u00fc 0", 5, "`\u00fc` is no number; replicas are numbered from 0 on, and A is 0 to 2"),
     ("campaign 0 \u00fc  0", 14, "words stand one space apart"),
 ]
@@ -90,7 +101,7 @@ def rows_of_manual():
     with open(os.path.join(ROOT, "docs", "RUN_FILE.md"), encoding="utf-8") as file:
         text = file.read()
     run = re.search(r"(?s)```run\n(.*?)```", text)[1].split("\n")[:-1]
-    row = re.compile(r"(?m)^\| (30|31|35) \| (\d+) \| (.*?) \| (\d+) \| .*? \| (.*?) \|$")
+    row = re.compile(r"(?m)^\| (30|31) \| (\d+) \| (.*?) \| (\d+) \| .*? \| (.*?) \|$")
     return run, row.findall(text)
 
 
@@ -102,13 +113,9 @@ class Explain(unittest.TestCase):
     def test_a_script_that_is_taken(self):
         at = "2024-03-31T00:00Z"
         script = ["campaign 2", f"round {at} 10000", "skew 1 -10000", "fate 0 late", "again 4294967295", "cut 1 1", f"free {at} 4"]
+        script += ["break 2 0 4294967295", "break 0 4294967295 0"]
         self.assertEqual(faults_in(with_script(*script, "walk 2024-03-31T03:59Z")), [])
         self.assertEqual(explained("x", with_script(*script)), (["each line of the script is taken"], False))
-
-    def test_commands_to_come(self):
-        for line in ("break 0 1 2", "break  ", "break"):
-            text = f"`{line.split(' ')[0]}` is to come, and the program refuses it so far"
-            self.assertEqual(faults_in(with_script(line)), [(FIRST, 1, text, 35)])
 
     def test_limits(self):
         self.assertEqual(faults_in(with_script(*["heal"] * 1000)), [])
@@ -145,7 +152,7 @@ class Explain(unittest.TestCase):
                 self.assertEqual([(fault[0], fault[3]) for fault in faults_in("\n".join([*lines, ""]))[:1]], wanted, cell)
 
     def test_scripts_that_the_program_takes(self):
-        texts = [example.text for example in examples()] + [script_run(seed) for seed in range(60)]
+        texts = [example.text for example in examples()] + [made(seed) for made in (script_run, break_run) for seed in range(60)]
         folder = os.path.join(ROOT, "examples")
         for name in sorted(os.listdir(folder)):
             if "." not in name and f"{name}.stderr" not in os.listdir(folder):

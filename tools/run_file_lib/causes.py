@@ -36,7 +36,6 @@ CAUSES = {
     32: "a zone whose rule or file `jiff` refuses",
     33: "more than 1,048,576 bytes",
     34: "`zone` with another form; or the name `UTC`, a name that is there, or a 33rd zone",
-    35: "a form that isn't taken so far: in the script, a line whose first word is `break`, whatever follows",
 }
 # Those of a single line of a table, which a check tells. The script tells the others itself.
 OF_LINES = {*range(1, 21)} - {15}

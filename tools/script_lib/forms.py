@@ -15,8 +15,8 @@ LETTER = Operand("L", "the number of a letter", place_fault)
 LATE = Operand("C", "the number of a late call", place_fault)
 MINUTES = Operand("M", "how many minutes the clock is ahead, or behind below 0", minutes_fault)
 FATE = Operand("FATE", "`done`, `lost-before`, `lost-after` or `late`", fate_fault)
-PASS = Operand("C", "a number of calls", place_fault)
-IMAGE = Operand("I", "a number", place_fault)
+PASS = Operand("C", "how many more calls the disk does", place_fault)
+IMAGE = Operand("I", "the number of the image that is left", place_fault)
 # Of each command its operands, and what happens.
 COMMANDS = {
     "round": ([AT, ROUNDS], "has K rounds at that instant"),
@@ -34,15 +34,14 @@ COMMANDS = {
     "arrive": ([LATE], "has late call C arrive at the scheduler"),
     "settle": ([AT], "ends all faults and does all that is to be done at that instant"),
     "walk": ([AT], "settles, and goes on minute by minute up to that instant"),
-    "break": ([R, PASS, IMAGE], "has the disk of R stop within a call"),
+    "break": ([R, PASS, IMAGE], "has the disk of R stop within a write"),
     "free": ([AT, TURNS], "has each replica run by itself for T turns"),
 }
-# The commands that the program refuses so far, whatever follows them.
-NOT_TAKEN = ("break",)
 # Other words for what a command does.
 OTHERS = {
     "again": ["resend", "replay", "redeliver"],
     "arrive": ["deliver", "land"],
+    "break": ["power", "outage", "poweroff", "disk", "torn"],
     "campaign": ["elect", "election", "lead", "leader", "candidate", "takeover"],
     "cut": ["partition", "disconnect", "isolate", "block", "split"],
     "drop": ["lose", "loss", "discard"],
@@ -78,7 +77,7 @@ def word_fault(word):
         return None
     meant = meant_by(word)
     if meant is None:
-        return f"there is no command `{word}`; the commands are {', '.join(name for name in COMMANDS if name not in NOT_TAKEN)}"
+        return f"there is no command `{word}`; the commands are {', '.join(COMMANDS)}"
     if meant == word.lower():
         return f"a command has small letters: write `{meant}`"
     return f"there is no command `{word}`; `{form_of(meant)}` {COMMANDS[meant][1]}"

@@ -1,12 +1,12 @@
 """What is wrong with each line of a script."""
 import re
 
-from .forms import COMMANDS, NOT_TAKEN, operands_fault, word_fault
+from .forms import COMMANDS, operands_fault, word_fault
 from .plain import is_kept
 from .run_lines import Fault
 
 MOST_COMMANDS, MOST_ROUNDS, MOST_TURNS = 1_000, 100_000, 100_000
-REFUSED, TO_COME, NO_TEXT = 30, 35, 15
+REFUSED, NO_TEXT = 30, 15
 LEFT_OUT = "`tools/timeline` leaves it out, and so does `tools/explain --plain`"
 
 
@@ -51,8 +51,6 @@ def line_fault(line, frame):
         what = "a comment" if line.strip() else "an empty line"
         return 0, f"{what}: the program takes none in a script; {LEFT_OUT}", REFUSED
     words = line.split(" ")
-    if words[0] in NOT_TAKEN:
-        return 1, f"`{words[0]}` is to come, and the program refuses it so far", TO_COME
     layout = layout_fault(line)
     if layout:
         return (*layout, REFUSED)
