@@ -1,0 +1,29 @@
+-- The states of a board, one after another.
+use Rattle.std.specs.Prelude.{◌≡◌, ℕ, ◌<◌, List, [], ◌∷◌, ◌++◌, Some, slice_get}
+use Rattle.paxos_base.specs.declared.rows.JobRow.{JobRow}
+use Rattle.paxos_base.specs.Rows.{RowsStand, fresh_rows}
+use Rattle.status_board.specs.declared.shown.Shown.{Shown}
+
+-- the state with this prefix and these rows
+abbrev pub state_of : ℕ → List JobRow → Shown
+state_of prefix rows = record { prefix = prefix; rows = rows }
+
+-- the last of the states has this prefix and these rows
+abbrev pub IsLast : List Shown → ℕ → List JobRow → Type 0
+IsLast states prefix rows = (before : List Shown) × (states ≡ before ++ state_of prefix rows ∷ [])
+
+-- of two states the later has the higher prefix
+abbrev pub PrefixesRise : List Shown → Type 0
+PrefixesRise states =
+    (j k : ℕ) (earlier later : Shown) → j < k → slice_get states j ≡ Some earlier → slice_get states k ≡ Some later
+    → earlier.prefix < later.prefix
+
+-- each state has the rows of a table of so many jobs
+abbrev pub HaveRowsOf : ℕ → List Shown → Type 0
+HaveRowsOf jobs states = (k : ℕ) (state : Shown) → slice_get states k ≡ Some state → RowsStand state.rows jobs
+
+-- the states of a board for so many jobs: they begin before the log with fresh rows, and their prefixes rise
+pub record IsHistory (jobs : ℕ) (states : List Shown) : Type 0 where
+  pub begins : slice_get states 0 ≡ Some (state_of 0 (fresh_rows jobs))
+  pub rise : PrefixesRise states
+  pub rows : HaveRowsOf jobs states

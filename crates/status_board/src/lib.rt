@@ -1,0 +1,21 @@
+//! A board on which one writer shows a launch table to readers, who hold it up by nothing.
+#![tactic(auto)]
+
+mod board;
+mod change;
+mod history;
+mod keeper;
+mod latest;
+mod mark;
+mod name;
+mod naming;
+mod reader;
+mod sheet;
+mod shown;
+mod writer;
+
+pub use board::Board;
+pub use mark::Mark;
+pub use reader::{BoardReader, BoardView};
+pub use shown::Shown;
+pub use writer::BoardWriter;
