@@ -131,6 +131,7 @@ impl Replica {
     }
 
     /// Takes a step that it has planned. This needs no memory, and can't refuse.
+    #[inline(always)]
     pub fn complete(&mut self, table: &JobTable, planned: Planned) -> StepOut
         requires of_table { IsOfTable table.now self.old }
         requires small { IsSmall self.old.state self.old.machine.rows }

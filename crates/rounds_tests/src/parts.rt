@@ -83,58 +83,60 @@ fn is_stop_within_a_step(turn: &Turn) -> bool {
     matches!(*turn, Turn::Stopped { cause: Some(_), .. })
 }
 
+// What a world is asked to do before and after it is taken apart.
+const COMMANDS: &[Command] = &[
+    Command::Break {
+        member: 1,
+        pass: 6,
+        image: 1,
+    },
+    Command::Campaign { member: 0 },
+    Command::Round {
+        at: LATER,
+        rounds: 2,
+    },
+    Command::Round {
+        at: LATER,
+        rounds: 1,
+    },
+    Command::Restart { member: 1 },
+    Command::Fate {
+        member: 0,
+        fate: FateWord::Late,
+    },
+    Command::Skew {
+        member: 0,
+        minutes: 3,
+    },
+    Command::Round {
+        at: LATER,
+        rounds: 1,
+    },
+    Command::Round {
+        at: LATER,
+        rounds: 1,
+    },
+    Command::Cut { from: 0, to: 1 },
+    Command::Stop { member: 2 },
+    Command::Arrive { late: 0 },
+    Command::Round {
+        at: LATER,
+        rounds: 2,
+    },
+    Command::Restart { member: 2 },
+    Command::Heal,
+    Command::Walk { to: LATER },
+];
+
 // A disk is armed, and stops within a later command. A fate is set, and spent by a call, which arrives later. Letters and an answer
 // wait, letters are lost, a clock is ahead, and a replica is stopped.
 #[test]
 fn a_world_plays_on_from_its_parts(rt: HostRuntime) -> Result<(), Fail> {
-    let commands = [
-        Command::Break {
-            member: 1,
-            pass: 6,
-            image: 1,
-        },
-        Command::Campaign { member: 0 },
-        Command::Round {
-            at: LATER,
-            rounds: 2,
-        },
-        Command::Round {
-            at: LATER,
-            rounds: 1,
-        },
-        Command::Restart { member: 1 },
-        Command::Fate {
-            member: 0,
-            fate: FateWord::Late,
-        },
-        Command::Skew {
-            member: 0,
-            minutes: 3,
-        },
-        Command::Round {
-            at: LATER,
-            rounds: 1,
-        },
-        Command::Round {
-            at: LATER,
-            rounds: 1,
-        },
-        Command::Cut { from: 0, to: 1 },
-        Command::Stop { member: 2 },
-        Command::Arrive { late: 0 },
-        Command::Round {
-            at: LATER,
-            rounds: 2,
-        },
-        Command::Restart { member: 2 },
-        Command::Heal,
-        Command::Walk { to: LATER },
-    ];
     let table = table_of_one(rt.alloc())?;
-    let whole = world_after(&rt, rt.alloc(), &table, 3, &commands, 1)?;
+    let whole = world_after(&rt, rt.alloc(), &table, 3, COMMANDS, 1)?;
     assert!(rt; whole.book().turns().iter().any(is_late));
     assert!(rt; whole.book().turns().iter().any(is_stop_within_a_step));
-    let place = other_place(&rt, rt.alloc(), &table, &commands, whole.book())?;
+    let place = other_place(&rt, rt.alloc(), &table, COMMANDS, whole.book())?;
     assert!(rt; place.is_none(), "{place:?}");
     Ok(())
 }
