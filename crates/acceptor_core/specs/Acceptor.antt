@@ -13,14 +13,6 @@ pub record AcceptorState : Type 0 where
   pub base : ℕ
   pub spare : ℕ
 
--- a ballot is above the promise; each ballot is, where there is none
-abbrev pub IsAbove : ℕ → Option ℕ → Type 0
-IsAbove ballot promised = IfSome promised (λ other. other < ballot)
-
--- a ballot is the promised one or above it
-abbrev pub IsAtLeast : ℕ → Option ℕ → Type 0
-IsAtLeast ballot promised = IfSome promised (λ other. other ≤ ballot)
-
 -- the vote at a slot was cast in a ballot
 abbrev pub HasVoted : AcceptorState → ℕ → ℕ → Type 0
 HasVoted acceptor slot ballot = IsSomeAnd (vote_at slot acceptor.votes) (λ vote. vote.ballot ≡ ballot)

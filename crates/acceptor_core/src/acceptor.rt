@@ -2,7 +2,8 @@ ghost use Rattle.std.specs.Prelude.{◌≡◌, ℕ, ◌+◌, ◌<◌, ◌≤◌,
 ghost use Rattle.paxos_base.specs.declared.durable.Durable.{Durable};
 ghost use Rattle.paxos_base.specs.Durable.{after_delta};
 ghost use Rattle.paxos_base.specs.Vote.{SlotsRise, votes_from};
-ghost use Rattle.acceptor_core.specs.Acceptor.{IsAbove, IsAtLeast, HasVoted, IsPart, IsAlike, votes_in};
+ghost use Rattle.acceptor_core.specs.Acceptor.{HasVoted, IsPart, IsAlike, votes_in};
+ghost use Rattle.paxos_base.specs.Ballot.{IsAbove, IsAtLeast};
 
 use crate::answer::{AcceptAnswer, PrepareAnswer};
 use cron_io::OutOfMemory;

@@ -9,7 +9,7 @@ use Rattle.anacron_text.specs.Settings.{IsNumberWithin, IsHours, Sets, IsBadValu
 use Rattle.anacron_text.specs.declared.answer.PeriodWord.{PeriodWord}
 use Rattle.anacron_text.specs.declared.answer.PeriodWord.TheVariants.{Days, Monthly, Yearly}
 use Rattle.anacron_text.specs.declared.settings.Settings.{Settings}
-use Rattle.anacron_text.proofs.NumberLemmas.{own}
+use Rattle.cron_io.proofs.NumberLemmas.{own}
 
 -- two texts are equal or not
 pub text_or_not : (a b : List ℕ) → Decided (a ≡ b)

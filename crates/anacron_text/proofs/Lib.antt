@@ -1,9 +1,8 @@
-pub mod SpacedLemmas
-pub mod NumberLemmas
-pub mod LogicalLemmas
-pub mod SettingLemmas
-pub mod SettingsLemmas
+pub mod AnswerLemmas
 pub mod ChoiceLemmas
 pub mod JobLemmas
-pub mod AnswerLemmas
+pub mod LogicalLemmas
 pub mod ReaderLemmas
+pub mod SettingLemmas
+pub mod SettingsLemmas
+pub mod SpacedLemmas

@@ -5,7 +5,7 @@ use Rattle.std.proofs.lemmas.Str.Parse.{not_in_digits}
 use Rattle.crontab_text.specs.Blanks.{LacksAny}
 use Rattle.crontab_text.proofs.ListLemmas.{LacksAny-from_get_or, same_cut}
 use Rattle.anacron_text.specs.Settings.{IsHours}
-use Rattle.anacron_text.proofs.NumberLemmas.{own}
+use Rattle.cron_io.proofs.NumberLemmas.{own}
 
 -- a number has no `-`
 no_hyphen : (n : ℕ) → n ≤ 24 → LacksAny (λ c. c ≡ 45) (decimal n)

@@ -3,7 +3,6 @@ pub mod Job
 pub mod Limits
 pub mod LineBody
 pub mod LogicalLines
-pub mod Number
 pub mod Reader
 pub mod Setting
 pub mod Settings

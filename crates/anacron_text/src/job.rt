@@ -8,9 +8,9 @@ ghost use Rattle.anacron_text.specs.declared.answer.PeriodWord.{PeriodWord};
 
 use crate::answer::{AnaBody, PeriodWord};
 use crate::blank::{skip_blanks, take_word};
-use crate::number::read_number;
 use crate::settings::{Settings, read_minutes};
 use cron_fields::{Cause, FNV_START, fnv};
+use cron_io::read_number;
 use crontab_text::{Fault, Word, check_command};
 
 /// The most days of a period.

@@ -7,7 +7,6 @@ mod blank;
 mod job;
 mod law;
 mod logical;
-mod number;
 mod reader;
 mod setting;
 mod settings;
@@ -17,5 +16,4 @@ pub use law::{
     a_jobs_hours_are_of_one_day, a_line_has_one_reading, a_span_is_that_of_its_line,
     a_table_has_one_list_of_answers, a_text_is_its_logical_lines, answers_come_in_order,
 };
-pub use number::read_number;
 pub use reader::AnaLines;

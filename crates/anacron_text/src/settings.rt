@@ -1,9 +1,9 @@
 ghost use Rattle.std.specs.Prelude.{◌≡◌, ℕ, IfSome, IfNone, IfOk, IfErr};
 ghost use Rattle.anacron_text.specs.Settings.{AreSettings, IsHours, IsNumberWithin, IsBadValue, Sets, no_settings};
 
-use crate::number::read_number;
 use crate::setting::Setting;
 use cron_fields::Cause;
+use cron_io::read_number;
 use crontab_text::Fault;
 
 /// The most minutes of a delay, and the most that are added to one.

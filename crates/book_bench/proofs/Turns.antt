@@ -6,22 +6,22 @@ use Rattle.std.proofs.lemmas.Bool.{cases_Bool}
 use Rattle.due_set.specs.Table.{Table}
 use Rattle.launch_machine.specs.Clerk.{first_rows}
 use Rattle.paxos_base.specs.Members.{has_majority, only_member}
-use Rattle.step_law.specs.Act.{Act}
-use Rattle.step_law.specs.Folds.{after_acts, calls_by, calls_of, learnt_of, letters_of}
-use Rattle.step_law.specs.Letters.{IsSpelled}
-use Rattle.step_law.specs.Propose.{campaign, lead_if}
-use Rattle.step_law.specs.State.{Identity, State}
-use Rattle.step_law.specs.Step.{Event, step}
-use Rattle.step_law.specs.declared.out.OutLetter.{OutLetter}
-use Rattle.step_law.specs.Step as told
-use Rattle.agree_law.specs.Transition.{identity_of}
-use Rattle.book_law.specs.Book.{Row, Standing, acts_at, after_row, standing_after, vote_of_delta, votes_of}
-use Rattle.book_law.specs.Legal.{IsMade, MayFollow, TakesTurn}
-use Rattle.book_law.specs.declared.turn.Cause.TheVariants.{Campaign}
-use Rattle.book_law.specs.declared.turn.Turn.TheVariants.{Did}
-use Rattle.bounds_law.specs.Steps.{step_row}
-use Rattle.bounds_law.proofs.Keeping.{stands_next, votes_changed}
-use Rattle.bounds_law.proofs.Posted.{letters_for_members}
+use Rattle.step_spec.specs.Act.{Act}
+use Rattle.step_spec.specs.Folds.{after_acts, calls_by, calls_of, learnt_of, letters_of}
+use Rattle.step_spec.specs.Letters.{IsSpelled}
+use Rattle.step_spec.specs.Propose.{campaign, lead_if}
+use Rattle.step_spec.specs.State.{Identity, State}
+use Rattle.step_spec.specs.Step.{Event, step}
+use Rattle.step_spec.specs.declared.out.OutLetter.{OutLetter}
+use Rattle.step_spec.specs.Step as told
+use Rattle.agreement.specs.Transition.{identity_of}
+use Rattle.history.specs.Book.{Row, Standing, acts_at, after_row, standing_after, vote_of_delta, votes_of}
+use Rattle.history.specs.Legal.{IsMade, MayFollow, TakesTurn}
+use Rattle.history.specs.declared.turn.Cause.TheVariants.{Campaign}
+use Rattle.history.specs.declared.turn.Turn.TheVariants.{Did}
+use Rattle.history.specs.Steps.{step_row}
+use Rattle.history.proofs.Keeping.{stands_next, votes_changed}
+use Rattle.history.proofs.Posted.{letters_for_members}
 use Rattle.replica_core.specs.Replica.{ReplicaState}
 use Rattle.replica_core.specs.Step.{Steps, Takes}
 use Rattle.replica_core.specs.declared.input.Input.TheVariants as input

@@ -1,7 +1,7 @@
 -- A replica with the table of jobs that it is one of, and the book of its turns.
 use Rattle.std.specs.Prelude.{◌≡◌, true, List, None}
 use Rattle.due_set.specs.Table.{Table}
-use Rattle.book_law.specs.Book.{Row}
+use Rattle.history.specs.Book.{Row}
 use Rattle.replica_core.specs.Replica.{ReplicaState}
 use Rattle.replica_core.specs.Step.{IsOfTable}
 use Rattle.world_law.specs.Book.{BookState, StandsBehind, standing_behind}

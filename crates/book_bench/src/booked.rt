@@ -1,7 +1,7 @@
 //! A replica that stands for leader again and again, and the book of its turns.
 use crate::fault::BenchFault;
-use book_law::{Cause, Turn};
 use due_set::JobTable;
+use history::{Cause, Turn};
 use launch_machine::Machine;
 use paxos_base::{Durable, VoteList};
 use replica_core::{Input, Replica};

@@ -23,7 +23,7 @@ pub(crate) fn read_atom(kind: FieldKind, atom: &str, place: usize) -> Result<u32
     ensures fault { IfErr result (λ fault. IsAtomFault kind atom.now (cause_number fault.cause)) }
     ensures place { IfErr result (λ fault. fault.place ≡ place) }
 {
-    if let Some(number) = read_number(atom) {
+    if let Some(number) = read_digits(atom) {
         return Ok(number);
     }
     if let Some(number) = read_name(kind, atom) {
@@ -42,7 +42,7 @@ pub(crate) fn read_atom(kind: FieldKind, atom: &str, place: usize) -> Result<u32
 }
 
 // A number in one to nine digits. What std parses may begin with a plus.
-pub(crate) fn read_number(text: &str) -> Option<u32>
+pub(crate) fn read_digits(text: &str) -> Option<u32>
     ensures some { IfSome result (IsNumber text.now) }
     ensures none { IfNone result ((value : ℕ) → IsNumber text.now value → ⊥) }
 {

@@ -6,7 +6,7 @@ ghost use Rattle.cron_fields.specs.FieldSet.{value_of};
 ghost use Rattle.cron_fields.specs.Item.{IsItem, IsRange};
 ghost use Rattle.cron_fields.specs.ItemFault.{IsBaseFault, IsItemFault, IsRangeFault, IsStepFault};
 
-use crate::atom::{read_atom, read_number, take};
+use crate::atom::{read_atom, read_digits, take};
 use crate::cause::Cause;
 use crate::fault::Fault;
 use crate::field::FieldKind;
@@ -113,7 +113,7 @@ fn read_step(step: &str, place: usize) -> Result<u32, Fault>
     ensures fault { IfErr result (λ fault. IsStepFault step.now (cause_number fault.cause)) }
     ensures place { IfErr result (λ fault. fault.place ≡ place) }
 {
-    let cause = match read_number(step) {
+    let cause = match read_digits(step) {
         Some(0) => Cause::ZeroStep,
         Some(by) => return Ok(by),
         None if step.is_empty() => Cause::Empty,

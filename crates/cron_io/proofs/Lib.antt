@@ -1,4 +1,5 @@
-pub mod LawLemmas
 mod MemoryLemmas
 mod ReadingLemmas
 mod WritingLemmas
+pub mod LawLemmas
+pub mod NumberLemmas

@@ -1,5 +1,5 @@
 //! Sources and sinks of bytes: what a program reads and writes, with the faults that come from
-//! outside.
+//! outside; and how lines and numbers are written.
 //!
 //! A [`Source`] or a [`Sink`] may give or take a part of what it is asked, and may fail. Each counts
 //! its faults, so that code above can promise to fail only where the outside did. [`read_all`] and
@@ -9,6 +9,7 @@
 mod asked;
 mod laws;
 mod memory;
+mod number;
 mod out_of_memory;
 mod sink;
 mod source;
@@ -19,6 +20,7 @@ pub use laws::{
     what_a_source_gave,
 };
 pub use memory::{MemSink, MemSource};
+pub use number::read_number;
 pub use out_of_memory::OutOfMemory;
 pub use sink::{Sink, SinkFault, write_all};
 pub use source::{ReadAllFault, Source, SourceFault, read_all};

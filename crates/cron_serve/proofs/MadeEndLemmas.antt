@@ -9,8 +9,8 @@ use Rattle.world_law.specs.Book.{BookState}
 use Rattle.job_table.specs.Table.{IsTableOf}
 use Rattle.journal_text.specs.Summary.{IsBookSummary}
 use Rattle.run_text.specs.Run.{Run}
-use Rattle.made_run.specs.Made.{made_run, made_text}
-use Rattle.made_run.proofs.TextLemmas.{text_says}
+use Rattle.generated_run.specs.Made.{made_run, made_text}
+use Rattle.generated_run.proofs.TextLemmas.{text_says}
 use Rattle.cron_serve.specs.Ends.{Ends}
 use Rattle.cron_serve.specs.Serve.{IsRunOf, IsTextOfInput, WritesText}
 use Rattle.cron_serve.specs.declared.run_end.RunEnd.{RunEnd}

@@ -4,10 +4,10 @@ use Rattle.std.specs.Prelude.{IsUtf8}
 use Rattle.due_set.specs.Table.{Table}
 use Rattle.job_table.specs.Table.{IsTableOf}
 use Rattle.run_text.specs.declared.refusal.Refusal.{Refusal}
-use Rattle.made_run.specs.Made.{made_run, made_text}
-use Rattle.made_run.proofs.JobLemmas.{table_exists}
-use Rattle.made_run.proofs.TextLemmas.{text_is_short, text_says}
-use Rattle.made_run.proofs.ZeroLemmas.{text_lacks_zero}
+use Rattle.generated_run.specs.Made.{made_run, made_text}
+use Rattle.generated_run.proofs.JobLemmas.{table_exists}
+use Rattle.generated_run.proofs.TextLemmas.{text_is_short, text_says}
+use Rattle.generated_run.proofs.ZeroLemmas.{text_lacks_zero}
 use Rattle.cron_serve.specs.Input.{IsRefusedAsRun, IsTaken}
 use Rattle.cron_serve.proofs.TextLemmas.{texts_of}
 use Rattle.cron_serve.proofs.VerdictLemmas.{taken_or_refused}

@@ -4,17 +4,17 @@ use Rattle.disk_model.specs.declared.mem_disk.MemDisk.{MemDisk}
 use Rattle.crontab_text.specs.Lines.{lines_of}
 use Rattle.due_set.specs.Table.{Table}
 use Rattle.replica_node.specs.declared.node.Node.{Node}
-use Rattle.book_law.specs.Legal.{IsLegal}
-use Rattle.round_law.specs.Rounds.{IsWithinBounds}
-use Rattle.script_law.specs.Situation.{Situation}
+use Rattle.history.specs.Legal.{IsLegal}
+use Rattle.settling.specs.Rounds.{IsWithinBounds}
+use Rattle.script_semantics.specs.Situation.{Situation}
 use Rattle.run_text.specs.Run.{Run}
 use Rattle.run_text.specs.Sound.{IsSoundRun}
 use Rattle.run_text.proofs.SoundLemmas.{sound_run}
 use Rattle.world_rounds.specs.World.{book_of}
 use Rattle.world_rounds.specs.declared.world.World.{World}
-use Rattle.whole_law.proofs.WholeLemmas.{script_whole}
-use Rattle.world_play.specs.Play.{AreMemNodesOf, HasRun, IsPlayable}
-use Rattle.world_play.proofs.Taken.{script_taken}
+use Rattle.run_outcome.proofs.WholeLemmas.{script_whole}
+use Rattle.script_play.specs.Play.{AreMemNodesOf, HasRun, IsPlayable}
+use Rattle.script_play.proofs.Taken.{script_taken}
 use Rattle.cron_serve.specs.Input.{IsTaken}
 use Rattle.cron_serve.specs.Serve.{IsRunOf}
 

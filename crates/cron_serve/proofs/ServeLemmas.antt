@@ -10,15 +10,16 @@ use Rattle.cron_io.specs.Writing.{HasGained, HasGainedPrefix}
 use Rattle.disk_model.specs.declared.mem_disk.MemDisk.{MemDisk}
 use Rattle.due_set.specs.Table.{Table}
 use Rattle.replica_node.specs.declared.node.Node.{Node}
-use Rattle.book_law.specs.Some.{no_jobs}
+use Rattle.history.specs.Some.{no_jobs}
 use Rattle.world_law.specs.Book.{BookState, posted_as}
 use Rattle.world_law.proofs.Called.{held_at_rest, late_at_rest}
 use Rattle.report_text.specs.Book.{IsBookReport}
-use Rattle.journal_text.specs.Starts.{AreStarts, IsBookJournal}
+use Rattle.journal_text.specs.Starts.{IsBookJournal}
+use Rattle.script_semantics.specs.Starts.{AreStarts}
 use Rattle.journal_text.specs.Journal.{journal_text}
 use Rattle.journal_text.specs.Summary.{IsBookSummary}
 use Rattle.journal_text.proofs.StartLemmas.{book_starts}
-use Rattle.world_play.specs.Play.{HasStarts}
+use Rattle.script_play.specs.Play.{HasStarts}
 use Rattle.report_text.specs.Writes.{Writes}
 use Rattle.report_text.specs.declared.fault.ReportFault.{ReportFault}
 use Rattle.report_text.specs.declared.fault.ReportFault.TheVariants as report

@@ -14,20 +14,21 @@ use Rattle.due_set.specs.Table.{Job, Table, IsJobDue}
 use Rattle.due_set.specs.declared.job.JobKind.TheVariants.{Anacron}
 use Rattle.due_set.specs.declared.job.Period.{Period}
 use Rattle.cluster_sched.specs.declared.row.SchedRow.{SchedRow}
-use Rattle.launch_law.specs.Fits.{Fits, HasStart, HasEnd, IsBacked, IsEffective, IsHeld}
-use Rattle.launch_law.specs.Launched.{IsCalledAt, IsWanted, LaunchesEachDue, OpensBy}
+use Rattle.launch_safety.specs.Fits.{Fits, HasStart, HasEnd, IsBacked, IsEffective, IsHeld}
+use Rattle.launch_safety.specs.Launched.{IsCalledAt, IsWanted, LaunchesEachDue, OpensBy}
 use Rattle.due_list.proofs.ListLemmas.{cut_at}
-use Rattle.launch_law.proofs.FitLemmas.{held_once}
+use Rattle.launch_safety.proofs.FitLemmas.{held_once}
 use Rattle.launch_machine.specs.Starts.{StartsOf}
 use Rattle.replica_node.specs.declared.node.Node.{Node}
 use Rattle.script_text.specs.declared.command.Command.{Command}
-use Rattle.script_law.specs.Script.{Obeys}
-use Rattle.fits_law.specs.Fitting.{FitsItsLog, held_in}
-use Rattle.walk_law.specs.Readings.{AreTurnsBy, IsGraceLong, script_turns}
+use Rattle.script_semantics.specs.Script.{Obeys}
+use Rattle.launch_safety.specs.Fitting.{FitsItsLog, held_in}
+use Rattle.run_outcome.specs.Readings.{IsGraceLong, script_turns}
+use Rattle.launch_safety.specs.Readings.{AreTurnsBy}
 use Rattle.world_law.specs.Book.{BookState}
 use Rattle.world_law.proofs.Called.{held_at_rest}
-use Rattle.date_law.specs.Barred.{IsBarred}
-use Rattle.date_law.proofs.Whole.{all_unscripted, date_unscripted, due_unscripted, each_date, other_unscripted}
+use Rattle.run_outcome.specs.Barred.{IsBarred}
+use Rattle.run_outcome.proofs.WholeDates.{all_unscripted, date_unscripted, due_unscripted, each_date, other_unscripted}
 use Rattle.cron_serve.specs.Serve.{IsRunOf}
 use Rattle.cron_serve.proofs.PlayLemmas.{few_members}
 

@@ -1,7 +1,7 @@
 -- A run that was played, as far as the writing of its texts needs it.
 use Rattle.std.specs.Prelude.{◌≡◌, ◌≤◌, length, None}
 use Rattle.due_set.specs.Table.{IsSound}
-use Rattle.journal_text.specs.Starts.{AreStarts}
+use Rattle.script_semantics.specs.Starts.{AreStarts}
 use Rattle.world_law.specs.Book.{IsLegalBook}
 use Rattle.cron_serve.specs.declared.answer.Played.{Played}
 

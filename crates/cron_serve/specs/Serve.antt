@@ -9,14 +9,14 @@ use Rattle.due_list.specs.CheckText.{IsCheckText}
 use Rattle.due_list.specs.DueText.{IsDueText}
 use Rattle.disk_model.specs.declared.mem_disk.MemDisk.{MemDisk}
 use Rattle.replica_node.specs.declared.node.Node.{Node}
-use Rattle.book_law.specs.Book.{Row}
+use Rattle.history.specs.Book.{Row}
 use Rattle.world_law.specs.Book.{BookState, StandsBehind}
 use Rattle.report_text.specs.Book.{IsBookReport}
 use Rattle.journal_text.specs.Starts.{IsBookJournal}
 use Rattle.journal_text.specs.Summary.{IsBookSummary}
-use Rattle.made_run.specs.Made.{made_text}
-use Rattle.whole_law.specs.Whole.{IsWholeRun}
-use Rattle.world_play.specs.Play.{AreMemNodesOf}
+use Rattle.generated_run.specs.Made.{made_text}
+use Rattle.run_outcome.specs.Whole.{IsWholeRun}
+use Rattle.script_play.specs.Play.{AreMemNodesOf}
 use Rattle.run_text.specs.Run.{Run}
 use Rattle.run_text.specs.declared.refusal.Refusal.{Refusal}
 use Rattle.job_table.specs.Table.{whole_run}

@@ -4,7 +4,7 @@ ghost use Rattle.journal_text.specs.Journal.{journal_text};
 ghost use Rattle.report_text.specs.Book.{IsBookReport};
 ghost use Rattle.report_text.specs.Writes.{Writes};
 ghost use Rattle.run_text.specs.Steps.{IfRefused};
-ghost use Rattle.world_play.specs.Play.{HasStarts};
+ghost use Rattle.script_play.specs.Play.{HasStarts};
 ghost use Rattle.cron_serve.specs.Input.{IsOfInput, IsRefusedAsFrame, IsRefusedAsRun, IsRefusedBytes};
 ghost use Rattle.cron_serve.specs.Played.{IsPlayed};
 ghost use Rattle.cron_serve.specs.Serve.{IsRunOf, LeavesNoRun};
@@ -21,12 +21,12 @@ use journal_text::write_journal;
 use replica_node::Node;
 use report_text::{ReportFault, write_book_report};
 use run_text::RunFault;
+use script_play::play_run;
 use std::alloc::Global;
 use std::sync::Wait;
 use std::thread::Threads;
 use world_free::TurnGate;
 use world_law::Book;
-use world_play::play_run;
 
 /// A run that was played: the table of its jobs, its number of replicas, the book and the nodes that it left, and the
 /// numbers of turns at which the parts of its script begin.

@@ -5,13 +5,13 @@ ghost use Rattle.cron_serve.specs.Serve.{IsRunOf};
 ghost use Rattle.cron_serve.specs.Written.{EndsWriting, WritesAtStatus};
 ghost use Rattle.cron_serve.specs.declared.words.Output.{Output};
 ghost use Rattle.journal_text.specs.Summary.{IsBookSummary};
-ghost use Rattle.made_run.specs.Made.{made_text};
+ghost use Rattle.generated_run.specs.Made.{made_text};
 
 use crate::answer::{Played, play, written_end};
 use crate::run_end::RunEnd;
 use cron_io::{OutOfMemory, Sink};
+use generated_run::make_run;
 use journal_text::write_summary;
-use made_run::make_run;
 use run_text::RunFault;
 use std::alloc::Global;
 use std::sync::Wait;

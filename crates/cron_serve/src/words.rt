@@ -3,7 +3,7 @@ ghost use Rattle.std.specs.Prelude.{◌≡◌, ◌≢◌, ◌≤◌, ◌∷◌, 
 ghost use Rattle.std.specs.Vec.Iter.{into_iter_items, into_iter_len};
 ghost use Rattle.cron_serve.specs.Words.{AreWishesOf, Asks, AsksNothing, BeginsWith, IsSpelledBy, MayStandTogether, texts_of};
 
-use anacron_text::read_number;
+use cron_io::read_number;
 use std::env::Args;
 
 /// The most lanes that may be asked for.

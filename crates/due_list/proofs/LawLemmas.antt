@@ -26,7 +26,7 @@ use Rattle.anacron_text.specs.Settings.{no_settings}
 use Rattle.anacron_text.specs.declared.settings.Settings.{Settings}
 use Rattle.anacron_text.proofs.ChoiceLemmas.{sets_or_bad}
 use Rattle.anacron_text.proofs.AnswerLemmas.{same_answers_below, some_answer}
-use Rattle.report_text.specs.Lines.{text_of_lines}
+use Rattle.cron_io.specs.Lines.{text_of_lines}
 use Rattle.run_text.specs.Follow.{style_of}
 use Rattle.run_text.specs.Run.{Run, Section}
 use Rattle.due_list.specs.CheckText.{AreAnacrontabFaults, AreCrontabFaults, AreFaultsBy, AreFaultsOf, IsCheckText, anacrontab_fault, check_lines, crontab_fault, numbers_from}

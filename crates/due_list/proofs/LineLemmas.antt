@@ -14,7 +14,7 @@ use Rattle.due_set.proofs.SoundLemmas.{zone_is_read}
 use Rattle.due_set.proofs.TableLemmas.{IsRunByPeriod-kind}
 use Rattle.cluster_sched.specs.Names.{IsNameIn, IsTimeNear, job_kind, kind_of}
 use Rattle.cluster_sched.specs.declared.row.Name.{Name}
-use Rattle.report_text.specs.Lines.{text_of_lines}
+use Rattle.cron_io.specs.Lines.{text_of_lines}
 use Rattle.due_list.specs.CheckText.{check_lines, fault_line}
 use Rattle.due_list.specs.DueText.{AreEntryLines, AreLinesBy, AreLinesOfJob, IsDueText, anacron_line, due_line, job_line, local_text}
 use Rattle.due_list.specs.Parts.{AppendsJobs, AppendsLines, instants_of}

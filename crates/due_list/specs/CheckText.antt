@@ -9,7 +9,7 @@ use Rattle.anacron_text.specs.Settings.{no_settings}
 use Rattle.anacron_text.specs.declared.settings.Settings.{Settings}
 use Rattle.run_text.specs.Follow.{style_of}
 use Rattle.run_text.specs.Run.{Run, Section}
-use Rattle.report_text.specs.Lines.{text_of_lines}
+use Rattle.cron_io.specs.Lines.{text_of_lines}
 use Rattle.due_list.specs.declared.fault.TableFault.{TableFault}
 
 -- The numbers in a file of lines that follow one another, the first of which has that number. Each is made of so many lines of

@@ -8,7 +8,7 @@ use Rattle.due_set.specs.Table.{Job, Table, IsJobDueList, IsJobIn}
 use Rattle.due_set.specs.declared.job.JobKind.{JobKind}
 use Rattle.due_set.specs.declared.job.JobKind.TheVariants.{Anacron}
 use Rattle.cluster_sched.specs.Names.{name_text}
-use Rattle.report_text.specs.Lines.{text_of_lines}
+use Rattle.cron_io.specs.Lines.{text_of_lines}
 
 -- job NAME version 0 count C
 abbrev pub job_line : List ℕ → ℕ → List ℕ

@@ -3,7 +3,7 @@ use Rattle.std.specs.Prelude.{◌≡◌, ℕ, ◌+◌, List, [], ◌∷◌, ◌+
 use Rattle.crontab_text.specs.declared.answer.LineFault.{LineFault}
 use Rattle.zone_minutes.specs.declared.minute.Minute.{Minute}
 use Rattle.due_set.specs.Table.{Table}
-use Rattle.report_text.specs.Lines.{text_of_lines}
+use Rattle.cron_io.specs.Lines.{text_of_lines}
 use Rattle.due_list.specs.DueText.{AreParts}
 use Rattle.due_list.specs.declared.fault.TableFault.{TableFault}
 

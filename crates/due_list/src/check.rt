@@ -1,6 +1,6 @@
 //! The check of a frame.
 ghost use Rattle.std.specs.Prelude.{◌≡◌, ◌++◌, ◌∷◌, [], map, IfOk, OnOk, string_bytes};
-ghost use Rattle.report_text.specs.Lines.{text_of_lines};
+ghost use Rattle.cron_io.specs.Lines.{text_of_lines};
 ghost use Rattle.run_text.specs.Reading.{IsReadFrame};
 ghost use Rattle.run_text.specs.Run.{run_of};
 ghost use Rattle.due_list.specs.CheckText.{IsCheckText, check_lines, fault_line};

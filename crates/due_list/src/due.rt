@@ -4,7 +4,7 @@ ghost use Rattle.std.specs.List.{range_with_len};
 ghost use Rattle.jiff.specs.Types.{TimeZone};
 ghost use Rattle.zone_minutes.specs.Civil.{IsCalendarMinute};
 ghost use Rattle.due_set.specs.Table.{Job, IsJobDue, IsJobIn};
-ghost use Rattle.report_text.specs.Lines.{text_of_lines};
+ghost use Rattle.cron_io.specs.Lines.{text_of_lines};
 ghost use Rattle.due_list.specs.DueText.{AreEntryLines, AreLinesOfJob, IsDueText, anacron_line, due_line, job_line, local_text};
 ghost use Rattle.due_list.specs.Listing.{WritesListing};
 ghost use Rattle.due_list.specs.Parts.{AppendsJobs, AppendsLines};

@@ -3,12 +3,12 @@ use Rattle.std.proofs.Common.{◌≡◌, ◌⊎◌, ◌+◌, ℕ, suc, ℤ, List
 use Rattle.std.specs.Prelude.{slice_get, if◌then◌else◌}
 use Rattle.std.proofs.lemmas.List.{take-append-drop}
 use Rattle.zone_minutes.specs.declared.minute.Window.{Window}
-use Rattle.book_law.specs.Book.{Row}
-use Rattle.book_law.specs.declared.turn.Turn.{Turn}
-use Rattle.script_law.specs.Free.{Course, IsFreePart, after_all_posted, after_posted, after_row_of, begun, is_turn_of}
-use Rattle.script_law.specs.Situation.{Situation, delivered}
-use Rattle.free_law.proofs.EndLemmas.{no_longer}
-use Rattle.free_law.proofs.PartLemmas.{here_next}
+use Rattle.history.specs.Book.{Row}
+use Rattle.history.specs.declared.turn.Turn.{Turn}
+use Rattle.script_semantics.specs.Free.{Course, IsFreePart, after_all_posted, after_posted, after_row_of, begun, is_turn_of}
+use Rattle.script_semantics.specs.Situation.{Situation, delivered}
+use Rattle.script_semantics.proofs.FreeEndLemmas.{no_longer}
+use Rattle.script_semantics.proofs.PartLemmas.{here_next}
 use Rattle.journal_text.proofs.Twins.{AreTwins, after_twin}
 
 -- ---- twins whose letters join the mails at once

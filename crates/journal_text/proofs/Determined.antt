@@ -11,19 +11,19 @@ use Rattle.zone_minutes.specs.declared.minute.Window.{Window}
 use Rattle.due_set.specs.Table.{Table}
 use Rattle.script_text.specs.declared.command.Command.{Command}
 use Rattle.script_text.specs.declared.command.Command.TheVariants as command
-use Rattle.book_law.specs.Book.{PostedLetter, Row, Standing, with_fact}
-use Rattle.book_law.specs.declared.turn.Cause.TheVariants.{Campaign}
-use Rattle.book_law.specs.declared.turn.Turn.{Turn}
-use Rattle.step_law.specs.State.{State}
-use Rattle.script_law.specs.Arms.{AreRoundsByArms, AreTurnsByArms, PlaysByArms, armed_by, tasks_left}
-use Rattle.script_law.specs.Commands.{Plain, set_by, tasks_for, with_letter, with_mail}
-use Rattle.script_law.specs.Free.{IsFreePart}
-use Rattle.script_law.specs.Parts.{Plays, Sets, Stays, Then}
-use Rattle.script_law.specs.Round.{round_tasks}
-use Rattle.script_law.specs.Script.{ArePartsOf, IsPartOf}
-use Rattle.script_law.specs.Settling.{Drains, DrainsIn, IsDrainRound, IsLedToQuiet, IsNextMinute, Settles, Walks, WalksIn, WalksOn, calmed, campaign_tasks, coordinator, restart_tasks}
-use Rattle.script_law.specs.Situation.{Situation, Task, Do, after_turn, after_turns, delivered}
-use Rattle.script_law.proofs.TurnLemmas.{as_many}
+use Rattle.history.specs.Book.{PostedLetter, Row, Standing, with_fact}
+use Rattle.history.specs.declared.turn.Cause.TheVariants.{Campaign}
+use Rattle.history.specs.declared.turn.Turn.{Turn}
+use Rattle.step_spec.specs.State.{State}
+use Rattle.script_semantics.specs.Arms.{AreRoundsByArms, AreTurnsByArms, PlaysByArms, armed_by, tasks_left}
+use Rattle.script_semantics.specs.Commands.{Plain, set_by, tasks_for, with_letter, with_mail}
+use Rattle.script_semantics.specs.Free.{IsFreePart}
+use Rattle.script_semantics.specs.Parts.{Plays, Sets, Stays, Then}
+use Rattle.script_semantics.specs.Round.{round_tasks}
+use Rattle.script_semantics.specs.Script.{ArePartsOf, IsPartOf}
+use Rattle.script_semantics.specs.Settling.{Drains, DrainsIn, IsDrainRound, IsLedToQuiet, IsNextMinute, Settles, Walks, WalksIn, WalksOn, calmed, campaign_tasks, coordinator, restart_tasks}
+use Rattle.script_semantics.specs.Situation.{Situation, Task, Do, after_turn, after_turns, delivered}
+use Rattle.script_semantics.proofs.TurnLemmas.{as_many}
 use Rattle.journal_text.proofs.Courses.{free_as_many, posted_alike}
 use Rattle.journal_text.proofs.Twins.{AreTwins, after_twin, turned_alike}
 

@@ -9,14 +9,14 @@ use Rattle.std.proofs.lemmas.List.{drop-take, get_or_default, get_or_past, lengt
 use Rattle.std.proofs.lemmas.List.Elements.{All-drop}
 use Rattle.std.proofs.lemmas.List.FromFn.{get_or-enumerate_from, get_or-range_with_len, length-enumerate_from, length-range_with_len}
 use Rattle.due_set.specs.Table.{Table}
-use Rattle.book_law.specs.declared.turn.Turn.{Turn}
+use Rattle.history.specs.declared.turn.Turn.{Turn}
 use Rattle.cron_io.specs.Views.{SinkView}
-use Rattle.report_text.specs.Lines.{text_of_lines}
+use Rattle.cron_io.specs.Lines.{text_of_lines}
 use Rattle.report_text.specs.Writes.{HasWritten, Writes}
 use Rattle.report_text.specs.declared.fault.ReportFault.{ReportFault}
 use Rattle.report_text.proofs.WritingLemmas.{writes_exit, writes_on}
 use Rattle.journal_text.specs.Journal.{end_of, journal_text, numbered_turns, part_lines, part_turns, turn_line}
-use Rattle.journal_text.specs.Starts.{AreStarts}
+use Rattle.script_semantics.specs.Starts.{AreStarts}
 
 -- ---- turns
 

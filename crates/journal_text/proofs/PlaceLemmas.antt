@@ -7,15 +7,16 @@ use Rattle.std.proofs.lemmas.List.{drop-map, drop-take, get_or_default, get_or_p
 use Rattle.std.proofs.lemmas.Option.{slice_get_within}
 use Rattle.due_set.specs.Table.{Table}
 use Rattle.script_text.specs.declared.command.Command.{Command}
-use Rattle.book_law.specs.Book.{Row}
-use Rattle.book_law.specs.declared.turn.Turn.{Turn}
-use Rattle.script_law.specs.Parts.{Then}
-use Rattle.script_law.specs.Script.{ArePartsOf, IsPartOf}
-use Rattle.script_law.specs.Settling.{Walks}
-use Rattle.script_law.specs.Situation.{Situation, first_situation}
+use Rattle.history.specs.Book.{Row}
+use Rattle.history.specs.declared.turn.Turn.{Turn}
+use Rattle.script_semantics.specs.Parts.{Then}
+use Rattle.script_semantics.specs.Script.{ArePartsOf, IsPartOf}
+use Rattle.script_semantics.specs.Settling.{Walks}
+use Rattle.script_semantics.specs.Situation.{Situation, first_situation}
 use Rattle.world_law.specs.Book.{BookState, StandsBehind}
 use Rattle.journal_text.specs.Journal.{end_of, numbered_turns, part_turns}
-use Rattle.journal_text.specs.Starts.{BeginAt, HasPart, part_rows}
+use Rattle.journal_text.specs.Starts.{HasPart, part_rows}
+use Rattle.script_semantics.specs.Starts.{BeginAt}
 use Rattle.journal_text.proofs.Determined.{parts_alike}
 use Rattle.journal_text.proofs.PartLemmas.{ends_behind}
 use Rattle.journal_text.proofs.StartLemmas.{are_starts, none_before}

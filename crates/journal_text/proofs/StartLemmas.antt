@@ -8,14 +8,15 @@ use Rattle.std.proofs.lemmas.List.Elements.{All-map}
 use Rattle.std.proofs.lemmas.List.FromFn.{get_or-map-range_with_len, length-map-range_with_len}
 use Rattle.due_set.specs.Table.{Table}
 use Rattle.script_text.specs.declared.command.Command.{Command}
-use Rattle.book_law.specs.Book.{Row, Standing}
-use Rattle.script_law.specs.Parts.{Stays, Then}
-use Rattle.script_law.specs.Script.{ArePartsOf, Obeys}
-use Rattle.script_law.specs.Settling.{Walks}
-use Rattle.script_law.specs.Situation.{Situation, first_situation}
+use Rattle.history.specs.Book.{Row, Standing}
+use Rattle.script_semantics.specs.Parts.{Stays, Then}
+use Rattle.script_semantics.specs.Script.{ArePartsOf, Obeys}
+use Rattle.script_semantics.specs.Settling.{Walks}
+use Rattle.script_semantics.specs.Situation.{Situation, first_situation}
 use Rattle.world_law.specs.Book.{BookState, StandsBehind}
 use Rattle.journal_text.specs.Journal.{journal_text}
-use Rattle.journal_text.specs.Starts.{AreStarts, BeginAt, IsBookJournal}
+use Rattle.journal_text.specs.Starts.{IsBookJournal}
+use Rattle.script_semantics.specs.Starts.{AreStarts, BeginAt}
 use Rattle.journal_text.proofs.Determined.{parts_alike}
 use Rattle.journal_text.proofs.Twins.{AreTwins, twins_of_turns, twins_refl}
 

@@ -5,7 +5,7 @@ use Rattle.due_set.specs.Table.{Table}
 use Rattle.paxos_base.specs.declared.entry.Kind.{Kind}
 use Rattle.paxos_base.specs.declared.entry.Kind.TheVariants.{Launch, Void}
 use Rattle.cluster_sched.specs.declared.row.SchedRow.{SchedRow}
-use Rattle.book_law.specs.Book.{Standing}
+use Rattle.history.specs.Book.{Standing}
 use Rattle.world_law.specs.Book.{BookState, IsLegalBook}
 use Rattle.world_law.proofs.Called.{held_at_rest}
 use Rattle.world_law.proofs.Settled.{turns_settle}

@@ -12,19 +12,19 @@ use Rattle.cluster_sched.specs.Names.{IsNameIn}
 use Rattle.cluster_sched.specs.declared.row.SchedRow.{SchedRow}
 use Rattle.due_set.specs.Table.{Table}
 use Rattle.launch_machine.specs.Clerk.{first_rows}
-use Rattle.step_law.specs.Step.{Event}
-use Rattle.book_law.specs.Book.{Row, Standing, after_row, standing_after}
-use Rattle.book_law.specs.Legal.{IsEventOfCause, IsLegal, MayFollow}
-use Rattle.book_law.specs.declared.turn.CallRow.{CallRow}
-use Rattle.book_law.specs.declared.turn.Cause.{Cause}
-use Rattle.book_law.specs.declared.turn.Cause.TheVariants.{Campaign, Tick, Hear, Answer}
-use Rattle.book_law.specs.declared.turn.Turn.{Turn}
-use Rattle.book_law.specs.declared.turn.Turn.TheVariants.{Did, Stopped, Restarted, Arrived}
-use Rattle.book_law.proofs.Agreement.{cut_is_legal}
-use Rattle.book_law.proofs.Standings.{waits_made}
-use Rattle.bounds_law.proofs.Keeping.{stands_next}
-use Rattle.fits_law.proofs.Whole.{waiting_held}
-use Rattle.fits_law.specs.Fitting.{held_in}
+use Rattle.step_spec.specs.Step.{Event}
+use Rattle.history.specs.Book.{Row, Standing, after_row, standing_after}
+use Rattle.history.specs.Legal.{IsEventOfCause, IsLegal, MayFollow}
+use Rattle.history.specs.declared.turn.CallRow.{CallRow}
+use Rattle.history.specs.declared.turn.Cause.{Cause}
+use Rattle.history.specs.declared.turn.Cause.TheVariants.{Campaign, Tick, Hear, Answer}
+use Rattle.history.specs.declared.turn.Turn.{Turn}
+use Rattle.history.specs.declared.turn.Turn.TheVariants.{Did, Stopped, Restarted, Arrived}
+use Rattle.history.proofs.Agreement.{cut_is_legal}
+use Rattle.history.proofs.Standings.{waits_made}
+use Rattle.history.proofs.Keeping.{stands_next}
+use Rattle.launch_safety.proofs.Whole.{waiting_held}
+use Rattle.launch_safety.specs.Fitting.{held_in}
 use Rattle.report_text.proofs.BookLemmas.{named}
 use Rattle.world_law.specs.Book.{BookState, StandsBehind}
 use Rattle.journal_text.specs.Told.{CanBeTold, HasStamp, IsAnsweredBy}

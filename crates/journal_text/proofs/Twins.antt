@@ -6,15 +6,15 @@ use Rattle.std.proofs.Math.Seq.{take-append_seam}
 use Rattle.due_set.specs.Table.{Table}
 use Rattle.launch_machine.specs.Clerk.{first_rows}
 use Rattle.paxos_base.specs.declared.durable.Delta.{Delta}
-use Rattle.step_law.specs.Folds.{deltas_of}
-use Rattle.step_law.specs.Step.{Event}
-use Rattle.book_law.specs.Book.{Row, Standing, acts_at, after_row, standing_after}
-use Rattle.book_law.specs.Legal.{IsLegal, MayFollow}
-use Rattle.book_law.specs.declared.turn.Turn.{Turn}
-use Rattle.book_law.specs.declared.turn.Turn.TheVariants.{Did, Stopped, Restarted, Arrived}
-use Rattle.book_law.proofs.Agreement.{cut_is_legal}
-use Rattle.bounds_law.proofs.Keeping.{one_event, stands_next}
-use Rattle.script_law.specs.Situation.{Situation, after_turn, after_turns, arms_after, bases_kept, changes_in, fates_after, latest_after, mails_after}
+use Rattle.step_spec.specs.Folds.{deltas_of}
+use Rattle.step_spec.specs.Step.{Event}
+use Rattle.history.specs.Book.{Row, Standing, acts_at, after_row, standing_after}
+use Rattle.history.specs.Legal.{IsLegal, MayFollow}
+use Rattle.history.specs.declared.turn.Turn.{Turn}
+use Rattle.history.specs.declared.turn.Turn.TheVariants.{Did, Stopped, Restarted, Arrived}
+use Rattle.history.proofs.Agreement.{cut_is_legal}
+use Rattle.history.proofs.Keeping.{one_event, stands_next}
+use Rattle.script_semantics.specs.Situation.{Situation, after_turn, after_turns, arms_after, bases_kept, changes_in, fates_after, latest_after, mails_after}
 use Rattle.world_law.proofs.Settled.{may_next, turns_settle}
 
 -- from a standing on, the turns are the same, change the same and come to the same

@@ -4,10 +4,10 @@ use Rattle.due_set.specs.Table.{Table}
 use Rattle.paxos_base.specs.declared.entry.Kind.{Kind}
 use Rattle.paxos_base.specs.declared.entry.Kind.TheVariants.{Launch, Void}
 use Rattle.cluster_sched.specs.declared.row.SchedRow.{SchedRow}
-use Rattle.book_law.specs.Book.{Row}
-use Rattle.fits_law.specs.Fitting.{held_in}
+use Rattle.history.specs.Book.{Row}
+use Rattle.launch_safety.specs.Fitting.{held_in}
 use Rattle.world_law.specs.Book.{BookState, StandsBehind}
-use Rattle.report_text.specs.Lines.{text_of_lines}
+use Rattle.cron_io.specs.Lines.{text_of_lines}
 use Rattle.report_text.specs.Report.{is_same_kind}
 
 -- how many of the rows are of a kind

@@ -3,11 +3,11 @@ use Rattle.std.specs.Prelude.{⊤, Option, None, Some, IfSome}
 use Rattle.zone_minutes.specs.Civil.{IsCalendarMinute}
 use Rattle.cluster_sched.specs.Names.{IsNameIn}
 use Rattle.due_set.specs.Table.{Table}
-use Rattle.book_law.specs.declared.turn.CallRow.{CallRow}
-use Rattle.book_law.specs.declared.turn.Cause.{Cause}
-use Rattle.book_law.specs.declared.turn.Cause.TheVariants.{Tick}
-use Rattle.book_law.specs.declared.turn.Turn.{Turn}
-use Rattle.book_law.specs.declared.turn.Turn.TheVariants.{Did, Stopped}
+use Rattle.history.specs.declared.turn.CallRow.{CallRow}
+use Rattle.history.specs.declared.turn.Cause.{Cause}
+use Rattle.history.specs.declared.turn.Cause.TheVariants.{Tick}
+use Rattle.history.specs.declared.turn.Turn.{Turn}
+use Rattle.history.specs.declared.turn.Turn.TheVariants.{Did, Stopped}
 
 -- a clock reads a minute that has a stamp
 abbrev pub HasStamp : Cause → Type 0

@@ -2,17 +2,17 @@
 ghost use Rattle.std.specs.Prelude.{◌≡◌, ◌+◌, ◌<◌, ◌≤◌, ◌^◌, ◌++◌, ◌∷◌, [], length, map, get_or, All, string_bytes, OnOk};
 ghost use Rattle.std.specs.List.{enumerate_from, flat_map, range_with_len};
 ghost use Rattle.due_set.specs.Table.{IsSound};
-ghost use Rattle.report_text.specs.Lines.{text_of_lines};
+ghost use Rattle.cron_io.specs.Lines.{text_of_lines};
 ghost use Rattle.report_text.specs.Writes.{Writes};
 ghost use Rattle.journal_text.specs.Journal.{end_of, journal_text, part_head, part_lines, turn_line};
-ghost use Rattle.journal_text.specs.Starts.{AreStarts};
+ghost use Rattle.script_semantics.specs.Starts.{AreStarts};
 ghost use Rattle.journal_text.specs.Told.{CanBeTold};
 ghost use Rattle.world_law.specs.Book.{IsLegalBook};
 
 use crate::words::push_line;
-use book_law::Turn;
 use cron_io::{OutOfMemory, Sink, write_all};
 use due_set::JobTable;
+use history::Turn;
 use report_text::{ReportFault, write_line, write_text};
 use std::alloc::Global;
 use std::fmt::Write;

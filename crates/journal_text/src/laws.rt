@@ -5,13 +5,14 @@ ghost use Rattle.due_set.specs.Table.{Table};
 ghost use Rattle.cluster_sched.specs.declared.row.SchedRow.{SchedRow};
 ghost use Rattle.paxos_base.specs.declared.entry.Kind.TheVariants.{Launch, Void};
 ghost use Rattle.script_text.specs.declared.command.Command.{Command};
-ghost use Rattle.book_law.specs.Book.{Row};
-ghost use Rattle.book_law.specs.declared.turn.Turn.{Turn};
-ghost use Rattle.script_law.specs.Script.{IsPartOf, Obeys};
-ghost use Rattle.script_law.specs.Settling.{Walks};
+ghost use Rattle.history.specs.Book.{Row};
+ghost use Rattle.history.specs.declared.turn.Turn.{Turn};
+ghost use Rattle.script_semantics.specs.Script.{IsPartOf, Obeys};
+ghost use Rattle.script_semantics.specs.Settling.{Walks};
 ghost use Rattle.world_law.specs.Book.{BookState, StandsBehind};
 ghost use Rattle.journal_text.specs.Journal.{journal_text, part_turns};
-ghost use Rattle.journal_text.specs.Starts.{AreStarts, BeginAt, HasPart, IsBookJournal, part_rows};
+ghost use Rattle.journal_text.specs.Starts.{HasPart, IsBookJournal, part_rows};
+ghost use Rattle.script_semantics.specs.Starts.{AreStarts, BeginAt};
 ghost use Rattle.journal_text.specs.Summary.{IsBookSummary, summary_text, total_of};
 
 /// The turns of a journal's parts, one after another, are all turns, each once, in order and by its number.

@@ -4,10 +4,10 @@ ghost use Rattle.cluster_sched.specs.Names.{IsNameIn};
 ghost use Rattle.journal_text.specs.Journal.{answer_words, call_words, cause_words, end_word, fate_word, stop_words, turn_line, turn_words};
 ghost use Rattle.journal_text.specs.Told.{CanBeTold, HasStamp, IsAnsweredBy};
 
-use book_law::{CallRow, Cause, Turn};
 use cluster_sched::{Fate, SchedRow, write_name};
 use cron_io::OutOfMemory;
 use due_set::JobTable;
+use history::{CallRow, Cause, Turn};
 use paxos_base::Kind;
 use std::fmt::Write;
 use zone_minutes::write_stamp;

@@ -6,7 +6,7 @@ use Rattle.std.proofs.lemmas.Int.{ints}
 use Rattle.std.proofs.lemmas.Option.{slice_get_within}
 use Rattle.paxos_base.specs.declared.rows.JobRow.{JobRow}
 use Rattle.due_set.specs.Table.{Table}
-use Rattle.least_tree.specs.Least.{HasNone, HasNoneAtMost, IsAtMost, IsFirstAtMost, IsLeast}
+use Rattle.min_tree.specs.Least.{HasNone, HasNoneAtMost, IsAtMost, IsFirstAtMost, IsLeast}
 use Rattle.launch_machine.specs.Clerk.{TakesStart}
 use Rattle.launch_machine.specs.Intent.{MayCall}
 use Rattle.launch_machine.specs.Machine.{AreCalls, AreStarts, IsCallBeside, IsFirstStartOf, IsFirstToStart, IsStartBeside}

@@ -8,7 +8,7 @@ use Rattle.paxos_base.specs.declared.entry.Entry.TheVariants.{Noop, Start, End}
 use Rattle.paxos_base.specs.declared.rows.JobRow.{JobRow}
 use Rattle.due_set.specs.Calls.{HasCome}
 use Rattle.due_set.specs.Table.{Job, Table, IsJobIn}
-use Rattle.least_tree.specs.Least.{IsAtMost}
+use Rattle.min_tree.specs.Least.{IsAtMost}
 use Rattle.launch_machine.specs.Clerk.{MayStart}
 
 -- the rows of the launch table; beside each the first instant at which its job may be started, and one before which its launch

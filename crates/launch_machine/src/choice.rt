@@ -7,7 +7,7 @@ ghost use Rattle.launch_machine.specs.Machine.{AreCalls, AreStarts};
 
 use crate::next::start_at;
 use due_set::{JobTable, Kind2};
-use least_tree::LeastTree;
+use min_tree::LeastTree;
 use paxos_base::{JobRow, Kind};
 use zone_minutes::Minute;
 

@@ -12,7 +12,7 @@ use crate::next::{call_beside, calls_of, start_beside, starts_of, takes_start};
 use crate::row;
 use cron_io::OutOfMemory;
 use due_set::JobTable;
-use least_tree::LeastTree;
+use min_tree::LeastTree;
 use paxos_base::{Entry, JobRow, Kind, RowList, rows_stand};
 use std::alloc::Global;
 use std::marker::Model;

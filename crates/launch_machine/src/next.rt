@@ -7,7 +7,7 @@ ghost use Rattle.launch_machine.specs.Machine.{AreCalls, AreStarts, IsStartBesid
 
 use cron_io::OutOfMemory;
 use due_set::JobTable;
-use least_tree::LeastTree;
+use min_tree::LeastTree;
 use paxos_base::JobRow;
 use std::alloc::Global;
 use zone_minutes::Minute;

@@ -1,5 +1,5 @@
 //! A list with its least one.
-use least_tree::LeastTree;
+use min_tree::LeastTree;
 use std::alloc::Global;
 use std::test::Fail;
 

@@ -1,5 +1,5 @@
 -- The numbers of ballots.
-use Rattle.std.specs.Prelude.{ℕ, ◌+◌, ◌*◌, ◌/◌, ◌%◌, ◌^◌, ◌<◌, Bool, ◌&&◌, nat_le, nat_lt, IsTrue}
+use Rattle.std.specs.Prelude.{ℕ, ◌+◌, ◌*◌, ◌/◌, ◌%◌, ◌^◌, ◌<◌, ◌≤◌, Bool, ◌&&◌, Option, nat_le, nat_lt, IfSome, IsTrue}
 
 -- The number of a replica's ballot in a round: each replica has numbers of its own ("Paxos Made Simple", section 2.4).
 abbrev pub ballot_number : ℕ → ℕ → ℕ
@@ -21,3 +21,11 @@ is_ballot_of members number = nat_le 1 (round_of number) && nat_lt (member_of nu
 pub record IsBallot (number : ℕ) : Type 0 where
   pub of_seven : IsTrue (is_ballot_of 7 number)
   pub fits : number < 2 ^ 64
+
+-- a ballot is above the promise; each ballot is, where there is none
+abbrev pub IsAbove : ℕ → Option ℕ → Type 0
+IsAbove ballot promised = IfSome promised (λ other. other < ballot)
+
+-- a ballot is the promised one or above it
+abbrev pub IsAtLeast : ℕ → Option ℕ → Type 0
+IsAtLeast ballot promised = IfSome promised (λ other. other ≤ ballot)

@@ -1,7 +1,7 @@
 //! The run of a file, the world that has played it, and the texts of its book.
 ghost use Rattle.std.specs.Prelude.{◌≡◌, ◌<◌, ◌≤◌, ◌^◌, IfOk, None, length};
 ghost use Rattle.due_set.specs.Table.{IsSound};
-ghost use Rattle.journal_text.specs.Starts.{AreStarts};
+ghost use Rattle.script_semantics.specs.Starts.{AreStarts};
 ghost use Rattle.world_law.specs.Book.{IsLegalBook};
 
 use cron_io::MemSink;
@@ -10,13 +10,13 @@ use job_table::build_table;
 use journal_text::{write_journal, write_summary};
 use report_text::{ReportFault, write_book_report};
 use run_text::read_run;
+use script_play::play_run;
 use std::alloc::Global;
 use std::sync::Wait;
 use std::test::Fail;
 use std::thread::Threads;
 use world_free::OpenGate;
 use world_law::Book;
-use world_play::play_run;
 
 // A run that was played: the table of its jobs, its number of replicas, the book that it left, and the numbers of the
 // turns at which the parts of its script begin.

@@ -13,14 +13,14 @@ use Rattle.paxos_letter.specs.declared.packet.Packet.TheVariants as packet
 use Rattle.term_core.specs.Term.{is_ended_by}
 use Rattle.term_core.specs.declared.term.Term.{Term}
 use Rattle.term_core.specs.declared.term.Term.TheVariants.{Follower, Candidate, Leader}
-use Rattle.step_law.specs.Act.{Act, Observe, Stand, Gather, TakeLead, Pledge, Cast, Propose, Count, Wait, Learn, Rebase, Call, Send, Restart, after_act}
-use Rattle.step_law.specs.Folds.{after_acts, calls_by, copies_by, copies_of, deltas_by, learnt_by}
-use Rattle.step_law.specs.Hear.{Once, hear, hear_all, line, not_yet, sends_copy}
-use Rattle.step_law.specs.Heard.{messages_of, old_vote, packets_of, row_in, vote_in}
-use Rattle.step_law.specs.Letters.{are_small, is_small}
-use Rattle.step_law.specs.Message.{Message, Whom, ballot_in, Prepare, Promise, Accept, Accepted, Nack, Known, AskFrom, Snap, Lead, Mention}
-use Rattle.step_law.specs.State.{Identity, State, prefix_of}
-use Rattle.step_law.specs.Step.{asks_change}
+use Rattle.step_spec.specs.Act.{Act, Observe, Stand, Gather, TakeLead, Pledge, Cast, Propose, Count, Wait, Learn, Rebase, Call, Send, Restart, after_act}
+use Rattle.step_spec.specs.Folds.{after_acts, calls_by, copies_by, copies_of, deltas_by, learnt_by}
+use Rattle.step_spec.specs.Hear.{Once, hear, hear_all, line, not_yet, sends_copy}
+use Rattle.step_spec.specs.Heard.{messages_of, old_vote, packets_of, row_in, vote_in}
+use Rattle.step_spec.specs.Letters.{are_small, is_small}
+use Rattle.step_spec.specs.Message.{Message, Whom, ballot_in, Prepare, Promise, Accept, Accepted, Nack, Known, AskFrom, Snap, Lead, Mention}
+use Rattle.step_spec.specs.State.{Identity, State, prefix_of}
+use Rattle.step_spec.specs.Step.{asks_change}
 use Rattle.replica_draft.specs.Draft.{Desk, Goes, begins_copy, done, drafted, has_copied, said_by, said_in, said_of}
 use Rattle.replica_draft.specs.declared.draft.Sent.{Sent}
 use Rattle.replica_core.specs.Lines.{Does, IsFixed}

@@ -22,11 +22,11 @@ use Rattle.term_core.specs.declared.flight.Flight.{Flight}
 use Rattle.term_core.specs.declared.term.Term.{Term}
 use Rattle.term_core.specs.declared.term.Term.TheVariants.{Follower, Candidate, Leader}
 use Rattle.term_core.proofs.BestLemmas.{AllBelow, below_last}
-use Rattle.step_law.specs.Act.{Act, Propose, Learn, Rebase, Send, Stand, Wait, after_act}
-use Rattle.step_law.specs.Folds.{calls_by, deltas_by, learnt_by}
-use Rattle.step_law.specs.Message.{Accept, Known, Others, Outside, Prepare}
-use Rattle.step_law.specs.Propose.{answer, campaign, end_if, is_long, is_open, lead_if, lead_on, next_ballot, propose, tick, vote_of, wait}
-use Rattle.step_law.specs.State.{Identity, State, prefix_of}
+use Rattle.step_spec.specs.Act.{Act, Propose, Learn, Rebase, Send, Stand, Wait, after_act}
+use Rattle.step_spec.specs.Folds.{calls_by, deltas_by, learnt_by}
+use Rattle.step_spec.specs.Message.{Accept, Known, Others, Outside, Prepare}
+use Rattle.step_spec.specs.Propose.{answer, campaign, end_if, is_long, is_open, lead_if, lead_on, next_ballot, propose, tick, vote_of, wait}
+use Rattle.step_spec.specs.State.{Identity, State, prefix_of}
 use Rattle.replica_draft.specs.Draft.{Chooses, Goes, FixedParts, TakesTable, done, drafted, said_by, with_best}
 use Rattle.replica_core.specs.Lines.{Does, IsFixed}
 use Rattle.replica_core.specs.Replica.{FliesAt, IsReadyAnyhow, IsWhole, Makes, identity_of, idle_desk, fixed_of, next_slot, state_of}

@@ -7,7 +7,7 @@ use Rattle.launch_machine.specs.Machine.{Launches, StandsFor}
 use Rattle.launch_machine.proofs.ClerkLemmas.{AppliesAll-push}
 use Rattle.learner_core.specs.Learner.{LearnerState, HasLearned}
 use Rattle.paxos_base.specs.declared.entry.Entry.{Entry}
-use Rattle.step_law.specs.declared.out.LearntRow.{LearntRow}
+use Rattle.step_spec.specs.declared.out.LearntRow.{LearntRow}
 use Rattle.replica_draft.specs.Draft.{entries_in}
 use Rattle.replica_core.specs.Commit.{LearnsAll}
 use Rattle.replica_core.specs.Counts.{count_ended, highest_count}

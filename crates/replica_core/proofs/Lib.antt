@@ -1,6 +1,5 @@
 pub mod CountLemmas
 pub mod HearLemmas
-pub mod IntentLemmas
 pub mod LeadLemmas
 pub mod LearnLemmas
 pub mod LineLemmas

@@ -7,19 +7,20 @@ use Rattle.paxos_base.specs.Vote.{vote_at, votes_from}
 use Rattle.paxos_base.specs.declared.durable.Durable.{Durable}
 use Rattle.paxos_base.specs.declared.entry.Entry.{Entry}
 use Rattle.paxos_base.specs.declared.entry.Vote.{Vote}
-use Rattle.acceptor_core.specs.Acceptor.{HasVoted, IsAbove, IsAtLeast}
+use Rattle.acceptor_core.specs.Acceptor.{HasVoted}
+use Rattle.paxos_base.specs.Ballot.{IsAbove, IsAtLeast}
 use Rattle.paxos_base.specs.Members.{has_majority, with_member}
 use Rattle.term_core.specs.Best.{best_of}
 use Rattle.term_core.specs.Term.{accepted_by, after_accepted, after_advance, after_promise, best_votes, chosen_by, has_asked}
 use Rattle.term_core.specs.declared.flight.Flight.{Flight}
 use Rattle.term_core.specs.declared.term.Term.{Term}
 use Rattle.term_core.specs.declared.term.Term.TheVariants.{Follower, Candidate, Leader}
-use Rattle.step_law.specs.Folds.{calls_by, deltas_by, learnt_by}
-use Rattle.step_law.specs.Act.{Act, Cast, Count, Learn, Pledge, Send, after_act}
-use Rattle.step_law.specs.Hear.{ask_below, is_vote_of, on_accept, on_accepted, on_known, on_prepare, on_promise, snapshot}
-use Rattle.step_law.specs.Message.{AskFrom, Known, Nack, Only, Others, Promise}
-use Rattle.step_law.specs.State.{State, prefix_of, promised_in}
-use Rattle.step_law.specs.declared.out.LearntRow.{LearntRow}
+use Rattle.step_spec.specs.Folds.{calls_by, deltas_by, learnt_by}
+use Rattle.step_spec.specs.Act.{Act, Cast, Count, Learn, Pledge, Send, after_act}
+use Rattle.step_spec.specs.Hear.{ask_below, is_vote_of, on_accept, on_accepted, on_known, on_prepare, on_promise, snapshot}
+use Rattle.step_spec.specs.Message.{AskFrom, Known, Nack, Only, Others, Promise}
+use Rattle.step_spec.specs.State.{State, prefix_of, promised_in}
+use Rattle.step_spec.specs.declared.out.LearntRow.{LearntRow}
 use Rattle.replica_draft.specs.Draft.{Chooses, Desk, Goes, FixedParts, LearnsNext, done, drafted, durable_of, entries_in, has_copied, learned_with, said_by, with_best}
 use Rattle.replica_core.specs.Lines.{Does, IsFixed, cast_vote, tell_vote}
 use Rattle.replica_core.specs.Replica.{DoesAsTerm, FliesAt, base_of, best_in, next_of, next_slot, rows_of}

@@ -8,10 +8,10 @@ use Rattle.paxos_letter.specs.Letters.{Spells}
 use Rattle.paxos_letter.specs.Spelling.{fields_of}
 use Rattle.paxos_letter.specs.declared.packet.Packet.{Packet}
 use Rattle.paxos_letter.specs.declared.packet.Packet.TheVariants.{Prepare, Promise, OldVote, Accept, Accepted, Nack, Known, AskFrom, Snap, SnapRow, Lead}
-use Rattle.step_law.specs.Heard.{messages_of, row_in, vote_in}
-use Rattle.step_law.specs.Message as told
-use Rattle.step_law.specs.Message.{Message}
-use Rattle.step_law.specs.Step.{asks_change}
+use Rattle.step_spec.specs.Heard.{messages_of, row_in, vote_in}
+use Rattle.step_spec.specs.Message as told
+use Rattle.step_spec.specs.Message.{Message}
+use Rattle.step_spec.specs.Step.{asks_change}
 
 counted : (message : Message) (messages : List Message) → count_by asks_change (message ∷ messages) ≡ (if asks_change message then 1 else 0) + count_by asks_change messages
 counted message messages = sum_by-cons (λ m. if asks_change m then 1 else 0) message messages

@@ -12,11 +12,11 @@ use Rattle.launch_machine.specs.declared.machine.Intent.{Intent}
 use Rattle.launch_machine.proofs.ClerkLemmas.{AppliesAll-same}
 use Rattle.launch_machine.specs.Clerk.{AppliesAll}
 use Rattle.launch_machine.specs.Machine.{Launches}
-use Rattle.step_law.specs.Act.{Act}
-use Rattle.step_law.specs.Letters.{IsHeardAs, heard_in}
-use Rattle.step_law.specs.State.{Identity, State}
-use Rattle.step_law.specs.Step.{Event, Plan, step}
-use Rattle.step_law.specs.Step as told
+use Rattle.step_spec.specs.Act.{Act}
+use Rattle.step_spec.specs.Letters.{IsHeardAs, heard_in}
+use Rattle.step_spec.specs.State.{Identity, State}
+use Rattle.step_spec.specs.Step.{Event, Plan, step}
+use Rattle.step_spec.specs.Step as told
 use Rattle.replica_draft.proofs.OneLemmas.{same-letters}
 use Rattle.replica_core.specs.Outcome.{IsSameOutcome}
 use Rattle.replica_core.specs.Replica.{ReplicaState}
@@ -24,7 +24,7 @@ use Rattle.replica_core.specs.Step.{IsAlike, IsAskedFor, IsEventOf, Steps, Takes
 use Rattle.replica_core.specs.declared.input.Input.{Input}
 use Rattle.replica_core.specs.declared.input.Input.TheVariants as input
 use Rattle.replica_core.specs.declared.out.StepOut.{StepOut}
-use Rattle.replica_core.proofs.IntentLemmas.{one_intent}
+use Rattle.launch_machine.proofs.IntentLemmas.{one_intent}
 
 -- ---- The event
 

@@ -7,11 +7,11 @@ use Rattle.paxos_letter.specs.Spelling.{fields_of}
 use Rattle.paxos_letter.specs.declared.packet.Packet.{Packet}
 use Rattle.paxos_letter.specs.declared.packet.Packet.TheVariants.{Prepare, Promise, OldVote, Accept, Accepted, Nack, Known, AskFrom, Snap, SnapRow, Lead}
 use Rattle.due_set.specs.Table.{Table}
-use Rattle.step_law.specs.Hear.{hear_all, not_yet}
-use Rattle.step_law.specs.Letters.{heard_in, is_small_letter}
-use Rattle.step_law.specs.Step.{Event, Plan, step}
-use Rattle.step_law.specs.Step as told
-use Rattle.step_law.specs.Propose.{answer, campaign, tick}
+use Rattle.step_spec.specs.Hear.{hear_all, not_yet}
+use Rattle.step_spec.specs.Letters.{heard_in, is_small_letter}
+use Rattle.step_spec.specs.Step.{Event, Plan, step}
+use Rattle.step_spec.specs.Step as told
+use Rattle.step_spec.specs.Propose.{answer, campaign, tick}
 use Rattle.paxos_base.specs.declared.entry.Kind.{Kind}
 use Rattle.zone_minutes.specs.declared.minute.Minute.{Minute}
 use Rattle.launch_machine.specs.Answers.{IsIntent}

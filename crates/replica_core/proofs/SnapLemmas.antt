@@ -9,13 +9,13 @@ use Rattle.paxos_base.specs.declared.rows.JobRow.{JobRow}
 use Rattle.launch_machine.specs.Machine.{Launches}
 use Rattle.learner_core.specs.Learner.{LearnerState}
 use Rattle.learner_core.specs.Learner as learned
-use Rattle.step_law.specs.Act.{Act, Rebase, Send}
+use Rattle.step_spec.specs.Act.{Act, Rebase, Send}
 use Rattle.paxos_letter.specs.declared.packet.Packet.{Packet}
 use Rattle.paxos_letter.specs.declared.packet.Packet.TheVariants as packet
-use Rattle.step_law.specs.Heard.{row_in, vote_in}
-use Rattle.step_law.specs.Hear.{known_from, on_ask, on_snap, send_all, snapshot}
-use Rattle.step_law.specs.Message.{Known, Only, Snap}
-use Rattle.step_law.specs.declared.out.LearntRow.{LearntRow}
+use Rattle.step_spec.specs.Heard.{row_in, vote_in}
+use Rattle.step_spec.specs.Hear.{known_from, on_ask, on_snap, send_all, snapshot}
+use Rattle.step_spec.specs.Message.{Known, Only, Snap}
+use Rattle.step_spec.specs.declared.out.LearntRow.{LearntRow}
 use Rattle.replica_draft.specs.Draft.{Says, SendsOnly, TakesTable, drafted, entries_in, has_copied, learned_with}
 use Rattle.replica_draft.specs.declared.change.Change.{Change}
 use Rattle.replica_draft.specs.declared.change.Change.TheVariants as change

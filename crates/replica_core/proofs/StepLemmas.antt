@@ -6,8 +6,8 @@ use Rattle.launch_machine.specs.Clerk.{AppliesAll}
 use Rattle.launch_machine.specs.Machine.{Launches, StandsFor}
 use Rattle.paxos_base.specs.declared.durable.Delta.{Delta}
 use Rattle.cluster_sched.specs.declared.row.SchedRow.{SchedRow}
-use Rattle.step_law.specs.State.{State}
-use Rattle.step_law.specs.Step.{IsLaunchTable, step}
+use Rattle.step_spec.specs.State.{State}
+use Rattle.step_spec.specs.Step.{IsLaunchTable, step}
 use Rattle.term_core.specs.Term.{best_votes}
 use Rattle.replica_draft.specs.Draft.{Desk, FixedParts, calls_in, delta_of, deltas_in, done, drafted, entries_in}
 use Rattle.replica_draft.specs.declared.change.Change.{Change}

@@ -9,7 +9,7 @@ use Rattle.paxos_base.specs.declared.rows.JobRow.{JobRow}
 use Rattle.acceptor_core.specs.Acceptor.{AcceptorState, IsPart}
 use Rattle.term_core.specs.Term.{best_votes}
 use Rattle.term_core.specs.declared.term.Term.{Term}
-use Rattle.step_law.specs.State.{State}
+use Rattle.step_spec.specs.State.{State}
 use Rattle.replica_draft.specs.Draft.{delta_of, drafted, durable_of, learned_with, with_best}
 use Rattle.replica_draft.specs.declared.change.Change.{Change}
 use Rattle.replica_draft.specs.declared.draft.Draft.{Draft}

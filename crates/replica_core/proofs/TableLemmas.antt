@@ -15,10 +15,10 @@ use Rattle.paxos_base.specs.declared.rows.JobRow.{JobRow}
 use Rattle.due_set.specs.Table.{Table}
 use Rattle.launch_machine.specs.Clerk.{Applies, AppliesAll, closed_row, opened_row}
 use Rattle.launch_machine.proofs.MachineLemmas.{same_or_not, set_here, set_there}
-use Rattle.step_law.specs.Letters.{IsHeardAs}
-use Rattle.step_law.specs.Message.{Message, Prepare, Promise, Accept, Accepted, Nack, Known, AskFrom, Snap, Lead, Mention}
-use Rattle.step_law.proofs.Lists.{in_first, in_rest}
-use Rattle.step_law.proofs.RowLemmas.{copied_stand, heard_stand}
+use Rattle.step_spec.specs.Letters.{IsHeardAs}
+use Rattle.step_spec.specs.Message.{Message, Prepare, Promise, Accept, Accepted, Nack, Known, AskFrom, Snap, Lead, Mention}
+use Rattle.step_spec.proofs.Lists.{in_first, in_rest}
+use Rattle.step_spec.proofs.RowLemmas.{copied_stand, heard_stand}
 use Rattle.replica_draft.specs.Letters.{IsCopyable, IsCopyableIn}
 use Rattle.replica_core.specs.Heard.{BringsRows}
 

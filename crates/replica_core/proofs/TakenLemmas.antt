@@ -6,7 +6,7 @@ use Rattle.launch_machine.specs.Machine.{Launches}
 use Rattle.learner_core.specs.Learner.{LearnerState, IsRebased}
 use Rattle.learner_core.specs.Learner as learned
 use Rattle.paxos_base.specs.declared.entry.Entry.{Entry}
-use Rattle.step_law.specs.declared.out.LearntRow.{LearntRow}
+use Rattle.step_spec.specs.declared.out.LearntRow.{LearntRow}
 use Rattle.replica_draft.specs.Draft.{entries_in}
 use Rattle.replica_draft.specs.declared.change.Change.{Change}
 use Rattle.replica_draft.specs.declared.change.Change.TheVariants as change

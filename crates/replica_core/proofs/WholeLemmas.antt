@@ -11,9 +11,9 @@ use Rattle.term_core.specs.Term.{best_votes}
 use Rattle.term_core.specs.declared.term.Term.{Term}
 use Rattle.term_core.specs.declared.term.Term.TheVariants.{Follower, Candidate, Leader}
 use Rattle.learner_core.specs.Learner as learner
-use Rattle.step_law.specs.State.{prefix_of}
-use Rattle.step_law.specs.Step.{IsLaunchTable}
-use Rattle.step_law.specs.declared.out.LearntRow.{LearntRow}
+use Rattle.step_spec.specs.State.{prefix_of}
+use Rattle.step_spec.specs.Step.{IsLaunchTable}
+use Rattle.step_spec.specs.declared.out.LearntRow.{LearntRow}
 use Rattle.replica_draft.specs.Draft.{drafted, entries_in, learned_with, with_best}
 use Rattle.replica_draft.specs.declared.change.Change.{Change}
 use Rattle.replica_draft.specs.declared.change.Change.TheVariants as change

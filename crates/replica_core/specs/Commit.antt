@@ -9,7 +9,7 @@ use Rattle.due_set.specs.Table.{Table}
 use Rattle.launch_machine.specs.Clerk.{AppliesAll}
 use Rattle.launch_machine.specs.Machine.{Launches, StandsFor}
 use Rattle.learner_core.specs.Learner.{LearnerState}
-use Rattle.step_law.specs.declared.out.LearntRow.{LearntRow}
+use Rattle.step_spec.specs.declared.out.LearntRow.{LearntRow}
 use Rattle.replica_draft.specs.Draft.{entries_in, learned_with}
 use Rattle.replica_draft.specs.declared.change.Change.{Change}
 use Rattle.replica_draft.specs.declared.change.Change.TheVariants as change

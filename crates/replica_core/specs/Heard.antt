@@ -5,14 +5,14 @@ use Rattle.paxos_base.specs.Rows.{OpenHaveCursors, RowsStand}
 use Rattle.paxos_base.specs.declared.rows.JobRow.{JobRow}
 use Rattle.paxos_letter.specs.declared.packet.Packet.{Packet}
 use Rattle.paxos_letter.specs.declared.packet.Packet.TheVariants as packet
-use Rattle.step_law.specs.Act.{Act}
-use Rattle.step_law.specs.Hear.{Once, hear, line}
+use Rattle.step_spec.specs.Act.{Act}
+use Rattle.step_spec.specs.Hear.{Once, hear, line}
 use Rattle.due_set.specs.Table.{Table}
 use Rattle.learner_core.specs.Learner as learned
-use Rattle.step_law.specs.Heard.{row_in, vote_in}
-use Rattle.step_law.specs.Letters.{is_small}
-use Rattle.step_law.specs.Message.{Message, Prepare, Promise, Accept, Accepted, Nack, Known, AskFrom, Snap, Lead, Mention}
-use Rattle.step_law.specs.State.{State, Identity, prefix_of}
+use Rattle.step_spec.specs.Heard.{row_in, vote_in}
+use Rattle.step_spec.specs.Letters.{is_small}
+use Rattle.step_spec.specs.Message.{Message, Prepare, Promise, Accept, Accepted, Nack, Known, AskFrom, Snap, Lead, Mention}
+use Rattle.step_spec.specs.State.{State, Identity, prefix_of}
 use Rattle.replica_draft.specs.Draft.{done, drafted, has_copied}
 use Rattle.replica_core.specs.Replica.{CountsBelow, IsSteady, IsWhole, changes_in, fixed_of}
 use Rattle.replica_draft.specs.declared.draft.Draft.{Draft}

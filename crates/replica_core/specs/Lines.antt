@@ -5,10 +5,10 @@ use Rattle.acceptor_core.specs.Acceptor.{IsPart}
 use Rattle.replica_draft.specs.Draft.{FixedParts, done, drafted}
 use Rattle.replica_draft.specs.declared.draft.Draft.{Draft}
 use Rattle.replica_core.specs.declared.parts.Core.{Core}
-use Rattle.step_law.specs.Act.{Act, Cast, Send}
-use Rattle.step_law.specs.Hear.{ask_below}
-use Rattle.step_law.specs.Message.{Accepted, Only}
-use Rattle.step_law.specs.State.{State}
+use Rattle.step_spec.specs.Act.{Act, Cast, Send}
+use Rattle.step_spec.specs.Hear.{ask_below}
+use Rattle.step_spec.specs.Message.{Accepted, Only}
+use Rattle.step_spec.specs.State.{State}
 
 -- what a replica is, beside its draft
 pub record IsFixed (core : Core) (kept : FixedParts) : Type 0 where

@@ -15,8 +15,8 @@ use Rattle.term_core.specs.declared.term.Term.{Term}
 use Rattle.term_core.specs.declared.term.Term.TheVariants.{Leader}
 use Rattle.due_set.specs.Table.{Table}
 use Rattle.launch_machine.specs.Machine.{Launches, StandsFor}
-use Rattle.step_law.specs.State.{State, Identity, prefix_of}
-use Rattle.step_law.specs.Act.{Act}
+use Rattle.step_spec.specs.State.{State, Identity, prefix_of}
+use Rattle.step_spec.specs.Act.{Act}
 use Rattle.replica_draft.specs.Draft.{Desk, FixedParts, delta_of, done, drafted, with_best}
 use Rattle.replica_core.specs.Lines.{IsFixed}
 use Rattle.replica_core.specs.Counts.{highest_count}

@@ -7,14 +7,14 @@ use Rattle.zone_minutes.specs.Window.{IsInWindow}
 use Rattle.due_set.specs.Table.{Table}
 use Rattle.launch_machine.specs.Answers.{IsIntent}
 use Rattle.launch_machine.specs.Machine.{StandsFor}
-use Rattle.step_law.specs.Act.{Act}
-use Rattle.step_law.specs.Folds.{after_acts, calls_of, deltas_of, learnt_of}
-use Rattle.step_law.specs.Hear.{hear_all, not_yet}
-use Rattle.step_law.specs.Letters.{IsHeardAs}
-use Rattle.step_law.specs.Message.{Message}
-use Rattle.step_law.specs.State.{prefix_of}
-use Rattle.step_law.specs.Step.{Event, IsLaunchTable, Plan, step}
-use Rattle.step_law.specs.Step as told
+use Rattle.step_spec.specs.Act.{Act}
+use Rattle.step_spec.specs.Folds.{after_acts, calls_of, deltas_of, learnt_of}
+use Rattle.step_spec.specs.Hear.{hear_all, not_yet}
+use Rattle.step_spec.specs.Letters.{IsHeardAs}
+use Rattle.step_spec.specs.Message.{Message}
+use Rattle.step_spec.specs.State.{prefix_of}
+use Rattle.step_spec.specs.Step.{Event, IsLaunchTable, Plan, step}
+use Rattle.step_spec.specs.Step as told
 use Rattle.replica_draft.specs.Draft.{delta_of, done, drafted}
 use Rattle.replica_draft.specs.Letters.{AreLettersFrom}
 use Rattle.replica_core.specs.Replica.{IsSteadyAt, Makes, ReplicaState, identity_of, idle_in, fixed_in, replica_of, state_of, votes_of}

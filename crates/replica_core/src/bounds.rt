@@ -1,6 +1,6 @@
 //! The bounds that a replica counts with: a letter beyond them is heard as one without packets.
 ghost use Rattle.std.specs.Prelude.{◌≡◌, ◌↔◌, ◌^◌, IsTrue};
-ghost use Rattle.step_law.specs.Letters.{are_small, is_small, is_small_ballot, is_small_letter, is_small_row, is_small_slot};
+ghost use Rattle.step_spec.specs.Letters.{are_small, is_small, is_small_ballot, is_small_letter, is_small_row, is_small_slot};
 ghost use Rattle.replica_core.specs.Counts.{highest_count};
 ghost use Rattle.replica_core.specs.Replica.{CountsBelow, IsSmall, IsWhole, state_of};
 

@@ -10,8 +10,8 @@ ghost use Rattle.paxos_base.specs.Ballot.{ballot_number};
 ghost use Rattle.paxos_base.specs.Durable.{after_delta};
 ghost use Rattle.paxos_base.specs.Rows.{OpenHaveCursors, RowsStand};
 ghost use Rattle.paxos_base.specs.declared.durable.Durable.{Durable};
-ghost use Rattle.step_law.specs.State.{prefix_of, started};
-ghost use Rattle.step_law.specs.declared.out.LearntRow.{LearntRow};
+ghost use Rattle.step_spec.specs.State.{prefix_of, started};
+ghost use Rattle.step_spec.specs.declared.out.LearntRow.{LearntRow};
 ghost use Rattle.term_core.specs.Term.{best_votes};
 ghost use Rattle.replica_draft.specs.Draft.{delta_of, drafted, entries_in, with_best};
 ghost use Rattle.replica_draft.specs.declared.change.Change.TheVariants as change;
@@ -30,7 +30,7 @@ use paxos_base::{Ballot, Delta, Durable, Entry, JobRow, RowList, VoteList};
 use replica_draft::{Change, Draft, Rebased};
 use std::alloc::Global;
 use std::mem;
-use step_law::LearntRow;
+use step_spec::LearntRow;
 use term_core::Term;
 
 impl Core {

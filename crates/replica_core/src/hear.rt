@@ -3,10 +3,10 @@ ghost use Rattle.std.specs.Prelude.{◌≡◌, ℕ, ◌+◌, ◌^◌, ◌<◌, �
 ghost use Rattle.learner_core.specs.Learner.{prefix_of};
 ghost use Rattle.paxos_letter.specs.Letters.{Spells};
 ghost use Rattle.term_core.specs.Term.{after_ballot};
-ghost use Rattle.step_law.specs.Act.{Observe};
-ghost use Rattle.step_law.specs.Hear.{hear_all, not_yet};
-ghost use Rattle.step_law.specs.Heard.{messages_of};
-ghost use Rattle.step_law.specs.Letters.{is_small_letter};
+ghost use Rattle.step_spec.specs.Act.{Observe};
+ghost use Rattle.step_spec.specs.Hear.{hear_all, not_yet};
+ghost use Rattle.step_spec.specs.Heard.{messages_of};
+ghost use Rattle.step_spec.specs.Letters.{is_small_letter};
 ghost use Rattle.replica_draft.specs.Draft.{Goes, drafted};
 ghost use Rattle.replica_core.specs.Heard.{CanHear, HearsBy, ballot_named, changes_asked, hear_in, line_in, message_in, once_in, shows_gap_in};
 ghost use Rattle.replica_core.specs.Replica.{IsIdle, IsReady, IsSmall, IsSteady, IsWhole, Makes, base_of, changes_in, identity_of, fixed_of, state_of};
@@ -112,7 +112,7 @@ impl Core {
     }
 
     // Does what a packet asks for, once its ballot was observed.
-    #[tactic(auto, unfolding(step_law::specs::Hear::line))]
+    #[tactic(auto, unfolding(step_spec::specs::Hear::line))]
     fn handle(
         &self,
         table: &JobTable,

@@ -10,10 +10,10 @@ ghost use Rattle.launch_machine.specs.Answers.{IsIntent};
 ghost use Rattle.launch_machine.specs.Machine.{StandsFor};
 ghost use Rattle.launch_machine.specs.declared.machine.Intent.{Intent};
 ghost use Rattle.learner_core.specs.Learner as learned;
-ghost use Rattle.step_law.specs.Act.{Call, Rebase, Send};
-ghost use Rattle.step_law.specs.Message.{Lead, Others};
-ghost use Rattle.step_law.specs.Propose.{answer, bound_by, campaign, end_if, follow_intent, is_long, is_open, lead_on, proposal, propose, tick, wait};
-ghost use Rattle.step_law.specs.State.{prefix_of};
+ghost use Rattle.step_spec.specs.Act.{Call, Rebase, Send};
+ghost use Rattle.step_spec.specs.Message.{Lead, Others};
+ghost use Rattle.step_spec.specs.Propose.{answer, bound_by, campaign, end_if, follow_intent, is_long, is_open, lead_on, proposal, propose, tick, wait};
+ghost use Rattle.step_spec.specs.State.{prefix_of};
 ghost use Rattle.replica_core.specs.Lines.{Does};
 ghost use Rattle.replica_core.specs.Replica.{FliesAt, IsFreeToPropose, IsIdle, IsReady, IsReadyAnyhow, IsSmall, IsWhole, Makes, identity_of, state_of};
 

@@ -23,4 +23,4 @@ pub use laws::{a_step_has_one_outcome, a_step_keeps_the_table};
 pub use out::{LearntList, StepOut};
 pub use replica::{Planned, Replica};
 pub use replica_draft::LetterList;
-pub use step_law::{LearntRow, OutLetter};
+pub use step_spec::{LearntRow, OutLetter};

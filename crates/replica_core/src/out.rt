@@ -2,7 +2,7 @@ use cluster_sched::SchedRow;
 use paxos_base::Delta;
 use replica_draft::LetterList;
 use std::marker::Model;
-use step_law::LearntRow;
+use step_spec::LearntRow;
 
 /// Entries that were learned, in the order of their slots. Contracts see the list.
 #[derive(Debug, Drop)]
@@ -12,7 +12,7 @@ pub struct LearntList {
 
 impl Model for LearntList {
     ghost use Rattle.std.specs.Prelude.{List};
-    ghost use Rattle.step_law.specs.declared.out.LearntRow.{LearntRow};
+    ghost use Rattle.step_spec.specs.declared.out.LearntRow.{LearntRow};
 
     ghost Value = { List LearntRow };
 

@@ -4,7 +4,7 @@ ghost use Rattle.std.specs.Option.{option_map};
 ghost use Rattle.paxos_letter.specs.Letters.{fault_of};
 ghost use Rattle.due_set.specs.Table.{Table};
 ghost use Rattle.launch_machine.specs.Machine.{StandsFor};
-ghost use Rattle.step_law.specs.Step.{Event, step};
+ghost use Rattle.step_spec.specs.Step.{Event, step};
 ghost use Rattle.replica_draft.specs.Draft.{delta_of};
 ghost use Rattle.replica_draft.specs.Letters.{AreLettersFrom};
 ghost use Rattle.replica_core.specs.Replica.{IsAlikeCore, IsIdle, IsReady, IsSmall, IsWhole, identity_of, replica_of, state_of};

@@ -1,9 +1,9 @@
 ghost use Rattle.std.specs.Prelude.{◌≡◌, ◌↔◌, ◌<◌, ◌≤◌, ◌^◌, IsTrue, List, IfOk, OnErr, length};
 ghost use Rattle.std.specs.Option.{option_copied, option_to_list};
 ghost use Rattle.paxos_base.specs.Rows.{RowsStand};
-ghost use Rattle.step_law.specs.Act.{Act};
-ghost use Rattle.step_law.specs.Folds.{deltas_of};
-ghost use Rattle.step_law.specs.State.{prefix_of, started};
+ghost use Rattle.step_spec.specs.Act.{Act};
+ghost use Rattle.step_spec.specs.Folds.{deltas_of};
+ghost use Rattle.step_spec.specs.State.{prefix_of, started};
 ghost use Rattle.replica_core.specs.Replica.{IsSmall, ReplicaState};
 ghost use Rattle.replica_core.specs.Step.{CanTake, IsAlike, IsInputInside, IsOfTable, Plans, PlansStep, Steps, Takes, fault_in, fault_told};
 

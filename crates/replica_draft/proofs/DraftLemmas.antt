@@ -14,15 +14,15 @@ use Rattle.paxos_letter.specs.declared.packet.Packet.{Packet}
 use Rattle.term_core.specs.Term.{after_ballot, after_advance}
 use Rattle.term_core.specs.declared.term.Term.{Term}
 use Rattle.term_core.specs.declared.term.Term.TheVariants.{Follower, Candidate, Leader}
-use Rattle.step_law.specs.Act.{Act, Observe, Pledge, Cast, Learn, Rebase, Send, after_act}
-use Rattle.step_law.specs.Folds.{after_acts, calls_by, calls_of, deltas_by, deltas_of, learnt_by, learnt_of}
+use Rattle.step_spec.specs.Act.{Act, Observe, Pledge, Cast, Learn, Rebase, Send, after_act}
+use Rattle.step_spec.specs.Folds.{after_acts, calls_by, calls_of, deltas_by, deltas_of, learnt_by, learnt_of}
 use Rattle.paxos_letter.specs.declared.packet.Packet.TheVariants as packet
-use Rattle.step_law.specs.Heard.{old_vote, packets_of}
-use Rattle.step_law.specs.Hear.{known_from, send_all}
-use Rattle.step_law.proofs.VoteLemmas.{known-push}
-use Rattle.step_law.specs.Message.{Message, Whom, Only, Known, Promise, Snap}
-use Rattle.step_law.specs.State.{State, prefix_of}
-use Rattle.step_law.specs.declared.out.LearntRow.{LearntRow}
+use Rattle.step_spec.specs.Heard.{old_vote, packets_of}
+use Rattle.step_spec.specs.Hear.{known_from, send_all}
+use Rattle.step_spec.proofs.VoteLemmas.{known-push}
+use Rattle.step_spec.specs.Message.{Message, Whom, Only, Known, Promise, Snap}
+use Rattle.step_spec.specs.State.{State, prefix_of}
+use Rattle.step_spec.specs.declared.out.LearntRow.{LearntRow}
 use Rattle.replica_draft.specs.Draft.{Desk, Goes, FixedParts, LearnsNext, Says, SendsOnly, TakesTable, calls_in, deltas_in, done, drafted, durable_of, entries_in, learned_with, said_by, said_in, said_of, with_best, with_learned}
 use Rattle.replica_draft.specs.declared.draft.Sent.{Sent}
 use Rattle.replica_draft.specs.declared.change.Change.{Change}

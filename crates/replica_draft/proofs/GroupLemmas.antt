@@ -8,10 +8,10 @@ use Rattle.paxos_letter.specs.Groups.{keep_groups, no_group}
 use Rattle.paxos_letter.specs.Spelling.{fields_of}
 use Rattle.paxos_letter.specs.declared.packet.Packet.{Packet}
 use Rattle.paxos_letter.specs.declared.packet.Packet.TheVariants as packet
-use Rattle.step_law.specs.Act.{Act, Send}
-use Rattle.step_law.specs.Folds.{sent_by, sent_to}
-use Rattle.step_law.specs.Heard.{packets_of, old_vote}
-use Rattle.step_law.specs.Message.{Message, Prepare, Promise, Accept, Accepted, Nack, Known, AskFrom, Snap, Lead, Mention, goes_to}
+use Rattle.step_spec.specs.Act.{Act, Send}
+use Rattle.step_spec.specs.Folds.{sent_by, sent_to}
+use Rattle.step_spec.specs.Heard.{packets_of, old_vote}
+use Rattle.step_spec.specs.Message.{Message, Prepare, Promise, Accept, Accepted, Nack, Known, AskFrom, Snap, Lead, Mention, goes_to}
 use Rattle.replica_draft.proofs.AskLemmas.{IsFree, IsAsk, AreFree, AskOnce}
 
 -- The packets may follow where so many old votes are owed, and where a packet has asked for a change or none has.

@@ -7,8 +7,8 @@ use Rattle.term_core.specs.Term.{after_proposal, after_tick}
 use Rattle.term_core.specs.declared.term.Term.{Term}
 use Rattle.term_core.specs.declared.term.Term.TheVariants.{Follower, Candidate, Leader}
 use Rattle.cluster_sched.specs.declared.row.SchedRow.{SchedRow}
-use Rattle.step_law.specs.Act.{Call, Propose, Wait, after_act}
-use Rattle.step_law.specs.Folds.{calls_by, deltas_by, learnt_by}
+use Rattle.step_spec.specs.Act.{Call, Propose, Wait, after_act}
+use Rattle.step_spec.specs.Folds.{calls_by, deltas_by, learnt_by}
 use Rattle.replica_draft.specs.Draft.{FixedParts, done, drafted, said_by, with_best}
 use Rattle.replica_draft.specs.declared.change.Change.TheVariants.{Voted}
 use Rattle.replica_draft.specs.declared.draft.Draft.{Draft}

@@ -9,12 +9,12 @@ use Rattle.paxos_letter.specs.Groups.{keep_groups, no_group}
 use Rattle.paxos_letter.specs.Spelling.{fields_of}
 use Rattle.paxos_letter.specs.declared.packet.Packet.{Packet}
 use Rattle.paxos_letter.specs.declared.packet.Packet.TheVariants as packet
-use Rattle.step_law.specs.Act.{Act, Send}
-use Rattle.step_law.specs.Folds.{sent_by}
-use Rattle.step_law.specs.Heard.{packets_of, old_vote}
-use Rattle.step_law.specs.Message.{Message, Prepare, Promise, Accept, Accepted, Nack, Known, AskFrom, Snap, Lead, Mention, Whom, goes_to}
-use Rattle.step_law.specs.State.{State, Identity}
-use Rattle.step_law.specs.Step.{Event, step}
+use Rattle.step_spec.specs.Act.{Act, Send}
+use Rattle.step_spec.specs.Folds.{sent_by}
+use Rattle.step_spec.specs.Heard.{packets_of, old_vote}
+use Rattle.step_spec.specs.Message.{Message, Prepare, Promise, Accept, Accepted, Nack, Known, AskFrom, Snap, Lead, Mention, Whom, goes_to}
+use Rattle.step_spec.specs.State.{State, Identity}
+use Rattle.step_spec.specs.Step.{Event, step}
 use Rattle.replica_draft.specs.Draft.{said_by, said_of}
 use Rattle.replica_draft.specs.Letters.{packets_to, BringsCopyable, IsCopyable, KeepGroups, HaveCursors, IsTold, IsSpoken, AreSpoken}
 use Rattle.replica_draft.proofs.AskLemmas.{IsFree, IsAsk, SendsFree, SendsAsk, AreFree, AskOnce, step-once}

@@ -1,11 +1,11 @@
 -- The letters of acts are settled.
 use Rattle.std.proofs.Common.{◌≡◌, ℕ, List, [], ◌∷◌, refl, sym, ap, ◌∙◌}
 use Rattle.std.specs.List.{AllZip}
-use Rattle.step_law.specs.Act.{Act}
-use Rattle.step_law.specs.Folds.{Addressed, letters_of}
-use Rattle.step_law.specs.Letters.{IsSpelled}
-use Rattle.step_law.specs.State.{Identity}
-use Rattle.step_law.specs.declared.out.OutLetter.{OutLetter}
+use Rattle.step_spec.specs.Act.{Act}
+use Rattle.step_spec.specs.Folds.{Addressed, letters_of}
+use Rattle.step_spec.specs.Letters.{IsSpelled}
+use Rattle.step_spec.specs.State.{Identity}
+use Rattle.step_spec.specs.declared.out.OutLetter.{OutLetter}
 use Rattle.replica_draft.specs.Letters.{AreLettersFrom}
 
 abbrev letter_with : ℕ → List ℕ → OutLetter

@@ -12,12 +12,12 @@ use Rattle.paxos_letter.specs.Spelling.{AllFit, fields_of, packet_bytes, spellin
 use Rattle.paxos_letter.specs.declared.packet.Packet.{Packet}
 use Rattle.paxos_letter.specs.declared.packet.Packet.TheVariants as packet
 use Rattle.paxos_letter.proofs.CallerLemmas.{BallotsKeep, RowKeeps, keeps_kind-packet, keeps_members-packet}
-use Rattle.step_law.specs.Act.{Act, Send}
-use Rattle.step_law.specs.Folds.{Addressed, letter_of, letters_of, sent_by, sent_to}
-use Rattle.step_law.specs.Heard.{packets_of}
-use Rattle.step_law.specs.Letters.{IsSpelled}
-use Rattle.step_law.specs.Message.{Message, Prepare, Promise, Accept, Accepted, Nack, Known, AskFrom, Snap, Lead, Mention, Whom, goes_to}
-use Rattle.step_law.specs.declared.out.OutLetter.{OutLetter}
+use Rattle.step_spec.specs.Act.{Act, Send}
+use Rattle.step_spec.specs.Folds.{Addressed, letter_of, letters_of, sent_by, sent_to}
+use Rattle.step_spec.specs.Heard.{packets_of}
+use Rattle.step_spec.specs.Letters.{IsSpelled}
+use Rattle.step_spec.specs.Message.{Message, Prepare, Promise, Accept, Accepted, Nack, Known, AskFrom, Snap, Lead, Mention, Whom, goes_to}
+use Rattle.step_spec.specs.declared.out.OutLetter.{OutLetter}
 use Rattle.replica_draft.specs.Draft.{said_in, said_of, meant}
 use Rattle.replica_draft.specs.declared.draft.Sent.{Sent}
 use Rattle.replica_draft.specs.Letters.{packets_to, AllKeep, Carry, KeepGroups, HasCursor, HaveCursors, IsTold, AreSpoken}

@@ -15,12 +15,12 @@ use Rattle.term_core.specs.Term.{after_advance}
 use Rattle.term_core.specs.declared.term.Term.{Term}
 use Rattle.term_core.specs.declared.term.Term.TheVariants.{Follower, Candidate, Leader}
 use Rattle.cluster_sched.specs.declared.row.SchedRow.{SchedRow}
-use Rattle.step_law.specs.Act.{Act, Send}
-use Rattle.step_law.specs.Folds.{after_acts, calls_of, deltas_of, learnt_of}
-use Rattle.step_law.specs.Heard.{packets_of}
-use Rattle.step_law.specs.Message.{Whom, Known, Only, Others, Outside}
-use Rattle.step_law.specs.State.{State}
-use Rattle.step_law.specs.declared.out.LearntRow.{LearntRow}
+use Rattle.step_spec.specs.Act.{Act, Send}
+use Rattle.step_spec.specs.Folds.{after_acts, calls_of, deltas_of, learnt_of}
+use Rattle.step_spec.specs.Heard.{packets_of}
+use Rattle.step_spec.specs.Message.{Whom, Known, Only, Others, Outside}
+use Rattle.step_spec.specs.State.{State}
+use Rattle.step_spec.specs.declared.out.LearntRow.{LearntRow}
 use Rattle.replica_draft.specs.declared.change.Change.{Change}
 use Rattle.replica_draft.specs.declared.change.Change.TheVariants as change
 use Rattle.replica_draft.specs.declared.draft.Draft.{Draft}

@@ -8,14 +8,14 @@ use Rattle.paxos_letter.specs.Rules.{keeps_kind, keeps_members}
 use Rattle.paxos_letter.specs.Spelling.{fields_of}
 use Rattle.paxos_letter.specs.declared.packet.Packet.{Packet}
 use Rattle.paxos_letter.specs.declared.packet.Packet.TheVariants.{SnapRow}
-use Rattle.step_law.specs.Act.{Act, Send}
-use Rattle.step_law.specs.Folds.{letters_of}
-use Rattle.step_law.specs.Letters.{IsSpelled}
-use Rattle.step_law.specs.Message.{Message, Mention, Snap, Whom, goes_to}
-use Rattle.step_law.specs.State.{Identity}
-use Rattle.step_law.specs.Step.{Event}
-use Rattle.step_law.specs.Step as told
-use Rattle.step_law.specs.declared.out.OutLetter.{OutLetter}
+use Rattle.step_spec.specs.Act.{Act, Send}
+use Rattle.step_spec.specs.Folds.{letters_of}
+use Rattle.step_spec.specs.Letters.{IsSpelled}
+use Rattle.step_spec.specs.Message.{Message, Mention, Snap, Whom, goes_to}
+use Rattle.step_spec.specs.State.{Identity}
+use Rattle.step_spec.specs.Step.{Event}
+use Rattle.step_spec.specs.Step as told
+use Rattle.step_spec.specs.declared.out.OutLetter.{OutLetter}
 use Rattle.replica_draft.specs.Draft.{said_of}
 
 -- the packets that go to a replica, in order

@@ -1,7 +1,7 @@
 ghost use Rattle.std.specs.Prelude.{◌≡◌, ℕ, ◌+◌, ◌^◌, ◌<◌, ◌++◌, None, Some, Ok, [], ◌∷◌, OnOk, map};
-ghost use Rattle.step_law.specs.Act.{Call, Cast, Propose, Learn, Observe, Pledge, Send, Wait};
-ghost use Rattle.step_law.specs.Heard.{old_vote, packets_of};
-ghost use Rattle.step_law.specs.Message.{Message, Accept, Accepted, AskFrom, Known, Lead, Nack, Only, Others, Prepare, Promise};
+ghost use Rattle.step_spec.specs.Act.{Call, Cast, Propose, Learn, Observe, Pledge, Send, Wait};
+ghost use Rattle.step_spec.specs.Heard.{old_vote, packets_of};
+ghost use Rattle.step_spec.specs.Message.{Message, Accept, Accepted, AskFrom, Known, Lead, Nack, Only, Others, Prepare, Promise};
 ghost use Rattle.term_core.specs.Term.{after_advance, after_ballot, after_proposal, after_tick, answer_to_proposal, answer_to_tick};
 ghost use Rattle.replica_draft.specs.declared.change.Change.TheVariants as change;
 ghost use Rattle.replica_draft.specs.Draft.{Chooses, Goes, LearnsNext, SendsOnly, TakesTable, has_copied, meant, said_in};
@@ -14,7 +14,7 @@ use paxos_base::{Ballot, Entry, EntryList, Members, RowList, Vote, VoteList};
 use paxos_letter::Packet;
 use smallvec::SmallVec;
 use std::alloc::Global;
-use step_law::LearntRow;
+use step_spec::LearntRow;
 use term_core::Term;
 
 /// What a step sends. Most steps send a packet or two, for which no memory is taken.

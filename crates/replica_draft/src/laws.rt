@@ -1,8 +1,8 @@
 //! Laws of letters. Each is the contract of a function that does nothing.
 ghost use Rattle.std.specs.Prelude.{◌≡◌, List};
-ghost use Rattle.step_law.specs.Act.{Act};
-ghost use Rattle.step_law.specs.State.{Identity};
-ghost use Rattle.step_law.specs.declared.out.OutLetter.{OutLetter};
+ghost use Rattle.step_spec.specs.Act.{Act};
+ghost use Rattle.step_spec.specs.State.{Identity};
+ghost use Rattle.step_spec.specs.declared.out.OutLetter.{OutLetter};
 ghost use Rattle.replica_draft.specs.Letters.{AreLettersFrom};
 
 /// What a replica does settles its letters, byte for byte.

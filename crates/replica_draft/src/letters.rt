@@ -2,7 +2,7 @@ ghost use Rattle.std.specs.Prelude.{◌≡◌, ◌<◌, ◌≤◌, ◌++◌, [],
 ghost use Rattle.paxos_letter.specs.Letters.{Spells};
 ghost use Rattle.paxos_letter.specs.Fields.{FitPacketFields};
 ghost use Rattle.paxos_letter.specs.Spelling.{AllFit, fields_of, packet_bytes, spelling};
-ghost use Rattle.step_law.specs.Message.{goes_to};
+ghost use Rattle.step_spec.specs.Message.{goes_to};
 ghost use Rattle.replica_draft.specs.Draft.{meant, said_in};
 ghost use Rattle.replica_draft.specs.Letters.{AllKeep, Carry, HasCursor, HaveCursors, KeepGroups, packets_to};
 
@@ -12,7 +12,7 @@ use paxos_base::PACKET_BYTES;
 use paxos_letter::{LetterBytes, Packet, packet_bytes};
 use std::alloc::Global;
 use std::marker::Model;
-use step_law::OutLetter;
+use step_spec::OutLetter;
 
 /// Letters in the order of the replicas that they go to. Contracts see the list.
 #[derive(Debug, Drop)]
@@ -22,7 +22,7 @@ pub struct LetterList {
 
 impl Model for LetterList {
     ghost use Rattle.std.specs.Prelude.{List};
-    ghost use Rattle.step_law.specs.declared.out.OutLetter.{OutLetter};
+    ghost use Rattle.step_spec.specs.declared.out.OutLetter.{OutLetter};
 
     ghost Value = { List OutLetter };
 

@@ -1,15 +1,15 @@
 //! What a replica is told of many: entries that were chosen, and the rows of a launch table.
 ghost use Rattle.std.specs.Prelude.{◌≡◌, ◌+◌, ◌^◌, ◌<◌, [], ◌∷◌, OnOk, length};
-ghost use Rattle.step_law.specs.Act.{Send};
-ghost use Rattle.step_law.specs.Hear.{known_from, send_all};
-ghost use Rattle.step_law.specs.Message.{Only, Snap};
+ghost use Rattle.step_spec.specs.Act.{Send};
+ghost use Rattle.step_spec.specs.Hear.{known_from, send_all};
+ghost use Rattle.step_spec.specs.Message.{Only, Snap};
 ghost use Rattle.replica_draft.specs.Draft.{Says, entries_in};
 
 use crate::draft::{SendList, Sent, Target};
 use cron_io::OutOfMemory;
 use paxos_base::{Entry, JobRow};
 use paxos_letter::Packet;
-use step_law::LearntRow;
+use step_spec::LearntRow;
 
 /// Tells a replica entries of the slots from one on.
 pub fn tell_entries(

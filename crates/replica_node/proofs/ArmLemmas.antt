@@ -7,8 +7,8 @@ use Rattle.std.proofs.lemmas.Nat.{mod_below}
 use Rattle.disk_model.specs.declared.armed.Arm.{Arm}
 use Rattle.paxos_base.specs.declared.durable.Delta.{Delta}
 use Rattle.paxos_base.specs.declared.durable.Delta.TheVariants.{Tried, Promised, Voted, Base}
-use Rattle.save_law.specs.Save.{bases_after, is_kept}
-use Rattle.save_law.proofs.SaveLemmas.{decides_even, decides_gate, decides_kept, decides_odd}
+use Rattle.save_calls.specs.Save.{bases_after, is_kept}
+use Rattle.save_calls.proofs.SaveLemmas.{decides_even, decides_gate, decides_kept, decides_odd}
 use Rattle.replica_store.specs.Files.{other_area, selected_by}
 use Rattle.replica_store.specs.Made.{area_after}
 use Rattle.replica_node.specs.Kept.{KeepsChange, area_by}

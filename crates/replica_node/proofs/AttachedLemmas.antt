@@ -12,8 +12,8 @@ use Rattle.paxos_base.specs.declared.durable.Durable.{Durable}
 use Rattle.paxos_base.specs.declared.entry.Vote.{Vote}
 use Rattle.paxos_base.specs.declared.rows.JobRow.{JobRow}
 use Rattle.launch_machine.proofs.MachineLemmas.{fresh_stand}
-use Rattle.step_law.specs.Coherent.{AreUpTo}
-use Rattle.step_law.specs.State.{promised_in}
+use Rattle.step_spec.specs.Coherent.{AreUpTo}
+use Rattle.step_spec.specs.State.{promised_in}
 use Rattle.store_format.specs.declared.body.Record.{Record}
 use Rattle.store_format.specs.declared.body.Record.TheVariants.{Tried, Promised, Voted, Base, Row}
 use Rattle.store_format.specs.Area.{Stands, StandFor, fresh_kept}

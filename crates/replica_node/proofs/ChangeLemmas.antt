@@ -2,7 +2,7 @@
 use Rattle.std.proofs.Common.{◌≡◌, ◌⊎◌, ℕ, ◌<◌, List, Option, None, Some, refl, sym, ap, ◌∙◌, subst, inl, inr, arith}
 use Rattle.std.proofs.lemmas.Bool.{eq-eqb}
 use Rattle.std.proofs.lemmas.Option.{none-some}
-use Rattle.acceptor_core.specs.Acceptor.{IsAbove}
+use Rattle.paxos_base.specs.Ballot.{IsAbove}
 use Rattle.paxos_base.specs.Durable.{after_delta}
 use Rattle.paxos_base.specs.Vote.{SlotsRise, put_vote, vote_at}
 use Rattle.paxos_base.specs.declared.durable.Delta.{Delta}

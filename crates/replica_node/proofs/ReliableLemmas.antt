@@ -10,7 +10,7 @@ use Rattle.disk_model.proofs.StopLemmas.{all_run, all_unarmed, never_stops}
 use Rattle.due_set.specs.Table.{Table}
 use Rattle.paxos_letter.specs.declared.fault.LetterFault.{LetterFault}
 use Rattle.paxos_letter.proofs.LetterLemmas.{letter_none}
-use Rattle.step_law.specs.Step.{Event}
+use Rattle.step_spec.specs.Step.{Event}
 use Rattle.replica_core.specs.Replica.{ReplicaState}
 use Rattle.replica_core.specs.Step.{IsEventOf, fault_in, fault_told}
 use Rattle.replica_core.specs.declared.input.Input.{Input}

@@ -6,11 +6,11 @@ use Rattle.due_set.specs.Table.{Table}
 use Rattle.launch_machine.specs.Machine.{Launches, StandsFor}
 use Rattle.paxos_base.specs.declared.durable.Delta.{Delta}
 use Rattle.paxos_base.specs.declared.durable.Durable.{Durable}
-use Rattle.step_law.specs.Coherent.{IsCoherent}
-use Rattle.step_law.specs.Folds.{after_acts, deltas_of}
-use Rattle.step_law.specs.State.{State}
-use Rattle.step_law.specs.Step.{Event, step}
-use Rattle.change_law.proofs.Said.{stays_coherent}
+use Rattle.step_spec.specs.Coherent.{IsCoherent}
+use Rattle.step_spec.specs.Folds.{after_acts, deltas_of}
+use Rattle.step_spec.specs.State.{State}
+use Rattle.step_spec.specs.Step.{Event, step}
+use Rattle.step_spec.proofs.Said.{stays_coherent}
 use Rattle.replica_core.specs.Commit.{kept_after}
 use Rattle.replica_core.specs.Replica.{ReplicaState}
 use Rattle.replica_core.specs.Step.{IsAlike, IsEventOf, IsOfTable, PlansStep, Takes}

@@ -7,18 +7,18 @@ use Rattle.paxos_base.specs.Rows.{RowsStand}
 use Rattle.paxos_base.specs.declared.durable.Delta.{Delta}
 use Rattle.paxos_base.specs.declared.durable.Durable.{Durable}
 use Rattle.paxos_base.specs.declared.rows.JobRow.{JobRow}
-use Rattle.step_law.specs.Act.{Act}
-use Rattle.step_law.specs.Coherent.{IsCoherent}
-use Rattle.step_law.specs.Folds.{after_acts, deltas_of}
-use Rattle.step_law.specs.State.{State, prefix_of}
-use Rattle.step_law.specs.Step.{Event, IsPlanned, step}
-use Rattle.step_law.specs.Step as told
+use Rattle.step_spec.specs.Act.{Act}
+use Rattle.step_spec.specs.Coherent.{IsCoherent}
+use Rattle.step_spec.specs.Folds.{after_acts, deltas_of}
+use Rattle.step_spec.specs.State.{State, prefix_of}
+use Rattle.step_spec.specs.Step.{Event, IsPlanned, step}
+use Rattle.step_spec.specs.Step as told
 use Rattle.store_format.specs.Order.{ChangeMayFollow, after_deltas}
-use Rattle.change_law.specs.Changes.{BaseMayFollow}
-use Rattle.change_law.specs.Anew.{ProposesAnew}
-use Rattle.change_law.proofs.Altering.{Alters, change_alters, kept_by_acts}
-use Rattle.change_law.proofs.Changes.{changes_follow}
-use Rattle.change_law.proofs.Said.{setting_of, step_may_be_done}
+use Rattle.durable_changes.specs.Changes.{BaseMayFollow}
+use Rattle.durable_changes.specs.Anew.{ProposesAnew}
+use Rattle.durable_changes.proofs.Altering.{Alters, change_alters, kept_by_acts}
+use Rattle.durable_changes.proofs.Changes.{changes_follow}
+use Rattle.step_spec.proofs.Said.{setting_of, step_may_be_done}
 use Rattle.replica_draft.specs.Draft.{Desk, delta_of, deltas_in}
 use Rattle.replica_draft.specs.declared.change.Change.{Change}
 use Rattle.replica_draft.specs.declared.change.Change.TheVariants as change

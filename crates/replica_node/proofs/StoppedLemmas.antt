@@ -9,10 +9,10 @@ use Rattle.disk_model.specs.Told.{HasStopped, Tells, Told}
 use Rattle.due_set.specs.Table.{Table}
 use Rattle.paxos_base.specs.declared.durable.Delta.{Delta}
 use Rattle.store_format.specs.Order.{ChangeMayFollow}
-use Rattle.change_law.specs.Anew.{ProposesAnew}
-use Rattle.change_law.proofs.Altering.{Alters}
-use Rattle.step_law.specs.Folds.{deltas_of}
-use Rattle.step_law.specs.Step.{step}
+use Rattle.durable_changes.specs.Anew.{ProposesAnew}
+use Rattle.durable_changes.proofs.Altering.{Alters}
+use Rattle.step_spec.specs.Folds.{deltas_of}
+use Rattle.step_spec.specs.Step.{step}
 use Rattle.replica_core.specs.Commit.{kept_after}
 use Rattle.replica_core.specs.Replica.{IsSmall, ReplicaState}
 use Rattle.replica_core.specs.Step.{CanTake, IsAlike, IsOfTable, PlansStep}

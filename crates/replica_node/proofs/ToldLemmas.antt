@@ -7,9 +7,9 @@ use Rattle.disk_model.specs.Made.{DiskCall, MadeCalls}
 use Rattle.disk_model.specs.Told.{Tells, Told}
 use Rattle.due_set.specs.Table.{Table}
 use Rattle.paxos_base.specs.declared.durable.Delta.{Delta}
-use Rattle.step_law.specs.Folds.{deltas_of}
-use Rattle.step_law.specs.State.{State}
-use Rattle.step_law.specs.Step.{Event, step}
+use Rattle.step_spec.specs.Folds.{deltas_of}
+use Rattle.step_spec.specs.State.{State}
+use Rattle.step_spec.specs.Step.{Event, step}
 use Rattle.replica_core.specs.Replica.{ReplicaState}
 use Rattle.replica_core.specs.Step.{IsAlike, IsEventOf}
 use Rattle.replica_core.specs.declared.input.Input.{Input}

@@ -9,8 +9,8 @@ use Rattle.paxos_base.specs.Durable.{after_delta}
 use Rattle.paxos_base.specs.declared.durable.Delta.{Delta}
 use Rattle.paxos_base.specs.declared.durable.Delta.TheVariants.{Tried, Promised, Voted, Base}
 use Rattle.paxos_base.specs.declared.durable.Durable.{Durable}
-use Rattle.save_law.specs.Save as save
-use Rattle.save_law.specs.Save.{calls_before}
+use Rattle.save_calls.specs.Save as save
+use Rattle.save_calls.specs.Save.{calls_before}
 use Rattle.replica_store.specs.Files.{selected, selected_by, other_area, FilesStand}
 use Rattle.replica_store.specs.Kept.{IsClean, Shows}
 use Rattle.replica_store.specs.Made.{area_after}

@@ -5,10 +5,10 @@ use Rattle.disk_model.specs.Images.{Image}
 use Rattle.disk_model.specs.Made.{DiskCall}
 use Rattle.due_set.specs.Table.{Table}
 use Rattle.paxos_base.specs.declared.durable.Delta.{Delta}
-use Rattle.step_law.specs.Coherent.{IsCoherent}
-use Rattle.step_law.specs.Folds.{after_acts, deltas_of}
-use Rattle.step_law.specs.State.{State}
-use Rattle.step_law.specs.Step.{Event, step}
+use Rattle.step_spec.specs.Coherent.{IsCoherent}
+use Rattle.step_spec.specs.Folds.{after_acts, deltas_of}
+use Rattle.step_spec.specs.State.{State}
+use Rattle.step_spec.specs.Step.{Event, step}
 use Rattle.store_format.specs.Area.{StandFor}
 use Rattle.replica_core.specs.Replica.{ReplicaState}
 use Rattle.replica_core.specs.Step.{IsEventOf, IsOfTable}

@@ -6,9 +6,9 @@ use Rattle.due_set.specs.Table.{Table}
 use Rattle.paxos_base.specs.Durable.{after_delta}
 use Rattle.paxos_base.specs.declared.durable.Delta.{Delta}
 use Rattle.store_format.specs.Order.{ChangeMayFollow}
-use Rattle.change_law.specs.Anew.{ProposesAnew}
-use Rattle.step_law.specs.Act.{Act}
-use Rattle.step_law.specs.Folds.{deltas_of}
+use Rattle.durable_changes.specs.Anew.{ProposesAnew}
+use Rattle.step_spec.specs.Act.{Act}
+use Rattle.step_spec.specs.Folds.{deltas_of}
 use Rattle.replica_core.specs.Replica.{IsSmall, ReplicaState}
 use Rattle.replica_core.specs.Step.{CanTake, IsOfTable, Plans}
 use Rattle.replica_core.specs.declared.input.Input.{Input}

@@ -7,13 +7,13 @@ use Rattle.cluster_sched.specs.Held.{AreNamedOnce}
 use Rattle.cluster_sched.specs.Names.{IsNameIn}
 use Rattle.cluster_sched.specs.declared.row.SchedRow.{SchedRow}
 use Rattle.paxos_base.specs.declared.entry.Entry.{Entry}
-use Rattle.launch_law.specs.Fits.{Fits, IsBacked}
-use Rattle.book_law.specs.Book.{Row}
-use Rattle.book_law.specs.Legal.{IsLegal}
-use Rattle.book_law.proofs.Agreement.{book_log}
-use Rattle.fits_law.specs.Fitting.{held_in}
-use Rattle.fits_law.proofs.Whole.{whole}
-use Rattle.bounds_law.proofs.Launched.{start_near}
+use Rattle.launch_safety.specs.Fits.{Fits, IsBacked}
+use Rattle.history.specs.Book.{Row}
+use Rattle.history.specs.Legal.{IsLegal}
+use Rattle.history.proofs.Agreement.{book_log}
+use Rattle.launch_safety.specs.Fitting.{held_in}
+use Rattle.launch_safety.proofs.Whole.{whole}
+use Rattle.history.proofs.Launched.{start_near}
 use Rattle.world_law.specs.Book.{BookState, StandsBehind}
 use Rattle.world_law.proofs.Called.{held_at_rest}
 use Rattle.world_law.proofs.Settled.{turns_settle}

@@ -11,7 +11,7 @@ use Rattle.paxos_base.specs.declared.entry.Kind.{Kind}
 use Rattle.paxos_base.specs.declared.entry.Kind.TheVariants.{Launch, Void}
 use Rattle.cluster_sched.specs.Held.{AreNamedOnce}
 use Rattle.cluster_sched.specs.declared.row.SchedRow.{SchedRow}
-use Rattle.launch_law.specs.Launched.{IsWanted, LaunchesEachDue}
+use Rattle.launch_safety.specs.Launched.{IsWanted, LaunchesEachDue}
 use Rattle.report_text.specs.Listing.{instants_of, rows_of}
 use Rattle.report_text.specs.Report.{IsInOrder, count_of_kind, is_same_kind}
 use Rattle.report_text.proofs.ListingLemmas.{each_due_listed}

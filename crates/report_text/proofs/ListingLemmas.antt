@@ -13,8 +13,8 @@ use Rattle.paxos_base.specs.declared.entry.Kind.TheVariants.{Launch}
 use Rattle.cluster_sched.specs.Held.{AreNamedOnce}
 use Rattle.cluster_sched.specs.declared.row.SchedRow.{SchedRow}
 use Rattle.launch_machine.proofs.MachineLemmas.{due_by_instant}
-use Rattle.launch_law.specs.Launched.{IsWanted, LaunchesEachDue, OpensBy}
-use Rattle.launch_law.proofs.FitLemmas.{launched_due}
+use Rattle.launch_safety.specs.Launched.{IsWanted, LaunchesEachDue, OpensBy}
+use Rattle.launch_safety.proofs.FitLemmas.{launched_due}
 use Rattle.report_text.specs.Report.{IsInOrder, IsNotAfter}
 use Rattle.report_text.specs.Listing.{instants_of}
 use Rattle.report_text.proofs.OneOrder.{AreNamedOnce-permutation, same_name}

@@ -7,7 +7,7 @@ use Rattle.cron_io.specs.Views.{SinkView}
 use Rattle.due_set.specs.Table.{Table}
 use Rattle.cluster_sched.specs.declared.row.SchedRow.{SchedRow}
 use Rattle.report_text.specs.Counts.{counts_of_job}
-use Rattle.report_text.specs.Lines.{text_of_lines}
+use Rattle.cron_io.specs.Lines.{text_of_lines}
 use Rattle.report_text.specs.Report.{head_lines, count_line, row_line, report_lines, IsInOrder, IsReport}
 use Rattle.report_text.specs.Writes.{Writes}
 use Rattle.report_text.specs.declared.count.Counts.{Counts}

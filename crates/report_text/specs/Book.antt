@@ -1,8 +1,8 @@
 -- The report of a book: over what the scheduler holds after its turns.
 use Rattle.std.specs.Prelude.{ℕ, List}
 use Rattle.due_set.specs.Table.{Table}
-use Rattle.book_law.specs.Book.{Row}
-use Rattle.fits_law.specs.Fitting.{held_in}
+use Rattle.history.specs.Book.{Row}
+use Rattle.launch_safety.specs.Fitting.{held_in}
 use Rattle.world_law.specs.Book.{BookState, StandsBehind}
 use Rattle.report_text.specs.Report.{IsReport}
 

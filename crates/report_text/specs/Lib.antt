@@ -1,6 +1,5 @@
 pub mod Book
 pub mod Counts
-pub mod Lines
 pub mod Listing
 pub mod Report
 pub mod Writes

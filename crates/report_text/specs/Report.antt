@@ -9,7 +9,7 @@ use Rattle.paxos_base.specs.declared.entry.Kind.TheVariants.{Launch, Void}
 use Rattle.cluster_sched.specs.Names.{job_name, name_text}
 use Rattle.cluster_sched.specs.declared.row.Name.{Name}
 use Rattle.cluster_sched.specs.declared.row.SchedRow.{SchedRow}
-use Rattle.report_text.specs.Lines.{text_of_lines}
+use Rattle.cron_io.specs.Lines.{text_of_lines}
 
 -- what stands before the jobs
 abbrev pub head_lines : Table → ℕ → List (List ℕ)

@@ -1,18 +1,22 @@
 //! Laws of a report. Each is the contract of a function that does nothing.
-ghost use Rattle.std.specs.Prelude.{◌≡◌, ◌↔◌, ◌≤◌, ℕ, ℤ, List, None, Contains, length};
+ghost use Rattle.std.specs.Prelude.{◌≡◌, ◌↔◌, ◌≤◌, ℕ, ℤ, List, None, Contains, length, take};
 ghost use Rattle.due_set.specs.Due.{IsRising};
 ghost use Rattle.due_set.specs.Table.{Table, IsJobDueList, IsRunByPeriod};
 ghost use Rattle.cluster_sched.specs.Held.{AreNamedOnce};
 ghost use Rattle.cluster_sched.specs.declared.row.SchedRow.{SchedRow};
-ghost use Rattle.launch_law.specs.Launched.{LaunchesEachDue, OpensBy};
+ghost use Rattle.launch_safety.specs.Launched.{LaunchesEachDue, OpensBy};
 ghost use Rattle.paxos_base.specs.declared.entry.Kind.{Kind};
 ghost use Rattle.paxos_base.specs.declared.entry.Kind.TheVariants.{Launch, Void};
-ghost use Rattle.book_law.specs.Book.{Row};
-ghost use Rattle.fits_law.specs.Fitting.{held_in};
+ghost use Rattle.history.specs.Book.{Row, votes_in};
+ghost use Rattle.launch_safety.specs.Fitting.{held_in, FitsItsLog};
 ghost use Rattle.world_law.specs.Book.{BookState, StandsBehind};
 ghost use Rattle.report_text.specs.Book.{IsBookReport};
 ghost use Rattle.report_text.specs.Listing.{instants_of, rows_of};
 ghost use Rattle.report_text.specs.Report.{IsInOrder, IsReport, count_of_kind};
+ghost use Rattle.paxos_base.specs.declared.entry.Entry.{Entry};
+ghost use Rattle.launch_safety.specs.Fits.{Fits};
+ghost use Rattle.agreement.specs.Log.{IsLog};
+ghost use Rattle.history.specs.Agrees.{Agrees};
 
 /// Where no two rows have one name, a run has one report.
 pub fn a_report_says_one_text()
@@ -55,4 +59,15 @@ pub fn a_book_has_one_report()
         → IsBookReport table book text → IsReport table book.members (held_in book.members table rows) text }
     ensures ledger { (table : Table) (book : BookState) (text : List ℕ) → book.pending ≡ None → IsBookReport table book text
         → IsReport table book.members book.ledger.held text }
+{}
+
+/// A legal book of one to seven replicas agrees and fits, after each of its turns; and at rest its ledger fits its log: no launch
+/// is held twice, each that is held was started, and each end says what is held.
+pub fn a_legal_book_agrees_and_fits()
+    ensures agrees { (table : Table) (rows : List Row) (book : BookState) (turns : ℕ) → book.members ≤ 7 → StandsBehind table rows book
+        → Agrees book.members table (take turns rows) }
+    ensures fits { (table : Table) (rows : List Row) (book : BookState) (turns : ℕ) → book.members ≤ 7 → StandsBehind table rows book
+        → FitsItsLog book.members table (take turns rows) }
+    ensures ledger { (table : Table) (rows : List Row) (book : BookState) (log : List Entry) → book.members ≤ 7 → StandsBehind table rows book
+        → book.pending ≡ None → IsLog book.members (votes_in rows) log → Fits table log book.ledger.held }
 {}

@@ -3,7 +3,7 @@ ghost use Rattle.std.specs.List.{range_with_len};
 ghost use Rattle.cluster_sched.specs.Names.{IsNameIn};
 ghost use Rattle.cluster_sched.specs.declared.row.SchedRow.{SchedRow};
 ghost use Rattle.report_text.specs.Counts.{counts_of_job};
-ghost use Rattle.report_text.specs.Lines.{text_of_lines};
+ghost use Rattle.cron_io.specs.Lines.{text_of_lines};
 ghost use Rattle.report_text.specs.Report.{IsReport, count_line, head_lines, row_line};
 ghost use Rattle.report_text.specs.Writes.{Writes};
 

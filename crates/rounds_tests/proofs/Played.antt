@@ -15,11 +15,11 @@ use Rattle.disk_model.specs.declared.fault.FileNo.TheVariants.{Chooser, AreaA, A
 use Rattle.disk_model.specs.declared.mem_disk.MemDisk.{MemDisk}
 use Rattle.due_set.specs.Table.{Table}
 use Rattle.zone_minutes.specs.declared.minute.Window.{Window}
-use Rattle.book_law.specs.Book.{Row}
+use Rattle.history.specs.Book.{Row}
 use Rattle.replica_node.specs.Reliable.{IsReliable}
-use Rattle.script_law.specs.Situation.{Situation}
+use Rattle.script_semantics.specs.Situation.{Situation}
 use Rattle.script_text.specs.declared.command.Command.{Command}
-use Rattle.step_law.proofs.Lists.{nothing_in}
+use Rattle.step_spec.proofs.Lists.{nothing_in}
 use Rattle.world_rounds.specs.Commands.{IsTaken}
 use Rattle.world_rounds.specs.Start.{IsFreshDisk}
 use Rattle.world_rounds.specs.World.{GoesOnBy, IsWorld}

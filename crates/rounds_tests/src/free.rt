@@ -3,9 +3,9 @@ ghost use Rattle.std.specs.Prelude.{◌≡◌, ◌<◌, IfOk};
 ghost use Rattle.world_rounds.specs.World.{IsWorld, book_of};
 ghost use Rattle.zone_minutes.specs.Window.{IsInWindow};
 
-use book_law::Turn;
 use disk_model::ArmedDisk;
 use due_set::JobTable;
+use history::Turn;
 use std::alloc::Global;
 use std::sync::Wait;
 use std::test::*;

@@ -3,7 +3,7 @@ use crate::free::{run_part, steps_of};
 use crate::gates::OrderGate;
 use crate::hour::{LATER, empty_table};
 use crate::worlds::first_world;
-use book_law::{Cause, Turn};
+use history::{Cause, Turn};
 use std::alloc::Global;
 use std::process::Abort;
 use std::sync::Wait;

@@ -5,7 +5,7 @@ ghost use Rattle.rounds_tests.specs.Plays.{AreTaken, IsHour};
 
 use crate::hour::{LATER, empty_table};
 use crate::worlds::world_after;
-use book_law::{Cause, Turn};
+use history::{Cause, Turn};
 use script_text::{Command, FateWord};
 use std::alloc::Global;
 use std::process::Abort;

@@ -1,8 +1,8 @@
 //! Settling: all are level, and what was due is launched.
 use crate::hour::{FROM, table_of_one};
 use crate::worlds::world_after;
-use book_law::Turn;
 use cluster_sched::{Name, SchedRow};
+use history::Turn;
 use paxos_base::Kind;
 use script_text::Command;
 use std::process::Abort;

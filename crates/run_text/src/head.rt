@@ -9,8 +9,8 @@ ghost use Rattle.run_text.specs.declared.table.Tables.{Tables};
 
 use crate::reader::Reader;
 use crate::refusal::Refusal;
-use anacron_text::read_number;
 use cron_fields::Cause;
+use cron_io::read_number;
 use crontab_text::first_line;
 use zone_minutes::{Window, read_stamp};
 

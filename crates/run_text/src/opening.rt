@@ -9,8 +9,8 @@ ghost use Rattle.run_text.specs.declared.run.SectionKind.{SectionKind};
 use crate::refusal::Refusal;
 use crate::run::SectionKind;
 use crate::words::{has_section_word, is_label, is_zone_name, kind_of};
-use anacron_text::read_number;
 use cron_fields::Cause;
+use cron_io::read_number;
 
 // Lines of a section.
 const MOST_LINES: u32 = 65_535;

@@ -6,7 +6,7 @@ ghost use Rattle.script_text.specs.Command.{fate_word, IsStampIn, IsCount, IsSke
 ghost use Rattle.script_text.specs.declared.command.FateWord.{FateWord};
 
 use crate::command::FateWord;
-use anacron_text::read_number;
+use cron_io::read_number;
 use zone_minutes::{Minute, Window, read_stamp};
 
 // Minutes by which a clock may be ahead, or behind.

@@ -13,7 +13,7 @@ use crate::operands::{
     read_fate, read_instant, read_instant_and_count, read_member, read_skew, read_two_members,
     read_two_numbers,
 };
-use anacron_text::read_number;
+use cron_io::read_number;
 use zone_minutes::Window;
 
 // Rounds of one command, and turns of each replica.

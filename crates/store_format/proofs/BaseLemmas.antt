@@ -12,7 +12,7 @@ use Rattle.paxos_base.specs.Durable.{after_delta}
 use Rattle.paxos_base.specs.Rows.{RowsStand}
 use Rattle.paxos_base.specs.Vote.{SlotsRise, votes_from}
 use Rattle.paxos_base.proofs.PutLemmas.{all_from, SlotsRise-votes_from}
-use Rattle.acceptor_core.specs.Acceptor.{IsAbove}
+use Rattle.paxos_base.specs.Ballot.{IsAbove}
 use Rattle.store_format.specs.declared.body.Record.{Record}
 use Rattle.store_format.specs.Area.{Stands, StandFor, group_of, Copy, copy_records, IsCopy, IsGreatest, after_copy, promise_above, base_records}
 use Rattle.store_format.specs.Order.{IsKeptSound, IsPromised, IsChangeLog, own_round}

@@ -10,7 +10,7 @@ use Rattle.std.proofs.lemmas.Option.{none-some, same_Some}
 use Rattle.paxos_base.specs.declared.entry.Vote.{Vote}
 use Rattle.paxos_base.specs.declared.rows.JobRow.{JobRow}
 use Rattle.paxos_base.specs.Vote.{SlotsRise, votes_below, votes_from, put_vote}
-use Rattle.acceptor_core.specs.Acceptor.{IsAbove}
+use Rattle.paxos_base.specs.Ballot.{IsAbove}
 use Rattle.store_format.specs.declared.body.Record.{Record}
 use Rattle.store_format.specs.declared.body.Record.TheVariants.{Tried, Promised, Voted, Base, Row}
 use Rattle.store_format.specs.declared.place.Place.{Place}

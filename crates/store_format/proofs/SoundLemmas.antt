@@ -12,7 +12,7 @@ use Rattle.paxos_base.specs.declared.rows.JobRow.{JobRow}
 use Rattle.paxos_base.specs.Durable.{after_delta}
 use Rattle.paxos_base.specs.Vote.{votes_below, votes_from, put_vote}
 use Rattle.paxos_base.proofs.PutLemmas.{all_from, SlotsRise-votes_from, SlotsRise-put_vote}
-use Rattle.acceptor_core.specs.Acceptor.{IsAbove, IsAtLeast}
+use Rattle.paxos_base.specs.Ballot.{IsAbove, IsAtLeast}
 use Rattle.store_format.specs.declared.body.Record.{Record}
 use Rattle.store_format.specs.declared.body.Record.TheVariants.{Tried, Promised, Voted, Row}
 use Rattle.store_format.specs.Area.{Stands, StandFor, fresh_kept, group_of, Copy, copy_records, IsCopy, IsGreatest, after_copy}

@@ -6,7 +6,7 @@ use Rattle.paxos_base.specs.declared.entry.Vote.{Vote}
 use Rattle.paxos_base.specs.declared.rows.JobRow.{JobRow}
 use Rattle.paxos_base.specs.Rows.{RowsStand, fresh_rows}
 use Rattle.paxos_base.specs.Vote.{SlotsRise, votes_from}
-use Rattle.acceptor_core.specs.Acceptor.{IsAbove}
+use Rattle.paxos_base.specs.Ballot.{IsAbove}
 use Rattle.store_format.specs.declared.body.Record.{Record}
 use Rattle.store_format.specs.declared.body.Record.TheVariants.{Tried, Promised, Voted, Base, Row}
 use Rattle.store_format.specs.Order.{IsChangeLog, own_round}

@@ -2,8 +2,8 @@
 use crate::rows::short;
 use cron_fields::{FNV_START, fnv};
 use due_set::JobTable;
+use generated_run::{a_made_text_is_a_run, each_made_run_has_a_table, make_run};
 use job_table::build_table;
-use made_run::{a_made_text_is_a_run, each_made_run_has_a_table, make_run};
 use run_text::read_run;
 use std::test::Fail;
 

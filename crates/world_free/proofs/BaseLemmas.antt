@@ -4,15 +4,15 @@ use Rattle.std.proofs.lemmas.List.Sums.{fold-append}
 use Rattle.due_set.specs.Table.{Table}
 use Rattle.launch_machine.specs.Clerk.{first_rows}
 use Rattle.paxos_base.specs.declared.durable.Delta.{Delta}
-use Rattle.step_law.specs.Folds.{deltas_of}
-use Rattle.step_law.specs.Step.{Event}
-use Rattle.book_law.specs.Book.{Row, Standing, acts_at, after_row, standing_after}
-use Rattle.book_law.specs.Legal.{IsLegal, MayFollow}
-use Rattle.book_law.specs.declared.turn.Turn.{Turn}
-use Rattle.book_law.specs.declared.turn.Turn.TheVariants.{Did, Stopped, Restarted, Arrived}
-use Rattle.bounds_law.proofs.Keeping.{one_event, stands_next}
-use Rattle.script_law.specs.Free.{after_all_posted, after_posted}
-use Rattle.script_law.specs.Situation.{Situation, after_turn, after_turns, bases_kept, changes_in, first_situation}
+use Rattle.step_spec.specs.Folds.{deltas_of}
+use Rattle.step_spec.specs.Step.{Event}
+use Rattle.history.specs.Book.{Row, Standing, acts_at, after_row, standing_after}
+use Rattle.history.specs.Legal.{IsLegal, MayFollow}
+use Rattle.history.specs.declared.turn.Turn.{Turn}
+use Rattle.history.specs.declared.turn.Turn.TheVariants.{Did, Stopped, Restarted, Arrived}
+use Rattle.history.proofs.Keeping.{one_event, stands_next}
+use Rattle.script_semantics.specs.Free.{after_all_posted, after_posted}
+use Rattle.script_semantics.specs.Situation.{Situation, after_turn, after_turns, bases_kept, changes_in, first_situation}
 use Rattle.world_law.specs.declared.row.BookRow.{BookRow}
 use Rattle.world_law.proofs.Settled.{alike_after, may_next}
 use Rattle.world_free.specs.Jobs.{IsOfPlan, situation_in}

@@ -6,22 +6,22 @@ use Rattle.std.proofs.lemmas.Option.{slice_get_within}
 use Rattle.disk_model.specs.Images.{Image}
 use Rattle.disk_model.specs.Told.{Told}
 use Rattle.due_set.specs.Table.{Table}
-use Rattle.book_law.specs.Book.{PostedLetter, Row, Standing}
-use Rattle.book_law.specs.Legal.{IsLegal}
+use Rattle.history.specs.Book.{PostedLetter, Row, Standing}
+use Rattle.history.specs.Legal.{IsLegal}
 use Rattle.replica_node.specs.Node.{disk_of, replica_of}
 use Rattle.replica_node.specs.declared.node.Node.{Node}
 use Rattle.replica_store.specs.Files.{FilesStand}
-use Rattle.script_law.specs.Situation.{Situation, is_cut}
-use Rattle.free_law.proofs.PartLemmas.{goes_none}
+use Rattle.script_semantics.specs.Situation.{Situation, is_cut}
+use Rattle.script_semantics.proofs.PartLemmas.{goes_none}
 use Rattle.turn_book.specs.Turns.{AreNewSeats, BeganWith, IsNewSeat, opening_of}
 use Rattle.world_law.specs.Book.{BookState, StandsBehind, posted_as, standing_behind}
 use Rattle.world_law.specs.Rows.{IsBehind}
 use Rattle.world_law.specs.declared.letter.LetterRow.{LetterRow}
 use Rattle.world_law.proofs.Settled.{come_here}
-use Rattle.world_parts.specs.Nodes.{AreNodesOf, IsDiskAt, IsNodeOf, bases_behind}
-use Rattle.world_parts.specs.Parts.{ArePartsAt, IsBookAt, IsMailOf, IsSentTo}
-use Rattle.world_parts.specs.declared.bundle.Bundle.{Bundle}
-use Rattle.world_parts.specs.declared.mail.MemberMail.{MemberMail}
+use Rattle.world_steps.specs.Nodes.{AreNodesOf, IsDiskAt, IsNodeOf, bases_behind}
+use Rattle.world_steps.specs.Parts.{ArePartsAt, IsBookAt, IsMailOf, IsSentTo}
+use Rattle.world_steps.specs.declared.bundle.Bundle.{Bundle}
+use Rattle.world_steps.specs.declared.mail.MemberMail.{MemberMail}
 use Rattle.world_free.specs.Jobs.{AreJobsAt, HasGone, HasPlayed, IsIdle, IsJobAt, IsOfPlan, IsRunner, situation_in}
 use Rattle.world_free.specs.Mails.{HasFirstBytes, IsMailIn, IsPostedTo}
 use Rattle.world_free.specs.Parts.{AreJobsOf, AreKept, mail_in, mail_of, node_in, seat_in}

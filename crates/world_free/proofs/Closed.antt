@@ -8,21 +8,21 @@ use Rattle.std.proofs.lemmas.List.Sums.{fold-append}
 use Rattle.disk_model.specs.Images.{Image}
 use Rattle.disk_model.specs.Told.{Told}
 use Rattle.launch_machine.specs.Clerk.{first_rows}
-use Rattle.step_law.specs.State.{State}
-use Rattle.step_law.proofs.Lists.{nothing_in}
-use Rattle.agree_law.specs.Transition.{identity_of}
-use Rattle.book_law.specs.Book.{PostedLetter, Row, Standing, after_row, first_standing, standing_after}
-use Rattle.book_law.specs.Legal.{IsLegal}
-use Rattle.book_law.specs.declared.turn.Turn.{Turn}
-use Rattle.book_law.specs.declared.turn.Turn.TheVariants.{Did, Stopped, Restarted, Arrived}
+use Rattle.step_spec.specs.State.{State}
+use Rattle.step_spec.proofs.Lists.{nothing_in}
+use Rattle.agreement.specs.Transition.{identity_of}
+use Rattle.history.specs.Book.{PostedLetter, Row, Standing, after_row, first_standing, standing_after}
+use Rattle.history.specs.Legal.{IsLegal}
+use Rattle.history.specs.declared.turn.Turn.{Turn}
+use Rattle.history.specs.declared.turn.Turn.TheVariants.{Did, Stopped, Restarted, Arrived}
 use Rattle.replica_node.specs.Node.{disk_of, replica_of}
 use Rattle.replica_store.specs.Files.{FilesStand}
-use Rattle.script_law.specs.Free.{GoesFreely, TakesFreeTurns, is_turn_of}
-use Rattle.script_law.specs.Situation.{Situation, after_turn, after_turns, first_situation, is_cut, letters_for}
+use Rattle.script_semantics.specs.Free.{GoesFreely, TakesFreeTurns, is_turn_of}
+use Rattle.script_semantics.specs.Situation.{Situation, after_turn, after_turns, first_situation, is_cut, letters_for}
 use Rattle.script_text.specs.Command.{IsSkew}
-use Rattle.free_law.specs.Others.{AreOthers}
-use Rattle.free_law.proofs.MailLemmas.{Passes, others_pass}
-use Rattle.free_law.proofs.PartLemmas.{course_with_others, goes_none, goes_others}
+use Rattle.script_semantics.specs.Others.{AreOthers}
+use Rattle.script_semantics.proofs.FreeMailLemmas.{Passes, others_pass}
+use Rattle.script_semantics.proofs.PartLemmas.{course_with_others, goes_none, goes_others}
 use Rattle.turn_book.specs.Rows.{BeginsWith}
 use Rattle.turn_book.specs.Turns.{HasHistory, first_rows_by, opening_of, own_rows, seats_of, seen_by}
 use Rattle.world_law.specs.Book.{BookState, StandsBehind, posted_as, standing_behind}
@@ -30,9 +30,9 @@ use Rattle.world_law.specs.Rows.{HasRows, IsBehind, seat_of}
 use Rattle.world_law.specs.contracts.turns.BookLaw.TheImpl as law
 use Rattle.world_law.specs.declared.letter.LetterRow.{LetterRow}
 use Rattle.world_law.specs.declared.row.BookRow.{BookRow}
-use Rattle.world_parts.specs.Nodes.{IsDiskAt, IsNodeOf, bases_behind}
-use Rattle.world_parts.specs.Parts.{IsBookAt, IsMailOf, IsSentTo, armed_in}
-use Rattle.world_parts.specs.declared.mail.MemberMail.{MemberMail}
+use Rattle.world_steps.specs.Nodes.{IsDiskAt, IsNodeOf, bases_behind}
+use Rattle.world_steps.specs.Parts.{IsBookAt, IsMailOf, IsSentTo, armed_in}
+use Rattle.world_steps.specs.declared.mail.MemberMail.{MemberMail}
 use Rattle.world_steps.proofs.Ended.{running_node, stopped_node}
 use Rattle.world_steps.proofs.Foreseen.{found_more}
 use Rattle.world_free.specs.Ends.{HasEnded, letters_at_end}

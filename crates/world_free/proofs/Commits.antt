@@ -5,14 +5,14 @@ use Rattle.std.specs.Option.{option_to_list}
 use Rattle.disk_model.specs.Images.{Image}
 use Rattle.disk_model.specs.Told.{Told}
 use Rattle.due_set.specs.Table.{Table}
-use Rattle.book_law.specs.Book.{Row}
-use Rattle.book_law.specs.Legal.{IsMade}
-use Rattle.book_law.specs.declared.turn.CallRow.{CallRow}
-use Rattle.book_law.specs.declared.turn.Cause.{Cause}
-use Rattle.book_law.specs.declared.turn.Turn.TheVariants.{Stopped}
+use Rattle.history.specs.Book.{Row}
+use Rattle.history.specs.Legal.{IsMade}
+use Rattle.history.specs.declared.turn.CallRow.{CallRow}
+use Rattle.history.specs.declared.turn.Cause.{Cause}
+use Rattle.history.specs.declared.turn.Turn.TheVariants.{Stopped}
 use Rattle.paxos_base.specs.declared.durable.Delta.{Delta}
-use Rattle.script_law.specs.Situation.{calls_for}
-use Rattle.step_law.specs.State.{started}
+use Rattle.script_semantics.specs.Situation.{calls_for}
+use Rattle.step_spec.specs.State.{started}
 use Rattle.replica_core.specs.declared.out.StepOut.{StepOut}
 use Rattle.replica_node.specs.Node.{replica_of}
 use Rattle.replica_node.specs.declared.node.Node.{Node}
@@ -25,7 +25,7 @@ use Rattle.world_law.specs.Book.{BookState, StandsBehind, standing_behind}
 use Rattle.world_law.specs.Replicas.{change_alone}
 use Rattle.world_law.specs.Rows.{HasRows, MayComeNext, seat_of}
 use Rattle.world_law.specs.declared.row.BookRow.{BookRow}
-use Rattle.world_parts.specs.Nodes.{IsDiskAt}
+use Rattle.world_steps.specs.Nodes.{IsDiskAt}
 use Rattle.world_steps.specs.Turns.{IsHalted, MayJoin, noted}
 use Rattle.world_steps.specs.declared.steps.Taken.{Taken}
 use Rattle.world_free.specs.Jobs.{IsBroken, IsNodeFit, IsOfPlan, IsRunner, IsStepper, IsStopper, situation_in}

@@ -3,14 +3,14 @@ use Rattle.std.proofs.Common.{◌≡◌, ◌⊎◌, ℕ, zero, suc, ◌+◌, ◌
 use Rattle.std.specs.List.{slice_get}
 use Rattle.std.proofs.lemmas.Int.{clamps, ints}
 use Rattle.std.proofs.lemmas.Option.{slice_get_within}
-use Rattle.book_law.specs.Book.{Row}
-use Rattle.book_law.specs.declared.turn.Cause.TheVariants.{Campaign, Tick, Hear, Answer}
-use Rattle.book_law.specs.declared.turn.Turn.{Turn}
-use Rattle.book_law.specs.declared.turn.Turn.TheVariants.{Did, Stopped, Restarted, Arrived}
-use Rattle.script_law.specs.Free.{after_all_posted, after_posted}
-use Rattle.script_law.specs.Situation.{Situation, latest_after}
+use Rattle.history.specs.Book.{Row}
+use Rattle.history.specs.declared.turn.Cause.TheVariants.{Campaign, Tick, Hear, Answer}
+use Rattle.history.specs.declared.turn.Turn.{Turn}
+use Rattle.history.specs.declared.turn.Turn.TheVariants.{Did, Stopped, Restarted, Arrived}
+use Rattle.script_semantics.specs.Free.{after_all_posted, after_posted}
+use Rattle.script_semantics.specs.Situation.{Situation, latest_after}
 use Rattle.world_law.specs.declared.letter.LetterRow.{LetterRow}
-use Rattle.world_parts.specs.declared.mail.MemberMail.{MemberMail}
+use Rattle.world_steps.specs.declared.mail.MemberMail.{MemberMail}
 use Rattle.world_free.specs.Ends.{HasEnded, HaveEnded, latest_by}
 use Rattle.world_free.specs.declared.job.FreeMail.{FreeMail}
 use Rattle.world_free.proofs.JobLemmas.{found_last}

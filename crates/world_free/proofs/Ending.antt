@@ -7,16 +7,16 @@ use Rattle.std.proofs.lemmas.List.{length-map, map-append}
 use Rattle.std.proofs.lemmas.Option.{slice_get_within}
 use Rattle.disk_model.specs.Images.{Image}
 use Rattle.disk_model.specs.Told.{Told}
-use Rattle.book_law.specs.Book.{Row}
+use Rattle.history.specs.Book.{Row}
 use Rattle.replica_node.specs.declared.node.Node.{Node}
-use Rattle.script_law.specs.Free.{IsFreePart}
-use Rattle.script_law.specs.Situation.{Situation, is_cut}
+use Rattle.script_semantics.specs.Free.{IsFreePart}
+use Rattle.script_semantics.specs.Situation.{Situation, is_cut}
 use Rattle.turn_book.specs.Turns.{AreAllSeats, IsSeatOf, number_of, opening_of, seats_of}
 use Rattle.world_law.specs.Book.{BookState, StandsBehind}
-use Rattle.world_parts.specs.Nodes.{IsNodeOf}
-use Rattle.world_parts.specs.Parts.{ArePartsAt, IsMailOf}
-use Rattle.world_parts.specs.declared.bundle.Bundle.{Bundle}
-use Rattle.world_parts.specs.declared.mail.MemberMail.{MemberMail}
+use Rattle.world_steps.specs.Nodes.{IsNodeOf}
+use Rattle.world_steps.specs.Parts.{ArePartsAt, IsMailOf}
+use Rattle.world_steps.specs.declared.bundle.Bundle.{Bundle}
+use Rattle.world_steps.specs.declared.mail.MemberMail.{MemberMail}
 use Rattle.world_free.specs.Ends.{BeginsAt, HaveEnded, HaveLooked, latest_by}
 use Rattle.world_free.specs.Jobs.{HaveRun, IsJobAt}
 use Rattle.world_free.specs.Parts.{AreJobsOf, mail_in, node_in, seat_in}

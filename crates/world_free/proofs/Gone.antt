@@ -3,23 +3,23 @@ use Rattle.std.proofs.Common.{◌≡◌, ℕ, ◌+◌, ◌<◌, Bool, true, fals
 use Rattle.std.specs.List.{AllZip, Contains}
 use Rattle.std.proofs.lemmas.Bool.{cases_Bool}
 use Rattle.std.proofs.lemmas.List.Sums.{fold-append}
-use Rattle.step_law.specs.Step.{Event}
-use Rattle.step_law.specs.declared.out.OutLetter.{OutLetter}
-use Rattle.step_law.proofs.Lists.{in_rest}
-use Rattle.book_law.specs.Book.{Row, Standing, after_row, post}
-use Rattle.book_law.specs.declared.turn.CallRow.{CallRow}
-use Rattle.book_law.specs.declared.turn.Cause.{Cause}
-use Rattle.book_law.specs.declared.turn.Cause.TheVariants.{Campaign, Tick, Hear, Answer}
-use Rattle.book_law.specs.declared.turn.Turn.{Turn}
-use Rattle.book_law.specs.declared.turn.Turn.TheVariants.{Did, Stopped, Restarted, Arrived}
+use Rattle.step_spec.specs.Step.{Event}
+use Rattle.step_spec.specs.declared.out.OutLetter.{OutLetter}
+use Rattle.step_spec.proofs.Lists.{in_rest}
+use Rattle.history.specs.Book.{Row, Standing, after_row, post}
+use Rattle.history.specs.declared.turn.CallRow.{CallRow}
+use Rattle.history.specs.declared.turn.Cause.{Cause}
+use Rattle.history.specs.declared.turn.Cause.TheVariants.{Campaign, Tick, Hear, Answer}
+use Rattle.history.specs.declared.turn.Turn.{Turn}
+use Rattle.history.specs.declared.turn.Turn.TheVariants.{Did, Stopped, Restarted, Arrived}
 use Rattle.paxos_base.specs.declared.durable.Delta.{Delta}
-use Rattle.save_law.specs.Save.{is_kept}
-use Rattle.script_law.specs.Arms.{IsEnough, StopsInStep}
-use Rattle.script_law.specs.Free.{Course, after_all_posted, after_posted, is_turn_of, next_cause}
-use Rattle.script_law.specs.Situation.{Situation, after_turn, changes_in}
-use Rattle.free_law.specs.Others.{AreOthers, mail_behind}
-use Rattle.free_law.proofs.MailLemmas.{Passes, others_pass}
-use Rattle.free_law.proofs.PartLemmas.{course_with_others, goes_others, goes_own, seen_next, taken_next}
+use Rattle.save_calls.specs.Save.{is_kept}
+use Rattle.script_semantics.specs.Arms.{IsEnough, StopsInStep}
+use Rattle.script_semantics.specs.Free.{Course, after_all_posted, after_posted, is_turn_of, next_cause}
+use Rattle.script_semantics.specs.Situation.{Situation, after_turn, changes_in}
+use Rattle.script_semantics.specs.Others.{AreOthers, mail_behind}
+use Rattle.script_semantics.proofs.FreeMailLemmas.{Passes, others_pass}
+use Rattle.script_semantics.proofs.PartLemmas.{course_with_others, goes_others, goes_own, seen_next, taken_next}
 use Rattle.turn_book.specs.Rows.{is_seat}
 use Rattle.world_law.specs.Rows.{IsBehind, seat_of}
 use Rattle.world_law.specs.declared.row.BookRow.{BookRow}

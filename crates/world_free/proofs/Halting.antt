@@ -6,25 +6,25 @@ use Rattle.disk_model.specs.Images.{Image}
 use Rattle.disk_model.specs.Told.{Told}
 use Rattle.launch_machine.specs.Clerk.{first_rows}
 use Rattle.paxos_base.specs.declared.durable.Delta.{Delta}
-use Rattle.save_law.specs.Save.{is_kept}
-use Rattle.step_law.specs.Folds.{deltas_of}
-use Rattle.step_law.specs.State.{started}
-use Rattle.step_law.specs.Step.{Event}
-use Rattle.step_law.specs.declared.out.OutLetter.{OutLetter}
-use Rattle.agree_law.specs.Transition.{identity_of}
-use Rattle.book_law.specs.Book.{Row, Standing, acts_at, after_row, standing_after}
-use Rattle.book_law.specs.Legal.{IsLegal, MayFollow, TakesTurn}
-use Rattle.book_law.specs.declared.turn.Cause.{Cause}
-use Rattle.book_law.specs.declared.turn.Turn.{Turn}
-use Rattle.book_law.specs.declared.turn.Turn.TheVariants.{Stopped}
+use Rattle.save_calls.specs.Save.{is_kept}
+use Rattle.step_spec.specs.Folds.{deltas_of}
+use Rattle.step_spec.specs.State.{started}
+use Rattle.step_spec.specs.Step.{Event}
+use Rattle.step_spec.specs.declared.out.OutLetter.{OutLetter}
+use Rattle.agreement.specs.Transition.{identity_of}
+use Rattle.history.specs.Book.{Row, Standing, acts_at, after_row, standing_after}
+use Rattle.history.specs.Legal.{IsLegal, MayFollow, TakesTurn}
+use Rattle.history.specs.declared.turn.Cause.{Cause}
+use Rattle.history.specs.declared.turn.Turn.{Turn}
+use Rattle.history.specs.declared.turn.Turn.TheVariants.{Stopped}
 use Rattle.replica_core.specs.Commit.{kept_after}
 use Rattle.replica_core.specs.Replica.{ReplicaState}
 use Rattle.replica_node.specs.Node.{replica_of}
 use Rattle.script_text.specs.Command.{IsSkew}
-use Rattle.script_law.specs.Arms.{StopsInStep}
-use Rattle.script_law.specs.Free.{after_all_posted, after_posted}
-use Rattle.script_law.specs.Situation.{Situation, after_turn, arms_after, bases_kept, bases_with, changes_in, fates_after, letters_for, mails_after}
-use Rattle.free_law.proofs.MailLemmas.{Passes}
+use Rattle.script_semantics.specs.Arms.{StopsInStep}
+use Rattle.script_semantics.specs.Free.{after_all_posted, after_posted}
+use Rattle.script_semantics.specs.Situation.{Situation, after_turn, arms_after, bases_kept, bases_with, changes_in, fates_after, letters_for, mails_after}
+use Rattle.script_semantics.proofs.FreeMailLemmas.{Passes}
 use Rattle.world_law.specs.Book.{BookState, StandsBehind, standing_behind}
 use Rattle.world_law.specs.Replicas.{IsStopOf, StandsStopped, change_alone}
 use Rattle.world_law.specs.Rows.{HasRows, IsBehind, MayComeNext}
@@ -32,9 +32,9 @@ use Rattle.world_law.specs.declared.row.BookRow.{BookRow}
 use Rattle.world_law.proofs.Behind.{turn_is_added}
 use Rattle.world_law.proofs.Settled.{come_here}
 use Rattle.world_law.proofs.Stops.{stop_within}
-use Rattle.world_parts.specs.Nodes.{IsDiskAt, bases_behind}
-use Rattle.world_parts.specs.Parts.{armed_in}
-use Rattle.world_parts.specs.declared.mail.MemberMail.{MemberMail}
+use Rattle.world_steps.specs.Nodes.{IsDiskAt, bases_behind}
+use Rattle.world_steps.specs.Parts.{armed_in}
+use Rattle.world_steps.specs.declared.mail.MemberMail.{MemberMail}
 use Rattle.world_steps.specs.Stops.{IsNextStop, change_kept}
 use Rattle.world_steps.specs.Turns.{IsHalted}
 use Rattle.world_steps.proofs.Facts.{fact_here}

@@ -4,16 +4,16 @@ use Rattle.std.proofs.Math.Seq.{take-append_seam}
 use Rattle.disk_model.specs.Images.{Image}
 use Rattle.disk_model.specs.Told.{Told}
 use Rattle.due_set.specs.Table.{Table}
-use Rattle.book_law.specs.Book.{Row}
-use Rattle.book_law.specs.declared.turn.Turn.{Turn}
+use Rattle.history.specs.Book.{Row}
+use Rattle.history.specs.declared.turn.Turn.{Turn}
 use Rattle.replica_node.specs.declared.node.Node.{Node}
-use Rattle.script_law.specs.Free.{IsFreePart}
-use Rattle.script_law.specs.Situation.{Situation, is_cut}
+use Rattle.script_semantics.specs.Free.{IsFreePart}
+use Rattle.script_semantics.specs.Situation.{Situation, is_cut}
 use Rattle.turn_book.specs.Turns.{AreNewSeats, BeganWith, opening_of}
 use Rattle.world_law.specs.Book.{BookState}
 use Rattle.world_law.specs.declared.letter.LetterRow.{LetterRow}
-use Rattle.world_parts.specs.Parts.{ArePartsAt, IsBookAt}
-use Rattle.world_parts.specs.declared.bundle.Bundle.{Bundle}
+use Rattle.world_steps.specs.Parts.{ArePartsAt, IsBookAt}
+use Rattle.world_steps.specs.declared.bundle.Bundle.{Bundle}
 use Rattle.world_free.specs.Ends.{BeginsAt}
 use Rattle.world_free.specs.Jobs.{AreJobsAt, HaveRun}
 use Rattle.world_free.specs.Parts.{AreJobsOf, AreKept, mail_of}

@@ -8,10 +8,10 @@ use Rattle.disk_model.specs.Images.{Image}
 use Rattle.disk_model.specs.Told.{Told}
 use Rattle.due_set.specs.Table.{Table}
 use Rattle.replica_node.specs.declared.node.Node.{Node}
-use Rattle.script_law.specs.Situation.{Situation}
+use Rattle.script_semantics.specs.Situation.{Situation}
 use Rattle.world_law.specs.Book.{posted_as}
 use Rattle.world_law.specs.declared.letter.LetterRow.{LetterRow}
-use Rattle.world_parts.specs.declared.mail.MemberMail.{MemberMail}
+use Rattle.world_steps.specs.declared.mail.MemberMail.{MemberMail}
 use Rattle.world_free.specs.Jobs.{AreJobsAt, IsJobAt}
 use Rattle.world_free.specs.Mails.{HasFirstBytes}
 use Rattle.world_free.specs.Parts.{AreJobsOf, AreKept, mail_in, mail_of, node_in, seat_in}

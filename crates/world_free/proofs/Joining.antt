@@ -9,27 +9,27 @@ use Rattle.disk_model.specs.Told.{Told}
 use Rattle.disk_model.specs.declared.armed.Arm.{Arm}
 use Rattle.launch_machine.specs.Clerk.{first_rows}
 use Rattle.paxos_base.specs.declared.durable.Delta.{Delta}
-use Rattle.step_law.specs.Folds.{deltas_of}
-use Rattle.book_law.specs.Book.{Row, Standing, acts_at, after_row, post, standing_after}
-use Rattle.book_law.specs.Legal.{IsLegal, IsMade, MayFollow, TakesTurn}
-use Rattle.book_law.specs.declared.turn.CallRow.{CallRow}
-use Rattle.book_law.specs.declared.turn.Turn.{Turn}
-use Rattle.book_law.specs.declared.turn.Turn.TheVariants.{Did}
+use Rattle.step_spec.specs.Folds.{deltas_of}
+use Rattle.history.specs.Book.{Row, Standing, acts_at, after_row, post, standing_after}
+use Rattle.history.specs.Legal.{IsLegal, IsMade, MayFollow, TakesTurn}
+use Rattle.history.specs.declared.turn.CallRow.{CallRow}
+use Rattle.history.specs.declared.turn.Turn.{Turn}
+use Rattle.history.specs.declared.turn.Turn.TheVariants.{Did}
 use Rattle.replica_node.specs.Node.{replica_of}
 use Rattle.script_text.specs.Command.{IsSkew}
-use Rattle.script_law.specs.Free.{after_all_posted, after_posted, next_cause}
-use Rattle.script_law.specs.Situation.{Situation, after_turn, armed_after, arms_after, bases_kept, bases_with, calls_for, changes_in, fates_after, is_cut, letters_for}
-use Rattle.free_law.specs.Others.{mail_behind}
-use Rattle.free_law.proofs.MailLemmas.{Passes}
-use Rattle.free_law.proofs.NextLemmas.{mail_next}
+use Rattle.script_semantics.specs.Free.{after_all_posted, after_posted, next_cause}
+use Rattle.script_semantics.specs.Situation.{Situation, after_turn, armed_after, arms_after, bases_kept, bases_with, calls_for, changes_in, fates_after, is_cut, letters_for}
+use Rattle.script_semantics.specs.Others.{mail_behind}
+use Rattle.script_semantics.proofs.FreeMailLemmas.{Passes}
+use Rattle.script_semantics.proofs.NextLemmas.{mail_next}
 use Rattle.world_law.specs.Book.{BookState, StandsBehind, posted_as, standing_behind}
 use Rattle.world_law.specs.Replicas.{IsTurnOf, StandsAt}
 use Rattle.world_law.specs.Rows.{IsBehind}
 use Rattle.world_law.specs.declared.row.BookRow.{BookRow}
 use Rattle.world_law.proofs.Behind.{turn_is_added}
-use Rattle.world_parts.specs.Nodes.{IsDiskAt}
-use Rattle.world_parts.specs.Parts.{armed_in}
-use Rattle.world_parts.specs.declared.mail.MemberMail.{MemberMail}
+use Rattle.world_steps.specs.Nodes.{IsDiskAt}
+use Rattle.world_steps.specs.Parts.{armed_in}
+use Rattle.world_steps.specs.declared.mail.MemberMail.{MemberMail}
 use Rattle.world_steps.specs.Turns.{IsNextStep, MayJoin, arm_then, fate_then, noted}
 use Rattle.world_steps.specs.declared.steps.Taken.{Taken}
 use Rattle.world_steps.proofs.AfterTurn.{did_arm, did_fate, did_waits}

@@ -4,11 +4,11 @@ use Rattle.std.specs.List.{AllZip}
 use Rattle.std.proofs.lemmas.List.{append-nil, map-append}
 use Rattle.due_set.specs.Table.{Table}
 use Rattle.launch_machine.specs.Clerk.{first_rows}
-use Rattle.book_law.specs.Book.{Row, Standing, after_row, standing_after}
-use Rattle.book_law.specs.Legal.{IsLegal, MayFollow}
-use Rattle.book_law.specs.declared.turn.Turn.{Turn}
-use Rattle.book_law.proofs.Turns.{legal_push}
-use Rattle.bounds_law.proofs.Keeping.{stands_next}
+use Rattle.history.specs.Book.{Row, Standing, after_row, standing_after}
+use Rattle.history.specs.Legal.{IsLegal, MayFollow}
+use Rattle.history.specs.declared.turn.Turn.{Turn}
+use Rattle.history.proofs.Turns.{legal_push}
+use Rattle.history.proofs.Keeping.{stands_next}
 use Rattle.world_law.specs.Book.{BookState, StandsBehind}
 use Rattle.world_law.specs.Rows.{HasRows, IsBehind}
 use Rattle.world_law.specs.declared.row.BookRow.{BookRow}

@@ -4,10 +4,10 @@ use Rattle.std.specs.List.{Contains, range_with_len, slice_get}
 use Rattle.std.proofs.lemmas.Bool.{cases_Bool, eqb-true}
 use Rattle.std.proofs.lemmas.List.{length-append}
 use Rattle.std.proofs.lemmas.List.Elements.{filter-append}
-use Rattle.book_law.specs.Book.{PostedLetter}
-use Rattle.step_law.proofs.Lists.{cons_cases, nothing_in}
-use Rattle.script_law.specs.Situation.{Situation, is_cut, letters_for, reaches}
-use Rattle.free_law.proofs.MailLemmas.{found_still, same_passes, split_range}
+use Rattle.history.specs.Book.{PostedLetter}
+use Rattle.step_spec.proofs.Lists.{cons_cases, nothing_in}
+use Rattle.script_semantics.specs.Situation.{Situation, is_cut, letters_for, reaches}
+use Rattle.script_semantics.proofs.FreeMailLemmas.{found_still, same_passes, split_range}
 use Rattle.world_free.specs.Mails.{IsPostedTo, comes_to, coming}
 
 filter_none : (test : ℕ → Bool) (xs : List ℕ) → ((x : ℕ) → test x ≡ false) → filter test xs ≡ []

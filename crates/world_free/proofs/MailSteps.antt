@@ -2,12 +2,12 @@
 use Rattle.std.proofs.Common.{◌≡◌, ℕ, zero, suc, ◌+◌, ◌-◌, ◌≤◌, List, [], ◌∷◌, ◌++◌, Some, length, map, refl, sym, ap, ◌∙◌, arith, append_assoc}
 use Rattle.std.specs.List.{slice_get}
 use Rattle.std.proofs.lemmas.List.{append-nil, length-append, length-map}
-use Rattle.book_law.specs.Book.{PostedLetter, post}
-use Rattle.step_law.specs.declared.out.OutLetter.{OutLetter}
+use Rattle.history.specs.Book.{PostedLetter, post}
+use Rattle.step_spec.specs.declared.out.OutLetter.{OutLetter}
 use Rattle.world_law.specs.Book.{posted_as}
 use Rattle.world_law.specs.declared.letter.LetterRow.{LetterRow}
-use Rattle.free_law.specs.Others.{mail_behind}
-use Rattle.world_parts.specs.declared.mail.MemberMail.{MemberMail}
+use Rattle.script_semantics.specs.Others.{mail_behind}
+use Rattle.world_steps.specs.declared.mail.MemberMail.{MemberMail}
 use Rattle.world_steps.specs.declared.steps.Taken.{Taken}
 use Rattle.world_free.specs.Mails.{HasFirstBytes, HasLooked, KeepsSet, coming, posted_with}
 use Rattle.world_free.specs.declared.job.FreeMail.{FreeMail}

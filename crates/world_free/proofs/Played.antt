@@ -5,12 +5,12 @@ use Rattle.std.proofs.lemmas.List.{append-nil, map-append}
 use Rattle.std.proofs.lemmas.List.Sums.{fold-append}
 use Rattle.due_set.specs.Table.{Table}
 use Rattle.launch_machine.specs.Clerk.{first_rows}
-use Rattle.book_law.specs.Book.{Row, Standing, after_row, first_standing, standing_after}
-use Rattle.book_law.specs.Legal.{IsLegal}
-use Rattle.book_law.specs.declared.turn.Turn.{Turn}
-use Rattle.book_law.proofs.Turns.{legal_push}
-use Rattle.script_law.specs.Free.{after_all_posted, after_posted}
-use Rattle.script_law.specs.Situation.{Situation}
+use Rattle.history.specs.Book.{Row, Standing, after_row, first_standing, standing_after}
+use Rattle.history.specs.Legal.{IsLegal}
+use Rattle.history.specs.declared.turn.Turn.{Turn}
+use Rattle.history.proofs.Turns.{legal_push}
+use Rattle.script_semantics.specs.Free.{after_all_posted, after_posted}
+use Rattle.script_semantics.specs.Situation.{Situation}
 use Rattle.world_law.specs.Rows.{IsBehind}
 use Rattle.world_law.specs.declared.row.BookRow.{BookRow}
 use Rattle.world_law.proofs.Rows.{turns_behind}

@@ -2,9 +2,9 @@
 use Rattle.std.proofs.Common.{ℕ, List, Option, subst}
 use Rattle.std.specs.Option.{option_to_list}
 use Rattle.due_set.specs.Table.{Table}
-use Rattle.book_law.specs.Book.{Row, Standing}
-use Rattle.book_law.specs.Legal.{IsMade, MayFollow}
-use Rattle.book_law.specs.declared.turn.CallRow.{CallRow}
+use Rattle.history.specs.Book.{Row, Standing}
+use Rattle.history.specs.Legal.{IsMade, MayFollow}
+use Rattle.history.specs.declared.turn.CallRow.{CallRow}
 use Rattle.replica_core.specs.Replica.{ReplicaState}
 use Rattle.world_law.specs.Book.{BookState, StandsBehind, standing_behind}
 use Rattle.world_law.specs.Rows.{HasRows, MayComeNext}

@@ -4,21 +4,21 @@ use Rattle.std.specs.List.{slice_get}
 use Rattle.std.proofs.lemmas.List.{length-append, length-map}
 use Rattle.std.proofs.lemmas.List.Elements.{filter-append}
 use Rattle.paxos_base.specs.declared.durable.Delta.{Delta}
-use Rattle.step_law.specs.Folds.{deltas_of}
-use Rattle.step_law.specs.State.{State}
-use Rattle.step_law.specs.Step.{Event, step}
-use Rattle.agree_law.specs.Transition.{identity_of}
-use Rattle.book_law.specs.Book.{PostedLetter, Row, Standing, acts_at}
-use Rattle.book_law.specs.Legal.{IsLegal, MayFollow, TakesTurn}
-use Rattle.book_law.specs.declared.turn.Cause.{Cause}
-use Rattle.book_law.specs.declared.turn.Cause.TheVariants.{Campaign, Tick, Hear, Answer}
+use Rattle.step_spec.specs.Folds.{deltas_of}
+use Rattle.step_spec.specs.State.{State}
+use Rattle.step_spec.specs.Step.{Event, step}
+use Rattle.agreement.specs.Transition.{identity_of}
+use Rattle.history.specs.Book.{PostedLetter, Row, Standing, acts_at}
+use Rattle.history.specs.Legal.{IsLegal, MayFollow, TakesTurn}
+use Rattle.history.specs.declared.turn.Cause.{Cause}
+use Rattle.history.specs.declared.turn.Cause.TheVariants.{Campaign, Tick, Hear, Answer}
 use Rattle.replica_core.specs.Replica.{ReplicaState}
 use Rattle.replica_core.specs.Step.{IsEventOf, IsInputInside}
 use Rattle.replica_core.specs.declared.input.Input.{Input}
-use Rattle.script_law.specs.Free.{after_all_posted, after_posted}
-use Rattle.script_law.specs.Situation.{Situation}
-use Rattle.free_law.specs.Others.{AreOthers}
-use Rattle.free_law.proofs.MailLemmas.{Passes}
+use Rattle.script_semantics.specs.Free.{after_all_posted, after_posted}
+use Rattle.script_semantics.specs.Situation.{Situation}
+use Rattle.script_semantics.specs.Others.{AreOthers}
+use Rattle.script_semantics.proofs.FreeMailLemmas.{Passes}
 use Rattle.turn_book.specs.Rows.{BeginsWith, is_seat}
 use Rattle.turn_book.specs.Turns.{first_rows_by, own_rows, seen_by}
 use Rattle.world_law.specs.Book.{BookState, StandsBehind, posted_as, standing_behind}
@@ -29,7 +29,7 @@ use Rattle.world_law.specs.declared.row.BookRow.{BookRow}
 use Rattle.world_law.proofs.Rows.{turns_are, turns_behind}
 use Rattle.world_law.proofs.Settled.{may_next}
 use Rattle.world_law.proofs.Steps.{takes_turn}
-use Rattle.world_parts.specs.Nodes.{bases_behind}
+use Rattle.world_steps.specs.Nodes.{bases_behind}
 use Rattle.world_steps.specs.Steps.{IsToldOf, waits_in}
 use Rattle.world_steps.proofs.Bases.{deltas_at}
 use Rattle.world_steps.proofs.Foreseen.{found_more, is_input}

@@ -13,25 +13,25 @@ use Rattle.disk_model.specs.declared.armed.Arm.{Arm}
 use Rattle.paxos_base.specs.declared.durable.Delta.{Delta}
 use Rattle.cluster_sched.specs.declared.row.SchedRow.{SchedRow}
 use Rattle.term_core.specs.Term.{is_leader}
-use Rattle.step_law.specs.State.{State}
-use Rattle.step_law.proofs.Lists.{in_first}
-use Rattle.book_law.specs.Book.{PostedLetter, Row, Standing}
-use Rattle.book_law.specs.declared.turn.Cause.{Cause}
-use Rattle.book_law.specs.declared.turn.Cause.TheVariants.{Campaign, Tick, Hear, Answer}
+use Rattle.step_spec.specs.State.{State}
+use Rattle.step_spec.proofs.Lists.{in_first}
+use Rattle.history.specs.Book.{PostedLetter, Row, Standing}
+use Rattle.history.specs.declared.turn.Cause.{Cause}
+use Rattle.history.specs.declared.turn.Cause.TheVariants.{Campaign, Tick, Hear, Answer}
 use Rattle.replica_core.specs.Replica.{ReplicaState}
 use Rattle.replica_core.specs.Step.{IsInputInside}
 use Rattle.replica_core.specs.declared.input.Input.{Input}
 use Rattle.replica_core.specs.declared.input.Input.TheVariants as given
 use Rattle.replica_node.specs.Node.{replica_of}
-use Rattle.script_law.specs.Free.{is_time_to_stand, next_cause, next_cause_by}
-use Rattle.script_law.specs.Round.{clock_reading}
-use Rattle.script_law.specs.Arms.{IsEnough}
-use Rattle.script_law.specs.Situation.{Armed, bases_with}
+use Rattle.script_semantics.specs.Free.{is_time_to_stand, next_cause, next_cause_by}
+use Rattle.script_semantics.specs.Round.{clock_reading}
+use Rattle.script_semantics.specs.Arms.{IsEnough}
+use Rattle.script_semantics.specs.Situation.{Armed, bases_with}
 use Rattle.world_law.specs.Book.{posted_as, standing_behind}
 use Rattle.world_law.specs.Replicas.{IsLetterInput, StandsAt}
 use Rattle.world_law.specs.declared.letter.LetterRow.{LetterRow}
-use Rattle.world_parts.specs.Nodes.{IsDiskAt, bases_behind}
-use Rattle.world_parts.specs.Parts.{armed_in}
+use Rattle.world_steps.specs.Nodes.{IsDiskAt, bases_behind}
+use Rattle.world_steps.specs.Parts.{armed_in}
 use Rattle.world_steps.specs.Steps.{IsBeside, IsToldOf, MayStep, WasToldOf, waits_in}
 use Rattle.world_steps.specs.Stops.{HasOutcome, HasStopped}
 use Rattle.world_steps.specs.declared.armed.Outcome.{Outcome}

@@ -1,14 +1,14 @@
 -- What stands at the end of a part, when no thread has a turn any more.
 use Rattle.std.specs.Prelude.{◌≡◌, ℕ, ◌≤◌, ◌-◌, ℤ, Bool, true, false, List, ◌++◌, length, map, Some, slice_get}
 use Rattle.std.specs.List.{fold}
-use Rattle.book_law.specs.Book.{Row}
-use Rattle.book_law.specs.declared.turn.Turn.{Turn}
-use Rattle.script_law.specs.Situation.{Situation, is_cut, latest_after}
+use Rattle.history.specs.Book.{Row}
+use Rattle.history.specs.declared.turn.Turn.{Turn}
+use Rattle.script_semantics.specs.Situation.{Situation, is_cut, latest_after}
 use Rattle.turn_book.specs.Turns.{opening_of}
 use Rattle.world_law.specs.Book.{posted_as}
 use Rattle.world_law.specs.declared.letter.LetterRow.{LetterRow}
-use Rattle.world_parts.specs.Parts.{IsBookAt}
-use Rattle.world_parts.specs.declared.mail.MemberMail.{MemberMail}
+use Rattle.world_steps.specs.Parts.{IsBookAt}
+use Rattle.world_steps.specs.declared.mail.MemberMail.{MemberMail}
 use Rattle.world_free.specs.Mails.{coming}
 use Rattle.world_free.specs.Plan.{SharedBook}
 use Rattle.world_free.specs.declared.job.FreeMail.{FreeMail}

@@ -5,21 +5,21 @@ use Rattle.disk_model.specs.Images.{Image}
 use Rattle.disk_model.specs.Told.{Told}
 use Rattle.disk_model.specs.declared.armed.Arm.{Arm}
 use Rattle.paxos_base.specs.declared.durable.Delta.{Delta}
-use Rattle.step_law.specs.State.{started}
-use Rattle.agree_law.specs.Transition.{identity_of}
-use Rattle.book_law.specs.Book.{Row}
-use Rattle.book_law.specs.declared.turn.Cause.{Cause}
+use Rattle.step_spec.specs.State.{started}
+use Rattle.agreement.specs.Transition.{identity_of}
+use Rattle.history.specs.Book.{Row}
+use Rattle.history.specs.declared.turn.Cause.{Cause}
 use Rattle.replica_core.specs.Replica.{ReplicaState}
 use Rattle.replica_node.specs.Node.{IsNodeAtRest, disk_of, replica_of}
 use Rattle.replica_node.specs.declared.node.Node.{Node}
-use Rattle.script_law.specs.Arms.{IsEnough}
-use Rattle.script_law.specs.Free.{GoesFreely, after_all_posted, next_cause}
-use Rattle.script_law.specs.Situation.{Situation, bases_with, is_cut}
+use Rattle.script_semantics.specs.Arms.{IsEnough}
+use Rattle.script_semantics.specs.Free.{GoesFreely, after_all_posted, next_cause}
+use Rattle.script_semantics.specs.Situation.{Situation, bases_with, is_cut}
 use Rattle.turn_book.specs.Turns.{opening_of}
 use Rattle.world_law.specs.Book.{BookState, StandsBehind}
 use Rattle.world_law.specs.declared.row.BookRow.{BookRow}
-use Rattle.world_parts.specs.Nodes.{IsDiskAt, IsNodeOf}
-use Rattle.world_parts.specs.Parts.{IsBookAt, IsMailOf}
+use Rattle.world_steps.specs.Nodes.{IsDiskAt, IsNodeOf}
+use Rattle.world_steps.specs.Parts.{IsBookAt, IsMailOf}
 use Rattle.world_steps.specs.Stops.{HasStopped}
 use Rattle.world_steps.specs.Turns.{IsNextStep}
 use Rattle.world_steps.specs.declared.armed.Outcome.{Outcome}

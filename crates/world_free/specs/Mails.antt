@@ -2,19 +2,19 @@
 use Rattle.std.specs.Prelude.{◌≡◌, ℕ, ◌-◌, ◌==◌, ◌&&◌, not, Bool, false, true, List, [], ◌∷◌, ◌++◌, length, map, filter, Option, None, Some, Contains, slice_get}
 use Rattle.std.specs.List.{range_with_len}
 use Rattle.cluster_sched.specs.declared.row.SchedRow.{SchedRow}
-use Rattle.book_law.specs.Book.{PostedLetter, post}
-use Rattle.book_law.specs.declared.turn.Cause.{Cause}
-use Rattle.book_law.specs.declared.turn.Cause.TheVariants.{Campaign, Tick, Hear, Answer}
+use Rattle.history.specs.Book.{PostedLetter, post}
+use Rattle.history.specs.declared.turn.Cause.{Cause}
+use Rattle.history.specs.declared.turn.Cause.TheVariants.{Campaign, Tick, Hear, Answer}
 use Rattle.replica_core.specs.declared.input.Input.{Input}
 use Rattle.replica_core.specs.declared.input.Input.TheVariants as told
-use Rattle.script_law.specs.Situation.{Situation, is_cut}
+use Rattle.script_semantics.specs.Situation.{Situation, is_cut}
 use Rattle.script_text.specs.Command.{IsSkew}
 use Rattle.world_law.specs.Book.{posted_as}
 use Rattle.world_law.specs.Replicas.{IsLetterInput}
 use Rattle.world_law.specs.declared.letter.LetterRow.{LetterRow}
-use Rattle.world_parts.specs.Parts.{armed_in}
-use Rattle.world_parts.specs.declared.mail.MemberMail.{MemberMail}
-use Rattle.free_law.specs.Others.{mail_behind}
+use Rattle.world_steps.specs.Parts.{armed_in}
+use Rattle.world_steps.specs.declared.mail.MemberMail.{MemberMail}
+use Rattle.script_semantics.specs.Others.{mail_behind}
 use Rattle.world_free.specs.declared.job.FreeMail.{FreeMail}
 use Rattle.world_steps.specs.declared.steps.Taken.{Taken}
 

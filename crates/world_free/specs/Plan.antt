@@ -2,11 +2,11 @@
 use Rattle.std.specs.Prelude.{◌≡◌, ℕ, ℤ, List, ◌++◌, map}
 use Rattle.std.specs.List.{AllZip}
 use Rattle.due_set.specs.Table.{Table}
-use Rattle.book_law.specs.Book.{Row}
-use Rattle.book_law.specs.Legal.{IsLegal}
+use Rattle.history.specs.Book.{Row}
+use Rattle.history.specs.Legal.{IsLegal}
 use Rattle.replica_core.specs.declared.out.StepOut.{StepOut}
-use Rattle.script_law.specs.Free.{Course, course_of}
-use Rattle.script_law.specs.Situation.{Situation}
+use Rattle.script_semantics.specs.Free.{Course, course_of}
+use Rattle.script_semantics.specs.Situation.{Situation}
 use Rattle.turn_book.specs.Turns.{opening_of}
 use Rattle.turn_book.specs.declared.book.TurnBook.{TurnBook}
 use Rattle.turn_book.specs.declared.book.TurnSeat.{TurnSeat}

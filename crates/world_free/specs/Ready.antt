@@ -1,9 +1,9 @@
 -- The row of a step in a book, and that of a stop within one.
 use Rattle.std.specs.Prelude.{ℕ, Option, Some, is_some}
 use Rattle.paxos_base.specs.declared.durable.Delta.{Delta}
-use Rattle.book_law.specs.declared.turn.CallRow.{CallRow}
-use Rattle.book_law.specs.declared.turn.Cause.{Cause}
-use Rattle.book_law.specs.declared.turn.Turn.TheVariants.{Did, Stopped}
+use Rattle.history.specs.declared.turn.CallRow.{CallRow}
+use Rattle.history.specs.declared.turn.Cause.{Cause}
+use Rattle.history.specs.declared.turn.Turn.TheVariants.{Did, Stopped}
 use Rattle.world_law.specs.Replicas.{change_alone}
 use Rattle.world_law.specs.declared.row.BookRow.{BookRow}
 use Rattle.world_steps.specs.declared.steps.Taken.{Taken}

@@ -1,16 +1,15 @@
 //! The end of a part: the mails take what was posted after their replicas' last turns, and the latest clock reading is that of its turns.
 ghost use Rattle.std.specs.Prelude.{◌≡◌, ◌≤◌, true, IfOk, length, drop, vec_capacity};
-ghost use Rattle.script_law.specs.Situation.{latest_after};
+ghost use Rattle.script_semantics.specs.Situation.{latest_after};
 ghost use Rattle.world_free.specs.Ends.{HasEnded, HaveEnded, HaveLooked, latest_by};
 
 use crate::job::FreeMail;
 use crate::jobs::MOST_MEMBERS;
-use book_law::Turn;
 use cron_io::OutOfMemory;
+use history::Turn;
 use std::alloc::Global;
 use world_law::LetterRow;
-use world_parts::MemberMail;
-use world_steps::reading_with;
+use world_steps::{MemberMail, reading_with};
 use zone_minutes::Minute;
 
 // The mail of a replica whose thread has ended. Where it runs, it takes the letters that it hasn't looked at.

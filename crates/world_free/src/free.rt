@@ -1,14 +1,14 @@
 //! A part in which each replica takes its turns in a thread of its own.
 ghost use Rattle.std.specs.Prelude.{◌≡◌, ◌<◌, ◌≤◌, ◌++◌, ℕ, false, List, IfOk, OnOk, length, slice_index_or};
-ghost use Rattle.book_law.specs.Book.{Row};
-ghost use Rattle.script_law.specs.Free.{IsFreePart};
-ghost use Rattle.script_law.specs.Situation.{Situation as Here};
+ghost use Rattle.history.specs.Book.{Row};
+ghost use Rattle.script_semantics.specs.Free.{IsFreePart};
+ghost use Rattle.script_semantics.specs.Situation.{Situation as Here};
 ghost use Rattle.turn_book.specs.Turns.{opening_of, seats_of};
 ghost use Rattle.world_free.specs.Ends.{BeginsAt};
 ghost use Rattle.world_free.specs.Jobs.{AreJobsAt, HaveRun, IsJobAt};
 ghost use Rattle.world_free.specs.Plan.{plan_of};
 ghost use Rattle.world_free.specs.declared.job.FreeJob.{FreeJob as Work};
-ghost use Rattle.world_parts.specs.Parts.{AreParts, ArePartsAt, HasListRoom};
+ghost use Rattle.world_steps.specs.Parts.{AreParts, ArePartsAt, HasListRoom};
 ghost use Rattle.zone_minutes.specs.Window.{IsInWindow};
 
 use crate::ends::{latest_reading, mails_ended};
@@ -26,7 +26,7 @@ use std::thread;
 use std::thread::Threads;
 use turn_book::TurnBook;
 use world_law::Book;
-use world_parts::{Bundle, MailState};
+use world_steps::{Bundle, MailState};
 use zone_minutes::Minute;
 
 // Each replica takes its turns in a thread of its own, of which there are as many as replicas at most.

@@ -3,7 +3,7 @@ use replica_node::Node;
 use std::alloc::Global;
 use turn_book::TurnSeat;
 use world_law::Book;
-use world_parts::MemberMail;
+use world_steps::MemberMail;
 use zone_minutes::Minute;
 
 /// What is set for all threads of a part: whence they have memory, how many replicas there are, the part's instant, how many turns

@@ -10,7 +10,7 @@ use replica_node::Node;
 use std::alloc::Global;
 use turn_book::TurnSeat;
 use world_law::{Book, LetterRow};
-use world_parts::MemberMail;
+use world_steps::MemberMail;
 
 /// The replicas that a world has at most: its lists have room for so many.
 pub(crate) const MOST_MEMBERS: usize = 7;

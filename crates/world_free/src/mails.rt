@@ -1,13 +1,13 @@
 //! A replica that has the turn looks at the book: its mail loses the letter that it has heard, and gains those that have come since.
 ghost use Rattle.std.specs.Prelude.{◌≡◌, ◌+◌, ◌-◌, ◌<◌, ◌≤◌, ◌^◌, ◌++◌, ℕ, List, OnOk, Some, length, if◌then◌else◌, ◌∷◌, [], map};
-ghost use Rattle.book_law.specs.Book.{PostedLetter, post};
-ghost use Rattle.free_law.specs.Others.{mail_behind};
+ghost use Rattle.history.specs.Book.{PostedLetter, post};
+ghost use Rattle.script_semantics.specs.Others.{mail_behind};
 ghost use Rattle.world_free.specs.Mails.{HasFirstBytes, HasLooked, KeepsSet, comes_to, coming, posted_with};
 ghost use Rattle.world_law.specs.Book.{posted_as};
 
 use crate::job::FreeMail;
-use book_law::Cause;
 use cron_io::OutOfMemory;
+use history::Cause;
 use replica_core::OutLetter;
 use world_law::LetterRow;
 use world_steps::{Taken, is_cut};

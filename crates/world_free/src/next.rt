@@ -1,15 +1,14 @@
 //! What a replica does in its next turn.
 ghost use Rattle.std.specs.Prelude.{◌≡◌};
-ghost use Rattle.script_law.specs.Free.{is_time_to_stand, next_cause_by};
+ghost use Rattle.script_semantics.specs.Free.{is_time_to_stand, next_cause_by};
 ghost use Rattle.term_core.specs.Term.{is_leader};
 ghost use Rattle.script_text.specs.Command.{IsSkew};
 ghost use Rattle.world_free.specs.Next.{idle_cause_by};
 ghost use Rattle.zone_minutes.specs.Window.{IsInWindow, IsWithinLimits};
 
-use book_law::Cause;
+use history::Cause;
 use term_core::Term;
-use world_parts::MemberMail;
-use world_steps::reading_of;
+use world_steps::{MemberMail, reading_of};
 use zone_minutes::{Minute, Window};
 
 // Whether a replica leads.

@@ -1,8 +1,8 @@
 //! A book is made ready for the turn of a step.
 ghost use Rattle.std.specs.Prelude.{◌≡◌, ◌+◌, ◌<◌, ◌≤◌, ◌^◌, ℕ, List, None, IfOk, IfSome, OnOk, OnErr, length};
 ghost use Rattle.std.specs.Option.{option_to_list};
-ghost use Rattle.book_law.specs.Book.{Row};
-ghost use Rattle.book_law.specs.Legal.{IsMade};
+ghost use Rattle.history.specs.Book.{Row};
+ghost use Rattle.history.specs.Legal.{IsMade};
 ghost use Rattle.world_free.specs.Mails.{HasLooked};
 ghost use Rattle.world_free.specs.Ready.{row_of_step};
 ghost use Rattle.world_law.specs.Book.{HasRoom, IsAlike, StandsBehind, standing_behind};
@@ -11,9 +11,9 @@ ghost use Rattle.world_law.specs.declared.row.BookRow.{BookRow as Added};
 ghost use Rattle.world_steps.specs.Turns.{MayJoin};
 
 use crate::job::FreeMail;
-use book_law::CallRow;
 use cron_io::OutOfMemory;
 use due_set::JobTable;
+use history::CallRow;
 use world_law::Book;
 use world_steps::{Taken, call_for};
 

@@ -1,6 +1,6 @@
 //! The turns of one thread.
 ghost use Rattle.std.specs.Prelude.{◌≡◌, ◌+◌, ◌<◌, ◌≤◌, ℕ, false, IfOk, OnOk};
-ghost use Rattle.script_law.specs.Situation.{Situation as Here};
+ghost use Rattle.script_semantics.specs.Situation.{Situation as Here};
 ghost use Rattle.world_free.specs.Jobs.{HasTried, IsBroken, IsJobAt, IsRunner, IsStepper, IsStopper};
 ghost use Rattle.world_free.specs.Mails.{IsToldHere};
 ghost use Rattle.world_free.specs.Plan.{SharedBook, plan_of};
@@ -10,10 +10,10 @@ use crate::gate::TurnGate;
 use crate::job::{FreeJob, FreeMail, Setting};
 use crate::next::next_cause;
 use crate::ready::{MOST_TURNS, make_ready};
-use book_law::{Cause, Turn};
 use cron_io::OutOfMemory;
 use disk_model::ArmedDisk;
 use due_set::JobTable;
+use history::{Cause, Turn};
 use paxos_base::Delta;
 use replica_core::Input;
 use std::sync::Wait;

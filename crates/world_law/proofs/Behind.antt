@@ -8,14 +8,14 @@ use Rattle.cluster_sched.specs.Fates.{Holdings}
 use Rattle.cluster_sched.specs.declared.row.SchedRow.{SchedRow}
 use Rattle.due_set.specs.Table.{Table}
 use Rattle.launch_machine.specs.Clerk.{first_rows}
-use Rattle.step_law.specs.declared.out.OutLetter.{OutLetter}
-use Rattle.step_law.specs.Step.{Event}
-use Rattle.book_law.specs.Book.{PostedLetter, Row, Standing, after_row, held_after, late_after, post, standing_after, turn_of}
-use Rattle.book_law.specs.Legal.{IsLegal, MayFollow}
-use Rattle.book_law.specs.declared.turn.Turn.{Turn}
-use Rattle.book_law.specs.declared.turn.Turn.TheVariants.{Did, Stopped, Restarted, Arrived}
-use Rattle.book_law.proofs.Turns.{legal_push}
-use Rattle.bounds_law.proofs.Keeping.{stands_next}
+use Rattle.step_spec.specs.declared.out.OutLetter.{OutLetter}
+use Rattle.step_spec.specs.Step.{Event}
+use Rattle.history.specs.Book.{PostedLetter, Row, Standing, after_row, held_after, late_after, post, standing_after, turn_of}
+use Rattle.history.specs.Legal.{IsLegal, MayFollow}
+use Rattle.history.specs.declared.turn.Turn.{Turn}
+use Rattle.history.specs.declared.turn.Turn.TheVariants.{Did, Stopped, Restarted, Arrived}
+use Rattle.history.proofs.Turns.{legal_push}
+use Rattle.history.proofs.Keeping.{stands_next}
 use Rattle.replica_core.specs.declared.out.StepOut.{StepOut}
 use Rattle.world_law.specs.Book.{BookState, Commits, IsRowOf, StandsBehind, arrivals_of, call_of, held_then, letter_rows, posted_as, posting_turns, standing_behind}
 use Rattle.world_law.specs.declared.letter.LetterRow.{LetterRow}

@@ -5,12 +5,12 @@ use Rattle.cluster_sched.specs.Fates.{call}
 use Rattle.cluster_sched.specs.declared.fate.Fate.{Fate}
 use Rattle.cluster_sched.specs.declared.row.SchedRow.{SchedRow}
 use Rattle.due_set.specs.Table.{Table}
-use Rattle.book_law.specs.Book.{Row, held_after, late_after, under}
-use Rattle.book_law.specs.Legal.{IsMade, answered}
-use Rattle.book_law.specs.declared.turn.CallRow.{CallRow}
-use Rattle.book_law.specs.declared.turn.Cause.{Cause}
-use Rattle.book_law.specs.declared.turn.Turn.{Turn}
-use Rattle.book_law.specs.declared.turn.Turn.TheVariants.{Did, Stopped, Restarted, Arrived}
+use Rattle.history.specs.Book.{Row, held_after, late_after, under}
+use Rattle.history.specs.Legal.{IsMade, answered}
+use Rattle.history.specs.declared.turn.CallRow.{CallRow}
+use Rattle.history.specs.declared.turn.Cause.{Cause}
+use Rattle.history.specs.declared.turn.Turn.{Turn}
+use Rattle.history.specs.declared.turn.Turn.TheVariants.{Did, Stopped, Restarted, Arrived}
 use Rattle.world_law.specs.Book.{BookState, IsAlike, MakesCall, StandsBehind, call_of, standing_behind}
 
 -- at rest the ledger holds what the rows hold

@@ -7,19 +7,19 @@ use Rattle.std.proofs.lemmas.Bool.{cases_Bool}
 use Rattle.paxos_base.specs.declared.durable.Delta.{Delta}
 use Rattle.due_set.specs.Table.{Table}
 use Rattle.launch_machine.specs.Clerk.{first_rows}
-use Rattle.step_law.specs.Folds.{deltas_of}
-use Rattle.step_law.specs.Letters.{heard_in, is_small_letter}
-use Rattle.step_law.specs.Step.{AsksOnce, Event, asks_change}
-use Rattle.step_law.proofs.DeltaLemmas.{step_changes}
-use Rattle.agree_law.specs.Transition.{identity_of}
-use Rattle.book_law.specs.Book.{Row, Standing, acts_at, standing_after, vote_of_delta}
-use Rattle.book_law.specs.Legal.{IsEventOfCause, IsHeard, IsLegal, MayFollow}
-use Rattle.book_law.specs.declared.turn.Cause.{Cause}
-use Rattle.book_law.specs.declared.turn.Cause.TheVariants.{Campaign, Tick, Hear, Answer}
-use Rattle.book_law.specs.declared.turn.Turn.{Turn}
-use Rattle.book_law.specs.declared.turn.Turn.TheVariants.{Did, Stopped, Restarted, Arrived}
-use Rattle.book_law.proofs.Agreement.{cut_is_legal}
-use Rattle.bounds_law.proofs.Keeping.{votes_changed}
+use Rattle.step_spec.specs.Folds.{deltas_of}
+use Rattle.step_spec.specs.Letters.{heard_in, is_small_letter}
+use Rattle.step_spec.specs.Step.{AsksOnce, Event, asks_change}
+use Rattle.step_spec.proofs.DeltaLemmas.{step_changes}
+use Rattle.agreement.specs.Transition.{identity_of}
+use Rattle.history.specs.Book.{Row, Standing, acts_at, standing_after, vote_of_delta}
+use Rattle.history.specs.Legal.{IsEventOfCause, IsHeard, IsLegal, MayFollow}
+use Rattle.history.specs.declared.turn.Cause.{Cause}
+use Rattle.history.specs.declared.turn.Cause.TheVariants.{Campaign, Tick, Hear, Answer}
+use Rattle.history.specs.declared.turn.Turn.{Turn}
+use Rattle.history.specs.declared.turn.Turn.TheVariants.{Did, Stopped, Restarted, Arrived}
+use Rattle.history.proofs.Agreement.{cut_is_legal}
+use Rattle.history.proofs.Keeping.{votes_changed}
 use Rattle.replica_core.proofs.OnceLemmas.{read-once}
 use Rattle.replica_core.specs.declared.out.StepOut.{StepOut}
 use Rattle.turn_book.specs.Rows.{HasLawful, IsLawful}

@@ -7,9 +7,9 @@ use Rattle.cluster_sched.specs.declared.fault.CallFault.{CallFault}
 use Rattle.cluster_sched.specs.declared.fault.CallFault.TheVariants.{OutOfMemory}
 use Rattle.cluster_sched.specs.declared.row.SchedRow.{SchedRow}
 use Rattle.cluster_sched.proofs.FateLemmas.{Calls-by_parts}
-use Rattle.book_law.specs.Book.{arriving}
-use Rattle.book_law.specs.Legal.{answered}
-use Rattle.bounds_law.proofs.Keeping.{arrival_holds, call_answers, call_holds, call_is_late}
+use Rattle.history.specs.Book.{arriving}
+use Rattle.history.specs.Legal.{answered}
+use Rattle.history.proofs.Keeping.{arrival_holds, call_answers, call_holds, call_is_late}
 use Rattle.world_law.specs.Book.{HasCalled}
 
 pub arrived_held : (found : Option SchedRow) (old new : Holdings) (stands : Bool) → IsArrival found old (Ok stands) new → new.held ≡ arriving found old.held

@@ -2,10 +2,10 @@
 use Rattle.std.proofs.Common.{◌≡◌, ℕ, ◌≤◌, List, [], ◌∷◌, ◌++◌, map, Some, None, refl, sym, ap, ◌∙◌, subst, arith}
 use Rattle.std.specs.List.{AllZip}
 use Rattle.due_set.specs.Table.{Table}
-use Rattle.book_law.specs.Book.{Row, Standing, turn_of}
-use Rattle.book_law.specs.Legal.{MayFollow}
-use Rattle.book_law.specs.declared.turn.Turn.{Turn}
-use Rattle.book_law.specs.declared.turn.Turn.TheVariants.{Did, Stopped, Restarted, Arrived}
+use Rattle.history.specs.Book.{Row, Standing, turn_of}
+use Rattle.history.specs.Legal.{MayFollow}
+use Rattle.history.specs.declared.turn.Turn.{Turn}
+use Rattle.history.specs.declared.turn.Turn.TheVariants.{Did, Stopped, Restarted, Arrived}
 use Rattle.turn_book.specs.Rows.{MayAdd}
 use Rattle.world_law.specs.Book.{BookState, HasRoom, IsAlike, IsNext, IsRowOf, StandsBehind, standing_behind}
 use Rattle.world_law.specs.Rows.{HasRows, IsBehind, MayComeNext, seat_of}

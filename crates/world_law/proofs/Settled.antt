@@ -7,18 +7,18 @@ use Rattle.std.proofs.lemmas.List.Concat.{flat_map-append}
 use Rattle.paxos_base.specs.declared.durable.Delta.{Delta}
 use Rattle.paxos_base.specs.declared.entry.Vote.{Vote}
 use Rattle.due_set.specs.Table.{Table}
-use Rattle.step_law.specs.Folds.{Addressed, deltas_of, letters_of}
-use Rattle.step_law.specs.Letters.{IsSpelled}
-use Rattle.step_law.specs.declared.out.LearntRow.{LearntRow}
-use Rattle.step_law.specs.declared.out.OutLetter.{OutLetter}
+use Rattle.step_spec.specs.Folds.{Addressed, deltas_of, letters_of}
+use Rattle.step_spec.specs.Letters.{IsSpelled}
+use Rattle.step_spec.specs.declared.out.LearntRow.{LearntRow}
+use Rattle.step_spec.specs.declared.out.OutLetter.{OutLetter}
 use Rattle.launch_machine.specs.Clerk.{first_rows}
-use Rattle.agree_law.specs.World.{CastVote, Learning}
-use Rattle.agree_law.specs.Transition.{identity_of}
-use Rattle.book_law.specs.Book.{Row, Standing, acts_at, after_row, held_after, late_after, learned_in, standing_after, turn_of, votes_in}
-use Rattle.book_law.specs.Legal.{IsLegal, MayFollow, kept_votes}
-use Rattle.book_law.specs.declared.turn.Turn.{Turn}
-use Rattle.book_law.specs.declared.turn.Turn.TheVariants.{Did, Stopped, Restarted, Arrived}
-use Rattle.bounds_law.proofs.Keeping.{one_event, stands_next}
+use Rattle.agreement.specs.World.{CastVote, Learning}
+use Rattle.agreement.specs.Transition.{identity_of}
+use Rattle.history.specs.Book.{Row, Standing, acts_at, after_row, held_after, late_after, learned_in, standing_after, turn_of, votes_in}
+use Rattle.history.specs.Legal.{IsLegal, MayFollow, kept_votes}
+use Rattle.history.specs.declared.turn.Turn.{Turn}
+use Rattle.history.specs.declared.turn.Turn.TheVariants.{Did, Stopped, Restarted, Arrived}
+use Rattle.history.proofs.Keeping.{one_event, stands_next}
 use Rattle.world_law.specs.Book.{BookState, StandsBehind, posting_turns, standing_behind}
 use Rattle.world_law.proofs.Behind.{posting_next}
 

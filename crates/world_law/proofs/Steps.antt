@@ -8,26 +8,26 @@ use Rattle.zone_minutes.specs.declared.minute.Minute.{Minute}
 use Rattle.cluster_sched.specs.declared.row.SchedRow.{SchedRow}
 use Rattle.due_set.specs.Table.{Table}
 use Rattle.launch_machine.specs.Clerk.{first_rows}
-use Rattle.step_law.specs.Act.{Act}
-use Rattle.step_law.specs.Folds.{after_acts, letters_of}
-use Rattle.step_law.specs.Letters.{IsHeardAs, IsSpelled}
-use Rattle.step_law.specs.Message.{Message}
-use Rattle.step_law.specs.Step.{Event, IsLaunchTable, IsPlanned, step}
-use Rattle.step_law.specs.State.{Identity}
-use Rattle.step_law.specs.declared.out.OutLetter.{OutLetter}
+use Rattle.step_spec.specs.Act.{Act}
+use Rattle.step_spec.specs.Folds.{after_acts, letters_of}
+use Rattle.step_spec.specs.Letters.{IsHeardAs, IsSpelled}
+use Rattle.step_spec.specs.Message.{Message}
+use Rattle.step_spec.specs.Step.{Event, IsLaunchTable, IsPlanned, step}
+use Rattle.step_spec.specs.State.{Identity}
+use Rattle.step_spec.specs.declared.out.OutLetter.{OutLetter}
 use Rattle.launch_machine.specs.declared.machine.Intent.TheVariants.{Rest}
-use Rattle.step_law.specs.Step as heard
-use Rattle.step_law.proofs.Lists.{found_in}
-use Rattle.agree_law.specs.Transition.{identity_of}
-use Rattle.book_law.specs.Book.{Row, Standing, acts_at, after_row, standing_after, vote_of_delta}
-use Rattle.book_law.specs.Legal.{IsEventOfCause, IsHeard, IsMade, TakesTurn}
-use Rattle.book_law.specs.declared.turn.CallRow.{CallRow}
-use Rattle.book_law.specs.declared.turn.Cause.{Cause}
-use Rattle.book_law.specs.declared.turn.Cause.TheVariants.{Campaign, Tick, Hear, Answer}
-use Rattle.book_law.specs.declared.turn.Turn.TheVariants.{Did}
-use Rattle.book_law.proofs.Acts.{with_here}
-use Rattle.bounds_law.proofs.Keeping.{stands_next, votes_changed}
-use Rattle.bounds_law.proofs.Posted.{letters_for_members, posted_by}
+use Rattle.step_spec.specs.Step as heard
+use Rattle.step_spec.proofs.Lists.{found_in}
+use Rattle.agreement.specs.Transition.{identity_of}
+use Rattle.history.specs.Book.{Row, Standing, acts_at, after_row, standing_after, vote_of_delta}
+use Rattle.history.specs.Legal.{IsEventOfCause, IsHeard, IsMade, TakesTurn}
+use Rattle.history.specs.declared.turn.CallRow.{CallRow}
+use Rattle.history.specs.declared.turn.Cause.{Cause}
+use Rattle.history.specs.declared.turn.Cause.TheVariants.{Campaign, Tick, Hear, Answer}
+use Rattle.history.specs.declared.turn.Turn.TheVariants.{Did}
+use Rattle.history.proofs.Acts.{with_here}
+use Rattle.history.proofs.Keeping.{stands_next, votes_changed}
+use Rattle.history.proofs.Posted.{letters_for_members, posted_by}
 use Rattle.replica_core.specs.Replica.{ReplicaState}
 use Rattle.replica_core.specs.Step.{IsEventOf, IsInputInside, Steps, Takes}
 use Rattle.replica_core.specs.declared.input.Input.{Input}

@@ -6,18 +6,18 @@ use Rattle.due_set.specs.Table.{Table}
 use Rattle.launch_machine.specs.Clerk.{first_rows}
 use Rattle.paxos_base.specs.declared.durable.Delta.{Delta}
 use Rattle.paxos_base.specs.declared.durable.Durable.{Durable}
-use Rattle.step_law.specs.Folds.{deltas_of}
-use Rattle.step_law.specs.State.{State, started}
-use Rattle.step_law.specs.Step.{Event, step}
-use Rattle.step_law.specs.Step as heard
-use Rattle.step_law.specs.declared.out.OutLetter.{OutLetter}
-use Rattle.agree_law.specs.Transition.{identity_of}
-use Rattle.book_law.specs.Book.{Row, Standing, acts_at, after_row, durable_after, kept_at, standing_after, vote_of_delta, with_fact}
-use Rattle.book_law.specs.declared.turn.Cause.{Cause}
-use Rattle.book_law.specs.declared.turn.Turn.{Turn}
-use Rattle.book_law.specs.declared.turn.Turn.TheVariants.{Stopped, Restarted}
-use Rattle.book_law.proofs.Acts.{with_here}
-use Rattle.bounds_law.proofs.Keeping.{stands_next}
+use Rattle.step_spec.specs.Folds.{deltas_of}
+use Rattle.step_spec.specs.State.{State, started}
+use Rattle.step_spec.specs.Step.{Event, step}
+use Rattle.step_spec.specs.Step as heard
+use Rattle.step_spec.specs.declared.out.OutLetter.{OutLetter}
+use Rattle.agreement.specs.Transition.{identity_of}
+use Rattle.history.specs.Book.{Row, Standing, acts_at, after_row, durable_after, kept_at, standing_after, vote_of_delta, with_fact}
+use Rattle.history.specs.declared.turn.Cause.{Cause}
+use Rattle.history.specs.declared.turn.Turn.{Turn}
+use Rattle.history.specs.declared.turn.Turn.TheVariants.{Stopped, Restarted}
+use Rattle.history.proofs.Acts.{with_here}
+use Rattle.history.proofs.Keeping.{stands_next}
 use Rattle.replica_core.specs.Commit.{kept_after}
 use Rattle.replica_core.specs.Replica.{ReplicaState}
 use Rattle.replica_core.specs.Step.{IsEventOf, IsInputInside, IsOfTable}

@@ -8,16 +8,16 @@ use Rattle.cluster_sched.specs.Fates as ledger
 use Rattle.cluster_sched.specs.declared.row.SchedRow.{SchedRow}
 use Rattle.due_set.specs.Table.{Table}
 use Rattle.launch_machine.specs.Clerk.{first_rows}
-use Rattle.agree_law.specs.Transition.{identity_of}
-use Rattle.step_law.specs.Folds.{calls_of, letters_of}
-use Rattle.step_law.specs.Step.{Event}
-use Rattle.step_law.specs.declared.out.OutLetter.{OutLetter}
-use Rattle.book_law.specs.Book.{PostedLetter, Row, Standing, acts_at, arriving, held_after, late_after, late_call, standing_after, turn_of, under, vote_of_delta}
-use Rattle.book_law.specs.Legal.{IsLegal, MayFollow, TakesTurn, answered}
-use Rattle.book_law.specs.declared.turn.CallRow.{CallRow}
-use Rattle.book_law.specs.declared.turn.Cause.TheVariants.{Tick}
-use Rattle.book_law.specs.declared.turn.Turn.{Turn}
-use Rattle.book_law.specs.declared.turn.Turn.TheVariants.{Did, Arrived}
+use Rattle.agreement.specs.Transition.{identity_of}
+use Rattle.step_spec.specs.Folds.{calls_of, letters_of}
+use Rattle.step_spec.specs.Step.{Event}
+use Rattle.step_spec.specs.declared.out.OutLetter.{OutLetter}
+use Rattle.history.specs.Book.{PostedLetter, Row, Standing, acts_at, arriving, held_after, late_after, late_call, standing_after, turn_of, under, vote_of_delta}
+use Rattle.history.specs.Legal.{IsLegal, MayFollow, TakesTurn, answered}
+use Rattle.history.specs.declared.turn.CallRow.{CallRow}
+use Rattle.history.specs.declared.turn.Cause.TheVariants.{Tick}
+use Rattle.history.specs.declared.turn.Turn.{Turn}
+use Rattle.history.specs.declared.turn.Turn.TheVariants.{Did, Arrived}
 use Rattle.replica_core.specs.declared.out.StepOut.{StepOut}
 use Rattle.world_law.specs.declared.letter.LetterRow.{LetterRow}
 

@@ -3,15 +3,15 @@ ghost use Rattle.std.specs.Prelude.{◌≡◌, ◌+◌, ◌<◌, ◌≤◌, ◌+
 ghost use Rattle.cluster_sched.specs.Fates.{IsUnchanged};
 ghost use Rattle.cluster_sched.specs.declared.fate.Fate.TheVariants.{Done};
 ghost use Rattle.due_set.specs.Table.{Table};
-ghost use Rattle.book_law.specs.Book.{Row, arriving, late_call, turn_of};
-ghost use Rattle.book_law.specs.Legal.{IsMade, MayFollow};
+ghost use Rattle.history.specs.Book.{Row, arriving, late_call, turn_of};
+ghost use Rattle.history.specs.Legal.{IsMade, MayFollow};
 ghost use Rattle.world_law.specs.Book.{Commits, HasCalled, HasRoom, IsAlike, IsLegalBook, IsNext, IsRowOf, MakesCall, MayCall, StandsBehind, call_of, letter_rows, standing_behind};
 
 use crate::letter::LetterRow;
-use book_law::{CallRow, Turn};
 use cluster_sched::{CallFault, Fate, Ledger, SchedRow, call_by_name};
 use cron_io::OutOfMemory;
 use due_set::JobTable;
+use history::{CallRow, Turn};
 use replica_core::{LetterList, StepOut};
 use std::alloc::Global;
 use std::marker::Model;

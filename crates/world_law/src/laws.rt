@@ -1,26 +1,21 @@
 //! Laws of books that a program keeps. Each is the contract of a function that does nothing.
-ghost use Rattle.std.specs.Prelude.{◌≡◌, ◌≢◌, ◌⊎◌, ◌↔◌, ◌≤◌, ◌++◌, ◌∷◌, [], ℕ, List, length, map, take, Option, None, Some};
+ghost use Rattle.std.specs.Prelude.{◌≡◌, ◌≢◌, ◌⊎◌, ◌↔◌, ◌≤◌, ◌++◌, ◌∷◌, [], ℕ, List, length, map, Option, None, Some};
 ghost use Rattle.std.specs.Option.{option_to_list};
 ghost use Rattle.zone_minutes.specs.declared.minute.Minute.{Minute};
 ghost use Rattle.paxos_base.specs.declared.durable.Delta.{Delta};
 ghost use Rattle.paxos_base.specs.declared.durable.Durable.{Durable};
-ghost use Rattle.paxos_base.specs.declared.entry.Entry.{Entry};
 ghost use Rattle.cluster_sched.specs.declared.row.SchedRow.{SchedRow};
 ghost use Rattle.due_set.specs.Table.{Table};
-ghost use Rattle.launch_law.specs.Fits.{Fits};
-ghost use Rattle.step_law.specs.Folds.{deltas_of};
-ghost use Rattle.step_law.specs.State.{started};
-ghost use Rattle.step_law.specs.Step.{Event, step};
-ghost use Rattle.agree_law.specs.Log.{IsLog};
-ghost use Rattle.agree_law.specs.Transition.{identity_of};
-ghost use Rattle.book_law.specs.Agrees.{Agrees};
-ghost use Rattle.book_law.specs.Book.{Row, learned_in, turn_of, votes_in};
-ghost use Rattle.book_law.specs.Legal.{IsLegal, IsMade, MayFollow};
-ghost use Rattle.book_law.specs.declared.turn.CallRow.{CallRow};
-ghost use Rattle.book_law.specs.declared.turn.Cause.{Cause};
-ghost use Rattle.book_law.specs.declared.turn.Turn.{Turn};
-ghost use Rattle.book_law.specs.declared.turn.Turn.TheVariants.{Did, Arrived};
-ghost use Rattle.fits_law.specs.Fitting.{FitsItsLog};
+ghost use Rattle.step_spec.specs.Folds.{deltas_of};
+ghost use Rattle.step_spec.specs.State.{started};
+ghost use Rattle.step_spec.specs.Step.{Event, step};
+ghost use Rattle.agreement.specs.Transition.{identity_of};
+ghost use Rattle.history.specs.Book.{Row, learned_in, turn_of, votes_in};
+ghost use Rattle.history.specs.Legal.{IsLegal, IsMade, MayFollow};
+ghost use Rattle.history.specs.declared.turn.CallRow.{CallRow};
+ghost use Rattle.history.specs.declared.turn.Cause.{Cause};
+ghost use Rattle.history.specs.declared.turn.Turn.{Turn};
+ghost use Rattle.history.specs.declared.turn.Turn.TheVariants.{Did, Arrived};
 ghost use Rattle.replica_core.specs.Commit.{kept_after};
 ghost use Rattle.replica_core.specs.Replica.{ReplicaState};
 ghost use Rattle.replica_core.specs.Step.{IsEventOf, IsInputInside, IsOfTable, Steps};
@@ -32,17 +27,6 @@ ghost use Rattle.world_law.specs.Book.{BookState, HasRoom, IsRowOf, MayCall, Sta
 ghost use Rattle.world_law.specs.Replicas.{IsInputOf, IsRestartOf, IsStopOf, IsTurnOf, StandsAt, StandsStopped};
 ghost use Rattle.world_law.specs.Rows.{HasRows, MayComeNext, seat_of};
 ghost use Rattle.world_law.specs.declared.row.BookRow.{BookRow};
-
-/// A legal book of one to seven replicas agrees and fits, after each of its turns; and at rest its ledger fits its log: no launch
-/// is held twice, each that is held was started, and each end says what is held.
-pub fn a_legal_book_agrees_and_fits()
-    ensures agrees { (table : Table) (rows : List Row) (book : BookState) (turns : ℕ) → book.members ≤ 7 → StandsBehind table rows book
-        → Agrees book.members table (take turns rows) }
-    ensures fits { (table : Table) (rows : List Row) (book : BookState) (turns : ℕ) → book.members ≤ 7 → StandsBehind table rows book
-        → FitsItsLog book.members table (take turns rows) }
-    ensures ledger { (table : Table) (rows : List Row) (book : BookState) (log : List Entry) → book.members ≤ 7 → StandsBehind table rows book
-        → book.pending ≡ None → IsLog book.members (votes_in rows) log → Fits table log book.ledger.held }
-{}
 
 /// A book settles what it does not keep: whichever rows stand behind it, the votes and the learned entries in them are the same, and
 /// so is what stands after them. All legal rows that have its turns stand behind it.

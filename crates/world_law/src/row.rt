@@ -1,5 +1,5 @@
 //! A row of a book that threads share.
-use book_law::Turn;
+use history::Turn;
 use replica_core::StepOut;
 
 /// A turn as a replica adds it to a book, with what came of it: of a step all that it brought, of a stop the change that was kept,

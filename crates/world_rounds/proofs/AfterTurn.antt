@@ -5,12 +5,12 @@ use Rattle.std.specs.Option.{option_to_list}
 use Rattle.disk_model.specs.Images.{Image}
 use Rattle.disk_model.specs.Told.{Told}
 use Rattle.due_set.specs.Table.{Table}
-use Rattle.book_law.specs.Book.{Row, Standing}
-use Rattle.book_law.specs.declared.turn.CallRow.{CallRow}
-use Rattle.script_law.specs.Situation.{Situation, after_turn, calls_for, changes_in}
+use Rattle.history.specs.Book.{Row, Standing}
+use Rattle.history.specs.declared.turn.CallRow.{CallRow}
+use Rattle.script_semantics.specs.Situation.{Situation, after_turn, calls_for, changes_in}
 use Rattle.world_law.specs.Book.{BookState, standing_behind}
-use Rattle.world_parts.specs.Nodes.{bases_behind}
-use Rattle.world_parts.specs.Parts.{IsBookAt}
+use Rattle.world_steps.specs.Nodes.{bases_behind}
+use Rattle.world_steps.specs.Parts.{IsBookAt}
 use Rattle.world_steps.proofs.AfterTurn.{Leaves, mail_did, mail_stays, node_did, node_stays, row_runs, next_step, stands_after, stopped_stays}
 use Rattle.world_steps.proofs.Bases.{bases_then, changes_joined}
 use Rattle.world_steps.specs.Steps.{IsNodeAhead, causes_of, heard_in}

@@ -7,14 +7,14 @@ use Rattle.std.proofs.lemmas.List.{length-map, map-append}
 use Rattle.disk_model.specs.Images.{Image}
 use Rattle.disk_model.specs.Told.{Told}
 use Rattle.due_set.specs.Table.{Table}
-use Rattle.book_law.specs.Book.{Row}
+use Rattle.history.specs.Book.{Row}
 use Rattle.replica_node.specs.declared.node.Node.{Node}
-use Rattle.script_law.specs.Situation.{Situation, is_cut}
+use Rattle.script_semantics.specs.Situation.{Situation, is_cut}
 use Rattle.world_law.specs.Book.{BookState}
-use Rattle.world_parts.specs.Nodes.{AreNodesOf}
-use Rattle.world_parts.specs.Parts.{ArePartsAt, IsBookAt, IsMailOf}
-use Rattle.world_parts.specs.declared.bundle.Bundle.{Bundle}
-use Rattle.world_parts.specs.declared.mail.MemberMail.{MemberMail}
+use Rattle.world_steps.specs.Nodes.{AreNodesOf}
+use Rattle.world_steps.specs.Parts.{ArePartsAt, IsBookAt, IsMailOf}
+use Rattle.world_steps.specs.declared.bundle.Bundle.{Bundle}
+use Rattle.world_steps.specs.declared.mail.MemberMail.{MemberMail}
 use Rattle.world_rounds.proofs.Ended.{nodes_left}
 use Rattle.world_rounds.specs.Nodes.{AreNodesAndMails, mails_of}
 use Rattle.world_rounds.specs.World.{IsWorldAt}

@@ -6,13 +6,13 @@ use Rattle.std.proofs.lemmas.Option.{slice_get_cases}
 use Rattle.disk_model.specs.Images.{Image}
 use Rattle.disk_model.specs.Told.{Told}
 use Rattle.due_set.specs.Table.{Table}
-use Rattle.step_law.specs.Step as event
-use Rattle.book_law.specs.Book.{Row, Standing, late_after}
-use Rattle.book_law.specs.Legal.{IsLate}
-use Rattle.book_law.specs.declared.turn.Turn.TheVariants.{Arrived}
-use Rattle.script_law.specs.Commands.{Plain, arrival_tasks, has_number}
-use Rattle.script_law.specs.Situation.{Arrive, Situation}
-use Rattle.script_law.proofs.MailLemmas.{no_arrival}
+use Rattle.step_spec.specs.Step as event
+use Rattle.history.specs.Book.{Row, Standing, late_after}
+use Rattle.history.specs.Legal.{IsLate}
+use Rattle.history.specs.declared.turn.Turn.TheVariants.{Arrived}
+use Rattle.script_semantics.specs.Commands.{Plain, arrival_tasks, has_number}
+use Rattle.script_semantics.specs.Situation.{Arrive, Situation}
+use Rattle.script_semantics.proofs.MailLemmas.{no_arrival}
 use Rattle.world_law.specs.Book.{standing_behind}
 use Rattle.world_steps.proofs.AfterTurn.{leaves_all}
 use Rattle.world_rounds.proofs.AfterTurn.{member_stays}

@@ -10,15 +10,15 @@ use Rattle.std.proofs.lemmas.Option.{slice_get_within}
 use Rattle.disk_model.specs.Images.{Image}
 use Rattle.disk_model.specs.Told.{Told}
 use Rattle.due_set.specs.Table.{Table}
-use Rattle.step_law.proofs.Lists.{nothing_in}
-use Rattle.step_law.specs.State.{State, prefix_of}
-use Rattle.book_law.specs.Book.{Row, Standing, after_row, with_fact}
-use Rattle.book_law.specs.declared.turn.Turn.TheVariants.{Restarted}
-use Rattle.script_law.proofs.StartLemmas.{all_run}
-use Rattle.script_law.specs.Commands.{Plain}
-use Rattle.script_law.specs.Script.{IsPartOf}
-use Rattle.script_law.specs.Settling.{calmed, furthest, restart_tasks}
-use Rattle.script_law.specs.Situation.{AreTurnsFor, Restart, Situation, Task, after_turn, after_turns, bases_kept, changes_in, delivered, is_cut, latest_after}
+use Rattle.step_spec.proofs.Lists.{nothing_in}
+use Rattle.step_spec.specs.State.{State, prefix_of}
+use Rattle.history.specs.Book.{Row, Standing, after_row, with_fact}
+use Rattle.history.specs.declared.turn.Turn.TheVariants.{Restarted}
+use Rattle.script_semantics.proofs.StartLemmas.{all_run}
+use Rattle.script_semantics.specs.Commands.{Plain}
+use Rattle.script_semantics.specs.Script.{IsPartOf}
+use Rattle.script_semantics.specs.Settling.{calmed, furthest, restart_tasks}
+use Rattle.script_semantics.specs.Situation.{AreTurnsFor, Restart, Situation, Task, after_turn, after_turns, bases_kept, changes_in, delivered, is_cut, latest_after}
 use Rattle.script_text.specs.Command.{IsSkew}
 use Rattle.script_text.specs.declared.command.Command.TheVariants as command
 use Rattle.world_law.specs.Book.{BookState}
@@ -35,7 +35,7 @@ use Rattle.world_rounds.specs.Mails.{Changes}
 use Rattle.world_rounds.specs.Quiet.{AllRun}
 use Rattle.world_rounds.specs.World.{GoesOnBy, IsWorld, IsWorldAt}
 use Rattle.world_rounds.specs.declared.member.Member.{Member}
-use Rattle.world_parts.specs.Parts.{armed_in}
+use Rattle.world_steps.specs.Parts.{armed_in}
 use Rattle.world_rounds.specs.declared.world.World.{World}
 
 no_skew : IsSkew (pos 0)

@@ -6,11 +6,11 @@ use Rattle.std.proofs.lemmas.List.{length-set}
 use Rattle.disk_model.specs.Images.{Image}
 use Rattle.disk_model.specs.Told.{Told}
 use Rattle.due_set.specs.Table.{Table}
-use Rattle.book_law.specs.Book.{Row, Standing}
-use Rattle.book_law.specs.declared.turn.Cause.TheVariants.{Campaign}
+use Rattle.history.specs.Book.{Row, Standing}
+use Rattle.history.specs.declared.turn.Cause.TheVariants.{Campaign}
 use Rattle.replica_core.specs.declared.input.Input.TheVariants as told
-use Rattle.script_law.specs.Commands.{Plain}
-use Rattle.script_law.specs.Situation.{Do, Situation, after_turns, delivered, is_cut}
+use Rattle.script_semantics.specs.Commands.{Plain}
+use Rattle.script_semantics.specs.Situation.{Do, Situation, after_turns, delivered, is_cut}
 use Rattle.world_law.specs.Book.{BookState}
 use Rattle.world_steps.specs.Steps.{IsBeside, WasToldOf, causes_of, heard_in}
 use Rattle.world_rounds.proofs.RoundLemmas.{idle_beside}
@@ -21,7 +21,7 @@ use Rattle.world_rounds.specs.Campaigns.{HasStood, TakesCampaign}
 use Rattle.world_rounds.specs.Mails.{Changes}
 use Rattle.world_rounds.specs.Rounds.{IsMemberIdle}
 use Rattle.world_rounds.specs.Taking.{CommitsOwn, HasTaken, IsAhead, MayCommitOwn, PutsDown, steps_at, steps_of, tasks_by}
-use Rattle.world_parts.specs.Parts.{IsBookAt}
+use Rattle.world_steps.specs.Parts.{IsBookAt}
 use Rattle.world_rounds.specs.World.{GoesOnBy, IsMemberAhead, IsWorld, IsWorldAt}
 use Rattle.world_rounds.specs.declared.member.Member.{Member}
 use Rattle.world_rounds.specs.declared.world.World.{World}

@@ -3,8 +3,8 @@ use Rattle.std.proofs.Common.{List, Option, [], append-nil as append_nil, append
 use Rattle.disk_model.specs.Images.{Image}
 use Rattle.disk_model.specs.Told.{Told}
 use Rattle.due_set.specs.Table.{Table}
-use Rattle.book_law.specs.Book.{Row}
-use Rattle.script_law.specs.Situation.{AreTurnsFor, Situation, Task, after_turn, after_turns}
+use Rattle.history.specs.Book.{Row}
+use Rattle.script_semantics.specs.Situation.{AreTurnsFor, Situation, Task, after_turn, after_turns}
 use Rattle.world_steps.specs.declared.steps.Taken.{Taken}
 use Rattle.world_rounds.specs.Taking.{HasTaken}
 use Rattle.world_rounds.specs.World.{IsWorldAhead, book_of}

@@ -10,21 +10,21 @@ use Rattle.std.proofs.lemmas.Bool.{cases_Bool, ne_eqb}
 use Rattle.disk_model.specs.Images.{Image}
 use Rattle.disk_model.specs.Told.{Told}
 use Rattle.due_set.specs.Table.{Table}
-use Rattle.step_law.proofs.Lists.{found_in}
-use Rattle.book_law.specs.Book.{Row, Standing}
-use Rattle.bounds_law.proofs.Posted.{posted_to}
-use Rattle.step_law.proofs.Lists.{cons_cases, in_first, in_rest}
-use Rattle.script_law.specs.Situation.{Situation, delivered, is_cut, reaches}
+use Rattle.step_spec.proofs.Lists.{found_in}
+use Rattle.history.specs.Book.{Row, Standing}
+use Rattle.history.proofs.Posted.{posted_to}
+use Rattle.step_spec.proofs.Lists.{cons_cases, in_first, in_rest}
+use Rattle.script_semantics.specs.Situation.{Situation, delivered, is_cut, reaches}
 use Rattle.world_law.specs.Book.{BookState, StandsBehind, posted_as, standing_behind}
 use Rattle.world_law.specs.declared.letter.LetterRow.{LetterRow}
 use Rattle.world_rounds.proofs.StepsAt.{cases_number}
 use Rattle.world_rounds.proofs.Worlds.{set_cases}
 use Rattle.world_rounds.specs.Mails.{Changes, arrival_of, arrived}
-use Rattle.world_parts.specs.Parts.{IsSentTo, armed_in}
+use Rattle.world_steps.specs.Parts.{IsSentTo, armed_in}
 use Rattle.script_text.specs.Command.{IsSkew}
-use Rattle.world_parts.specs.Parts.{IsMailOf}
+use Rattle.world_steps.specs.Parts.{IsMailOf}
 use Rattle.world_rounds.specs.World.{IsMemberAhead, IsWorld, IsWorldAt}
-use Rattle.world_parts.specs.declared.mail.MemberMail.{MemberMail}
+use Rattle.world_steps.specs.declared.mail.MemberMail.{MemberMail}
 use Rattle.world_rounds.specs.declared.member.Member.{Member}
 use Rattle.world_rounds.specs.declared.world.World.{World}
 

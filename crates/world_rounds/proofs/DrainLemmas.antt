@@ -9,19 +9,19 @@ use Rattle.term_core.specs.declared.term.Term.{Term}
 use Rattle.term_core.specs.declared.term.Term.TheVariants.{Candidate, Follower, Leader}
 use Rattle.cluster_sched.specs.declared.fate.Fate.{Fate}
 use Rattle.cluster_sched.specs.declared.fate.Fate.TheVariants as fate
-use Rattle.book_law.specs.Book.{Row, after_row, with_fact}
-use Rattle.book_law.specs.declared.turn.CallRow.{CallRow}
-use Rattle.book_law.specs.declared.turn.Cause.{Cause}
-use Rattle.book_law.specs.declared.turn.Cause.TheVariants.{Campaign}
-use Rattle.book_law.specs.declared.turn.Turn.TheVariants.{Did}
-use Rattle.step_law.proofs.Lists.{in_first, in_rest, cons_cases, nothing_in}
-use Rattle.script_law.proofs.RoundLemmas.{is_step}
-use Rattle.script_law.proofs.StartLemmas.{same_coordinator}
-use Rattle.script_law.specs.Commands.{Plain, set_by, tasks_for}
-use Rattle.script_law.specs.Parts.{Plays, Then}
-use Rattle.script_law.specs.Round.{IsRound, round_tasks}
-use Rattle.script_law.specs.Settling.{Drains, IsDrainRound, IsQuiet, Settles, calmed, campaign_tasks, coordinator, restart_tasks}
-use Rattle.script_law.specs.Situation.{AreTurnsFor, Do, Does, IsTurnFor, Performs, Situation, Task, after_turn, after_turns, delivered, fates_after, letters_for}
+use Rattle.history.specs.Book.{Row, after_row, with_fact}
+use Rattle.history.specs.declared.turn.CallRow.{CallRow}
+use Rattle.history.specs.declared.turn.Cause.{Cause}
+use Rattle.history.specs.declared.turn.Cause.TheVariants.{Campaign}
+use Rattle.history.specs.declared.turn.Turn.TheVariants.{Did}
+use Rattle.step_spec.proofs.Lists.{in_first, in_rest, cons_cases, nothing_in}
+use Rattle.script_semantics.proofs.RoundLemmas.{is_step}
+use Rattle.script_semantics.proofs.StartLemmas.{same_coordinator}
+use Rattle.script_semantics.specs.Commands.{Plain, set_by, tasks_for}
+use Rattle.script_semantics.specs.Parts.{Plays, Then}
+use Rattle.script_semantics.specs.Round.{IsRound, round_tasks}
+use Rattle.script_semantics.specs.Settling.{Drains, IsDrainRound, IsQuiet, Settles, calmed, campaign_tasks, coordinator, restart_tasks}
+use Rattle.script_semantics.specs.Situation.{AreTurnsFor, Do, Does, IsTurnFor, Performs, Situation, Task, after_turn, after_turns, delivered, fates_after, letters_for}
 use Rattle.script_text.specs.declared.command.Command.TheVariants as command
 use Rattle.world_steps.proofs.Facts.{fact_here, fact_there}
 use Rattle.world_rounds.proofs.Delivery.{same_mails}

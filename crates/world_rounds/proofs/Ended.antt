@@ -6,11 +6,11 @@ use Rattle.std.proofs.lemmas.Option.{same_Some}
 use Rattle.disk_model.specs.Images.{Image}
 use Rattle.disk_model.specs.Told.{Told}
 use Rattle.due_set.specs.Table.{Table}
-use Rattle.book_law.specs.Book.{Row}
+use Rattle.history.specs.Book.{Row}
 use Rattle.replica_node.specs.declared.node.Node.{Node}
-use Rattle.script_law.specs.Situation.{Situation}
+use Rattle.script_semantics.specs.Situation.{Situation}
 use Rattle.world_law.specs.Book.{BookState, standing_behind}
-use Rattle.world_parts.specs.Nodes.{AreNodesOf, IsNodeOf}
+use Rattle.world_steps.specs.Nodes.{AreNodesOf, IsNodeOf}
 use Rattle.world_steps.proofs.Ended.{running_node, stopped_node}
 use Rattle.world_rounds.specs.Nodes.{nodes_of}
 use Rattle.world_rounds.specs.World.{IsMemberAhead, IsWorldAt}

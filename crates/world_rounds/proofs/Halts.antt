@@ -7,25 +7,25 @@ use Rattle.disk_model.specs.Images.{Image}
 use Rattle.disk_model.specs.Told.{Told}
 use Rattle.due_set.specs.Table.{Table}
 use Rattle.paxos_base.specs.declared.durable.Delta.{Delta}
-use Rattle.step_law.specs.State.{started}
-use Rattle.step_law.specs.Step.{Event}
-use Rattle.step_law.specs.declared.out.OutLetter.{OutLetter}
-use Rattle.agree_law.specs.Transition.{identity_of}
-use Rattle.book_law.specs.Book.{Row, Standing, after_row, turn_of}
-use Rattle.book_law.specs.declared.turn.Turn.{Turn}
-use Rattle.book_law.specs.declared.turn.Turn.TheVariants.{Stopped}
+use Rattle.step_spec.specs.State.{started}
+use Rattle.step_spec.specs.Step.{Event}
+use Rattle.step_spec.specs.declared.out.OutLetter.{OutLetter}
+use Rattle.agreement.specs.Transition.{identity_of}
+use Rattle.history.specs.Book.{Row, Standing, after_row, turn_of}
+use Rattle.history.specs.declared.turn.Turn.{Turn}
+use Rattle.history.specs.declared.turn.Turn.TheVariants.{Stopped}
 use Rattle.replica_core.specs.Replica.{ReplicaState}
 use Rattle.replica_core.specs.declared.out.StepOut.{StepOut}
-use Rattle.script_law.specs.Commands.{Plain}
-use Rattle.script_law.specs.Situation.{IsTurnFor, Situation, arms_after, bases_kept, changes_in, fates_after, Stop, Task, after_turn, delivered, latest_after, letters_for, mails_after}
-use Rattle.step_law.proofs.Lists.{nothing_in}
+use Rattle.script_semantics.specs.Commands.{Plain}
+use Rattle.script_semantics.specs.Situation.{IsTurnFor, Situation, arms_after, bases_kept, changes_in, fates_after, Stop, Task, after_turn, delivered, latest_after, letters_for, mails_after}
+use Rattle.step_spec.proofs.Lists.{nothing_in}
 use Rattle.world_law.proofs.Stops.{stop_between}
 use Rattle.world_law.proofs.Called.{alike_stands}
 use Rattle.world_law.specs.Book.{BookState, Commits, IsAlike, IsNext, IsRowOf, StandsBehind, letter_rows, standing_behind}
-use Rattle.book_law.specs.Legal.{MayFollow}
+use Rattle.history.specs.Legal.{MayFollow}
 use Rattle.world_law.specs.Replicas.{IsStopOf, change_alone}
-use Rattle.world_parts.specs.Nodes.{IsDiskAt, bases_behind}
-use Rattle.world_parts.specs.Parts.{armed_in}
+use Rattle.world_steps.specs.Nodes.{IsDiskAt, bases_behind}
+use Rattle.world_steps.specs.Parts.{armed_in}
 use Rattle.world_steps.proofs.Bases.{bases_same}
 use Rattle.world_steps.proofs.AfterTurn.{leaves_other}
 use Rattle.world_steps.proofs.Facts.{fact_here}

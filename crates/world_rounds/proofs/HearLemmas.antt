@@ -12,11 +12,11 @@ use Rattle.world_law.specs.declared.letter.LetterRow.{LetterRow}
 use Rattle.disk_model.specs.Images.{Image}
 use Rattle.disk_model.specs.Told.{Told}
 use Rattle.due_set.specs.Table.{Table}
-use Rattle.book_law.specs.Book.{Row}
-use Rattle.book_law.specs.declared.turn.Cause.TheVariants.{Hear}
+use Rattle.history.specs.Book.{Row}
+use Rattle.history.specs.declared.turn.Cause.TheVariants.{Hear}
 use Rattle.replica_node.specs.declared.node.Node.{Node}
 use Rattle.world_law.specs.Book.{BookState}
-use Rattle.world_parts.specs.Parts.{IsSentTo}
+use Rattle.world_steps.specs.Parts.{IsSentTo}
 use Rattle.world_steps.specs.Steps.{IsBeside, WasToldOf, causes_of}
 use Rattle.world_steps.specs.declared.steps.Taken.{Taken}
 use Rattle.world_rounds.specs.Hearing.{MayHear, hear_causes}

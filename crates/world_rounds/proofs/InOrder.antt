@@ -8,15 +8,15 @@ use Rattle.cluster_sched.specs.declared.row.SchedRow.{SchedRow}
 use Rattle.disk_model.specs.Images.{Image}
 use Rattle.disk_model.specs.Told.{Told}
 use Rattle.due_set.specs.Table.{Table}
-use Rattle.book_law.specs.Book.{Row}
-use Rattle.book_law.specs.declared.turn.CallRow.{CallRow}
-use Rattle.book_law.specs.declared.turn.Cause.{Cause}
-use Rattle.book_law.specs.declared.turn.Cause.TheVariants.{Campaign, Tick, Hear, Answer}
-use Rattle.book_law.specs.declared.turn.Turn.{Turn}
-use Rattle.book_law.specs.declared.turn.Turn.TheVariants.{Did}
-use Rattle.script_law.specs.Arms.{AreTurnsByArms, IsTurnByArm, PerformsByArms, PlaysByArms}
-use Rattle.script_law.specs.Round.{answer_tasks, clock_reading, hear_tasks, round_tasks, tasks_of}
-use Rattle.script_law.specs.Situation.{Do, Situation, Task, after_turn, after_turns, delivered, mails_after}
+use Rattle.history.specs.Book.{Row}
+use Rattle.history.specs.declared.turn.CallRow.{CallRow}
+use Rattle.history.specs.declared.turn.Cause.{Cause}
+use Rattle.history.specs.declared.turn.Cause.TheVariants.{Campaign, Tick, Hear, Answer}
+use Rattle.history.specs.declared.turn.Turn.{Turn}
+use Rattle.history.specs.declared.turn.Turn.TheVariants.{Did}
+use Rattle.script_semantics.specs.Arms.{AreTurnsByArms, IsTurnByArm, PerformsByArms, PlaysByArms}
+use Rattle.script_semantics.specs.Round.{answer_tasks, clock_reading, hear_tasks, round_tasks, tasks_of}
+use Rattle.script_semantics.specs.Situation.{Do, Situation, Task, after_turn, after_turns, delivered, mails_after}
 use Rattle.world_steps.proofs.AfterTurn.{row_runs}
 use Rattle.world_steps.proofs.Facts.{fact_here}
 use Rattle.world_rounds.proofs.Led.{AreLeft, after_both, back_of, leads_end, others_leave, round_below, round_tasks_of, turns_then, leads_none, leads_step, hears_of, leads_stop, leads_then, tick_of}

@@ -5,8 +5,8 @@ use Rattle.std.proofs.lemmas.Option.{slice_get_within}
 use Rattle.disk_model.specs.Images.{Image}
 use Rattle.disk_model.specs.Told.{Told}
 use Rattle.due_set.specs.Table.{Table}
-use Rattle.book_law.specs.Book.{Row}
-use Rattle.script_law.specs.Situation.{Situation}
+use Rattle.history.specs.Book.{Row}
+use Rattle.script_semantics.specs.Situation.{Situation}
 use Rattle.world_law.specs.Book.{BookState}
 use Rattle.world_rounds.specs.Rounds.{AllTakeRounds, HasTakenRound, RunsRound}
 use Rattle.world_rounds.specs.declared.member.Member.{Member}

@@ -7,14 +7,14 @@ use Rattle.std.proofs.lemmas.Bool.{cases_Bool, eqb-true, ne_eqb}
 use Rattle.std.proofs.lemmas.List.Sums.{fold-append}
 use Rattle.zone_minutes.specs.declared.minute.Window.{Window}
 use Rattle.cluster_sched.specs.declared.row.SchedRow.{SchedRow}
-use Rattle.book_law.specs.Book.{Row, turn_of}
-use Rattle.book_law.specs.declared.turn.Cause.{Cause}
-use Rattle.book_law.specs.declared.turn.Cause.TheVariants.{Tick}
-use Rattle.book_law.specs.declared.turn.Turn.{Turn}
-use Rattle.book_law.specs.declared.turn.Turn.TheVariants.{Did, Stopped}
-use Rattle.script_law.specs.Arms.{AreTurnsByArms, IsEnough, IsTurnByArm, TakesStep, is_task_of, tasks_left}
-use Rattle.script_law.specs.Round.{answer_tasks, clock_reading, hear_tasks, tasks_of}
-use Rattle.script_law.specs.Situation.{AreTurnsFor, Situation, Task, Arrive, Do, Restart, Stop, after_turn, after_turns, armed_after, arms_after, changes_in}
+use Rattle.history.specs.Book.{Row, turn_of}
+use Rattle.history.specs.declared.turn.Cause.{Cause}
+use Rattle.history.specs.declared.turn.Cause.TheVariants.{Tick}
+use Rattle.history.specs.declared.turn.Turn.{Turn}
+use Rattle.history.specs.declared.turn.Turn.TheVariants.{Did, Stopped}
+use Rattle.script_semantics.specs.Arms.{AreTurnsByArms, IsEnough, IsTurnByArm, TakesStep, is_task_of, tasks_left}
+use Rattle.script_semantics.specs.Round.{answer_tasks, clock_reading, hear_tasks, tasks_of}
+use Rattle.script_semantics.specs.Situation.{AreTurnsFor, Situation, Task, Arrive, Do, Restart, Stop, after_turn, after_turns, armed_after, arms_after, changes_in}
 use Rattle.world_steps.proofs.AfterTurn.{leaves_other}
 use Rattle.world_rounds.specs.OneByOne.{AreTasksOf, LeadsOn, goes_on}
 

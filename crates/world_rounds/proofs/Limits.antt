@@ -5,10 +5,10 @@ use Rattle.std.proofs.lemmas.List.{length-map}
 use Rattle.disk_model.specs.Images.{Image}
 use Rattle.disk_model.specs.Told.{Told}
 use Rattle.due_set.specs.Table.{Table}
-use Rattle.book_law.specs.Book.{PostedLetter, Row}
-use Rattle.script_law.proofs.ListLemmas.{from_map}
-use Rattle.script_law.specs.Situation.{Situation}
-use Rattle.round_law.specs.Rounds.{IsWithinBounds}
+use Rattle.history.specs.Book.{PostedLetter, Row}
+use Rattle.script_semantics.proofs.ListLemmas.{from_map}
+use Rattle.script_semantics.specs.Situation.{Situation}
+use Rattle.settling.specs.Rounds.{IsWithinBounds}
 use Rattle.world_law.specs.Book.{posted_as}
 use Rattle.world_rounds.proofs.Waiting.{posted_are}
 use Rattle.world_rounds.specs.Bounds.{IsBounded}

@@ -8,27 +8,27 @@ use Rattle.disk_model.specs.Images.{Image}
 use Rattle.disk_model.specs.Told.{Told}
 use Rattle.zone_minutes.specs.Window.{IsInWindow}
 use Rattle.due_set.specs.Table.{Table}
-use Rattle.step_law.proofs.Lists.{in_first, in_rest, cons_cases}
-use Rattle.step_law.specs.Step.{Event, IsLaunchTable}
-use Rattle.step_law.specs.declared.out.OutLetter.{OutLetter}
+use Rattle.step_spec.proofs.Lists.{in_first, in_rest, cons_cases}
+use Rattle.step_spec.specs.Step.{Event, IsLaunchTable}
+use Rattle.step_spec.specs.declared.out.OutLetter.{OutLetter}
 use Rattle.replica_node.specs.Node.{replica_of}
-use Rattle.book_law.specs.Book.{PostedLetter, Row, Standing, after_row, post}
-use Rattle.book_law.specs.Legal.{IsLegal}
-use Rattle.book_law.specs.declared.turn.Cause.TheVariants.{Campaign}
-use Rattle.book_law.specs.declared.turn.Turn.{Turn}
-use Rattle.book_law.specs.declared.turn.Turn.TheVariants.{Did, Stopped, Restarted, Arrived}
-use Rattle.script_law.specs.Commands.{Plain}
-use Rattle.script_law.specs.Parts.{Plays}
-use Rattle.script_law.specs.Round.{round_tasks}
-use Rattle.script_law.specs.Settling.{Drains, IsDrainRound, IsQuiet, calmed, campaign_tasks, coordinator, restart_tasks}
-use Rattle.script_law.specs.Situation.{Do, Performs, Situation, Task, after_turn, after_turns}
-use Rattle.round_law.specs.Leads.{GoesDrainRound}
-use Rattle.round_law.specs.Rounds.{GoesOnBy as BookGoesOnBy, IsFaultless}
-use Rattle.campaign_law.specs.Campaigns.{GoesCampaign}
-use Rattle.drain_law.specs.Rest.{IsAtRest, left_of}
-use Rattle.settle_law.specs.Settles.{HasRestedFor, LeadsNow, LeadsSoon}
-use Rattle.settle_law.proofs.LeadLemmas.{campaign_faultless, first_leads, leads_nearer, leads_on, soon_faultless, soon_last, soon_nearer, soon_quiet}
-use Rattle.settle_law.proofs.RestLemmas.{rested_leads, rested_quiet}
+use Rattle.history.specs.Book.{PostedLetter, Row, Standing, after_row, post}
+use Rattle.history.specs.Legal.{IsLegal}
+use Rattle.history.specs.declared.turn.Cause.TheVariants.{Campaign}
+use Rattle.history.specs.declared.turn.Turn.{Turn}
+use Rattle.history.specs.declared.turn.Turn.TheVariants.{Did, Stopped, Restarted, Arrived}
+use Rattle.script_semantics.specs.Commands.{Plain}
+use Rattle.script_semantics.specs.Parts.{Plays}
+use Rattle.script_semantics.specs.Round.{round_tasks}
+use Rattle.script_semantics.specs.Settling.{Drains, IsDrainRound, IsQuiet, calmed, campaign_tasks, coordinator, restart_tasks}
+use Rattle.script_semantics.specs.Situation.{Do, Performs, Situation, Task, after_turn, after_turns}
+use Rattle.settling.specs.Leads.{GoesDrainRound}
+use Rattle.settling.specs.Rounds.{GoesOnBy as BookGoesOnBy, IsFaultless}
+use Rattle.settling.specs.Campaigns.{GoesCampaign}
+use Rattle.settling.specs.Rest.{IsAtRest, left_of}
+use Rattle.settling.specs.Settles.{HasRestedFor, LeadsNow, LeadsSoon}
+use Rattle.settling.proofs.SettleLeadLemmas.{campaign_faultless, first_leads, leads_nearer, leads_on, soon_faultless, soon_last, soon_nearer, soon_quiet}
+use Rattle.settling.proofs.SettleRestLemmas.{rested_leads, rested_quiet}
 use Rattle.world_law.specs.Book.{posted_as}
 use Rattle.world_law.specs.declared.letter.LetterRow.{LetterRow}
 use Rattle.world_rounds.proofs.DrainLemmas.{HasDrained, runs_in, same_count}

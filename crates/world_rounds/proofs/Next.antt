@@ -6,11 +6,11 @@ use Rattle.std.specs.List.{slice_get}
 use Rattle.disk_model.specs.Images.{Image}
 use Rattle.disk_model.specs.Told.{Told}
 use Rattle.due_set.specs.Table.{Table}
-use Rattle.book_law.specs.Book.{Row}
-use Rattle.book_law.specs.declared.turn.Cause.TheVariants.{Campaign, Tick, Hear}
-use Rattle.script_law.specs.Arms.{PlaysByArms}
-use Rattle.script_law.specs.Round.{answer_tasks, clock_reading, hear_tasks, tasks_of}
-use Rattle.script_law.specs.Situation.{Do, Situation, after_turn, after_turns}
+use Rattle.history.specs.Book.{Row}
+use Rattle.history.specs.declared.turn.Cause.TheVariants.{Campaign, Tick, Hear}
+use Rattle.script_semantics.specs.Arms.{PlaysByArms}
+use Rattle.script_semantics.specs.Round.{answer_tasks, clock_reading, hear_tasks, tasks_of}
+use Rattle.script_semantics.specs.Situation.{Do, Situation, after_turn, after_turns}
 use Rattle.world_rounds.proofs.Delivery.{delivered_all, delivered_none}
 use Rattle.world_rounds.proofs.InOrder.{HasHeard, heard_next, heard_stop, left_is, left_over, mail_is, may_hear_next, passed_answer, passed_hear, passed_on, passed_tick, runs_here}
 use Rattle.world_rounds.specs.OneByOne.{HasPassed, HasStepped, IsLed, IsLedOn, MayTake}

@@ -12,32 +12,32 @@ use Rattle.disk_model.specs.Told.{Told}
 use Rattle.disk_model.specs.declared.armed.Arm.{Arm}
 use Rattle.due_set.specs.Table.{Table}
 use Rattle.paxos_base.specs.declared.durable.Delta.{Delta}
-use Rattle.save_law.specs.Save.{is_kept}
-use Rattle.step_law.specs.State.{started}
-use Rattle.step_law.specs.Step.{Event}
-use Rattle.step_law.specs.declared.out.OutLetter.{OutLetter}
+use Rattle.save_calls.specs.Save.{is_kept}
+use Rattle.step_spec.specs.State.{started}
+use Rattle.step_spec.specs.Step.{Event}
+use Rattle.step_spec.specs.declared.out.OutLetter.{OutLetter}
 use Rattle.std.proofs.lemmas.Option.{slice_get_within}
 use Rattle.script_text.specs.Command.{IsSkew}
-use Rattle.step_law.proofs.Lists.{in_first, in_rest, nothing_in}
-use Rattle.book_law.specs.Book.{Row, Standing, after_row, turn_of, with_fact}
-use Rattle.book_law.specs.declared.turn.Cause.{Cause}
-use Rattle.book_law.specs.declared.turn.Cause.TheVariants.{Campaign, Tick, Hear, Answer}
-use Rattle.book_law.specs.declared.turn.Turn.{Turn}
-use Rattle.book_law.specs.declared.turn.Turn.TheVariants.{Did, Stopped}
+use Rattle.step_spec.proofs.Lists.{in_first, in_rest, nothing_in}
+use Rattle.history.specs.Book.{Row, Standing, after_row, turn_of, with_fact}
+use Rattle.history.specs.declared.turn.Cause.{Cause}
+use Rattle.history.specs.declared.turn.Cause.TheVariants.{Campaign, Tick, Hear, Answer}
+use Rattle.history.specs.declared.turn.Turn.{Turn}
+use Rattle.history.specs.declared.turn.Turn.TheVariants.{Did, Stopped}
 use Rattle.replica_core.specs.Commit.{kept_after}
 use Rattle.replica_core.specs.Step.{IsInputInside}
 use Rattle.replica_core.specs.declared.input.Input.{Input}
 use Rattle.replica_core.specs.declared.input.Input.TheVariants as given
-use Rattle.script_law.specs.Arms.{IsEnough, IsTurnByArm}
-use Rattle.script_law.specs.Situation.{Armed, AreTurnsFor, Do, Does, IsTurnFor, is_cut, Situation, after_turn, after_turns, arms_after, bases_with, changes_in, fates_after, latest_after, latest_with, mails_after}
+use Rattle.script_semantics.specs.Arms.{IsEnough, IsTurnByArm}
+use Rattle.script_semantics.specs.Situation.{Armed, AreTurnsFor, Do, Does, IsTurnFor, is_cut, Situation, after_turn, after_turns, arms_after, bases_with, changes_in, fates_after, latest_after, latest_with, mails_after}
 use Rattle.world_law.specs.Book.{BookState, StandsBehind, standing_behind}
-use Rattle.agree_law.specs.Transition.{identity_of}
+use Rattle.agreement.specs.Transition.{identity_of}
 use Rattle.replica_node.specs.declared.node.Node.{Node}
 use Rattle.world_law.specs.Replicas.{IsLetterInput, IsStopOf, StandsStopped}
 use Rattle.world_law.specs.declared.letter.LetterRow.{LetterRow}
-use Rattle.world_parts.specs.Nodes.{IsDiskAt, bases_behind}
-use Rattle.world_parts.specs.Parts.{IsBookAt, armed_in}
-use Rattle.world_parts.specs.declared.mail.MemberMail.{MemberMail}
+use Rattle.world_steps.specs.Nodes.{IsDiskAt, bases_behind}
+use Rattle.world_steps.specs.Parts.{IsBookAt, armed_in}
+use Rattle.world_steps.specs.declared.mail.MemberMail.{MemberMail}
 use Rattle.world_steps.proofs.AfterTurn.{leaves_other, next_step}
 use Rattle.world_steps.proofs.Bases.{changes_by, changes_stopped, last_may}
 use Rattle.world_steps.proofs.Facts.{fact_here, fact_there}

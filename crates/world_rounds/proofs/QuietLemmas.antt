@@ -13,19 +13,19 @@ use Rattle.launch_machine.specs.Answers.{IsIntent}
 use Rattle.launch_machine.specs.declared.machine.Intent.{Intent}
 use Rattle.launch_machine.specs.declared.machine.Intent.TheVariants.{Call, Start, Rest}
 use Rattle.launch_machine.proofs.ClerkLemmas.{AppliesAll-same}
-use Rattle.step_law.proofs.Lists.{cons_cases, nothing_in}
-use Rattle.step_law.specs.State.{State, prefix_of}
+use Rattle.step_spec.proofs.Lists.{cons_cases, nothing_in}
+use Rattle.step_spec.specs.State.{State, prefix_of}
 use Rattle.replica_core.specs.Replica.{ReplicaState}
 use Rattle.replica_core.specs.Step.{IsOfTable}
 use Rattle.replica_node.specs.Node.{replica_of}
-use Rattle.book_law.specs.Book.{Row, Standing}
-use Rattle.script_law.specs.Settling.{AsksNothing, IsFreeTerm, IsQuiet}
-use Rattle.script_law.specs.Situation.{Situation}
+use Rattle.history.specs.Book.{Row, Standing}
+use Rattle.script_semantics.specs.Settling.{AsksNothing, IsFreeTerm, IsQuiet}
+use Rattle.script_semantics.specs.Situation.{Situation}
 use Rattle.world_law.specs.Book.{standing_behind}
 use Rattle.world_steps.specs.Steps.{IsNodeAhead}
 use Rattle.world_rounds.proofs.StepsAt.{cases_number}
 use Rattle.world_rounds.proofs.Worlds.{some_same}
-use Rattle.drain_law.specs.Rest.{IsAtRest}
+use Rattle.settling.specs.Rest.{IsAtRest}
 use Rattle.world_rounds.specs.Quiet.{AllRun, Tells}
 use Rattle.world_rounds.specs.World.{IsWorld, IsWorldAt}
 use Rattle.world_rounds.specs.declared.member.Member.{Member}

@@ -5,10 +5,10 @@ use Rattle.std.specs.List.{Contains, slice_get}
 use Rattle.std.proofs.Math.Seq.{take-suc}
 use Rattle.std.proofs.lemmas.Bool.{cases_Bool, eqb-true, ne_eqb}
 use Rattle.std.proofs.lemmas.List.Elements.{Contains-append_cases, filter-append}
-use Rattle.book_law.specs.Book.{PostedLetter}
-use Rattle.script_law.proofs.ListLemmas.{from_filter}
-use Rattle.script_law.specs.Commands.{each_once, from_one, has_number, is_from}
-use Rattle.step_law.proofs.Lists.{in_first, in_rest, cons_cases, nothing_in}
+use Rattle.history.specs.Book.{PostedLetter}
+use Rattle.script_semantics.proofs.ListLemmas.{from_filter}
+use Rattle.script_semantics.specs.Commands.{each_once, from_one, has_number, is_from}
+use Rattle.step_spec.proofs.Lists.{in_first, in_rest, cons_cases, nothing_in}
 
 -- ---- each number once
 

@@ -7,16 +7,16 @@ use Rattle.std.proofs.lemmas.Option.{slice_get_within}
 use Rattle.disk_model.specs.Images.{Image}
 use Rattle.disk_model.specs.Told.{Told}
 use Rattle.due_set.specs.Table.{Table}
-use Rattle.step_law.specs.State.{Identity, started}
-use Rattle.step_law.specs.Step.{Event}
-use Rattle.step_law.specs.declared.out.OutLetter.{OutLetter}
-use Rattle.agree_law.specs.Transition.{identity_of}
-use Rattle.book_law.specs.Book.{Row, Standing, after_row, turn_of}
-use Rattle.book_law.specs.declared.turn.Turn.TheVariants.{Restarted}
+use Rattle.step_spec.specs.State.{Identity, started}
+use Rattle.step_spec.specs.Step.{Event}
+use Rattle.step_spec.specs.declared.out.OutLetter.{OutLetter}
+use Rattle.agreement.specs.Transition.{identity_of}
+use Rattle.history.specs.Book.{Row, Standing, after_row, turn_of}
+use Rattle.history.specs.declared.turn.Turn.TheVariants.{Restarted}
 use Rattle.paxos_base.specs.declared.durable.Durable.{Durable}
 use Rattle.replica_node.specs.Node.{replica_of, store_of}
-use Rattle.script_law.specs.Commands.{Plain}
-use Rattle.script_law.specs.Situation.{Restart, Situation, after_turn, arms_after, bases_kept, changes_in, fates_after, latest_after, mails_after}
+use Rattle.script_semantics.specs.Commands.{Plain}
+use Rattle.script_semantics.specs.Situation.{Restart, Situation, after_turn, arms_after, bases_kept, changes_in, fates_after, latest_after, mails_after}
 use Rattle.world_law.proofs.Stops.{restarts}
 use Rattle.world_law.specs.Book.{BookState, IsRowOf, standing_behind}
 use Rattle.world_law.specs.Replicas.{IsRestartOf, StandsAt, StandsStopped, change_alone}
@@ -27,14 +27,14 @@ use Rattle.world_rounds.proofs.AfterTurn.{member_stays}
 use Rattle.world_rounds.proofs.Halts.{goes_alone, has_same}
 use Rattle.world_rounds.proofs.Worlds.{set_cases}
 use Rattle.world_rounds.specs.Alone.{HasJoinedAlone, HasStartedAgain, IsAlone}
-use Rattle.world_parts.specs.Parts.{IsSentTo, armed_in}
+use Rattle.world_steps.specs.Parts.{IsSentTo, armed_in}
 use Rattle.world_rounds.specs.World.{GoesOnBy, IsMemberAhead, IsWorld, IsWorldAt}
 use Rattle.world_rounds.specs.declared.member.Member.{Member}
-use Rattle.world_parts.specs.Nodes.{bases_behind}
+use Rattle.world_steps.specs.Nodes.{bases_behind}
 use Rattle.replica_node.specs.Kept.{area_by}
 use Rattle.replica_store.specs.Store.{area_of}
 use Rattle.world_steps.proofs.Bases.{bases_same}
-use Rattle.book_law.specs.declared.turn.Turn.{Turn}
+use Rattle.history.specs.declared.turn.Turn.{Turn}
 use Rattle.world_rounds.specs.declared.world.World.{World}
 
 -- an element that is taken out, and another put into its place

@@ -12,13 +12,13 @@ use Rattle.cluster_sched.specs.declared.row.SchedRow.{SchedRow}
 use Rattle.disk_model.specs.Images.{Image}
 use Rattle.disk_model.specs.Told.{Told}
 use Rattle.due_set.specs.Table.{Table}
-use Rattle.step_law.proofs.Lists.{nothing_in}
-use Rattle.book_law.specs.Book.{Row, Standing}
-use Rattle.book_law.specs.declared.turn.Cause.TheVariants.{Tick, Hear}
+use Rattle.step_spec.proofs.Lists.{nothing_in}
+use Rattle.history.specs.Book.{Row, Standing}
+use Rattle.history.specs.declared.turn.Cause.TheVariants.{Tick, Hear}
 use Rattle.replica_core.specs.declared.input.Input.TheVariants as told
 use Rattle.replica_node.specs.declared.node.Node.{Node}
-use Rattle.script_law.specs.Round.{answer_tasks, clock_reading, hear_tasks, tasks_of}
-use Rattle.script_law.specs.Situation.{Do, Situation}
+use Rattle.script_semantics.specs.Round.{answer_tasks, clock_reading, hear_tasks, tasks_of}
+use Rattle.script_semantics.specs.Situation.{Do, Situation}
 use Rattle.world_law.specs.Book.{BookState, standing_behind}
 use Rattle.world_steps.specs.Steps.{IsBeside, WasToldOf, causes_of, heard_in}
 use Rattle.world_steps.specs.declared.steps.Taken.{Taken}
@@ -27,7 +27,7 @@ use Rattle.world_rounds.specs.Hearing.{MayHear, MayTakeAnswer, answer_causes, he
 use Rattle.world_rounds.specs.Taking.{tasks_by}
 use Rattle.script_text.specs.Command.{IsSkew}
 use Rattle.world_rounds.specs.World.{IsMemberAhead}
-use Rattle.world_parts.specs.Parts.{armed_in}
+use Rattle.world_steps.specs.Parts.{armed_in}
 use Rattle.world_rounds.specs.declared.member.Member.{Member}
 
 pub clock_inside : (window : Window) (at skew : ℤ) → window.from.0 <ℤ window.until.0 → IsInWindow window (clock_reading window at skew).0

@@ -11,14 +11,14 @@ use Rattle.disk_model.specs.Images.{Image}
 use Rattle.disk_model.specs.Told.{Told}
 use Rattle.due_set.specs.Table.{Table}
 use Rattle.zone_minutes.specs.declared.minute.Window.{Window}
-use Rattle.book_law.specs.Book.{Row, Standing}
-use Rattle.script_law.specs.Arms.{AreRoundsByArms, PlaysByArms}
-use Rattle.script_law.specs.Round.{IsRound, round_tasks, tasks_of}
-use Rattle.script_law.specs.Situation.{Performs, Situation, Task, after_turns, delivered, is_cut}
+use Rattle.history.specs.Book.{Row, Standing}
+use Rattle.script_semantics.specs.Arms.{AreRoundsByArms, PlaysByArms}
+use Rattle.script_semantics.specs.Round.{IsRound, round_tasks, tasks_of}
+use Rattle.script_semantics.specs.Situation.{Performs, Situation, Task, after_turns, delivered, is_cut}
 use Rattle.world_law.specs.Book.{BookState, IsLegalBook, posted_as}
 use Rattle.world_steps.specs.Steps.{causes_of}
 use Rattle.world_rounds.proofs.Chains.{taken_none, taken_then}
-use Rattle.world_parts.specs.Parts.{armed_in}
+use Rattle.world_steps.specs.Parts.{armed_in}
 use Rattle.world_rounds.proofs.Delivery.{range_next}
 use Rattle.world_rounds.proofs.Led.{plain_turns, round_below}
 use Rattle.world_rounds.proofs.StepsAt.{ahead_same, cases_number, get_set_there}
@@ -26,7 +26,7 @@ use Rattle.world_rounds.proofs.Worlds.{set_cases}
 use Rattle.world_rounds.specs.Mails.{Changes}
 use Rattle.world_rounds.specs.Rounds.{AllTakeRounds, CommitsAll, HasTakenRound, MayTakeRound, TakesRound, tasks_at_hand}
 use Rattle.world_rounds.specs.Taking.{CommitsOwn, HasTaken, IsAhead, MayCommitOwn, PutsDown, steps_at, steps_of, tasks_by}
-use Rattle.world_parts.specs.Parts.{IsBookAt}
+use Rattle.world_steps.specs.Parts.{IsBookAt}
 use Rattle.world_rounds.specs.World.{GoesOnBy, IsMemberAhead, IsWorld, IsWorldAt, book_of, none_taken}
 use Rattle.world_rounds.specs.declared.member.Member.{Member}
 use Rattle.world_rounds.specs.declared.world.World.{World}

@@ -8,21 +8,21 @@ use Rattle.cluster_sched.specs.declared.fate.Fate.{Fate}
 use Rattle.disk_model.specs.Images.{Image}
 use Rattle.disk_model.specs.Told.{Told}
 use Rattle.due_set.specs.Table.{Table}
-use Rattle.book_law.specs.Book.{Row, Standing, with_fact}
-use Rattle.script_law.specs.Commands.{Plain}
-use Rattle.script_law.specs.Situation.{Situation, Task, delivered, is_cut, letters_for}
+use Rattle.history.specs.Book.{Row, Standing, with_fact}
+use Rattle.script_semantics.specs.Commands.{Plain}
+use Rattle.script_semantics.specs.Situation.{Situation, Task, delivered, is_cut, letters_for}
 use Rattle.world_law.specs.declared.letter.LetterRow.{LetterRow}
 use Rattle.world_steps.proofs.Facts.{fact_here, fact_there}
 use Rattle.world_rounds.proofs.Delivery.{same_mails}
 use Rattle.world_rounds.proofs.Worlds.{set_cases}
 use Rattle.world_rounds.specs.Mails.{Changes}
 use Rattle.script_text.specs.Command.{IsSkew}
-use Rattle.world_parts.specs.Parts.{IsMailOf}
+use Rattle.world_steps.specs.Parts.{IsMailOf}
 use Rattle.world_rounds.specs.World.{GoesOnBy, IsWorldAt}
-use Rattle.world_parts.specs.declared.mail.MemberMail.{MemberMail}
+use Rattle.world_steps.specs.declared.mail.MemberMail.{MemberMail}
 use Rattle.world_rounds.specs.declared.member.Member.{Member}
-use Rattle.script_law.specs.Arms.{armed_by}
-use Rattle.script_law.specs.Parts.{Sets}
+use Rattle.script_semantics.specs.Arms.{armed_by}
+use Rattle.script_semantics.specs.Parts.{Sets}
 use Rattle.world_rounds.specs.declared.world.World.{World}
 
 -- one pair more from whom to whom letters are lost

@@ -14,15 +14,15 @@ use Rattle.disk_model.specs.Told.{Told}
 use Rattle.due_set.specs.Table.{IsSound, Table}
 use Rattle.launch_machine.specs.Clerk.{first_rows}
 use Rattle.paxos_base.specs.declared.durable.Durable.{Durable}
-use Rattle.step_law.specs.State.{Identity, started}
-use Rattle.step_law.proofs.Lists.{nothing_in}
-use Rattle.agree_law.specs.Transition.{identity_of}
-use Rattle.agree_law.specs.World.{fresh}
-use Rattle.book_law.specs.Book.{first_standing}
+use Rattle.step_spec.specs.State.{Identity, started}
+use Rattle.step_spec.proofs.Lists.{nothing_in}
+use Rattle.agreement.specs.Transition.{identity_of}
+use Rattle.agreement.specs.World.{fresh}
+use Rattle.history.specs.Book.{first_standing}
 use Rattle.replica_node.specs.Node.{replica_of}
-use Rattle.script_law.specs.Situation.{first_situation, is_cut}
+use Rattle.script_semantics.specs.Situation.{first_situation, is_cut}
 use Rattle.world_law.specs.Book.{BookState, StandsBehind, standing_behind}
-use Rattle.world_parts.specs.Parts.{armed_in}
+use Rattle.world_steps.specs.Parts.{armed_in}
 use Rattle.world_rounds.specs.Start.{IsFreshMember}
 use Rattle.script_text.specs.Command.{IsSkew}
 use Rattle.world_rounds.specs.World.{IsMemberAhead, IsWorldAt}

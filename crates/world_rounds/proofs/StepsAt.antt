@@ -7,8 +7,8 @@ use Rattle.std.proofs.lemmas.List.{length-set, map-append}
 use Rattle.disk_model.specs.Images.{Image}
 use Rattle.disk_model.specs.Told.{Told}
 use Rattle.due_set.specs.Table.{Table}
-use Rattle.book_law.specs.Book.{Row, with_fact}
-use Rattle.script_law.specs.Situation.{Do, Situation, Task, after_turns, is_cut}
+use Rattle.history.specs.Book.{Row, with_fact}
+use Rattle.script_semantics.specs.Situation.{Do, Situation, Task, after_turns, is_cut}
 use Rattle.world_steps.proofs.Facts.{fact_here, fact_there}
 use Rattle.std.proofs.Math.Seq.{take-suc}
 use Rattle.world_steps.specs.Steps.{causes_of}

@@ -7,18 +7,18 @@ use Rattle.std.proofs.lemmas.Option.{slice_get_within}
 use Rattle.disk_model.specs.Images.{Image}
 use Rattle.disk_model.specs.Told.{Told}
 use Rattle.due_set.specs.Table.{Table}
-use Rattle.step_law.specs.State.{Identity, started}
-use Rattle.agree_law.specs.Transition.{identity_of}
-use Rattle.book_law.specs.Book.{Row}
+use Rattle.step_spec.specs.State.{Identity, started}
+use Rattle.agreement.specs.Transition.{identity_of}
+use Rattle.history.specs.Book.{Row}
 use Rattle.replica_node.specs.Node.{replica_of}
 use Rattle.replica_node.specs.declared.node.Node.{Node}
-use Rattle.script_law.specs.Situation.{Situation, is_cut}
+use Rattle.script_semantics.specs.Situation.{Situation, is_cut}
 use Rattle.world_law.specs.Book.{BookState, StandsBehind, standing_behind}
-use Rattle.world_parts.proofs.Stopped.{stands_stopped}
-use Rattle.world_parts.specs.Nodes.{IsNodeOf, bases_behind}
-use Rattle.world_parts.specs.Parts.{ArePartsAt, IsBookAt}
-use Rattle.world_parts.specs.declared.bundle.Bundle.{Bundle}
-use Rattle.world_parts.specs.declared.mail.MemberMail.{MemberMail}
+use Rattle.world_steps.proofs.Stopped.{stands_stopped}
+use Rattle.world_steps.specs.Nodes.{IsNodeOf, bases_behind}
+use Rattle.world_steps.specs.Parts.{ArePartsAt, IsBookAt}
+use Rattle.world_steps.specs.declared.bundle.Bundle.{Bundle}
+use Rattle.world_steps.specs.declared.mail.MemberMail.{MemberMail}
 use Rattle.world_steps.specs.Steps.{IsNodeAhead, IsNodeStopped}
 use Rattle.world_rounds.specs.Nodes.{AreNodesAndMails, mails_of, nodes_of}
 use Rattle.world_rounds.specs.World.{IsMemberAhead, IsWorldAt}

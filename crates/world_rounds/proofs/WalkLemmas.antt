@@ -9,11 +9,11 @@ use Rattle.zone_minutes.specs.declared.minute.Window.{Window}
 use Rattle.disk_model.specs.Images.{Image}
 use Rattle.disk_model.specs.Told.{Told}
 use Rattle.due_set.specs.Table.{Table}
-use Rattle.book_law.specs.Book.{Row}
-use Rattle.script_law.specs.Parts.{Then}
-use Rattle.script_law.specs.Settling.{AsksNothing, AsksNothingUntil, Drains, IsNextMinute, Settles, Walks, WalksOn, coordinator}
-use Rattle.script_law.specs.Situation.{Situation}
-use Rattle.step_law.specs.State.{State}
+use Rattle.history.specs.Book.{Row}
+use Rattle.script_semantics.specs.Parts.{Then}
+use Rattle.script_semantics.specs.Settling.{AsksNothing, AsksNothingUntil, Drains, IsNextMinute, Settles, Walks, WalksOn, coordinator}
+use Rattle.script_semantics.specs.Situation.{Situation}
+use Rattle.step_spec.specs.State.{State}
 use Rattle.world_rounds.proofs.StepsAt.{cases_number}
 use Rattle.world_rounds.specs.Quiet.{AllRun, IsIn, Tells}
 use Rattle.world_rounds.specs.Walking.{WalkedOn}

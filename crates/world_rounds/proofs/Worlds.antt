@@ -8,14 +8,14 @@ use Rattle.std.proofs.lemmas.List.{length-set}
 use Rattle.disk_model.specs.Images.{Image}
 use Rattle.disk_model.specs.Told.{Told}
 use Rattle.due_set.specs.Table.{Table}
-use Rattle.book_law.specs.Book.{Row, turn_of, with_fact}
-use Rattle.book_law.specs.declared.turn.CallRow.{CallRow}
-use Rattle.book_law.specs.declared.turn.Cause.{Cause}
-use Rattle.book_law.specs.declared.turn.Cause.TheVariants.{Answer, Campaign, Hear, Tick}
-use Rattle.book_law.specs.declared.turn.Turn.{Turn}
-use Rattle.book_law.specs.declared.turn.Turn.TheVariants.{Arrived, Did, Restarted, Stopped}
+use Rattle.history.specs.Book.{Row, turn_of, with_fact}
+use Rattle.history.specs.declared.turn.CallRow.{CallRow}
+use Rattle.history.specs.declared.turn.Cause.{Cause}
+use Rattle.history.specs.declared.turn.Cause.TheVariants.{Answer, Campaign, Hear, Tick}
+use Rattle.history.specs.declared.turn.Turn.{Turn}
+use Rattle.history.specs.declared.turn.Turn.TheVariants.{Arrived, Did, Restarted, Stopped}
 use Rattle.replica_core.specs.Replica.{ReplicaState}
-use Rattle.script_law.specs.Situation.{Situation, after_turn, calls_for, is_cut, latest_after, latest_with}
+use Rattle.script_semantics.specs.Situation.{Situation, after_turn, calls_for, is_cut, latest_after, latest_with}
 use Rattle.world_law.specs.Book.{StandsBehind}
 use Rattle.world_steps.proofs.AfterTurn.{leaves_other, next_step, stands_after}
 use Rattle.world_steps.proofs.Bases.{bases_then}

@@ -4,11 +4,11 @@ use Rattle.disk_model.specs.Images.{Image}
 use Rattle.disk_model.specs.Told.{Told}
 use Rattle.due_set.specs.Table.{Table}
 use Rattle.paxos_base.specs.declared.durable.Delta.{Delta}
-use Rattle.step_law.specs.State.{started}
-use Rattle.agree_law.specs.Transition.{identity_of}
-use Rattle.book_law.specs.Book.{Row}
-use Rattle.book_law.specs.Legal.{MayFollow}
-use Rattle.book_law.specs.declared.turn.Turn.{Turn}
+use Rattle.step_spec.specs.State.{started}
+use Rattle.agreement.specs.Transition.{identity_of}
+use Rattle.history.specs.Book.{Row}
+use Rattle.history.specs.Legal.{MayFollow}
+use Rattle.history.specs.declared.turn.Turn.{Turn}
 use Rattle.world_law.specs.Book.{BookState, IsRowOf, StandsBehind, call_of, standing_behind}
 use Rattle.replica_node.specs.Kept.{IsNodeClean}
 use Rattle.replica_node.specs.Node.{IsNodeAtRest, disk_of, replica_of, store_of}

@@ -4,10 +4,10 @@ use Rattle.disk_model.specs.Images.{Image}
 use Rattle.disk_model.specs.Told.{Told}
 use Rattle.due_set.specs.Table.{Table}
 use Rattle.replica_node.specs.Node.{replica_of}
-use Rattle.book_law.specs.Book.{Row}
-use Rattle.script_law.specs.Situation.{Situation}
-use Rattle.round_law.specs.Rounds.{IsFaultless}
-use Rattle.drain_law.specs.Rest.{left_of}
+use Rattle.history.specs.Book.{Row}
+use Rattle.script_semantics.specs.Situation.{Situation}
+use Rattle.settling.specs.Rounds.{IsFaultless}
+use Rattle.settling.specs.Rest.{left_of}
 use Rattle.world_law.specs.Book.{BookState}
 use Rattle.world_law.specs.declared.letter.LetterRow.{LetterRow}
 use Rattle.world_rounds.specs.World.{IsWorldAt}

@@ -1,11 +1,11 @@
 -- What settling begins with, in a world.
 use Rattle.std.specs.Prelude.{◌≡◌, ℕ, [], List, pos, length, None, Some, slice_get}
 use Rattle.cluster_sched.specs.declared.fate.Fate.TheVariants.{Done}
-use Rattle.step_law.specs.State.{State, prefix_of}
+use Rattle.step_spec.specs.State.{State, prefix_of}
 use Rattle.replica_node.specs.Node.{replica_of}
-use Rattle.book_law.specs.Book.{Row}
-use Rattle.script_law.specs.Settling.{restart_tasks}
-use Rattle.script_law.specs.Situation.{AreTurnsFor, Situation, after_turns}
+use Rattle.history.specs.Book.{Row}
+use Rattle.script_semantics.specs.Settling.{restart_tasks}
+use Rattle.script_semantics.specs.Situation.{AreTurnsFor, Situation, after_turns}
 use Rattle.world_rounds.specs.declared.member.Member.{Member}
 
 -- no letter waits for the replica, its clock is right, its next call is answered, and its disk isn't armed; all else is as it was

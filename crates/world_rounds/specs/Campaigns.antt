@@ -3,9 +3,9 @@ use Rattle.std.specs.Prelude.{◌≡◌, ℕ, List, [], ◌∷◌, Option}
 use Rattle.disk_model.specs.Images.{Image}
 use Rattle.disk_model.specs.Told.{Told}
 use Rattle.due_set.specs.Table.{Table}
-use Rattle.book_law.specs.Book.{Row}
-use Rattle.book_law.specs.declared.turn.Cause.TheVariants.{Campaign}
-use Rattle.script_law.specs.Situation.{Situation}
+use Rattle.history.specs.Book.{Row}
+use Rattle.history.specs.declared.turn.Cause.TheVariants.{Campaign}
+use Rattle.script_semantics.specs.Situation.{Situation}
 use Rattle.world_law.specs.Book.{BookState}
 use Rattle.world_steps.specs.Steps.{causes_of}
 use Rattle.world_rounds.specs.Rounds.{IsMemberIdle}

@@ -4,12 +4,12 @@ use Rattle.cluster_sched.specs.declared.row.SchedRow.{SchedRow}
 use Rattle.disk_model.specs.Images.{Image}
 use Rattle.disk_model.specs.Told.{Told}
 use Rattle.due_set.specs.Table.{Table}
-use Rattle.book_law.specs.Book.{Row}
-use Rattle.book_law.specs.declared.turn.Cause.{Cause}
-use Rattle.book_law.specs.declared.turn.Cause.TheVariants.{Hear, Answer}
+use Rattle.history.specs.Book.{Row}
+use Rattle.history.specs.declared.turn.Cause.{Cause}
+use Rattle.history.specs.declared.turn.Cause.TheVariants.{Hear, Answer}
 use Rattle.replica_node.specs.declared.node.Node.{Node}
 use Rattle.world_law.specs.Book.{BookState}
-use Rattle.world_parts.specs.Parts.{IsSentTo}
+use Rattle.world_steps.specs.Parts.{IsSentTo}
 use Rattle.world_steps.specs.Steps.{IsBeside, waits_in}
 use Rattle.world_steps.specs.declared.steps.Taken.{Taken}
 

@@ -1,7 +1,7 @@
 -- The replicas of a world, and their nodes and mails.
 use Rattle.std.specs.Prelude.{◌≡◌, List, map}
 use Rattle.replica_node.specs.declared.node.Node.{Node}
-use Rattle.world_parts.specs.declared.mail.MemberMail.{MemberMail}
+use Rattle.world_steps.specs.declared.mail.MemberMail.{MemberMail}
 use Rattle.world_rounds.specs.declared.member.Member.{Member}
 
 -- the nodes of some members

@@ -9,16 +9,16 @@ use Rattle.disk_model.specs.Told.{Told}
 use Rattle.disk_model.specs.declared.armed.Arm.{Arm}
 use Rattle.due_set.specs.Table.{Table}
 use Rattle.paxos_base.specs.declared.durable.Delta.{Delta}
-use Rattle.book_law.specs.Book.{Row}
-use Rattle.book_law.specs.declared.turn.Cause.{Cause}
-use Rattle.book_law.specs.declared.turn.Cause.TheVariants.{Campaign, Tick, Hear, Answer}
-use Rattle.book_law.specs.declared.turn.Turn.{Turn}
-use Rattle.book_law.specs.declared.turn.Turn.TheVariants.{Stopped}
-use Rattle.script_law.specs.Arms.{AreTurnsByArms, IsEnough, IsTurnByArm, is_task_of}
-use Rattle.script_law.specs.Situation.{Do, Situation, Task, after_turn, after_turns}
+use Rattle.history.specs.Book.{Row}
+use Rattle.history.specs.declared.turn.Cause.{Cause}
+use Rattle.history.specs.declared.turn.Cause.TheVariants.{Campaign, Tick, Hear, Answer}
+use Rattle.history.specs.declared.turn.Turn.{Turn}
+use Rattle.history.specs.declared.turn.Turn.TheVariants.{Stopped}
+use Rattle.script_semantics.specs.Arms.{AreTurnsByArms, IsEnough, IsTurnByArm, is_task_of}
+use Rattle.script_semantics.specs.Situation.{Do, Situation, Task, after_turn, after_turns}
 use Rattle.world_law.specs.Book.{BookState}
 use Rattle.world_law.specs.declared.letter.LetterRow.{LetterRow}
-use Rattle.world_parts.specs.Parts.{IsSentTo, armed_in}
+use Rattle.world_steps.specs.Parts.{IsSentTo, armed_in}
 use Rattle.world_steps.specs.Stops.{HasStopped}
 use Rattle.world_steps.specs.declared.armed.Outcome.{Outcome}
 use Rattle.world_steps.specs.declared.armed.Outcome.TheVariants as outcome

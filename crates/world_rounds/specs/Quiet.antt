@@ -5,8 +5,8 @@ use Rattle.disk_model.specs.Told.{Told}
 use Rattle.due_set.specs.Table.{Table}
 use Rattle.term_core.specs.declared.term.Term.{Term}
 use Rattle.term_core.specs.declared.term.Term.TheVariants.{Follower}
-use Rattle.book_law.specs.Book.{Row}
-use Rattle.script_law.specs.Situation.{Situation}
+use Rattle.history.specs.Book.{Row}
+use Rattle.script_semantics.specs.Situation.{Situation}
 use Rattle.world_rounds.specs.World.{IsWorldAt}
 use Rattle.world_rounds.specs.declared.member.Member.{Member}
 use Rattle.world_rounds.specs.declared.world.World.{World}

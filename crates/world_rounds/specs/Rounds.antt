@@ -4,13 +4,13 @@ use Rattle.std.specs.List.{flat_map, range_with_len}
 use Rattle.disk_model.specs.Images.{Image}
 use Rattle.disk_model.specs.Told.{Told}
 use Rattle.due_set.specs.Table.{Table}
-use Rattle.book_law.specs.Book.{Row}
-use Rattle.script_law.specs.Round.{tasks_of}
-use Rattle.script_law.specs.Situation.{Situation, Task}
+use Rattle.history.specs.Book.{Row}
+use Rattle.script_semantics.specs.Round.{tasks_of}
+use Rattle.script_semantics.specs.Situation.{Situation, Task}
 use Rattle.world_law.specs.Book.{BookState}
 use Rattle.world_steps.specs.Steps.{causes_of}
 use Rattle.world_rounds.specs.Taking.{HasTaken, IsAhead, steps_at, tasks_by}
-use Rattle.world_parts.specs.Parts.{IsBookAt}
+use Rattle.world_steps.specs.Parts.{IsBookAt}
 use Rattle.world_rounds.specs.World.{IsMemberAhead, book_of}
 use Rattle.world_rounds.specs.declared.member.Member.{Member}
 use Rattle.world_rounds.specs.declared.world.World.{World}

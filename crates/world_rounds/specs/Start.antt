@@ -6,13 +6,13 @@ use Rattle.disk_model.specs.Told.{Told}
 use Rattle.disk_model.specs.declared.fault.FileNo.{FileNo}
 use Rattle.due_set.specs.Table.{Table}
 use Rattle.launch_machine.specs.Clerk.{first_rows}
-use Rattle.step_law.specs.State.{started}
-use Rattle.agree_law.specs.Transition.{identity_of}
-use Rattle.agree_law.specs.World.{fresh}
+use Rattle.step_spec.specs.State.{started}
+use Rattle.agreement.specs.Transition.{identity_of}
+use Rattle.agreement.specs.World.{fresh}
 use Rattle.replica_node.specs.Node.{IsNodeAtRest, disk_of, replica_of}
 use Rattle.replica_node.specs.Reliable.{IsReliable}
 use Rattle.std.specs.Prelude.{pos}
-use Rattle.world_parts.specs.Nodes.{IsDiskAt}
+use Rattle.world_steps.specs.Nodes.{IsDiskAt}
 use Rattle.world_rounds.specs.declared.member.Member.{Member}
 
 -- The disk is honest and reliable: it is neither armed nor stopped, and can't fail. Its files are empty, whatever a stop leaves.

@@ -3,9 +3,9 @@ use Rattle.std.specs.Prelude.{◌≡◌, ◌≢◌, ℕ, ◌<◌, List, [], ◌+
 use Rattle.disk_model.specs.Images.{Image}
 use Rattle.disk_model.specs.Told.{Told}
 use Rattle.due_set.specs.Table.{Table}
-use Rattle.book_law.specs.Book.{Row, with_fact}
-use Rattle.book_law.specs.declared.turn.Cause.{Cause}
-use Rattle.script_law.specs.Situation.{AreTurnsFor, Do, Situation, Task, after_turns}
+use Rattle.history.specs.Book.{Row, with_fact}
+use Rattle.history.specs.declared.turn.Cause.{Cause}
+use Rattle.script_semantics.specs.Situation.{AreTurnsFor, Do, Situation, Task, after_turns}
 use Rattle.world_steps.specs.Steps.{causes_of}
 use Rattle.world_steps.specs.declared.steps.Taken.{Taken}
 use Rattle.world_rounds.specs.World.{IsWorldAhead, book_of}

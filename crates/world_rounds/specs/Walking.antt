@@ -1,9 +1,9 @@
 -- How a walk goes on, in a world.
 use Rattle.std.specs.Prelude.{ℕ, List, ◌++◌, ℤ}
 use Rattle.due_set.specs.Table.{Table}
-use Rattle.book_law.specs.Book.{Row}
-use Rattle.script_law.specs.Settling.{WalksOn}
-use Rattle.script_law.specs.Situation.{Situation}
+use Rattle.history.specs.Book.{Row}
+use Rattle.script_semantics.specs.Settling.{WalksOn}
+use Rattle.script_semantics.specs.Situation.{Situation}
 
 -- **What has come belongs to a walk**, of which the last drain was at the minute above: however the walk goes on from here, so it goes on
 -- from the start.

@@ -3,11 +3,11 @@ use Rattle.std.specs.Prelude.{◌≡◌, ℕ, true, false, List, [], ◌++◌, l
 use Rattle.disk_model.specs.Images.{Image}
 use Rattle.disk_model.specs.Told.{Told}
 use Rattle.due_set.specs.Table.{Table}
-use Rattle.book_law.specs.Book.{Row}
-use Rattle.script_law.specs.Situation.{Situation, is_cut}
+use Rattle.history.specs.Book.{Row}
+use Rattle.script_semantics.specs.Situation.{Situation, is_cut}
 use Rattle.world_law.specs.Book.{BookState, standing_behind}
-use Rattle.world_parts.specs.Nodes.{bases_behind}
-use Rattle.world_parts.specs.Parts.{IsBookAt, IsMailOf}
+use Rattle.world_steps.specs.Nodes.{bases_behind}
+use Rattle.world_steps.specs.Parts.{IsBookAt, IsMailOf}
 use Rattle.world_steps.specs.Steps.{IsNodeAhead, IsNodeStopped, causes_of, heard_in}
 use Rattle.world_steps.specs.declared.steps.Taken.{Taken}
 use Rattle.world_rounds.specs.declared.member.Member.{Member}

@@ -1,10 +1,10 @@
 //! Turns that are no steps: a replica stops or starts again, a late call arrives.
 ghost use Rattle.std.specs.Prelude.{◌≡◌, ◌<◌, ◌≤◌, IfOk, ◌&&◌, ℕ, List, OnOk, OnErr, length, nat_lt, not};
-ghost use Rattle.book_law.specs.Book.{Row};
+ghost use Rattle.history.specs.Book.{Row};
 ghost use Rattle.replica_node.specs.Node.{IsNodeAtRest, disk_of};
 ghost use Rattle.replica_node.specs.Reliable.{IsReliable};
-ghost use Rattle.script_law.specs.Commands.{has_number};
-ghost use Rattle.script_law.specs.Script.{IsPartOf};
+ghost use Rattle.script_semantics.specs.Commands.{has_number};
+ghost use Rattle.script_semantics.specs.Script.{IsPartOf};
 ghost use Rattle.script_text.specs.declared.command.Command.TheVariants as command;
 ghost use Rattle.world_law.specs.Book.{IsLegalBook};
 ghost use Rattle.world_rounds.specs.Alone.{HasJoinedAlone, HasStartedAgain, IsAlone};
@@ -12,10 +12,10 @@ ghost use Rattle.world_rounds.specs.World.{GoesOnBy, IsWorld, book_of};
 
 use crate::member::Member;
 use crate::world::World;
-use book_law::Turn;
 use cron_io::OutOfMemory;
 use disk_model::Disk;
 use due_set::JobTable;
+use history::Turn;
 use paxos_base::Delta;
 use replica_node::Node;
 use std::alloc::Global;

@@ -1,10 +1,10 @@
 //! What settling begins with: all that are stopped start again, faults end, and the replica that has learned the most is found.
 ghost use Rattle.std.specs.Prelude.{◌≡◌, ◌⊎◌, ◌-◌, ◌<◌, ◌≤◌, ℕ, Some, OnOk, OnErr, length, nat_lt, if◌then◌else◌, slice_get};
-ghost use Rattle.step_law.specs.State.{State, prefix_of};
+ghost use Rattle.step_spec.specs.State.{State, prefix_of};
 ghost use Rattle.replica_node.specs.Node.{replica_of};
-ghost use Rattle.script_law.specs.Commands.{Plain};
-ghost use Rattle.script_law.specs.Settling.{calmed, coordinator, furthest, restart_tasks};
-ghost use Rattle.script_law.specs.Situation.{Situation};
+ghost use Rattle.script_semantics.specs.Commands.{Plain};
+ghost use Rattle.script_semantics.specs.Settling.{calmed, coordinator, furthest, restart_tasks};
+ghost use Rattle.script_semantics.specs.Situation.{Situation};
 ghost use Rattle.world_law.specs.Book.{IsLegalBook};
 ghost use Rattle.world_rounds.specs.Calm.{AreCalmed, HaveLearned, RestartsAll};
 ghost use Rattle.world_rounds.specs.Mails.{Changes};

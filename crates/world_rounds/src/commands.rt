@@ -1,9 +1,9 @@
 //! The commands of a script.
 ghost use Rattle.std.specs.Prelude.{◌≡◌, ◌<◌, OnOk, OnErr, length};
 ghost use Rattle.cluster_sched.specs.declared.fate.Fate.{Fate as Becomes};
-ghost use Rattle.script_law.specs.Arms.{armed_by};
-ghost use Rattle.script_law.specs.Commands.{Plain, fate_of, set_by, tasks_for};
-ghost use Rattle.script_law.specs.Script.{IsPartOf};
+ghost use Rattle.script_semantics.specs.Arms.{armed_by};
+ghost use Rattle.script_semantics.specs.Commands.{Plain, fate_of, set_by, tasks_for};
+ghost use Rattle.script_semantics.specs.Script.{IsPartOf};
 ghost use Rattle.script_text.specs.declared.command.Command.TheVariants as command;
 ghost use Rattle.world_law.specs.Book.{IsLegalBook};
 ghost use Rattle.world_rounds.specs.Commands.{IsTaken};

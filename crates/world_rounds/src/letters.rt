@@ -1,7 +1,7 @@
 //! What commands do to the letters that wait: they are lost, turned round, or join their mail once more.
 ghost use Rattle.std.specs.Prelude.{◌≡◌, ◌<◌, ◌&&◌, not, IfOk, OnOk, length, map, slice_get};
 ghost use Rattle.due_set.specs.Table.{Table};
-ghost use Rattle.script_law.specs.Commands.{each_once, from_one, from_others, has_number, is_from, set_by};
+ghost use Rattle.script_semantics.specs.Commands.{each_once, from_one, from_others, has_number, is_from, set_by};
 ghost use Rattle.script_text.specs.declared.command.Command.TheVariants as command;
 ghost use Rattle.world_law.specs.Book.{posted_as};
 ghost use Rattle.world_rounds.specs.Mails.{Changes};

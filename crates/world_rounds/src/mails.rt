@@ -1,7 +1,7 @@
 //! Letters join the mails.
 ghost use Rattle.std.specs.Prelude.{◌≡◌, ◌<◌, OnOk, length};
 ghost use Rattle.due_set.specs.Table.{Table};
-ghost use Rattle.script_law.specs.Situation.{delivered};
+ghost use Rattle.script_semantics.specs.Situation.{delivered};
 ghost use Rattle.world_rounds.specs.Mails.{Changes, arrived};
 ghost use Rattle.world_rounds.specs.World.{IsWorld, book_of};
 

@@ -1,21 +1,20 @@
 //! A replica of a world.
 ghost use Rattle.std.specs.Prelude.{◌≡◌, true, OnOk};
-ghost use Rattle.step_law.specs.State.{prefix_of};
+ghost use Rattle.step_spec.specs.State.{prefix_of};
 ghost use Rattle.replica_node.specs.Node.{replica_of};
 ghost use Rattle.zone_minutes.specs.Window.{IsInWindow};
 ghost use Rattle.world_rounds.specs.Campaigns.{TakesCampaign};
 ghost use Rattle.world_rounds.specs.Rounds.{MayTakeRound, RunsRound, TakesRound};
 
 use crate::steps::{hear_letters, keep_step, take_answer};
-use book_law::Cause;
 use cron_io::OutOfMemory;
 use disk_model::Disk;
 use due_set::JobTable;
+use history::Cause;
 use replica_core::Input;
 use replica_node::Node;
 use world_law::Book;
-use world_parts::MemberMail;
-use world_steps::{Taken, reading_of};
+use world_steps::{MemberMail, Taken, reading_of};
 use zone_minutes::Minute;
 
 /// A replica: its node, also while it is stopped, its mail, the steps that it has taken since its last turn, and whether want

@@ -2,13 +2,13 @@
 //! a disk stops within a step it is revived and attached at once, and its replica is stopped.
 ghost use Rattle.std.specs.Prelude.{◌≡◌, ◌<◌, ◌≤◌, ◌∷◌, ℕ, true, false, [], List, None, Some, IsSome, IfOk, OnOk, OnErr, length, slice_get};
 ghost use Rattle.zone_minutes.specs.Window.{IsInWindow};
-ghost use Rattle.book_law.specs.Book.{Row};
-ghost use Rattle.book_law.specs.declared.turn.Cause.TheVariants as because;
-ghost use Rattle.script_law.specs.Arms.{PlaysByArms};
+ghost use Rattle.history.specs.Book.{Row};
+ghost use Rattle.history.specs.declared.turn.Cause.TheVariants as because;
+ghost use Rattle.script_semantics.specs.Arms.{PlaysByArms};
 ghost use Rattle.disk_model.specs.declared.armed.Arm.{Arm};
-ghost use Rattle.script_law.specs.Round.{answer_tasks, clock_reading, hear_tasks, round_tasks, tasks_of};
-ghost use Rattle.script_law.specs.Script.{IsPartOf};
-ghost use Rattle.script_law.specs.Situation.{Do, Situation};
+ghost use Rattle.script_semantics.specs.Round.{answer_tasks, clock_reading, hear_tasks, round_tasks, tasks_of};
+ghost use Rattle.script_semantics.specs.Script.{IsPartOf};
+ghost use Rattle.script_semantics.specs.Situation.{Do, Situation};
 ghost use Rattle.script_text.specs.declared.command.Command.TheVariants as command;
 ghost use Rattle.world_law.specs.Book.{IsLegalBook};
 ghost use Rattle.world_steps.specs.Steps.{IsToldOf};
@@ -20,17 +20,18 @@ ghost use Rattle.world_rounds.specs.declared.member.Member.{Member as Seat};
 use crate::alone::commit_alone;
 use crate::member::Member;
 use crate::world::World;
-use book_law::{Cause, Turn};
 use cluster_sched::SchedRow;
 use cron_io::OutOfMemory;
 use disk_model::ArmedDisk;
 use due_set::JobTable;
+use history::{Cause, Turn};
 use paxos_base::Delta;
 use replica_core::Input;
 use std::alloc::Global;
 use world_law::Book;
-use world_parts::MemberMail;
-use world_steps::{Outcome, letter_at, note_stop, reading_of, reading_with, take_by_arm};
+use world_steps::{
+    MemberMail, Outcome, letter_at, note_stop, reading_of, reading_with, take_by_arm,
+};
 use zone_minutes::Minute;
 
 // By which input a replica is told of a cause.

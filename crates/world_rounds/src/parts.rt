@@ -1,9 +1,9 @@
 //! A world is taken apart, and put together again, without memory.
 ghost use Rattle.std.specs.Prelude.{◌≡◌, List};
-ghost use Rattle.book_law.specs.Book.{Row};
+ghost use Rattle.history.specs.Book.{Row};
 ghost use Rattle.due_set.specs.Table.{Table};
-ghost use Rattle.script_law.specs.Situation.{Situation};
-ghost use Rattle.world_parts.specs.Parts.{AreParts, ArePartsAt, HasListRoom};
+ghost use Rattle.script_semantics.specs.Situation.{Situation};
+ghost use Rattle.world_steps.specs.Parts.{AreParts, ArePartsAt, HasListRoom};
 ghost use Rattle.world_rounds.specs.Nodes.{AreNodesAndMails};
 ghost use Rattle.world_rounds.specs.Parts.{IsRoomFor};
 ghost use Rattle.world_rounds.specs.World.{IsWorld, IsWorldAt, book_of, cuts_of, latest_of, members_of};
@@ -12,7 +12,7 @@ use crate::rooms::{MemberRoom, PartsRoom};
 use crate::world::World;
 use disk_model::Disk;
 use replica_node::Node;
-use world_parts::{Bundle, MailState};
+use world_steps::{Bundle, MailState};
 
 /// The parts of a world.
 pub type Parts<D> = Bundle<Node<D>, MemberRoom<D>>;

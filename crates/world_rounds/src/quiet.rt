@@ -1,12 +1,12 @@
 //! Whether a replica has nothing left to do, and whether it is quiet.
 ghost use Rattle.std.specs.Prelude.{◌≡◌, ◌↔◌, ◌<◌, ℕ, ℤ, IsTrue, Some, length, slice_get};
 ghost use Rattle.zone_minutes.specs.Window.{IsInWindow};
-ghost use Rattle.step_law.specs.State.{prefix_of};
+ghost use Rattle.step_spec.specs.State.{prefix_of};
 ghost use Rattle.replica_core.specs.Replica.{ReplicaState};
 ghost use Rattle.replica_core.specs.Step.{IsOfTable};
 ghost use Rattle.replica_node.specs.Node.{replica_of};
-ghost use Rattle.script_law.specs.Settling.{AsksNothing, IsFreeTerm, IsQuiet};
-ghost use Rattle.drain_law.specs.Rest.{IsAtRest};
+ghost use Rattle.script_semantics.specs.Settling.{AsksNothing, IsFreeTerm, IsQuiet};
+ghost use Rattle.settling.specs.Rest.{IsAtRest};
 ghost use Rattle.world_rounds.specs.Quiet.{AllRun, IsFollower, Tells};
 ghost use Rattle.world_rounds.specs.World.{IsWorld, book_of};
 ghost use Rattle.world_rounds.specs.declared.member.Member.{Member as Seat};

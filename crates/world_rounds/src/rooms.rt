@@ -6,7 +6,7 @@ use cron_io::OutOfMemory;
 use disk_model::Disk;
 use replica_node::Node;
 use std::alloc::Global;
-use world_parts::MemberMail;
+use world_steps::MemberMail;
 
 // A world has at most so many replicas.
 const MOST_MEMBERS: usize = 7;

@@ -1,8 +1,8 @@
 //! Rounds: each replica takes its steps on its own, and then their turns join the book in the order of the replicas' numbers.
 ghost use Rattle.std.specs.Prelude.{◌≡◌, ◌<◌, ℕ, Some, OnOk, OnErr, slice_get};
 ghost use Rattle.zone_minutes.specs.Window.{IsInWindow};
-ghost use Rattle.script_law.specs.Arms.{AreRoundsByArms, PlaysByArms};
-ghost use Rattle.script_law.specs.Round.{IsRound, round_tasks};
+ghost use Rattle.script_semantics.specs.Arms.{AreRoundsByArms, PlaysByArms};
+ghost use Rattle.script_semantics.specs.Round.{IsRound, round_tasks};
 ghost use Rattle.world_law.specs.Book.{IsLegalBook};
 ghost use Rattle.world_rounds.specs.Rounds.{AllTakeRounds, CommitsAll, MayTakeRound};
 ghost use Rattle.world_rounds.specs.Taking.{MayCommitOwn};

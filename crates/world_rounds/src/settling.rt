@@ -1,11 +1,11 @@
 //! Settling: the replica that has learned the most comes to lead, and rounds follow until it is quiet.
 ghost use Rattle.std.specs.Prelude.{◌≡◌, ◌<◌, ◌∷◌, [], IfOk, OnOk, OnErr, length};
 ghost use Rattle.zone_minutes.specs.Window.{IsInWindow};
-ghost use Rattle.book_law.specs.declared.turn.Cause.TheVariants.{Campaign};
-ghost use Rattle.script_law.specs.Parts.{Plays};
-ghost use Rattle.script_law.specs.Situation.{Do, Situation};
-ghost use Rattle.script_law.specs.Settling.{Drains, IsDrainRound, Settles, coordinator};
-ghost use Rattle.settle_law.specs.Settles.{HasRestedFor, LeadsNow, LeadsSoon};
+ghost use Rattle.history.specs.declared.turn.Cause.TheVariants.{Campaign};
+ghost use Rattle.script_semantics.specs.Parts.{Plays};
+ghost use Rattle.script_semantics.specs.Situation.{Do, Situation};
+ghost use Rattle.script_semantics.specs.Settling.{Drains, IsDrainRound, Settles, coordinator};
+ghost use Rattle.settling.specs.Settles.{HasRestedFor, LeadsNow, LeadsSoon};
 ghost use Rattle.world_law.specs.Book.{IsLegalBook};
 ghost use Rattle.world_rounds.specs.Bounds.{IsBounded, IsGiven};
 ghost use Rattle.world_rounds.specs.Drains.{DrainsOn};

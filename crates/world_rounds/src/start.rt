@@ -1,10 +1,10 @@
 //! A world before any turn.
 ghost use Rattle.std.specs.Prelude.{◌≡◌, ◌<◌, ◌≤◌, [], ℕ, List, IfOk, Contains, length};
-ghost use Rattle.book_law.specs.Book.{Row};
+ghost use Rattle.history.specs.Book.{Row};
 ghost use Rattle.due_set.specs.Table.{Table};
-ghost use Rattle.script_law.specs.Situation.{Situation, first_situation};
+ghost use Rattle.script_semantics.specs.Situation.{Situation, first_situation};
 ghost use Rattle.world_law.specs.Book.{BookState};
-ghost use Rattle.world_parts.specs.Nodes.{AreNodesOf};
+ghost use Rattle.world_steps.specs.Nodes.{AreNodesOf};
 ghost use Rattle.world_rounds.specs.Start.{IsFreshMember, IsFreshDisk};
 ghost use Rattle.world_rounds.specs.World.{IsWorldAt, book_of};
 
@@ -18,8 +18,7 @@ use due_set::JobTable;
 use replica_node::Node;
 use std::alloc::Global;
 use world_law::Book;
-use world_parts::MemberMail;
-use world_steps::memory_of;
+use world_steps::{MemberMail, memory_of};
 
 // A replica that starts on an empty disk.
 fn start_member<D: Disk>(

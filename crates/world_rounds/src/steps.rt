@@ -1,14 +1,14 @@
 //! The steps that a replica takes of a round, before their turns join the book.
 ghost use Rattle.std.specs.Prelude.{◌≡◌, ◌++◌, ◌∷◌, [], ℕ, List, OnOk};
-ghost use Rattle.book_law.specs.Book.{Row};
+ghost use Rattle.history.specs.Book.{Row};
 ghost use Rattle.world_steps.specs.Steps.{IsBeside, WasToldOf, causes_of};
 ghost use Rattle.world_rounds.specs.Hearing.{MayHear, MayTakeAnswer, answer_causes, hear_causes};
 
-use book_law::Cause;
 use cluster_sched::SchedRow;
 use cron_io::OutOfMemory;
 use disk_model::Disk;
 use due_set::JobTable;
+use history::Cause;
 use replica_core::Input;
 use replica_node::Node;
 use world_law::Book;

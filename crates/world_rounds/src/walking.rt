@@ -2,9 +2,9 @@
 ghost use Rattle.std.specs.Prelude.{◌≡◌, ◌<◌, ◌≤ℤ◌, ◌+ℤ◌, pos, IfNone, IfSome, OnOk, OnErr, length};
 ghost use Rattle.std.specs.Int.{int_min};
 ghost use Rattle.zone_minutes.specs.Window.{IsInWindow};
-ghost use Rattle.script_law.specs.Settling.{AsksNothingUntil, IsNextMinute, Walks, WalksOn};
-ghost use Rattle.script_law.specs.Situation.{Situation};
-ghost use Rattle.settle_law.specs.Settles.{LeadsNow};
+ghost use Rattle.script_semantics.specs.Settling.{AsksNothingUntil, IsNextMinute, Walks, WalksOn};
+ghost use Rattle.script_semantics.specs.Situation.{Situation};
+ghost use Rattle.settling.specs.Settles.{LeadsNow};
 ghost use Rattle.world_rounds.specs.Bounds.{IsBounded, IsGiven};
 ghost use Rattle.world_law.specs.Book.{IsLegalBook};
 ghost use Rattle.world_rounds.specs.Quiet.{AllRun, IsIn};

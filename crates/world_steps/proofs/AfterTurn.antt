@@ -9,27 +9,27 @@ use Rattle.disk_model.specs.Told.{Told}
 use Rattle.due_set.specs.Table.{Table}
 use Rattle.launch_machine.specs.Clerk.{first_rows}
 use Rattle.paxos_base.specs.declared.durable.Delta.{Delta}
-use Rattle.step_law.specs.State.{Identity, State}
-use Rattle.step_law.specs.Step.{Event}
-use Rattle.step_law.specs.declared.out.OutLetter.{OutLetter}
-use Rattle.agree_law.specs.World.{with_replica}
-use Rattle.book_law.specs.Book.{Row, Standing, after_row, answer_to, standing_after, turn_of, with_fact}
-use Rattle.book_law.specs.declared.turn.CallRow.{CallRow}
-use Rattle.book_law.specs.declared.turn.Cause.{Cause}
-use Rattle.book_law.specs.declared.turn.Cause.TheVariants.{Campaign, Tick, Hear, Answer}
-use Rattle.book_law.specs.declared.turn.Turn.{Turn}
-use Rattle.book_law.specs.declared.turn.Turn.TheVariants.{Did, Stopped, Restarted, Arrived}
-use Rattle.bounds_law.proofs.Keeping.{stands_next}
+use Rattle.step_spec.specs.State.{Identity, State}
+use Rattle.step_spec.specs.Step.{Event}
+use Rattle.step_spec.specs.declared.out.OutLetter.{OutLetter}
+use Rattle.agreement.specs.World.{with_replica}
+use Rattle.history.specs.Book.{Row, Standing, after_row, answer_to, standing_after, turn_of, with_fact}
+use Rattle.history.specs.declared.turn.CallRow.{CallRow}
+use Rattle.history.specs.declared.turn.Cause.{Cause}
+use Rattle.history.specs.declared.turn.Cause.TheVariants.{Campaign, Tick, Hear, Answer}
+use Rattle.history.specs.declared.turn.Turn.{Turn}
+use Rattle.history.specs.declared.turn.Turn.TheVariants.{Did, Stopped, Restarted, Arrived}
+use Rattle.history.proofs.Keeping.{stands_next}
 use Rattle.replica_core.specs.Replica.{ReplicaState}
 use Rattle.replica_core.specs.declared.input.Input.{Input}
 use Rattle.replica_node.specs.declared.node.Node.{Node}
 use Rattle.replica_node.specs.Node.{replica_of}
-use Rattle.script_law.specs.Situation.{Armed, Situation, after_turn, armed_after, arms_after, bases_with, calls_for, changes_in, fates_after, mails_after}
+use Rattle.script_semantics.specs.Situation.{Armed, Situation, after_turn, armed_after, arms_after, bases_with, calls_for, changes_in, fates_after, mails_after}
 use Rattle.world_law.specs.Book.{BookState, StandsBehind, standing_behind}
 use Rattle.world_law.specs.declared.letter.LetterRow.{LetterRow}
-use Rattle.world_parts.specs.Nodes.{IsDiskAt, bases_behind}
-use Rattle.world_parts.specs.Parts.{IsBookAt, IsMailOf, IsSentTo, armed_in}
-use Rattle.world_parts.specs.declared.mail.MemberMail.{MemberMail}
+use Rattle.world_steps.specs.Nodes.{IsDiskAt, bases_behind}
+use Rattle.world_steps.specs.Parts.{IsBookAt, IsMailOf, IsSentTo, armed_in}
+use Rattle.world_steps.specs.declared.mail.MemberMail.{MemberMail}
 use Rattle.world_steps.proofs.Bases.{arm_spent, bases_here, bases_more, others_armed, others_keep}
 use Rattle.world_steps.proofs.Facts.{fact_here, fact_there}
 use Rattle.world_steps.specs.Steps.{IsNodeAhead, IsNodeStopped, IsToldOf, TookSteps, causes_of, changes_of, heard_for, heard_in, waits_in}

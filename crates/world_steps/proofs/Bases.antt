@@ -7,26 +7,26 @@ use Rattle.disk_model.specs.declared.armed.Arm.{Arm}
 use Rattle.due_set.specs.Table.{Table}
 use Rattle.launch_machine.specs.Clerk.{first_rows}
 use Rattle.paxos_base.specs.declared.durable.Delta.{Delta}
-use Rattle.save_law.specs.Save.{bases_after}
-use Rattle.step_law.specs.Folds.{deltas_of}
-use Rattle.step_law.specs.State.{Identity, State}
-use Rattle.step_law.specs.Step.{Event, step}
-use Rattle.agree_law.specs.Transition.{identity_of}
-use Rattle.book_law.specs.Book.{Row, Standing, acts_at, after_row, standing_after, turn_of, with_fact}
-use Rattle.book_law.specs.Legal.{MayFollow, TakesTurn}
-use Rattle.book_law.specs.declared.turn.CallRow.{CallRow}
-use Rattle.book_law.specs.declared.turn.Cause.{Cause}
-use Rattle.book_law.specs.declared.turn.Turn.{Turn}
-use Rattle.book_law.specs.declared.turn.Turn.TheVariants.{Did, Stopped, Restarted, Arrived}
-use Rattle.bounds_law.proofs.Keeping.{one_event}
+use Rattle.save_calls.specs.Save.{bases_after}
+use Rattle.step_spec.specs.Folds.{deltas_of}
+use Rattle.step_spec.specs.State.{Identity, State}
+use Rattle.step_spec.specs.Step.{Event, step}
+use Rattle.agreement.specs.Transition.{identity_of}
+use Rattle.history.specs.Book.{Row, Standing, acts_at, after_row, standing_after, turn_of, with_fact}
+use Rattle.history.specs.Legal.{MayFollow, TakesTurn}
+use Rattle.history.specs.declared.turn.CallRow.{CallRow}
+use Rattle.history.specs.declared.turn.Cause.{Cause}
+use Rattle.history.specs.declared.turn.Turn.{Turn}
+use Rattle.history.specs.declared.turn.Turn.TheVariants.{Did, Stopped, Restarted, Arrived}
+use Rattle.history.proofs.Keeping.{one_event}
 use Rattle.replica_core.specs.Replica.{ReplicaState}
-use Rattle.script_law.specs.Situation.{Armed, Situation, after_turn, after_turns, armed_after, arms_after, bases_kept, bases_with, calls_for, changes_in, first_situation}
+use Rattle.script_semantics.specs.Situation.{Armed, Situation, after_turn, after_turns, armed_after, arms_after, bases_kept, bases_with, calls_for, changes_in, first_situation}
 use Rattle.world_law.proofs.Settled.{may_next}
 use Rattle.world_law.proofs.Steps.{takes_turn}
 use Rattle.world_law.specs.Book.{BookState, StandsBehind, standing_behind}
 use Rattle.world_law.specs.Replicas.{IsInputOf, StandsAt}
-use Rattle.world_parts.specs.Nodes.{bases_behind}
-use Rattle.world_parts.specs.Parts.{IsBookAt, armed_in}
+use Rattle.world_steps.specs.Nodes.{bases_behind}
+use Rattle.world_steps.specs.Parts.{IsBookAt, armed_in}
 use Rattle.world_steps.proofs.Facts.{fact_here, fact_there}
 use Rattle.world_steps.proofs.Foreseen.{is_input}
 use Rattle.world_steps.specs.Steps.{TookStep, waits_in}

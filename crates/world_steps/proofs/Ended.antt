@@ -5,9 +5,9 @@ use Rattle.disk_model.specs.Told.{Told}
 use Rattle.due_set.specs.Table.{Table}
 use Rattle.paxos_base.specs.declared.durable.Durable.{Durable}
 use Rattle.gate_file.proofs.GateLemmas.{has_at_rest}
-use Rattle.step_law.specs.State.{State}
-use Rattle.agree_law.specs.Transition.{identity_of}
-use Rattle.book_law.specs.Book.{Row}
+use Rattle.step_spec.specs.State.{State}
+use Rattle.agreement.specs.Transition.{identity_of}
+use Rattle.history.specs.Book.{Row}
 use Rattle.replica_core.specs.Replica.{ReplicaState}
 use Rattle.replica_node.specs.Node.{IsNodeAtRest, disk_of, replica_of, store_of}
 use Rattle.replica_node.specs.declared.node.Node.{Node}
@@ -15,7 +15,7 @@ use Rattle.replica_store.proofs.KeptLemmas.{stands_in}
 use Rattle.replica_store.specs.Files.{BodiesStand, FilesStand}
 use Rattle.replica_store.specs.Store.{area_of, records_of}
 use Rattle.world_law.specs.Book.{BookState, standing_behind}
-use Rattle.world_parts.specs.Nodes.{IsNodeOf, bases_behind}
+use Rattle.world_steps.specs.Nodes.{IsNodeOf, bases_behind}
 use Rattle.world_steps.specs.Steps.{IsNodeAhead, IsNodeStopped}
 
 module _ {D : Type 0} (seen : D → Image) (may_leave : D → Image → Type 0) (honest : D → Type 0) (told_of : D → Option Told) (table : Table) where

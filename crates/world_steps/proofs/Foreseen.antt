@@ -7,15 +7,15 @@ use Rattle.cluster_sched.specs.Fates.{call}
 use Rattle.cluster_sched.specs.declared.fate.Fate.TheVariants.{Done}
 use Rattle.cluster_sched.specs.declared.row.SchedRow.{SchedRow}
 use Rattle.due_set.specs.Table.{Table}
-use Rattle.step_law.specs.State.{Identity}
-use Rattle.step_law.specs.declared.out.OutLetter.{OutLetter}
-use Rattle.book_law.specs.Book.{Row, Standing, held_after, late_after, turn_of, under}
-use Rattle.book_law.specs.Legal.{IsMade, answered}
-use Rattle.book_law.specs.declared.turn.CallRow.{CallRow}
-use Rattle.book_law.specs.declared.turn.Cause.{Cause}
-use Rattle.book_law.specs.declared.turn.Cause.TheVariants.{Campaign, Tick, Hear, Answer}
-use Rattle.book_law.specs.declared.turn.Turn.{Turn}
-use Rattle.book_law.specs.declared.turn.Turn.TheVariants.{Did}
+use Rattle.step_spec.specs.State.{Identity}
+use Rattle.step_spec.specs.declared.out.OutLetter.{OutLetter}
+use Rattle.history.specs.Book.{Row, Standing, held_after, late_after, turn_of, under}
+use Rattle.history.specs.Legal.{IsMade, answered}
+use Rattle.history.specs.declared.turn.CallRow.{CallRow}
+use Rattle.history.specs.declared.turn.Cause.{Cause}
+use Rattle.history.specs.declared.turn.Cause.TheVariants.{Campaign, Tick, Hear, Answer}
+use Rattle.history.specs.declared.turn.Turn.{Turn}
+use Rattle.history.specs.declared.turn.Turn.TheVariants.{Did}
 use Rattle.replica_core.specs.Replica.{ReplicaState}
 use Rattle.replica_core.specs.declared.input.Input.{Input}
 use Rattle.world_law.specs.Book.{BookState, Commits, StandsBehind, arrivals_of, held_then, letter_rows, standing_behind}

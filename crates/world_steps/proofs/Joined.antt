@@ -4,14 +4,14 @@ use Rattle.std.specs.Option.{option_to_list}
 use Rattle.cluster_sched.specs.declared.fate.Fate.{Fate}
 use Rattle.cluster_sched.specs.declared.row.SchedRow.{SchedRow}
 use Rattle.due_set.specs.Table.{Table}
-use Rattle.step_law.specs.Step.{Event, step}
-use Rattle.step_law.specs.Step as event
-use Rattle.book_law.specs.Book.{Row}
-use Rattle.book_law.specs.Legal.{IsMade, MayFollow}
-use Rattle.book_law.specs.declared.turn.CallRow.{CallRow}
-use Rattle.book_law.specs.declared.turn.Cause.{Cause}
-use Rattle.book_law.specs.declared.turn.Cause.TheVariants.{Campaign, Tick, Hear, Answer}
-use Rattle.book_law.specs.declared.turn.Turn.TheVariants.{Did}
+use Rattle.step_spec.specs.Step.{Event, step}
+use Rattle.step_spec.specs.Step as event
+use Rattle.history.specs.Book.{Row}
+use Rattle.history.specs.Legal.{IsMade, MayFollow}
+use Rattle.history.specs.declared.turn.CallRow.{CallRow}
+use Rattle.history.specs.declared.turn.Cause.{Cause}
+use Rattle.history.specs.declared.turn.Cause.TheVariants.{Campaign, Tick, Hear, Answer}
+use Rattle.history.specs.declared.turn.Turn.TheVariants.{Did}
 use Rattle.replica_core.specs.Replica.{ReplicaState}
 use Rattle.replica_core.specs.Step.{IsEventOf, Steps}
 use Rattle.replica_core.specs.declared.input.Input.{Input}

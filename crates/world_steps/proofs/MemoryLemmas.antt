@@ -7,13 +7,13 @@ use Rattle.disk_model.specs.Told.{Told}
 use Rattle.due_set.specs.Table.{Table}
 use Rattle.paxos_letter.specs.Letters.{fault_of}
 use Rattle.paxos_letter.specs.declared.fault.LetterFault.{LetterFault}
-use Rattle.step_law.specs.State.{Identity}
-use Rattle.step_law.proofs.Lists.{found_in}
-use Rattle.script_law.proofs.ListLemmas.{in_map}
-use Rattle.book_law.specs.Book.{PostedLetter, Row}
-use Rattle.book_law.specs.declared.turn.Cause.{Cause}
-use Rattle.book_law.specs.declared.turn.Cause.TheVariants.{Campaign, Tick, Hear, Answer}
-use Rattle.bounds_law.proofs.Posted.{posted_breaks_none}
+use Rattle.step_spec.specs.State.{Identity}
+use Rattle.step_spec.proofs.Lists.{found_in}
+use Rattle.script_semantics.proofs.ListLemmas.{in_map}
+use Rattle.history.specs.Book.{PostedLetter, Row}
+use Rattle.history.specs.declared.turn.Cause.{Cause}
+use Rattle.history.specs.declared.turn.Cause.TheVariants.{Campaign, Tick, Hear, Answer}
+use Rattle.history.proofs.Posted.{posted_breaks_none}
 use Rattle.replica_core.specs.Replica.{ReplicaState}
 use Rattle.replica_core.specs.Step.{fault_in}
 use Rattle.replica_core.specs.declared.input.Input.{Input}

@@ -9,11 +9,11 @@ use Rattle.disk_model.specs.Images.{Image}
 use Rattle.disk_model.specs.Told.{Told}
 use Rattle.due_set.specs.Table.{Table}
 use Rattle.paxos_base.specs.declared.durable.Delta.{Delta}
-use Rattle.step_law.specs.Step.{IsLaunchTable}
-use Rattle.book_law.specs.Book.{Row}
-use Rattle.book_law.specs.declared.turn.Cause.{Cause}
-use Rattle.bounds_law.proofs.Books.{replicas_small}
-use Rattle.bounds_law.specs.Numbers.{IsSmallReplica}
+use Rattle.step_spec.specs.Step.{IsLaunchTable}
+use Rattle.history.specs.Book.{Row}
+use Rattle.history.specs.declared.turn.Cause.{Cause}
+use Rattle.history.proofs.Books.{replicas_small}
+use Rattle.history.specs.Numbers.{IsSmallReplica}
 use Rattle.replica_core.specs.Replica.{IsSmall, ReplicaState}
 use Rattle.replica_core.specs.Step.{Steps}
 use Rattle.replica_core.specs.declared.input.Input.{Input}
@@ -24,10 +24,10 @@ use Rattle.replica_node.specs.Node.{IsChangeOf, IsNodeAtRest, disk_of, replica_o
 use Rattle.replica_node.specs.Reliable.{IsReliable}
 use Rattle.replica_node.specs.declared.node.Node.{Node}
 use Rattle.replica_store.specs.Store.{area_of}
-use Rattle.script_law.specs.Situation.{bases_with}
+use Rattle.script_semantics.specs.Situation.{bases_with}
 use Rattle.world_law.specs.Book.{BookState, standing_behind}
 use Rattle.world_law.specs.declared.letter.LetterRow.{LetterRow}
-use Rattle.world_parts.specs.Nodes.{bases_behind}
+use Rattle.world_steps.specs.Nodes.{bases_behind}
 use Rattle.world_steps.proofs.Bases.{bases_more}
 use Rattle.world_steps.proofs.Foreseen.{Foreseen, foresee}
 use Rattle.world_steps.specs.Steps.{IsBeside, TookStep, changes_of, TookSteps, WasToldOf, waits_behind, waits_in}

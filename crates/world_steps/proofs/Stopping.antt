@@ -9,15 +9,15 @@ use Rattle.disk_model.specs.declared.armed.Arm.{Arm}
 use Rattle.due_set.specs.Table.{Table}
 use Rattle.paxos_base.specs.declared.durable.Delta.{Delta}
 use Rattle.paxos_base.specs.declared.durable.Durable.{Durable}
-use Rattle.save_law.specs.Save.{is_kept}
-use Rattle.change_law.specs.Anew.{ProposesAnew}
-use Rattle.step_law.specs.State.{State, started}
-use Rattle.agree_law.specs.Transition.{identity_of}
-use Rattle.book_law.specs.Book.{Row}
-use Rattle.book_law.specs.Legal.{MayFollow}
-use Rattle.book_law.specs.declared.turn.Cause.{Cause}
-use Rattle.book_law.specs.declared.turn.Turn.{Turn}
-use Rattle.book_law.specs.declared.turn.Turn.TheVariants.{Stopped as Halts}
+use Rattle.save_calls.specs.Save.{is_kept}
+use Rattle.durable_changes.specs.Anew.{ProposesAnew}
+use Rattle.step_spec.specs.State.{State, started}
+use Rattle.agreement.specs.Transition.{identity_of}
+use Rattle.history.specs.Book.{Row}
+use Rattle.history.specs.Legal.{MayFollow}
+use Rattle.history.specs.declared.turn.Cause.{Cause}
+use Rattle.history.specs.declared.turn.Turn.{Turn}
+use Rattle.history.specs.declared.turn.Turn.TheVariants.{Stopped as Halts}
 use Rattle.replica_core.specs.Commit.{kept_after}
 use Rattle.replica_core.specs.Replica.{ReplicaState}
 use Rattle.replica_core.specs.declared.input.Input.{Input}
@@ -30,11 +30,11 @@ use Rattle.replica_node.specs.declared.fault.NodeFault.{NodeFault}
 use Rattle.replica_node.specs.declared.fault.NodeFault.TheVariants.{Stopped}
 use Rattle.replica_node.specs.declared.node.Node.{Node}
 use Rattle.replica_store.specs.Store.{area_of}
-use Rattle.script_law.specs.Situation.{bases_kept, bases_with, calls_for}
+use Rattle.script_semantics.specs.Situation.{bases_kept, bases_with, calls_for}
 use Rattle.world_law.proofs.Stops.{stop_within}
 use Rattle.world_law.specs.Book.{BookState, standing_behind}
 use Rattle.world_law.specs.Replicas.{IsStopOf, StandsAt}
-use Rattle.world_parts.specs.Nodes.{bases_behind}
+use Rattle.world_steps.specs.Nodes.{bases_behind}
 use Rattle.world_steps.proofs.Bases.{bases_row, changes_stopped, told_stop}
 use Rattle.world_steps.proofs.Facts.{fact_here}
 use Rattle.world_steps.proofs.StepLemmas.{area_with}

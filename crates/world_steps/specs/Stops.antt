@@ -7,26 +7,26 @@ use Rattle.disk_model.specs.Told.{Told}
 use Rattle.disk_model.specs.declared.armed.Arm.{Arm}
 use Rattle.due_set.specs.Table.{Table}
 use Rattle.paxos_base.specs.declared.durable.Delta.{Delta}
-use Rattle.save_law.specs.Save.{calls_of, is_kept}
-use Rattle.step_law.specs.Folds.{deltas_of}
-use Rattle.step_law.specs.State.{started}
-use Rattle.step_law.specs.Step.{Event, step}
-use Rattle.agree_law.specs.Transition.{identity_of}
-use Rattle.book_law.specs.Book.{Row}
-use Rattle.book_law.specs.declared.turn.Cause.{Cause}
+use Rattle.save_calls.specs.Save.{calls_of, is_kept}
+use Rattle.step_spec.specs.Folds.{deltas_of}
+use Rattle.step_spec.specs.State.{started}
+use Rattle.step_spec.specs.Step.{Event, step}
+use Rattle.agreement.specs.Transition.{identity_of}
+use Rattle.history.specs.Book.{Row}
+use Rattle.history.specs.declared.turn.Cause.{Cause}
 use Rattle.replica_core.specs.Commit.{kept_after}
 use Rattle.replica_core.specs.Replica.{ReplicaState}
 use Rattle.replica_core.specs.Step.{IsEventOf, IsInputInside}
 use Rattle.replica_core.specs.declared.input.Input.{Input}
 use Rattle.replica_node.specs.Node.{IsNodeAtRest, disk_of, replica_of}
 use Rattle.replica_node.specs.declared.node.Node.{Node}
-use Rattle.script_law.specs.Arms.{IsEnough}
-use Rattle.script_law.specs.Situation.{bases_with}
+use Rattle.script_semantics.specs.Arms.{IsEnough}
+use Rattle.script_semantics.specs.Situation.{bases_with}
 use Rattle.world_law.specs.Book.{BookState, StandsBehind}
 use Rattle.world_law.specs.Replicas.{StandsAt}
 use Rattle.world_law.specs.declared.letter.LetterRow.{LetterRow}
-use Rattle.world_parts.specs.Nodes.{IsDiskAt, bases_behind}
-use Rattle.world_parts.specs.Parts.{armed_in}
+use Rattle.world_steps.specs.Nodes.{IsDiskAt, bases_behind}
+use Rattle.world_steps.specs.Parts.{armed_in}
 use Rattle.world_steps.specs.Steps.{IsBeside, IsToldOf, waits_in}
 use Rattle.world_steps.specs.declared.armed.Outcome.{Outcome}
 use Rattle.world_steps.specs.declared.armed.Outcome.TheVariants.{Taken, Stopped}

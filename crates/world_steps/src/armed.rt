@@ -1,16 +1,16 @@
 //! A step on a disk that is armed.
 ghost use Rattle.std.specs.Prelude.{◌≡◌, ◌<◌, ◌≤◌, ◌^◌, [], ℕ, List, Some, IfOk};
-ghost use Rattle.book_law.specs.Book.{Row};
+ghost use Rattle.history.specs.Book.{Row};
 ghost use Rattle.world_law.specs.Book.{BookState};
 ghost use Rattle.world_steps.specs.Steps.{MayStep, WasToldOf};
 ghost use Rattle.world_steps.specs.Stops.{HasOutcome};
 
 use crate::fault::memory_of;
 use crate::steps::{MOST_TURNS, Taken, take_step};
-use book_law::Cause;
 use cron_io::OutOfMemory;
 use disk_model::{Arm, ArmedDisk};
 use due_set::JobTable;
+use history::Cause;
 use paxos_base::Delta;
 use replica_core::Input;
 use replica_node::{Node, NodeFault};

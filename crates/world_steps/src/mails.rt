@@ -1,18 +1,18 @@
 //! What is on its way to a replica and set for it, and what its step leaves of that.
 ghost use Rattle.std.specs.Prelude.{◌≡◌, IsSome, Some, slice_get};
 ghost use Rattle.std.specs.Option.{option_to_list};
-ghost use Rattle.script_law.specs.Round.{clock_reading};
-ghost use Rattle.script_law.specs.Situation.{calls_for, is_cut};
+ghost use Rattle.script_semantics.specs.Round.{clock_reading};
+ghost use Rattle.script_semantics.specs.Situation.{calls_for, is_cut};
 ghost use Rattle.script_text.specs.Command.{IsSkew};
 ghost use Rattle.world_steps.specs.Turns.{IsHalted, noted};
 ghost use Rattle.zone_minutes.specs.Window.{IsInWindow, IsWithinLimits};
 
-use book_law::CallRow;
+use crate::mail::MemberMail;
 use cluster_sched::Fate;
 use disk_model::Arm;
+use history::CallRow;
 use paxos_base::Delta;
 use world_law::{Book, LetterRow};
-use world_parts::MemberMail;
 use zone_minutes::{Minute, Window};
 
 /// The letter of a number.

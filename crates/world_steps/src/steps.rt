@@ -1,15 +1,15 @@
 //! A step that a node takes beside a book, before its turn joins it.
 ghost use Rattle.std.specs.Prelude.{◌≡◌, ◌++◌, ◌∷◌, [], ℕ, List, IfOk};
-ghost use Rattle.book_law.specs.Book.{Row};
+ghost use Rattle.history.specs.Book.{Row};
 ghost use Rattle.world_law.specs.Book.{BookState};
 ghost use Rattle.world_steps.specs.Steps.{IsBeside, MayStep, WasToldOf};
 ghost use Rattle.world_steps.specs.declared.steps.Taken.{Taken as Step};
 
 use crate::fault::memory_of;
-use book_law::Cause;
 use cron_io::OutOfMemory;
 use disk_model::Disk;
 use due_set::JobTable;
+use history::Cause;
 use replica_core::{Input, StepOut};
 use replica_node::Node;
 

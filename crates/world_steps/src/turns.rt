@@ -1,19 +1,19 @@
 //! A step becomes a turn of a book.
 ghost use Rattle.std.specs.Prelude.{◌≡◌, ℕ, List, None, IfOk, IfSome, OnOk, OnErr};
 ghost use Rattle.std.specs.Option.{option_to_list};
-ghost use Rattle.book_law.specs.Book.{Row};
-ghost use Rattle.book_law.specs.Legal.{IsMade};
+ghost use Rattle.history.specs.Book.{Row};
+ghost use Rattle.history.specs.Legal.{IsMade};
 ghost use Rattle.replica_core.specs.Replica.{ReplicaState};
-ghost use Rattle.script_law.specs.Situation.{latest_with};
+ghost use Rattle.script_semantics.specs.Situation.{latest_with};
 ghost use Rattle.world_law.specs.Book.{HasRoom, IsAlike, IsLegalBook, MayCall, StandsBehind, standing_behind};
 ghost use Rattle.world_law.specs.Replicas.{change_alone};
 ghost use Rattle.world_steps.specs.Turns.{HasJoinedAt, IsNextStep, MayJoin};
 
 use crate::steps::Taken;
-use book_law::{CallRow, Cause, Turn};
 use cluster_sched::{Fate, SchedRow};
 use cron_io::OutOfMemory;
 use due_set::JobTable;
+use history::{CallRow, Cause, Turn};
 use paxos_base::Delta;
 use replica_core::{LearntList, StepOut};
 use replica_draft::LetterList;

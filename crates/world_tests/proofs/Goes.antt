@@ -7,19 +7,19 @@ use Rattle.cluster_sched.specs.declared.row.SchedRow.{SchedRow}
 use Rattle.due_set.specs.Table.{Table}
 use Rattle.zone_minutes.specs.declared.minute.Minute.{Minute}
 use Rattle.launch_machine.specs.Clerk.{first_rows}
-use Rattle.step_law.specs.Act.{Act}
-use Rattle.step_law.specs.State.{Identity, State, started}
-use Rattle.step_law.specs.Step.{Event, step}
-use Rattle.step_law.specs.Step as told
-use Rattle.step_law.specs.declared.out.OutLetter.{OutLetter}
-use Rattle.book_law.specs.Book.{Row, Standing, after_row, answer_to, durable_after, late_call, standing_after, turn_of}
-use Rattle.book_law.specs.Legal.{BringsNothing, IsMade, MayFollow}
-use Rattle.book_law.specs.declared.turn.CallRow.{CallRow}
-use Rattle.book_law.specs.declared.turn.Cause.{Cause}
-use Rattle.book_law.specs.declared.turn.Cause.TheVariants.{Tick}
-use Rattle.book_law.specs.declared.turn.Turn.{Turn}
-use Rattle.book_law.specs.declared.turn.Turn.TheVariants.{Did, Stopped, Restarted, Arrived}
-use Rattle.book_law.proofs.Acts.{with_here}
+use Rattle.step_spec.specs.Act.{Act}
+use Rattle.step_spec.specs.State.{Identity, State, started}
+use Rattle.step_spec.specs.Step.{Event, step}
+use Rattle.step_spec.specs.Step as told
+use Rattle.step_spec.specs.declared.out.OutLetter.{OutLetter}
+use Rattle.history.specs.Book.{Row, Standing, after_row, answer_to, durable_after, late_call, standing_after, turn_of}
+use Rattle.history.specs.Legal.{BringsNothing, IsMade, MayFollow}
+use Rattle.history.specs.declared.turn.CallRow.{CallRow}
+use Rattle.history.specs.declared.turn.Cause.{Cause}
+use Rattle.history.specs.declared.turn.Cause.TheVariants.{Tick}
+use Rattle.history.specs.declared.turn.Turn.{Turn}
+use Rattle.history.specs.declared.turn.Turn.TheVariants.{Did, Stopped, Restarted, Arrived}
+use Rattle.history.proofs.Acts.{with_here}
 use Rattle.replica_core.specs.Replica.{ReplicaState}
 use Rattle.replica_core.specs.declared.out.StepOut.{StepOut}
 use Rattle.world_law.specs.Book.{BookState, Commits, HasRoom, IsAlike, IsNext, IsRowOf, MayCall, StandsBehind, standing_behind}

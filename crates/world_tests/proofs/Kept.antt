@@ -3,10 +3,10 @@ use Rattle.std.proofs.Common.{◌≡◌, List, [], ◌∷◌, ◌++◌, refl, ap
 use Rattle.paxos_base.specs.Durable.{after_delta}
 use Rattle.paxos_base.specs.declared.durable.Delta.{Delta}
 use Rattle.paxos_base.specs.declared.durable.Durable.{Durable}
-use Rattle.step_law.specs.Act.{Act, Observe, Stand, Gather, TakeLead, Pledge, Cast, Propose, Count, Wait, Learn, Rebase, Call, Send, Restart, after_act}
-use Rattle.step_law.specs.Folds.{after_acts, deltas_by, deltas_of}
-use Rattle.step_law.specs.State.{State}
-use Rattle.book_law.specs.Book.{durable_after}
+use Rattle.step_spec.specs.Act.{Act, Observe, Stand, Gather, TakeLead, Pledge, Cast, Propose, Count, Wait, Learn, Rebase, Call, Send, Restart, after_act}
+use Rattle.step_spec.specs.Folds.{after_acts, deltas_by, deltas_of}
+use Rattle.step_spec.specs.State.{State}
+use Rattle.history.specs.Book.{durable_after}
 
 twice : (first second : List Delta) (kept : Durable) → durable_after (first ++ second) kept ≡ durable_after second (durable_after first kept)
 twice [] second kept = refl

@@ -4,14 +4,14 @@ use Rattle.std.proofs.lemmas.Bool.{ne_eqb}
 use Rattle.due_set.specs.Table.{Table}
 use Rattle.launch_machine.specs.Clerk.{first_rows}
 use Rattle.paxos_base.specs.declared.durable.Durable.{Durable}
-use Rattle.step_law.specs.State.{State}
-use Rattle.step_law.specs.Step.{Event}
-use Rattle.step_law.specs.declared.out.OutLetter.{OutLetter}
-use Rattle.agree_law.specs.World.{with_replica}
-use Rattle.book_law.specs.Book.{Row, Standing, after_row, standing_after, turn_of, with_fact}
-use Rattle.book_law.specs.declared.turn.Turn.{Turn}
-use Rattle.book_law.specs.declared.turn.Turn.TheVariants.{Did, Stopped, Restarted, Arrived}
-use Rattle.bounds_law.proofs.Keeping.{stands_next}
+use Rattle.step_spec.specs.State.{State}
+use Rattle.step_spec.specs.Step.{Event}
+use Rattle.step_spec.specs.declared.out.OutLetter.{OutLetter}
+use Rattle.agreement.specs.World.{with_replica}
+use Rattle.history.specs.Book.{Row, Standing, after_row, standing_after, turn_of, with_fact}
+use Rattle.history.specs.declared.turn.Turn.{Turn}
+use Rattle.history.specs.declared.turn.Turn.TheVariants.{Did, Stopped, Restarted, Arrived}
+use Rattle.history.proofs.Keeping.{stands_next}
 use Rattle.replica_core.specs.Replica.{ReplicaState}
 use Rattle.world_law.specs.Book.{BookState, standing_behind}
 use Rattle.world_tests.specs.Seat.{IsLeft, IsSeated, SeatState}

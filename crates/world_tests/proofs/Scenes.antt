@@ -5,7 +5,7 @@ use Rattle.std.proofs.lemmas.Bool.{lt-ltb}
 use Rattle.std.proofs.lemmas.List.{length-append}
 use Rattle.due_set.specs.Table.{Table}
 use Rattle.launch_machine.proofs.MachineLemmas.{push_before, push_last, same_or_not}
-use Rattle.step_law.specs.State.{Identity, started}
+use Rattle.step_spec.specs.State.{Identity, started}
 use Rattle.world_law.specs.Book.{BookState, StandsBehind}
 use Rattle.world_tests.specs.Scene.{AreNew, HasArrived, IsLegalScene}
 use Rattle.world_tests.specs.Seat.{GoesOn, IsLeft, IsNew, IsSeated, SeatState}

@@ -1,8 +1,8 @@
 -- Some replicas, and the book of their turns.
 use Rattle.std.specs.Prelude.{◌≡◌, ℕ, List, ◌∷◌, [], ◌++◌, Some, slice_get}
 use Rattle.due_set.specs.Table.{Table}
-use Rattle.book_law.specs.Book.{Row}
-use Rattle.book_law.specs.declared.turn.Turn.TheVariants.{Arrived}
+use Rattle.history.specs.Book.{Row}
+use Rattle.history.specs.declared.turn.Turn.TheVariants.{Arrived}
 use Rattle.world_law.specs.Book.{BookState}
 use Rattle.world_tests.specs.Seat.{IsAtRest, IsNew, IsSeated, SeatState}
 

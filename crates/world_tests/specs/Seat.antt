@@ -5,11 +5,11 @@ use Rattle.due_set.specs.Table.{Table}
 use Rattle.launch_machine.specs.Clerk.{first_rows}
 use Rattle.paxos_base.specs.declared.durable.Durable.{Durable}
 use Rattle.cluster_sched.specs.declared.row.SchedRow.{SchedRow}
-use Rattle.step_law.specs.State.{started}
-use Rattle.agree_law.specs.Transition.{identity_of}
-use Rattle.agree_law.specs.World.{fresh}
-use Rattle.book_law.specs.Book.{Row, Standing, durable_after, turn_of}
-use Rattle.book_law.specs.declared.turn.Cause.{Cause}
+use Rattle.step_spec.specs.State.{started}
+use Rattle.agreement.specs.Transition.{identity_of}
+use Rattle.agreement.specs.World.{fresh}
+use Rattle.history.specs.Book.{Row, Standing, durable_after, turn_of}
+use Rattle.history.specs.declared.turn.Cause.{Cause}
 use Rattle.replica_core.specs.Replica.{ReplicaState}
 use Rattle.replica_core.specs.Step.{IsInputInside, IsOfTable, Steps}
 use Rattle.replica_core.specs.declared.input.Input.{Input}

@@ -4,8 +4,8 @@ ghost use Rattle.world_tests.specs.Scene.{AreNew, IsLegalScene};
 
 use crate::seat::{Seat, first_seat};
 use crate::turn::{arrive, take_turn};
-use book_law::Turn;
 use due_set::JobTable;
+use history::Turn;
 use std::alloc::Global;
 use std::process::Abort;
 use std::test::*;

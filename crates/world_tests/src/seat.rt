@@ -3,8 +3,8 @@ ghost use Rattle.std.specs.Prelude.{◌≡◌, ◌<◌, ◌≤◌, ◌^◌, [], 
 ghost use Rattle.std.specs.Option.{option_to_list};
 ghost use Rattle.paxos_base.specs.Rows.{RowsStand};
 ghost use Rattle.launch_machine.specs.Clerk.{first_rows};
-ghost use Rattle.agree_law.specs.World.{fresh};
-ghost use Rattle.book_law.specs.Book.{durable_after};
+ghost use Rattle.agreement.specs.World.{fresh};
+ghost use Rattle.history.specs.Book.{durable_after};
 ghost use Rattle.replica_core.specs.Step.{IsInputInside, IsOfTable};
 ghost use Rattle.world_tests.specs.Seat.{IsNew, IsStarted, StepsSeat};
 

@@ -1,8 +1,8 @@
 //! A takeover: a leader proposes a start and stops, another takes over, and the launch is called twice and held once.
 use crate::hour::{FROM, table_of_one};
 use crate::scene::{Scene, begin, play};
-use book_law::{CallRow, Cause, Turn};
 use cluster_sched::{Fate, Name, SchedRow};
+use history::{CallRow, Cause, Turn};
 use paxos_base::{Entry, Kind};
 use replica_core::LearntRow;
 use std::process::Abort;

@@ -2,9 +2,9 @@
 ghost use Rattle.std.specs.Prelude.{◌≡◌, ℕ, List, [], ◌∷◌, None, Some, IfOk, OnOk};
 ghost use Rattle.std.specs.Option.{option_to_list};
 ghost use Rattle.zone_minutes.specs.declared.minute.Minute.{Minute};
-ghost use Rattle.book_law.specs.declared.turn.Cause.TheVariants as told;
-ghost use Rattle.book_law.specs.Book.{Row, Standing, answer_to, late_call, turn_of};
-ghost use Rattle.book_law.specs.Legal.{IsMade};
+ghost use Rattle.history.specs.declared.turn.Cause.TheVariants as told;
+ghost use Rattle.history.specs.Book.{Row, Standing, answer_to, late_call, turn_of};
+ghost use Rattle.history.specs.Legal.{IsMade};
 ghost use Rattle.replica_core.specs.Step.{IsInputInside};
 ghost use Rattle.world_law.specs.Book.{HasRoom, MayCall, StandsBehind, standing_behind};
 ghost use Rattle.world_law.specs.Replicas.{IsInputOf, IsToldLetter};
@@ -12,9 +12,9 @@ ghost use Rattle.world_tests.specs.Scene.{HasArrived};
 ghost use Rattle.world_tests.specs.Seat.{GoesOn, HasTaken, IsAtRest, IsIn, IsNothing, IsSeated};
 
 use crate::seat::{Seat, start, step_seat};
-use book_law::{CallRow, Cause, Turn};
 use cluster_sched::{Fate, SchedRow};
 use due_set::JobTable;
+use history::{CallRow, Cause, Turn};
 use replica_core::{Input, LearntList, LetterList, StepOut};
 use std::alloc::Global;
 use std::process::Abort;

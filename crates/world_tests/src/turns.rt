@@ -1,8 +1,8 @@
 //! Turns of one of three replicas, and of one alone.
 use crate::hour::{FROM, table_of_one};
 use crate::scene::{begin, play};
-use book_law::{CallRow, Cause, Turn};
 use cluster_sched::{Fate, Name, SchedRow};
+use history::{CallRow, Cause, Turn};
 use paxos_base::Kind;
 use std::process::Abort;
 use std::test::*;

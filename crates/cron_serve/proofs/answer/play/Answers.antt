@@ -3,7 +3,7 @@ use Rattle.run_text.specs.Run.{Run, run_of}
 use Rattle.script_text.specs.declared.command.Command.{Command}
 use Rattle.world_law.specs.Book.{BookState}
 use Rattle.world_rounds.specs.World.{book_of}
-use Rattle.world_play.specs.Play.{AreMemNodesOf, HasRun, HasStarts, IsPlayable}
+use Rattle.script_play.specs.Play.{AreMemNodesOf, HasRun, HasStarts, IsPlayable}
 use Rattle.cron_serve.specs.Serve.{IsRunOf}
 use Rattle.cron_serve.proofs.PlayLemmas.{few_members, left_by_world, playable, some_members}
 use Rattle.cron_serve.proofs.ServeLemmas.{may_start}

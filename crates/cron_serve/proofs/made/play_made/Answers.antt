@@ -3,8 +3,8 @@ use Rattle.std.specs.Prelude.{IsUtf8}
 use Rattle.std.proofs.lemmas.Str.{IsUtf8-string_bytes}
 use Rattle.run_text.specs.Steps.{IfRefused}
 use Rattle.run_text.specs.declared.refusal.RunFault.{RunFault}
-use Rattle.made_run.specs.Made.{made_text}
-use Rattle.made_run.proofs.TextLemmas.{text_is_short}
+use Rattle.generated_run.specs.Made.{made_text}
+use Rattle.generated_run.proofs.TextLemmas.{text_is_short}
 use Rattle.cron_serve.specs.Input.{IsRefusedAsRun}
 use Rattle.cron_serve.proofs.MadeLemmas.{never_refused}
 use Rattle.cron_serve.proofs.made.play_made.Goals as goal

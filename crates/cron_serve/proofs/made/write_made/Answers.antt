@@ -1,4 +1,4 @@
-use Rattle.made_run.specs.Made.{made_text}
+use Rattle.generated_run.specs.Made.{made_text}
 use Rattle.cron_serve.proofs.ServeLemmas.{ends_summary}
 use Rattle.cron_serve.proofs.made.write_made.Goals as goal
 

@@ -1,5 +1,5 @@
 use Rattle.std.proofs.Common.{inr, refl}
-use Rattle.made_run.specs.Made.{made_text}
+use Rattle.generated_run.specs.Made.{made_text}
 use Rattle.cron_serve.specs.declared.words.Output.TheVariants.{Summary}
 use Rattle.cron_serve.specs.declared.stop.Stop.TheVariants.{OutOfMemory}
 use Rattle.cron_serve.proofs.CompleteLemmas.{completes_made, completes_summary}

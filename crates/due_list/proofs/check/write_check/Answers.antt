@@ -1,5 +1,5 @@
 use Rattle.std.proofs.Common.{◌≡◌, All, List, length, map, ◌<◌, ◌^◌, sym, subst, ap, ◌∙◌, string_bytes}
-use Rattle.report_text.specs.Lines.{text_of_lines}
+use Rattle.cron_io.specs.Lines.{text_of_lines}
 use Rattle.run_text.specs.Run.{run_of, section_of}
 use Rattle.run_text.specs.declared.run.Section.{Section as SectionText}
 use Rattle.due_list.specs.CheckText.{AreFaultsIn, IsCheckText, check_lines}

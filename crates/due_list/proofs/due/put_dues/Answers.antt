@@ -2,7 +2,7 @@ use Rattle.std.proofs.Common.{List, map, ◌++◌, ◌∙◌, ap, get_or, string
 use Rattle.std.proofs.lemmas.List.{get_or_default, take_all}
 use Rattle.zone_minutes.specs.declared.minute.Minute.{Minute}
 use Rattle.due_list.specs.DueText.{due_line}
-use Rattle.report_text.specs.Lines.{text_of_lines}
+use Rattle.cron_io.specs.Lines.{text_of_lines}
 use Rattle.due_list.proofs.ListLemmas.{lines_more}
 use Rattle.due_list.proofs.due.put_dues.Goals as goal
 

@@ -1,7 +1,7 @@
 use Rattle.std.proofs.Common.{◌≡◌, ◌++◌, map, take, string_bytes}
 use Rattle.jiff.specs.Types.{TimeZone}
 use Rattle.due_set.specs.Table.{Job, IsJobIn}
-use Rattle.report_text.specs.Lines.{text_of_lines}
+use Rattle.cron_io.specs.Lines.{text_of_lines}
 use Rattle.due_list.specs.DueText.{due_line}
 use Rattle.due_list.proofs.due.put_dues.Given as goal
 

@@ -1,10 +1,10 @@
 use Rattle.std.proofs.Common.{◌+◌, ◌++◌, ◌∷◌, [], ℕ, List, None, get_or, map, arith, ap, sym, ◌∙◌}
 use Rattle.std.specs.List.{enumerate_from}
 use Rattle.std.proofs.lemmas.List.{get_or_default}
-use Rattle.book_law.specs.declared.turn.Cause.TheVariants.{Campaign}
-use Rattle.book_law.specs.declared.turn.Turn.{Turn}
-use Rattle.book_law.specs.declared.turn.Turn.TheVariants.{Did}
-use Rattle.report_text.specs.Lines.{text_of_lines}
+use Rattle.history.specs.declared.turn.Cause.TheVariants.{Campaign}
+use Rattle.history.specs.declared.turn.Turn.{Turn}
+use Rattle.history.specs.declared.turn.Turn.TheVariants.{Did}
+use Rattle.cron_io.specs.Lines.{text_of_lines}
 use Rattle.journal_text.specs.Journal.{turn_line}
 use Rattle.journal_text.proofs.PartLemmas.{line_at, line_within, lines_all, text_more}
 use Rattle.journal_text.proofs.journal.put_turns.Goals as goal

@@ -1,7 +1,7 @@
 use Rattle.std.proofs.Common.{◌≡◌, map, take}
 use Rattle.std.specs.Prelude.{string_bytes}
 use Rattle.std.specs.List.{enumerate_from}
-use Rattle.report_text.specs.Lines.{text_of_lines}
+use Rattle.cron_io.specs.Lines.{text_of_lines}
 use Rattle.journal_text.specs.Journal.{turn_line}
 use Rattle.journal_text.proofs.journal.put_turns.Given as goal
 

@@ -1,5 +1,5 @@
 use Rattle.std.proofs.Common.{All, List, subst, sym}
-use Rattle.book_law.specs.declared.turn.Turn.{Turn}
+use Rattle.history.specs.declared.turn.Turn.{Turn}
 use Rattle.report_text.specs.Writes.{Writes}
 use Rattle.report_text.proofs.WritingLemmas.{writes_exit, writes_on}
 use Rattle.journal_text.specs.Told.{CanBeTold}

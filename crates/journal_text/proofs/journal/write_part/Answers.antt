@@ -1,5 +1,5 @@
 use Rattle.std.proofs.Common.{◌++◌, ◌∷◌, [], length, map}
-use Rattle.report_text.specs.Lines.{text_of_lines}
+use Rattle.cron_io.specs.Lines.{text_of_lines}
 use Rattle.report_text.proofs.WritingLemmas.{writes_exit, writes_no_memory, writes_on}
 use Rattle.journal_text.specs.Journal.{part_head, part_turns, turn_line}
 use Rattle.journal_text.proofs.journal.write_part.Goals as goal

@@ -1,7 +1,7 @@
 use Rattle.std.proofs.Common.{length, take}
 use Rattle.std.specs.Prelude.{flat_map}
 use Rattle.std.specs.List.{range_with_len}
-use Rattle.report_text.specs.Lines.{text_of_lines}
+use Rattle.cron_io.specs.Lines.{text_of_lines}
 use Rattle.report_text.specs.Writes.{HasWritten}
 use Rattle.journal_text.specs.Journal.{part_lines}
 use Rattle.journal_text.proofs.journal.write_parts.Given as goal

@@ -1,7 +1,7 @@
 use Rattle.std.proofs.Common.{◌≡◌, ◌++◌, List, All, sym, ap, subst, ◌∙◌, ℕ, take, drop, take-append-drop, arith}
 use Rattle.std.proofs.lemmas.Grind.{common_steps}
 use Rattle.std.proofs.lemmas.List.Elements.{All-take}
-use Rattle.book_law.specs.declared.turn.Turn.{Turn}
+use Rattle.history.specs.declared.turn.Turn.{Turn}
 use Rattle.journal_text.specs.Told.{CanBeTold}
 use Rattle.journal_text.proofs.PartLemmas.{IsTelling, telling_all, telling_exit, telling_left, telling_more}
 use Rattle.journal_text.proofs.journal.write_turns.Goals as goal

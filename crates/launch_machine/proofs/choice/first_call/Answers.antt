@@ -1,6 +1,6 @@
 use Rattle.std.proofs.Common.{◌<◌, length, FitsSigned, w64, arith}
 use Rattle.std.proofs.lemmas.Int.{ints, to_z-of_z}
-use Rattle.least_tree.specs.Least.{HasNoneAtMost, IsFirstAtMost}
+use Rattle.min_tree.specs.Least.{HasNoneAtMost, IsFirstAtMost}
 use Rattle.launch_machine.specs.Intent.{IsFirstCall, MayCall}
 use Rattle.launch_machine.proofs.MachineLemmas.{below_next, no_call_from}
 use Rattle.launch_machine.proofs.NextLemmas.{no_call_after, no_call_between, place_within}

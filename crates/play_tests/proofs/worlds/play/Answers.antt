@@ -2,12 +2,12 @@ use Rattle.std.proofs.Common.{List, All, length, sym, ap, ◌∙◌, subst, arit
 use Rattle.script_text.specs.declared.command.Command.{Command}
 use Rattle.run_text.specs.Run.{run_of}
 use Rattle.run_text.proofs.SoundLemmas.{sound_run}
-use Rattle.journal_text.specs.Starts.{AreStarts}
+use Rattle.script_semantics.specs.Starts.{AreStarts}
 use Rattle.journal_text.proofs.StartLemmas.{book_starts}
 use Rattle.world_law.specs.Book.{BookState, IsLegalBook}
-use Rattle.world_play.specs.Play.{IsPlayable}
-use Rattle.world_play.proofs.Taken.{script_taken}
-use Rattle.world_play.proofs.Runs.{at_rest, legal_book}
+use Rattle.script_play.specs.Play.{IsPlayable}
+use Rattle.script_play.proofs.Taken.{script_taken}
+use Rattle.script_play.proofs.Runs.{at_rest, legal_book}
 use Rattle.play_tests.proofs.worlds.play.Goals as goal
 
 pub build_table-requires : goal.build_table-requires

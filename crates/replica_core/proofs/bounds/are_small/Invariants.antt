@@ -1,5 +1,5 @@
 use Rattle.std.proofs.Common.{◌≡◌}
-use Rattle.step_law.specs.Letters.{are_small}
+use Rattle.step_spec.specs.Letters.{are_small}
 use Rattle.replica_core.proofs.bounds.are_small.Given as goal
 
 abbrev pub invariant-loop-packet : goal.invariant-loop-packet

@@ -1,6 +1,6 @@
 use Rattle.std.proofs.Common.{◌≡◌, ◌++◌, Global, Vec, sym, ap, ◌∙◌}
 use Rattle.std.proofs.lemmas.List.{append-nil}
-use Rattle.step_law.specs.Heard.{row_in}
+use Rattle.step_spec.specs.Heard.{row_in}
 use Rattle.replica_core.proofs.SnapLemmas.{counted-next, no-row}
 use Rattle.replica_core.proofs.lines.rows_in.Goals as goal
 use Rattle.replica_core.proofs.lines.rows_in.Goals.{in-SnapRow+in_ok-push, in_default-packet}

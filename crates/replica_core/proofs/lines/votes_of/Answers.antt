@@ -1,6 +1,6 @@
 use Rattle.std.proofs.Common.{◌≡◌, ◌++◌, Global, Vec, sym, ap, ◌∙◌}
 use Rattle.std.proofs.lemmas.List.{append-nil}
-use Rattle.step_law.specs.Heard.{vote_in}
+use Rattle.step_spec.specs.Heard.{vote_in}
 use Rattle.replica_core.proofs.SnapLemmas.{counted-next, no-vote}
 use Rattle.replica_core.proofs.lines.votes_of.Goals as goal
 use Rattle.replica_core.proofs.lines.votes_of.Goals.{in-OldVote+in_ok-push, in_default-packet}

@@ -1,6 +1,6 @@
 use Rattle.std.proofs.Common.{◌≡◌, ◌-◌, ◌++◌, take}
 use Rattle.std.specs.List.{flat_map}
-use Rattle.step_law.specs.Heard.{vote_in}
+use Rattle.step_spec.specs.Heard.{vote_in}
 use Rattle.replica_core.proofs.lines.votes_of.Given as goal
 
 abbrev pub invariant-loop : goal.invariant-loop

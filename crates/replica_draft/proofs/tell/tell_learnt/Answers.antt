@@ -1,7 +1,7 @@
 use Rattle.std.proofs.Common.{arith, ap, map, ◌∙◌, get_or}
 use Rattle.std.proofs.lemmas.List.{get_or-map, length-map, map-append, take_all}
 use Rattle.paxos_base.specs.declared.entry.Entry.TheVariants.{Noop}
-use Rattle.step_law.specs.declared.out.LearntRow.{LearntRow}
+use Rattle.step_spec.specs.declared.out.LearntRow.{LearntRow}
 use Rattle.replica_draft.specs.Draft.{entries_in, said_in}
 use Rattle.replica_draft.proofs.DraftLemmas.{says-next}
 use Rattle.replica_draft.proofs.tell.tell_learnt.Goals as goal

@@ -1,5 +1,5 @@
 use Rattle.std.specs.Prelude.{◌≡◌, ◌+◌, take}
-use Rattle.step_law.specs.Hear.{known_from, send_all}
+use Rattle.step_spec.specs.Hear.{known_from, send_all}
 use Rattle.replica_draft.specs.Draft.{Says, entries_in}
 use Rattle.replica_draft.proofs.tell.tell_learnt.Given as goal
 

@@ -1,7 +1,7 @@
 use Rattle.std.specs.Prelude.{◌≡◌, ◌++◌, ◌∷◌, [], length, map, take}
 use Rattle.paxos_base.specs.declared.rows.JobRow.{JobRow}
 use Rattle.paxos_letter.specs.declared.packet.Packet.TheVariants as packet
-use Rattle.step_law.specs.Message.{Only}
+use Rattle.step_spec.specs.Message.{Only}
 use Rattle.replica_draft.specs.Draft.{said_in}
 use Rattle.replica_draft.proofs.tell.tell_rows.Given as goal
 

@@ -2,7 +2,7 @@ use Rattle.std.proofs.Common.{◌≡◌, List, length, map, take}
 use Rattle.std.specs.List.{range_with_len}
 use Rattle.cluster_sched.specs.declared.row.SchedRow.{SchedRow}
 use Rattle.report_text.specs.Counts.{counts_of_job}
-use Rattle.report_text.specs.Lines.{text_of_lines}
+use Rattle.cron_io.specs.Lines.{text_of_lines}
 use Rattle.report_text.specs.Report.{count_line}
 use Rattle.report_text.specs.Writes.{HasWritten}
 use Rattle.report_text.proofs.report.write_counts.Given as goal

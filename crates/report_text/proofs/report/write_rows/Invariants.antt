@@ -1,5 +1,5 @@
 use Rattle.std.proofs.Common.{map, take}
-use Rattle.report_text.specs.Lines.{text_of_lines}
+use Rattle.cron_io.specs.Lines.{text_of_lines}
 use Rattle.report_text.specs.Report.{row_line}
 use Rattle.report_text.specs.Writes.{HasWritten}
 use Rattle.report_text.proofs.report.write_rows.Given as goal

@@ -1,5 +1,5 @@
 use Rattle.std.proofs.Common.{[]}
-use Rattle.script_law.specs.Situation.{first_situation}
+use Rattle.script_semantics.specs.Situation.{first_situation}
 use Rattle.rounds_tests.proofs.meets.world_of_meeting_disks.Goals as goal
 
 pub returns-in-Ok-clause-world : goal.returns-in-Ok-clause-world

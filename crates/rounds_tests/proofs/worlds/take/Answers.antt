@@ -1,4 +1,4 @@
-use Rattle.script_law.specs.Script.{IsPartOf}
+use Rattle.script_semantics.specs.Script.{IsPartOf}
 use Rattle.rounds_tests.proofs.Played.{is_world}
 use Rattle.rounds_tests.proofs.worlds.take.Goals as goal
 

@@ -1,6 +1,6 @@
 use Rattle.std.proofs.Common.{◌≤◌, arith, subst}
 use Rattle.gate_file.specs.File.{bodies_of}
-use Rattle.acceptor_core.specs.Acceptor.{IsAtLeast}
+use Rattle.paxos_base.specs.Ballot.{IsAtLeast}
 use Rattle.paxos_base.specs.declared.durable.Durable.{Durable}
 use Rattle.paxos_base.specs.Durable.{after_delta}
 use Rattle.replica_store.proofs.FileLemmas.{bodies_stand_for_one}

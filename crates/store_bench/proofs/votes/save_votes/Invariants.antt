@@ -1,7 +1,7 @@
 -- What is kept takes a vote in the ballot, at a slot from the base on.
 use Rattle.std.proofs.Common.{◌≤◌}
 use Rattle.std.specs.Bool.{⊤}
-use Rattle.acceptor_core.specs.Acceptor.{IsAtLeast}
+use Rattle.paxos_base.specs.Ballot.{IsAtLeast}
 use Rattle.disk_model.specs.MemDisk.{seen_of, left_by}
 use Rattle.paxos_base.specs.declared.durable.Durable.{Durable}
 use Rattle.replica_store.specs.Store.{StoreKeeps, IsStoreSettled}

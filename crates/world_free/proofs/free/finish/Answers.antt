@@ -1,6 +1,6 @@
 use Rattle.std.proofs.Common.{drop, refl, sym, ap, ◌∙◌, subst}
 use Rattle.replica_node.specs.declared.node.Node.{Node}
-use Rattle.world_parts.specs.declared.bundle.Bundle.{Bundle}
+use Rattle.world_steps.specs.declared.bundle.Bundle.{Bundle}
 use Rattle.world_free.specs.Ends.{HaveEnded, HaveLooked, latest_by}
 use Rattle.world_free.proofs.Closed.{is_closed}
 use Rattle.world_free.proofs.Ending.{all_looked, all_seats, free_part, parts_there}

@@ -1,6 +1,6 @@
 use Rattle.std.proofs.Common.{◌≡◌, false, sym, ap, ◌∙◌, subst, arith}
 use Rattle.std.proofs.lemmas.Grind.{common_steps}
-use Rattle.script_law.specs.Situation.{Situation}
+use Rattle.script_semantics.specs.Situation.{Situation}
 use Rattle.world_free.specs.Jobs.{IsJobAt}
 use Rattle.world_free.specs.Plan.{plan_of}
 use Rattle.world_free.specs.declared.job.FreeJob.{FreeJob}

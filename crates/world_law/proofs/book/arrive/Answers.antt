@@ -1,6 +1,6 @@
 use Rattle.std.proofs.Common.{subst}
 use Rattle.cluster_sched.specs.Fates.{IsArrival}
-use Rattle.book_law.specs.Book.{late_call}
+use Rattle.history.specs.Book.{late_call}
 use Rattle.world_law.proofs.Ledgers.{arrived_held}
 use Rattle.world_law.proofs.book.arrive.Goals as goal
 

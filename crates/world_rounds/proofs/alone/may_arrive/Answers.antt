@@ -2,7 +2,7 @@ use Rattle.std.proofs.Common.{◌≡◌, ◌<◌, ◌&&◌, ◌==◌, nat_lt, no
 use Rattle.std.specs.List.{list_any}
 use Rattle.std.proofs.lemmas.Bool.{lt-ltb}
 use Rattle.cluster_sched.specs.Fates.{Holdings}
-use Rattle.script_law.specs.Commands.{has_number}
+use Rattle.script_semantics.specs.Commands.{has_number}
 use Rattle.world_rounds.proofs.Arrivals.{any_number}
 use Rattle.world_rounds.proofs.alone.may_arrive.Goals as goal
 

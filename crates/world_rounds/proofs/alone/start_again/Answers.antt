@@ -3,7 +3,7 @@ use Rattle.replica_store.specs.Files.{IsRecoverable, selected}
 use Rattle.replica_node.specs.Node.{fault_of, replica_of}
 use Rattle.replica_node.specs.Reliable.{IsReliable}
 use Rattle.replica_node.proofs.RestLemmas.{recoverable_at_rest}
-use Rattle.step_law.specs.State.{started}
+use Rattle.step_spec.specs.State.{started}
 use Rattle.world_steps.proofs.MemoryLemmas.{memory_alone}
 use Rattle.world_steps.proofs.Stopping.{and_some}
 use Rattle.world_rounds.proofs.Starting.{either_way}

@@ -1,5 +1,5 @@
 use Rattle.std.proofs.Common.{arith, refl, ap, ◌∙◌}
-use Rattle.script_law.specs.Settling.{furthest}
+use Rattle.script_semantics.specs.Settling.{furthest}
 use Rattle.world_rounds.proofs.CalmLemmas.{further_on}
 use Rattle.world_rounds.proofs.calm.furthest.Goals as goal
 

@@ -1,6 +1,6 @@
 use Rattle.std.proofs.Common.{◌≡◌, ◌&&◌, true, not, map, ap, ◌∙◌, sym}
 use Rattle.std.specs.List.{slice_get}
-use Rattle.script_law.specs.Commands.{has_number, is_from}
+use Rattle.script_semantics.specs.Commands.{has_number, is_from}
 use Rattle.world_law.specs.Book.{posted_as}
 use Rattle.world_rounds.proofs.Arrivals.{any_number}
 use Rattle.world_rounds.proofs.letters.is_another_from.Goals as goal

@@ -1,6 +1,6 @@
 use Rattle.std.proofs.Common.{◌≡◌, ◌&&◌, true, false, not, map, get_or, sym, ap, ◌∙◌, subst}
 use Rattle.std.specs.List.{slice_get}
-use Rattle.script_law.specs.Commands.{has_number, is_from}
+use Rattle.script_semantics.specs.Commands.{has_number, is_from}
 use Rattle.world_law.specs.Book.{posted_as}
 use Rattle.world_rounds.proofs.Repeats.{found_next, passed_next}
 use Rattle.world_rounds.proofs.letters.once_from.Goals as goal

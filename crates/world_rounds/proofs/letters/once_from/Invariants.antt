@@ -1,5 +1,5 @@
 use Rattle.std.proofs.Common.{◌≡◌, map, take}
-use Rattle.script_law.specs.Commands.{each_once, from_one}
+use Rattle.script_semantics.specs.Commands.{each_once, from_one}
 use Rattle.world_law.specs.Book.{posted_as}
 use Rattle.world_rounds.proofs.letters.once_from.Given as goal
 

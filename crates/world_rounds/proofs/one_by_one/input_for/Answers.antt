@@ -1,5 +1,5 @@
 use Rattle.std.proofs.Common.{◌≡◌, ap, ◌∙◌, subst}
-use Rattle.world_parts.specs.Parts.{IsSentTo}
+use Rattle.world_steps.specs.Parts.{IsSentTo}
 use Rattle.world_law.specs.declared.letter.LetterRow.{LetterRow}
 use Rattle.world_rounds.proofs.Worlds.{some_same}
 use Rattle.world_rounds.specs.OneByOne.{CanTell}

@@ -1,6 +1,6 @@
 use Rattle.std.proofs.Common.{◌≡◌, ℕ, ◌<◌, Some}
 use Rattle.std.specs.List.{slice_get}
-use Rattle.step_law.specs.State.{prefix_of}
+use Rattle.step_spec.specs.State.{prefix_of}
 use Rattle.replica_node.specs.Node.{replica_of}
 use Rattle.world_rounds.specs.declared.member.Member.{Member}
 use Rattle.world_rounds.proofs.quiet.are_level.Given as goal

@@ -1,7 +1,7 @@
 use Rattle.std.proofs.Common.{◌≡◌, ◌↔◌, ◌==◌, IsTrue, true, false, [], None, Some, length, ap, sym, ◌∙◌, subst}
 use Rattle.paxos_base.specs.Vote.{votes_from}
 use Rattle.term_core.specs.declared.term.Term.TheVariants.{Leader}
-use Rattle.script_law.specs.Settling.{IsFreeTerm}
+use Rattle.script_semantics.specs.Settling.{IsFreeTerm}
 use Rattle.world_rounds.proofs.QuietLemmas.{none_from}
 use Rattle.world_rounds.proofs.quiet.is_free.Goals as goal
 

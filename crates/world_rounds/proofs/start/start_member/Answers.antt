@@ -1,7 +1,7 @@
 use Rattle.std.proofs.Common.{length, refl, ap, ◌∙◌}
 use Rattle.launch_machine.specs.Clerk.{first_rows}
-use Rattle.step_law.specs.State.{started}
-use Rattle.agree_law.specs.World.{fresh}
+use Rattle.step_spec.specs.State.{started}
+use Rattle.agreement.specs.World.{fresh}
 use Rattle.replica_store.proofs.FileLemmas.{empty_recoverable}
 use Rattle.replica_node.specs.Node.{fault_of}
 use Rattle.world_steps.proofs.MemoryLemmas.{memory_alone}

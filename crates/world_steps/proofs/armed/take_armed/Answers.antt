@@ -1,11 +1,11 @@
 use Rattle.std.proofs.Common.{◌≡◌, ℕ, [], Result, Err, ◌<◌, ◌≤◌, length, refl, sym, ap, ◌∙◌, subst, arith, ◌^◌, None, Some, Option}
 use Rattle.std.specs.Prelude.{IsErrOf}
-use Rattle.anew_law.proofs.AnewLemmas.{anew_at}
+use Rattle.world_steps.proofs.AnewLemmas.{anew_at}
 use Rattle.disk_model.specs.Told.{Told}
 use Rattle.paxos_base.specs.declared.durable.Delta.{Delta}
 use Rattle.paxos_base.specs.declared.durable.Durable.{Durable}
 use Rattle.replica_core.specs.Replica.{IsSmall, ReplicaState}
-use Rattle.change_law.specs.Anew.{ProposesAnew}
+use Rattle.durable_changes.specs.Anew.{ProposesAnew}
 use Rattle.replica_core.specs.Commit.{kept_after}
 use Rattle.replica_core.specs.Step.{IsAlike, Steps, fault_in}
 use Rattle.replica_core.specs.declared.out.StepOut.{StepOut}
@@ -15,7 +15,7 @@ use Rattle.replica_node.specs.Kept.{IsAnsweredByArm, KeepsChange, LeavesByArm, a
 use Rattle.replica_node.proofs.ReliableLemmas.{reliable_unfailing}
 use Rattle.replica_node.specs.Node.{IsChangeOf, disk_of, replica_of, store_of}
 use Rattle.replica_store.specs.Store.{area_of}
-use Rattle.step_law.specs.State.{State}
+use Rattle.step_spec.specs.State.{State}
 use Rattle.world_steps.proofs.MemoryLemmas.{cause_breaks_none, memory_unless_stopped, no_letter}
 use Rattle.world_steps.proofs.StepLemmas.{ahead_small, beside_next, change_in}
 use Rattle.world_steps.proofs.Stopping.{and_some, calls_same, cant_fail, has_stopped, stands_beside}

@@ -1,5 +1,5 @@
 use Rattle.std.proofs.Common.{◌≡◌, drop}
-use Rattle.script_law.specs.Situation.{is_cut}
+use Rattle.script_semantics.specs.Situation.{is_cut}
 use Rattle.world_steps.proofs.mails.is_cut.Given as goal
 
 abbrev pub invariant-pairs : goal.invariant-pairs

@@ -3,7 +3,7 @@ use Rattle.std.specs.List.{slice_set}
 use Rattle.std.proofs.lemmas.Option.{slice_get_read}
 use Rattle.std.proofs.lemmas.Result.{on_ok_weaker}
 use Rattle.launch_machine.proofs.MachineLemmas.{set_here, set_there}
-use Rattle.book_law.specs.Book.{turn_of}
+use Rattle.history.specs.Book.{turn_of}
 use Rattle.world_tests.specs.Seat.{GoesOn, IsSeated}
 use Rattle.world_tests.proofs.Scenes.{scene_arrives, scene_goes_on}
 use Rattle.world_tests.proofs.scene.play_turn.Goals as goal

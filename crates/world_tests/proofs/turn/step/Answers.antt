@@ -1,6 +1,6 @@
 use Rattle.std.proofs.Common.{sym, subst, ◌∙◌}
 use Rattle.std.specs.Option.{option_to_list}
-use Rattle.book_law.specs.Book.{answer_to}
+use Rattle.history.specs.Book.{answer_to}
 use Rattle.world_law.proofs.Called.{alike_stands}
 use Rattle.world_tests.specs.Seat.{GoesOn, SeatState}
 use Rattle.world_tests.proofs.Goes.{made_before, step_goes_on, step_may_ask, step_may_come}

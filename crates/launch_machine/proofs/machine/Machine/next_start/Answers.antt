@@ -1,6 +1,6 @@
 use Rattle.std.proofs.Common.{FitsSigned, w64, arith, subst}
 use Rattle.std.proofs.lemmas.Int.{ints, to_z-of_z}
-use Rattle.least_tree.specs.Least.{HasNone, IsLeast}
+use Rattle.min_tree.specs.Least.{HasNone, IsLeast}
 use Rattle.launch_machine.specs.Machine.{Launches}
 use Rattle.launch_machine.proofs.NextLemmas.{next_start_found, starts_no_more}
 use Rattle.launch_machine.proofs.machine.Machine.next_start.Goals as goal

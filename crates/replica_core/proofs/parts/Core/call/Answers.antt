@@ -1,6 +1,6 @@
 use Rattle.std.proofs.Common.{◌≡◌, [], ◌∷◌, w64, to_z, of_z}
 use Rattle.std.proofs.lemmas.Int.{to_z-of_z}
-use Rattle.step_law.specs.Act.{Call}
+use Rattle.step_spec.specs.Act.{Call}
 use Rattle.replica_core.proofs.LeadLemmas.{makes}
 use Rattle.replica_core.proofs.parts.Core.call.Goals as goal
 

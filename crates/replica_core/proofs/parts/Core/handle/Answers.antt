@@ -1,7 +1,7 @@
 use Rattle.std.proofs.Common.{arith, take}
 use Rattle.std.specs.List.{flat_map}
-use Rattle.step_law.specs.Heard.{row_in, vote_in}
-use Rattle.step_law.specs.Hear.{ask_below, line, on_accept, on_accepted, on_ask, on_known, on_lead, on_prepare, on_promise, on_snap}
+use Rattle.step_spec.specs.Heard.{row_in, vote_in}
+use Rattle.step_spec.specs.Hear.{ask_below, line, on_accept, on_accepted, on_ask, on_known, on_lead, on_prepare, on_promise, on_snap}
 use Rattle.replica_draft.specs.Draft.{has_copied}
 use Rattle.replica_core.proofs.HearLemmas.{of_state, of_term}
 use Rattle.replica_core.proofs.SteadyLemmas.{on_ok_so, steady-sends}

@@ -1,7 +1,7 @@
 use Rattle.std.proofs.Common.{◌<◌, ◌^◌, arith, length, refl}
 use Rattle.std.proofs.lemmas.Bool.{and_parts, ltb-true}
-use Rattle.step_law.specs.Heard.{messages_of}
-use Rattle.step_law.specs.Letters.{IsHeardAs}
+use Rattle.step_spec.specs.Heard.{messages_of}
+use Rattle.step_spec.specs.Letters.{IsHeardAs}
 use Rattle.replica_core.proofs.HearLemmas.{first-rows, hearing-all, hearing-next, hearing-none, once-now}
 use Rattle.replica_core.proofs.LeadLemmas.{begun-ready, own-prefix}
 use Rattle.replica_core.proofs.OnceLemmas.{read-once}

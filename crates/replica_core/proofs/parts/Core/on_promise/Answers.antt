@@ -1,6 +1,6 @@
 use Rattle.std.proofs.Common.{sym, refl, ◌∙◌, ap, take}
 use Rattle.std.specs.List.{flat_map}
-use Rattle.step_law.specs.Heard.{vote_in}
+use Rattle.step_spec.specs.Heard.{vote_in}
 use Rattle.term_core.specs.Best.{best_of}
 use Rattle.replica_core.specs.Replica.{best_in}
 use Rattle.replica_core.proofs.LineLemmas.{promise-other, promise-gathered}

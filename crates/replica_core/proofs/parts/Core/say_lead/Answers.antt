@@ -1,7 +1,7 @@
 use Rattle.std.proofs.Common.{[], ◌∷◌, ◌∙◌, ◌≡◌}
-use Rattle.step_law.specs.Act.{Send}
-use Rattle.step_law.specs.Message.{Lead, Others}
-use Rattle.step_law.specs.State.{prefix_of}
+use Rattle.step_spec.specs.Act.{Send}
+use Rattle.step_spec.specs.Message.{Lead, Others}
+use Rattle.step_spec.specs.State.{prefix_of}
 use Rattle.replica_core.specs.Replica.{state_of}
 use Rattle.replica_core.proofs.LeadLemmas.{makes, own-prefix}
 use Rattle.replica_core.proofs.SteadyLemmas.{on_ok_so}

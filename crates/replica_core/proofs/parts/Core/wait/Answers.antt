@@ -1,8 +1,8 @@
 use Rattle.std.proofs.Common.{◌≡◌, ◌∙◌, sym, [], ◌∷◌, Some, None, if◌then◌else◌}
 use Rattle.term_core.specs.Term.{is_fourth}
-use Rattle.step_law.specs.Act.{Send, Wait}
-use Rattle.step_law.specs.Message.{Accept, Outside}
-use Rattle.step_law.specs.Propose.{vote_of, wait}
+use Rattle.step_spec.specs.Act.{Send, Wait}
+use Rattle.step_spec.specs.Message.{Accept, Outside}
+use Rattle.step_spec.specs.Propose.{vote_of, wait}
 use Rattle.replica_draft.proofs.DraftLemmas.{goes-on}
 use Rattle.replica_core.proofs.LeadLemmas.{answered, makes, makes_as, wait-again, wait-not_yet}
 use Rattle.replica_core.proofs.parts.Core.wait.Goals as goal

@@ -1,6 +1,6 @@
 use Rattle.std.proofs.Common.{refl}
-use Rattle.step_law.specs.Heard.{packets_of}
-use Rattle.step_law.specs.Message.{Nack}
+use Rattle.step_spec.specs.Heard.{packets_of}
+use Rattle.step_spec.specs.Message.{Nack}
 use Rattle.replica_draft.proofs.draft.Draft.send_nack.Goals as goal
 
 pub returns-clause-goes : goal.returns-clause-goes

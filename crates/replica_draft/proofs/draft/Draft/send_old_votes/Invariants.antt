@@ -1,6 +1,6 @@
 use Rattle.std.proofs.Common.{◌≡◌, ◌++◌, map, take}
-use Rattle.step_law.specs.Heard.{old_vote}
-use Rattle.step_law.specs.Message.{Only}
+use Rattle.step_spec.specs.Heard.{old_vote}
+use Rattle.step_spec.specs.Message.{Only}
 use Rattle.replica_draft.specs.Draft.{SendsOnly, said_in}
 use Rattle.replica_draft.proofs.draft.Draft.send_old_votes.Given as goal
 

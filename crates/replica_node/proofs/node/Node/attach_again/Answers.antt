@@ -5,9 +5,9 @@ use Rattle.gate_file.specs.File.{bodies_of}
 use Rattle.paxos_base.specs.Durable.{after_delta}
 use Rattle.paxos_base.specs.Rows.{RowsStand}
 use Rattle.paxos_base.specs.declared.durable.Durable.{Durable}
-use Rattle.step_law.specs.Coherent.{IsCoherent}
-use Rattle.step_law.specs.State.{Identity, State}
-use Rattle.step_law.proofs.SoundLemmas.{start_sound}
+use Rattle.step_spec.specs.Coherent.{IsCoherent}
+use Rattle.step_spec.specs.State.{Identity, State}
+use Rattle.step_spec.proofs.SoundLemmas.{start_sound}
 use Rattle.replica_store.specs.Files.{FilesStand, IsRecoverable}
 use Rattle.replica_store.specs.Store.{StoreKeeps, area_of}
 use Rattle.replica_node.proofs.AttachedLemmas.{fit_to_start}

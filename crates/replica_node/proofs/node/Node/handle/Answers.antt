@@ -1,6 +1,6 @@
 use Rattle.std.proofs.Common.{◌≡◌, ℕ, Some, Result, Ok, Err, length, refl, sym, ap, ◌∙◌, subst}
 use Rattle.std.specs.Option.{option_copied}
-use Rattle.step_law.specs.Step.{step}
+use Rattle.step_spec.specs.Step.{step}
 use Rattle.store_format.specs.Order.{ChangeMayFollow}
 use Rattle.replica_core.specs.Commit.{kept_after}
 use Rattle.replica_core.specs.Replica.{ReplicaState}
@@ -10,7 +10,7 @@ use Rattle.replica_core.specs.declared.out.StepOut.{StepOut}
 use Rattle.replica_node.specs.Faults.{of_disk}
 use Rattle.replica_node.specs.declared.fault.NodeFault.TheVariants as Node
 use Rattle.paxos_base.specs.declared.durable.Delta.{Delta}
-use Rattle.step_law.specs.State.{State}
+use Rattle.step_spec.specs.State.{State}
 use Rattle.std.specs.Prelude.{Option}
 use Rattle.replica_store.specs.Store.{area_of}
 use Rattle.replica_node.specs.Kept.{LeavesByArm, area_for, calls_of}

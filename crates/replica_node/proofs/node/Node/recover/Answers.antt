@@ -1,8 +1,8 @@
 use Rattle.std.proofs.Common.{refl, ap, sym, ◌∙◌, subst, Err}
 use Rattle.gate_file.specs.File.{bodies_of}
-use Rattle.step_law.specs.Coherent.{IsCoherent}
-use Rattle.step_law.specs.State.{Identity, State}
-use Rattle.step_law.proofs.SoundLemmas.{start_sound}
+use Rattle.step_spec.specs.Coherent.{IsCoherent}
+use Rattle.step_spec.specs.State.{Identity, State}
+use Rattle.step_spec.proofs.SoundLemmas.{start_sound}
 use Rattle.replica_node.proofs.AttachedLemmas.{fit_to_start}
 use Rattle.replica_node.proofs.FaultLemmas.{same_fault}
 use Rattle.replica_node.specs.declared.node.Node.{Node}

@@ -1,4 +1,4 @@
-use Rattle.script_law.specs.Situation.{Situation}
+use Rattle.script_semantics.specs.Situation.{Situation}
 use Rattle.world_free.specs.Jobs.{IsJobAt}
 use Rattle.world_free.specs.Plan.{plan_of}
 use Rattle.world_free.proofs.job.FreeJob.run.Given as goal

@@ -1,7 +1,7 @@
 use Rattle.std.proofs.Common.{◌≡◌, ◌+◌, ◌++◌, ℕ, List, ◌∙◌, ap, length, map, refl, subst, sym}
-use Rattle.book_law.specs.Book.{PostedLetter, post}
-use Rattle.step_law.specs.declared.out.OutLetter.{OutLetter}
-use Rattle.free_law.specs.Others.{mail_behind}
+use Rattle.history.specs.Book.{PostedLetter, post}
+use Rattle.step_spec.specs.declared.out.OutLetter.{OutLetter}
+use Rattle.script_semantics.specs.Others.{mail_behind}
 use Rattle.world_law.specs.Book.{posted_as}
 use Rattle.world_steps.specs.declared.steps.Taken.{Taken}
 use Rattle.world_free.specs.Mails.{HasFirstBytes, coming}

@@ -1,7 +1,7 @@
 use Rattle.std.proofs.Common.{◌≡◌, ◌<◌, refl, ◌+◌, ◌++◌, Some, length, ap, ◌∙◌, sym, subst, arith}
 use Rattle.std.specs.List.{slice_get}
 use Rattle.std.proofs.lemmas.Option.{slice_get_read}
-use Rattle.book_law.specs.Book.{post}
+use Rattle.history.specs.Book.{post}
 use Rattle.world_free.proofs.MailSteps.{Looking, as_posted, looking_next, set_on, step_there}
 use Rattle.world_free.proofs.job.FreeMail.look_at_step.Goals as goal
 

@@ -1,5 +1,5 @@
 use Rattle.std.proofs.Common.{◌≡◌, ◌+◌, List, ◌++◌, length}
-use Rattle.book_law.specs.Book.{PostedLetter, post}
+use Rattle.history.specs.Book.{PostedLetter, post}
 use Rattle.world_free.specs.Mails.{KeepsSet}
 use Rattle.world_free.proofs.MailSteps.{Looking}
 use Rattle.world_free.proofs.job.FreeMail.look_at_step.Given as goal

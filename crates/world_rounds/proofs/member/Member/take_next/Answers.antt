@@ -1,6 +1,6 @@
 use Rattle.std.proofs.Common.{[], length, refl, sym, ap, ◌∙◌, subst, arith}
 use Rattle.world_rounds.proofs.OneByOne.{can_tell, ends_taken, was_told}
-use Rattle.world_parts.specs.Parts.{armed_in}
+use Rattle.world_steps.specs.Parts.{armed_in}
 use Rattle.world_steps.specs.Stops.{HasOutcome}
 use Rattle.world_rounds.proofs.member.Member.take_next.Goals as goal
 

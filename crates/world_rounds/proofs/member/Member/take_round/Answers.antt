@@ -1,5 +1,5 @@
 use Rattle.std.proofs.Common.{sym, ap, ◌∙◌, refl, ◌++◌, ◌∷◌, []}
-use Rattle.book_law.specs.declared.turn.Cause.TheVariants.{Tick}
+use Rattle.history.specs.declared.turn.Cause.TheVariants.{Tick}
 use Rattle.world_rounds.proofs.RoundLemmas.{may_answer, may_hear, round_skipped, round_taken, told_tick}
 use Rattle.world_rounds.proofs.member.Member.take_round.Goals as goal
 

@@ -1,5 +1,5 @@
 use Rattle.std.proofs.Common.{false, refl, sym, ◌∙◌}
-use Rattle.script_law.specs.Commands.{set_by, tasks_for}
+use Rattle.script_semantics.specs.Commands.{set_by, tasks_for}
 use Rattle.script_text.specs.declared.command.Command.TheVariants as command
 use Rattle.world_rounds.proofs.Arrivals.{arrival_goes, asks_arrival, may_come}
 use Rattle.world_rounds.proofs.RoundsOfAll.{on_ok}

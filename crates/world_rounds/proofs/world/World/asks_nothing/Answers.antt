@@ -3,7 +3,7 @@ use Rattle.std.specs.List.{slice_get}
 use Rattle.std.proofs.lemmas.Option.{slice_get_read}
 use Rattle.replica_core.specs.Replica.{ReplicaState}
 use Rattle.replica_core.specs.Step.{IsOfTable}
-use Rattle.script_law.specs.Settling.{AsksNothing}
+use Rattle.script_semantics.specs.Settling.{AsksNothing}
 use Rattle.world_rounds.proofs.QuietLemmas.{node_table, tells_state}
 use Rattle.world_rounds.proofs.world.World.asks_nothing.Goals as goal
 

@@ -1,7 +1,7 @@
 use Rattle.std.proofs.Common.{◌≡◌, Some, length, refl, sym, ap, subst}
 use Rattle.std.specs.List.{slice_get}
 use Rattle.std.proofs.lemmas.Option.{slice_get_read}
-use Rattle.script_law.specs.Situation.{delivered}
+use Rattle.script_semantics.specs.Situation.{delivered}
 use Rattle.world_law.specs.Book.{IsLegalBook}
 use Rattle.world_rounds.specs.Mails.{Changes}
 use Rattle.world_rounds.proofs.Next.{campaign_stopped, campaign_world}

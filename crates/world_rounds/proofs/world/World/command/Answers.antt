@@ -2,9 +2,9 @@ use Rattle.std.proofs.Common.{OnOk, ap, arith, of_z, refl, subst, sym, to_z, ◌
 use Rattle.std.specs.Int.{w64}
 use Rattle.std.specs.Prelude.{FitsSigned}
 use Rattle.std.proofs.lemmas.Int.{ints, to_z-of_z}
-use Rattle.script_law.specs.Arms.{armed_by}
-use Rattle.script_law.specs.Commands.{set_by, tasks_for}
-use Rattle.script_law.specs.Script.{IsPartOf}
+use Rattle.script_semantics.specs.Arms.{armed_by}
+use Rattle.script_semantics.specs.Commands.{set_by, tasks_for}
+use Rattle.script_semantics.specs.Script.{IsPartOf}
 use Rattle.script_text.specs.declared.command.Command.TheVariants as command
 use Rattle.world_law.specs.Book.{BookState}
 use Rattle.world_rounds.specs.Commands.{IsTaken}

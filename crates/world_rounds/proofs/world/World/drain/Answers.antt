@@ -1,5 +1,5 @@
 use Rattle.std.proofs.Common.{◌≡◌, length, arith, ◌∙◌}
-use Rattle.settle_law.specs.Settles.{HasRestedFor, LeadsNow}
+use Rattle.settling.specs.Settles.{HasRestedFor, LeadsNow}
 use Rattle.world_rounds.proofs.DrainLemmas.{same_count}
 use Rattle.world_rounds.proofs.LoopLemmas.{drains_then, given_world}
 use Rattle.world_rounds.proofs.RoundsOfAll.{on_ok}

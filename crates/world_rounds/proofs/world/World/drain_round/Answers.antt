@@ -1,5 +1,5 @@
 use Rattle.std.proofs.Common.{◌≤◌, drop, length, ap, sym, subst}
-use Rattle.script_law.specs.Settling.{IsDrainRound}
+use Rattle.script_semantics.specs.Settling.{IsDrainRound}
 use Rattle.world_rounds.specs.Bounds.{AreShort}
 use Rattle.world_rounds.proofs.DrainLemmas.{drained_calm, on_both, run_on, world_gone}
 use Rattle.world_rounds.proofs.LoopLemmas.{letters_grow, round_bounded}

@@ -1,6 +1,6 @@
 use Rattle.std.proofs.Common.{◌≡◌, ◌-◌, ◌+◌, suc, arith, subst}
-use Rattle.script_law.specs.Settling.{IsQuiet}
-use Rattle.settle_law.specs.Settles.{LeadsSoon}
+use Rattle.script_semantics.specs.Settling.{IsQuiet}
+use Rattle.settling.specs.Settles.{LeadsSoon}
 use Rattle.world_rounds.specs.Bounds.{IsGiven}
 use Rattle.world_rounds.specs.Quiet.{Tells}
 use Rattle.world_rounds.proofs.DrainLemmas.{drained_next, drained_none}

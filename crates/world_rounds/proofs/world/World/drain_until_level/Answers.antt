@@ -1,6 +1,6 @@
 use Rattle.std.proofs.Common.{arith, subst}
-use Rattle.script_law.specs.Settling.{IsQuiet}
-use Rattle.settle_law.specs.Settles.{HasRestedFor}
+use Rattle.script_semantics.specs.Settling.{IsQuiet}
+use Rattle.settling.specs.Settles.{HasRestedFor}
 use Rattle.world_rounds.specs.Quiet.{Tells}
 use Rattle.world_rounds.proofs.DrainLemmas.{drained_next, drained_none, drained_whole}
 use Rattle.world_rounds.proofs.LoopLemmas.{below_in, given_world, level_next, rested_gives}

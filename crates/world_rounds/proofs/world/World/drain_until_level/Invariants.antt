@@ -1,5 +1,5 @@
 use Rattle.std.proofs.Common.{◌≤◌}
-use Rattle.settle_law.specs.Settles.{HasRestedFor}
+use Rattle.settling.specs.Settles.{HasRestedFor}
 use Rattle.world_rounds.specs.Bounds.{IsGiven}
 use Rattle.world_rounds.proofs.DrainLemmas.{HasDrained}
 use Rattle.world_rounds.proofs.world.World.drain_until_level.Given as goal

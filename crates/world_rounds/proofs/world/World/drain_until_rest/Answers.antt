@@ -1,6 +1,6 @@
 use Rattle.std.proofs.Common.{subst}
-use Rattle.drain_law.specs.Rest.{IsAtRest}
-use Rattle.settle_law.specs.Settles.{LeadsNow}
+use Rattle.settling.specs.Rest.{IsAtRest}
+use Rattle.settling.specs.Settles.{LeadsNow}
 use Rattle.world_rounds.specs.Quiet.{Tells}
 use Rattle.world_rounds.proofs.DrainLemmas.{drained_next, drained_none}
 use Rattle.world_rounds.proofs.LoopLemmas.{below_in, given_world, leads_next, left_falls, not_quiet, rests_now}

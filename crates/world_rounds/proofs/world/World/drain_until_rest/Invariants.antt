@@ -1,4 +1,4 @@
-use Rattle.settle_law.specs.Settles.{LeadsNow}
+use Rattle.settling.specs.Settles.{LeadsNow}
 use Rattle.world_rounds.specs.Bounds.{IsGiven, left_in}
 use Rattle.world_rounds.proofs.DrainLemmas.{HasDrained}
 use Rattle.world_rounds.proofs.world.World.drain_until_rest.Given as goal

@@ -1,8 +1,8 @@
 use Rattle.std.proofs.Common.{◌≡◌, Some, Contains, length, map, refl, subst}
 use Rattle.std.specs.List.{slice_get}
 use Rattle.std.proofs.lemmas.Option.{slice_get_read}
-use Rattle.script_law.proofs.MailLemmas.{no_more}
-use Rattle.script_law.specs.Commands.{from_others}
+use Rattle.script_semantics.proofs.MailLemmas.{no_more}
+use Rattle.script_semantics.specs.Commands.{from_others}
 use Rattle.world_law.specs.Book.{posted_as}
 use Rattle.world_rounds.proofs.Waiting.{mail_put}
 use Rattle.world_rounds.proofs.world.World.drop_letters.Goals as goal

@@ -1,5 +1,5 @@
 use Rattle.std.proofs.Common.{[], refl, ap}
-use Rattle.script_law.specs.Situation.{is_cut}
+use Rattle.script_semantics.specs.Situation.{is_cut}
 use Rattle.world_rounds.proofs.Setting.{cuts_set}
 use Rattle.world_rounds.proofs.world.World.heal.Goals as goal
 

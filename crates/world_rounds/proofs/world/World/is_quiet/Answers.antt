@@ -1,7 +1,7 @@
 use Rattle.std.proofs.Common.{◌≡◌, ◌↔◌, IsTrue, Some, length, refl, subst}
 use Rattle.std.specs.List.{slice_get}
 use Rattle.std.proofs.lemmas.Option.{slice_get_read}
-use Rattle.drain_law.specs.Rest.{IsAtRest}
+use Rattle.settling.specs.Rest.{IsAtRest}
 use Rattle.world_rounds.specs.Quiet.{Tells}
 use Rattle.world_rounds.proofs.QuietLemmas.{AreLevel, tells_quiet}
 use Rattle.world_rounds.proofs.world.World.is_quiet.Goals as goal

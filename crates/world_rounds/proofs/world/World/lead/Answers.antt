@@ -1,6 +1,6 @@
-use Rattle.script_law.specs.Parts.{Plays}
-use Rattle.script_law.specs.Situation.{Do}
-use Rattle.book_law.specs.declared.turn.Cause.TheVariants.{Campaign}
+use Rattle.script_semantics.specs.Parts.{Plays}
+use Rattle.script_semantics.specs.Situation.{Do}
+use Rattle.history.specs.declared.turn.Cause.TheVariants.{Campaign}
 use Rattle.std.proofs.Common.{◌∷◌, []}
 use Rattle.world_rounds.proofs.DrainLemmas.{campaigned_calm, lead_goes, on_both, run_on}
 use Rattle.world_rounds.proofs.RoundsOfAll.{on_ok}

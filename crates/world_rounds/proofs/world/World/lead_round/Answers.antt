@@ -1,8 +1,8 @@
 use Rattle.std.proofs.Common.{◌∷◌, [], OnOk, sym, subst}
-use Rattle.book_law.specs.declared.turn.Cause.TheVariants.{Campaign}
-use Rattle.script_law.specs.Parts.{Plays}
-use Rattle.script_law.specs.Round.{IsRound}
-use Rattle.script_law.specs.Situation.{Do}
+use Rattle.history.specs.declared.turn.Cause.TheVariants.{Campaign}
+use Rattle.script_semantics.specs.Parts.{Plays}
+use Rattle.script_semantics.specs.Round.{IsRound}
+use Rattle.script_semantics.specs.Situation.{Do}
 use Rattle.world_rounds.specs.Quiet.{IsFollower, Tells}
 use Rattle.world_rounds.specs.World.{GoesOnBy, IsWorld}
 use Rattle.world_rounds.specs.declared.world.World.{World}

@@ -1,7 +1,7 @@
 use Rattle.std.proofs.Common.{◌≡◌, ◌<◌, pos, ◌+ℤ◌, ◌≤ℤ◌, true, false, sym, ◌∙◌, subst, arith, to_z, of_z, w64}
 use Rattle.std.specs.Prelude.{FitsSigned}
 use Rattle.std.proofs.lemmas.Int.{ints, to_z-of_z}
-use Rattle.script_law.specs.Settling.{AsksNothing, IsNextMinute}
+use Rattle.script_semantics.specs.Settling.{AsksNothing, IsNextMinute}
 use Rattle.world_rounds.specs.Quiet.{Tells}
 use Rattle.world_rounds.proofs.WalkLemmas.{minute_found, rests_next}
 use Rattle.world_rounds.proofs.world.World.next_minute.Goals as goal

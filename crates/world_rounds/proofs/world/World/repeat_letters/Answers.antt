@@ -1,7 +1,7 @@
 use Rattle.std.proofs.Common.{◌≡◌, ◌++◌, List, ℕ, Some, Contains, length, map, refl, ap, ◌∙◌, subst}
 use Rattle.std.specs.List.{slice_get}
 use Rattle.std.proofs.lemmas.Option.{slice_get_read}
-use Rattle.script_law.specs.Commands.{each_once, from_one}
+use Rattle.script_semantics.specs.Commands.{each_once, from_one}
 use Rattle.world_law.specs.Book.{posted_as}
 use Rattle.world_rounds.proofs.Repeats.{repeated_from}
 use Rattle.world_rounds.proofs.Waiting.{mail_put}

@@ -2,7 +2,7 @@ use Rattle.std.proofs.Common.{◌≡◌, Some, true, false, length, refl, sym, a
 use Rattle.std.specs.List.{insert, slice_get}
 use Rattle.std.proofs.Math.ListN.{set}
 use Rattle.std.proofs.lemmas.Option.{slice_get_read}
-use Rattle.script_law.specs.Commands.{set_by, tasks_for}
+use Rattle.script_semantics.specs.Commands.{set_by, tasks_for}
 use Rattle.script_text.specs.declared.command.Command.TheVariants as command
 use Rattle.world_rounds.proofs.Restarts.{may_restart, node_stopped, put_back, restart_goes}
 use Rattle.world_rounds.proofs.RoundsOfAll.{on_ok}

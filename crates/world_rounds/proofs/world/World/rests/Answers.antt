@@ -3,8 +3,8 @@ use Rattle.std.specs.List.{slice_get}
 use Rattle.std.proofs.lemmas.Option.{slice_get_read}
 use Rattle.replica_core.specs.Replica.{ReplicaState}
 use Rattle.replica_core.specs.Step.{IsOfTable}
-use Rattle.script_law.specs.Settling.{AsksNothing, IsFreeTerm}
-use Rattle.step_law.specs.State.{prefix_of}
+use Rattle.script_semantics.specs.Settling.{AsksNothing, IsFreeTerm}
+use Rattle.step_spec.specs.State.{prefix_of}
 use Rattle.world_rounds.proofs.QuietLemmas.{no_some, node_table, some_none, tells_rest}
 use Rattle.world_rounds.proofs.world.World.rests.Goals as goal
 

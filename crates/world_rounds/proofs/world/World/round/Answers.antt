@@ -1,5 +1,5 @@
 use Rattle.std.proofs.Common.{◌≡◌, arith, subst}
-use Rattle.script_law.specs.Arms.{AreRoundsByArms}
+use Rattle.script_semantics.specs.Arms.{AreRoundsByArms}
 use Rattle.world_rounds.specs.World.{GoesOnBy}
 use Rattle.world_rounds.proofs.RoundsOfAll.{gone_next, gone_none}
 use Rattle.world_rounds.proofs.world.World.round.Goals as goal

@@ -1,6 +1,6 @@
 use Rattle.std.proofs.Common.{◌≡◌, length, Some, refl, sym, ap, ◌∙◌, subst}
 use Rattle.std.specs.List.{slice_get}
-use Rattle.script_law.specs.Situation.{delivered}
+use Rattle.script_semantics.specs.Situation.{delivered}
 use Rattle.world_law.specs.Book.{BookState, IsLegalBook}
 use Rattle.world_rounds.specs.Mails.{Changes}
 use Rattle.world_rounds.specs.Rounds.{AllTakeRounds}

@@ -1,5 +1,5 @@
 use Rattle.std.proofs.Common.{◌≡◌, length, ap, subst, arith}
-use Rattle.script_law.specs.Situation.{delivered}
+use Rattle.script_semantics.specs.Situation.{delivered}
 use Rattle.world_rounds.proofs.InOrder.{passed_next, round_passed}
 use Rattle.world_rounds.specs.Mails.{Changes}
 use Rattle.world_rounds.proofs.world.World.round_one_by_one.Goals as goal

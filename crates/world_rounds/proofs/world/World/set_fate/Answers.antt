@@ -1,7 +1,7 @@
 use Rattle.std.proofs.Common.{◌≡◌, Some, length, refl, ap}
 use Rattle.std.specs.List.{slice_get}
 use Rattle.std.proofs.lemmas.Option.{slice_get_read}
-use Rattle.script_law.specs.Commands.{fate_of}
+use Rattle.script_semantics.specs.Commands.{fate_of}
 use Rattle.world_rounds.proofs.Setting.{fate_set}
 use Rattle.world_rounds.proofs.world.World.set_fate.Goals as goal
 

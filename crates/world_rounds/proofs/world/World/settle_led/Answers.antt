@@ -1,11 +1,11 @@
 use Rattle.std.proofs.Common.{◌≡◌, ◌∷◌, [], ◌<◌, length, arith, ◌∙◌}
-use Rattle.book_law.specs.declared.turn.Cause.TheVariants.{Campaign}
-use Rattle.script_law.specs.Commands.{Plain}
-use Rattle.script_law.specs.Parts.{Plays}
-use Rattle.script_law.specs.Settling.{calmed, restart_tasks}
-use Rattle.script_law.specs.Situation.{Do}
+use Rattle.history.specs.declared.turn.Cause.TheVariants.{Campaign}
+use Rattle.script_semantics.specs.Commands.{Plain}
+use Rattle.script_semantics.specs.Parts.{Plays}
+use Rattle.script_semantics.specs.Settling.{calmed, restart_tasks}
+use Rattle.script_semantics.specs.Situation.{Do}
 use Rattle.world_rounds.proofs.DrainLemmas.{leads_before, same_count, settled, world_gone}
-use Rattle.settle_law.specs.Settles.{LeadsNow}
+use Rattle.settling.specs.Settles.{LeadsNow}
 use Rattle.world_rounds.proofs.LoopLemmas.{drains_then, given_world, lead_given}
 use Rattle.world_rounds.proofs.RoundsOfAll.{legal_world, on_err}
 use Rattle.world_rounds.proofs.world.World.settle_led.Goals as goal

@@ -1,8 +1,8 @@
 use Rattle.std.proofs.Common.{◌≡◌, Some, false, length, refl, sym, ap, subst, ◌∙◌}
 use Rattle.std.specs.List.{slice_get}
 use Rattle.std.proofs.lemmas.Option.{slice_get_read}
-use Rattle.script_law.specs.Commands.{set_by, tasks_for}
-use Rattle.script_law.specs.Situation.{delivered}
+use Rattle.script_semantics.specs.Commands.{set_by, tasks_for}
+use Rattle.script_semantics.specs.Situation.{delivered}
 use Rattle.script_text.specs.declared.command.Command.TheVariants as command
 use Rattle.world_law.specs.Book.{BookState, IsLegalBook}
 use Rattle.world_rounds.specs.Mails.{Changes}

@@ -6,7 +6,7 @@ use Rattle.world_steps.proofs.Facts.{fact_here}
 use Rattle.world_rounds.proofs.OneByOne.{idle_here, may_commit_step, may_take_beside, step_ahead, stepped}
 use Rattle.world_rounds.specs.OneByOne.{EndsStep}
 use Rattle.world_rounds.specs.World.{none_taken}
-use Rattle.book_law.specs.Book.{with_fact}
+use Rattle.history.specs.Book.{with_fact}
 use Rattle.std.proofs.Common.{◌∷◌}
 use Rattle.world_rounds.proofs.world.World.step_next.Goals as goal
 

@@ -1,7 +1,7 @@
 use Rattle.std.proofs.Common.{◌≡◌, Some, false, length, refl, sym, ap, ◌∙◌}
 use Rattle.std.specs.List.{slice_get}
 use Rattle.std.proofs.lemmas.Option.{slice_get_read}
-use Rattle.script_law.specs.Commands.{set_by, tasks_for}
+use Rattle.script_semantics.specs.Commands.{set_by, tasks_for}
 use Rattle.script_text.specs.declared.command.Command.TheVariants as command
 use Rattle.world_rounds.proofs.Halts.{may_stop, stop_goes}
 use Rattle.world_rounds.proofs.Setting.{sets_go}

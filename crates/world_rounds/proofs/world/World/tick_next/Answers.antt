@@ -5,9 +5,9 @@ use Rattle.std.specs.Prelude.{◌<ℤ◌}
 use Rattle.zone_minutes.specs.Window.{IsInWindow}
 use Rattle.zone_minutes.specs.declared.minute.Minute.{Minute}
 use Rattle.zone_minutes.specs.declared.minute.Window.{Window}
-use Rattle.book_law.specs.declared.turn.Cause.TheVariants.{Tick}
-use Rattle.script_law.specs.Round.{clock_reading}
-use Rattle.script_law.specs.Situation.{Do}
+use Rattle.history.specs.declared.turn.Cause.TheVariants.{Tick}
+use Rattle.script_semantics.specs.Round.{clock_reading}
+use Rattle.script_semantics.specs.Situation.{Do}
 use Rattle.world_rounds.proofs.InOrder.{if_ok_to, led_step, runs_here}
 use Rattle.world_rounds.proofs.RoundLemmas.{clock_inside}
 use Rattle.world_rounds.specs.OneByOne.{IsLed}

@@ -1,4 +1,4 @@
-use Rattle.script_law.specs.Settling.{Settles}
+use Rattle.script_semantics.specs.Settling.{Settles}
 use Rattle.world_rounds.proofs.DrainLemmas.{world_gone}
 use Rattle.world_rounds.proofs.RoundsOfAll.{on_ok}
 use Rattle.world_rounds.proofs.WalkLemmas.{earlier_inside, since_in, walks}

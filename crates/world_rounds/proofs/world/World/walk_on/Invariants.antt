@@ -1,6 +1,6 @@
 use Rattle.std.specs.Prelude.{unsigned_abs, ◌-ℤ◌}
 use Rattle.zone_minutes.specs.Window.{IsInWindow}
-use Rattle.settle_law.specs.Settles.{LeadsNow}
+use Rattle.settling.specs.Settles.{LeadsNow}
 use Rattle.world_rounds.specs.Bounds.{IsGiven}
 use Rattle.world_rounds.proofs.WalkLemmas.{HasWalked}
 use Rattle.world_rounds.proofs.world.World.walk_on.Given as goal

@@ -1,7 +1,0 @@
-use Rattle.agree_law.specs.World.{first_world}
-use Rattle.agree_law.proofs.Transitions.{first_followed, transitions_followed}
-use Rattle.agree_law.proofs.laws.learned_entries_are_chosen.Goals as goal
-
-pub returns : goal.returns
-returns c = λ members table rows transitions few may.
-    (transitions_followed members table rows (first_world rows) transitions few (first_followed members table rows) may).whole.known.rows

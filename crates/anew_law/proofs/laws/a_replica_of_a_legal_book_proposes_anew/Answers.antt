@@ -1,8 +1,0 @@
-use Rattle.anew_law.proofs.AnewLemmas.{anew_at, anew_by_rows}
-use Rattle.anew_law.proofs.laws.a_replica_of_a_legal_book_proposes_anew.Goals as goal
-
-pub returns-clause-rows : goal.returns-clause-rows
-returns-clause-rows c = anew_by_rows
-
-pub returns-clause-replica : goal.returns-clause-replica
-returns-clause-replica c = anew_at

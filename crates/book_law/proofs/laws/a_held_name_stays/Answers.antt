@@ -1,8 +1,0 @@
-use Rattle.book_law.proofs.Standings.{name_stays, names_once}
-use Rattle.book_law.proofs.laws.a_held_name_stays.Goals as goal
-
-pub returns-clause-stays : goal.returns-clause-stays
-returns-clause-stays c = name_stays
-
-pub returns-clause-once : goal.returns-clause-once
-returns-clause-once c = names_once

@@ -1,6 +1,0 @@
-use Rattle.std.proofs.Common.{refl}
-use Rattle.book_law.proofs.SomeBook.{some_book, some_book_is_legal}
-use Rattle.book_law.proofs.laws.some_books_are_legal.Goals as goal
-
-pub returns : goal.returns
-returns c = (some_book, refl, some_book_is_legal)

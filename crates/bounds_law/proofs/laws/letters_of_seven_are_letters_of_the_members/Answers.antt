@@ -1,5 +1,0 @@
-use Rattle.bounds_law.proofs.Posted.{letters_for_members}
-use Rattle.bounds_law.proofs.laws.letters_of_seven_are_letters_of_the_members.Goals as goal
-
-pub returns : goal.returns
-returns c = letters_for_members

@@ -1,3 +1,0 @@
-pub mod Launches
-pub mod Numbers
-pub mod Steps

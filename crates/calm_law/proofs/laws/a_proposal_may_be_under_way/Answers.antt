@@ -1,8 +1,0 @@
-use Rattle.calm_law.proofs.SomeCalm.{some_accepted, some_asked}
-use Rattle.calm_law.proofs.laws.a_proposal_may_be_under_way.Goals as goal
-
-pub returns-clause-asked : goal.returns-clause-asked
-returns-clause-asked c = some_asked
-
-pub returns-clause-accepted : goal.returns-clause-accepted
-returns-clause-accepted c = some_accepted

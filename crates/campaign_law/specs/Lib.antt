@@ -1,3 +1,0 @@
-pub mod Campaigns
-pub mod Tried
-pub mod Within

@@ -1,5 +1,0 @@
-pub mod Again
-pub mod Altering
-pub mod Changes
-pub mod Honest
-pub mod Said

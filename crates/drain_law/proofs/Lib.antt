@@ -1,4 +1,0 @@
-pub mod LeadLemmas
-pub mod RestLemmas
-pub mod SomeRest
-pub mod SomeTurns

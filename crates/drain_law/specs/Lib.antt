@@ -1,2 +1,0 @@
-pub mod Drain
-pub mod Rest

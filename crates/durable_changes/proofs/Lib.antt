@@ -1,0 +1,4 @@
+pub mod Again
+pub mod Altering
+pub mod Changes
+pub mod Honest

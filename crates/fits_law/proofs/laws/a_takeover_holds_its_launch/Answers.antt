@@ -1,7 +1,0 @@
-use Rattle.std.proofs.Common.{refl}
-use Rattle.book_law.proofs.Takeover.{book, legal}
-use Rattle.fits_law.proofs.Takeover.{takeover_holds}
-use Rattle.fits_law.proofs.laws.a_takeover_holds_its_launch.Goals as goal
-
-pub returns : goal.returns
-returns c = λ table job at now asks. (book table job at now, refl, legal table job at now asks, takeover_holds table job at now)

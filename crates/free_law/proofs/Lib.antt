@@ -1,9 +1,0 @@
-pub mod CauseLemmas
-pub mod EndLemmas
-pub mod MailLemmas
-pub mod NextLemmas
-pub mod OtherLemmas
-pub mod PartLemmas
-pub mod SeenLemmas
-pub mod SomeParts
-pub mod SomeStop

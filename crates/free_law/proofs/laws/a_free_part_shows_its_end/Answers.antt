@@ -1,5 +1,0 @@
-use Rattle.free_law.proofs.EndLemmas.{ends_there}
-use Rattle.free_law.proofs.laws.a_free_part_shows_its_end.Goals as goal
-
-pub returns : goal.returns
-returns c = λ members window at turns situation after behind rows more. ends_there members window at turns situation rows more after behind

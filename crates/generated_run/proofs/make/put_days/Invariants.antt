@@ -1,0 +1,10 @@
+use Rattle.std.proofs.Common.{◌≡◌, ◌++◌, ◌+◌, ◌*◌, ℕ, string_bytes}
+use Rattle.generated_run.specs.Draws.{state_at}
+use Rattle.generated_run.specs.Made.{daily_lines}
+use Rattle.cron_io.specs.Lines.{text_of_lines}
+use Rattle.generated_run.proofs.make.put_days.Given as goal
+
+abbrev pub invariant-jobs : goal.invariant-jobs
+invariant-jobs l =
+    (seed : ℕ) → l.fn.draws.state ≡ state_at seed 40
+    → (l.draws.state ≡ state_at seed (40 + 2 * l.number)) × (string_bytes l.into ≡ string_bytes l.fn.into ++ text_of_lines (daily_lines seed l.number))

@@ -1,0 +1,6 @@
+use Rattle.std.proofs.Common.{ℕ, List, ◌++◌, ap, ◌∙◌, string_bytes}
+use Rattle.generated_run.proofs.LoopLemmas.{hour_ends}
+use Rattle.generated_run.proofs.make.put_hour.Goals as goal
+
+pub returns : goal.returns
+returns c = c.in_ok-write.ensures.bytes ∙ ap (λ (t : List ℕ). string_bytes c.args.into.now ++ t) (hour_ends c.args.minute c.args.number)

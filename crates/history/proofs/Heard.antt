@@ -1,0 +1,143 @@
+-- The letters of a legal book are within the bounds that a replica counts with, so that they are heard whole.
+use Rattle.std.proofs.Common.{◌≡◌, ℕ, zero, suc, ◌+◌, ◌*◌, ◌<◌, ◌≤◌, ◌^◌, true, ltb, List, [], ◌∷◌, ◌++◌, length, map, get_or, inl, inr, refl, sym, ap, ◌∙◌, arith}
+use Rattle.std.specs.List.{Contains, flat_map, range_with_len}
+use Rattle.std.proofs.lemmas.Bool.{and_from, and_parts, eq-eqb, lt-ltb}
+use Rattle.std.proofs.lemmas.List.{length-set}
+use Rattle.std.proofs.lemmas.List.Elements.{All-contains}
+use Rattle.paxos_base.specs.Ballot.{round_of}
+use Rattle.paxos_base.specs.Rows.{fresh_row}
+use Rattle.paxos_base.specs.declared.entry.Entry.{Entry}
+use Rattle.paxos_base.specs.declared.entry.Entry.TheVariants.{Noop, Start, End}
+use Rattle.paxos_base.specs.declared.entry.Vote.{Vote}
+use Rattle.paxos_base.specs.declared.rows.JobRow.{JobRow}
+use Rattle.paxos_letter.specs.Letters.{Spells}
+use Rattle.paxos_letter.specs.declared.packet.Packet.{Packet}
+use Rattle.paxos_letter.specs.declared.packet.Packet.TheVariants as packet
+use Rattle.paxos_letter.proofs.LetterLemmas.{letter_again, letters_have_packets}
+use Rattle.paxos_letter.proofs.PacketBack.{same_packets}
+use Rattle.due_set.specs.Table.{IsSound, Table}
+use Rattle.launch_machine.specs.Clerk.{Applies, AppliesAll, closed_row, first_rows, opened_row}
+use Rattle.step_spec.specs.Heard.{heard_as, old_vote, packets_of}
+use Rattle.step_spec.specs.Letters.{IsHeardAs, are_small, is_small, is_small_ballot, is_small_letter, is_small_slot}
+use Rattle.step_spec.specs.May.{HasSaid}
+use Rattle.step_spec.specs.Message.{Message, Prepare, Promise, Accept, Accepted, Nack, Known, AskFrom, Snap, Lead, Mention}
+use Rattle.step_spec.proofs.HeardLemmas.{messages_heard}
+use Rattle.step_spec.proofs.Lists.{in_first, in_rest}
+use Rattle.agreement.specs.World.{World}
+use Rattle.agreement.proofs.Transitions.{IsFollowed}
+use Rattle.history.specs.Book.{PostedLetter, Row, standing_after}
+use Rattle.history.specs.Legal.{IsLegal}
+use Rattle.history.specs.Numbers.{AreRowsBelow, IsMessageWithin, IsVoteWithin}
+use Rattle.history.proofs.Books.{stands}
+use Rattle.history.proofs.Launched.{few_launched}
+use Rattle.history.proofs.Within.{message_within}
+
+-- ---- rows
+
+applies_length : (table : Table) (rows : List JobRow) (entry : Entry) (middle : List JobRow) → Applies table rows entry middle → length middle ≡ length rows
+applies_length table rows Noop middle (inl (takes, is)) = absurd takes
+applies_length table rows (Start job at now) middle (inl (takes, is)) = ap length is ∙ length-set rows job (opened_row at now (get_or rows job (fresh_row job)))
+applies_length table rows (End job at kind) middle (inl (takes, is)) = ap length is ∙ length-set rows job (closed_row at kind (get_or rows job (fresh_row job)))
+applies_length table rows entry middle (inr (none, is)) = ap length is
+
+all_length : (table : Table) (rows : List JobRow) (entries : List Entry) (last : List JobRow) → AppliesAll table rows entries last → length last ≡ length rows
+all_length table rows [] last is = ap length is
+all_length table rows (entry ∷ entries) last (middle, applies, rest) = all_length table middle entries last rest ∙ applies_length table rows entry middle applies
+
+fresh_length : (from count : ℕ) → length (map fresh_row (range_with_len from count)) ≡ count
+fresh_length from zero = refl
+fresh_length from (suc count) = ap suc (fresh_length (from + 1) count)
+
+-- the rows that a message has are one for each job, and their counts are within the bounds
+abbrev HasRows : Table → Message → Type 0
+HasRows table (Snap slot rows) = (length rows ≡ length table.jobs) × AreRowsBelow (2 ^ 20) rows
+HasRows table message = Unit {0}
+
+has_rows : (n : ℕ) (table : Table) (w : World) (q : ℕ) (message : Message) → IsSound table → IsFollowed n table (first_rows table) w → HasSaid w.said q message → HasRows table message
+has_rows n table w q (Snap slot rows) sound followed has =
+    let at = followed.tables.snaps q slot rows has in
+    (all_length table (first_rows table) at.entries rows at.applied ∙ fresh_length 0 (length table.jobs), few_launched table at.entries rows sound at.applied)
+has_rows n table w q message sound followed has = tt
+
+-- ---- packets
+
+small_ballot : (most ballot : ℕ) → most < 2 ^ 59 → round_of ballot ≤ most → is_small_ballot ballot ≡ true
+small_ballot most ballot short low = lt-ltb (round_of ballot) (2 ^ 59) (omega (arith, short, low))
+
+small_slot : (most slot : ℕ) → most < 2 ^ 59 → slot ≤ most → is_small_slot slot ≡ true
+small_slot most slot short low = lt-ltb slot (2 ^ 62) (omega (arith, short, low))
+
+small_append : (jobs : ℕ) (xs ys : List Packet) → are_small jobs xs ≡ true → are_small jobs ys ≡ true → are_small jobs (xs ++ ys) ≡ true
+small_append jobs [] ys front back = back
+small_append jobs (x ∷ xs) ys front back =
+    let parts = and_parts (is_small jobs x) (are_small jobs xs) front in
+    and_from (is_small jobs x) (are_small jobs (xs ++ ys)) parts.0 (small_append jobs xs ys parts.1 back)
+
+small_votes : (jobs most ballot : ℕ) (votes : List Vote) → most < 2 ^ 59 → round_of ballot ≤ most → ((vote : Vote) → Contains votes vote → IsVoteWithin most vote) → are_small jobs (map (old_vote ballot) votes) ≡ true
+small_votes jobs most ballot [] short low each = refl
+small_votes jobs most ballot (vote ∷ votes) short low each =
+    let here = each vote (in_first vote votes) in
+    let slot : vote.slot ≤ most = omega (arith, here.slot) in
+    and_from _ _ (and_from _ _ (small_ballot most ballot short low) (and_from _ _ (small_slot most vote.slot short slot) (small_ballot most vote.ballot short here.round)))
+    (small_votes jobs most ballot votes short low (λ other has. each other (in_rest vote votes other has)))
+
+small_rows : (jobs most slot : ℕ) (rows : List JobRow) → most < 2 ^ 59 → slot ≤ most → ((row : JobRow) → Contains rows row → (row.launched < 2 ^ 20) × (row.voided < 2 ^ 20)) → are_small jobs (map (packet.SnapRow slot) rows) ≡ true
+small_rows jobs most slot [] short low each = refl
+small_rows jobs most slot (row ∷ rows) short low each =
+    let here = each row (in_first row rows) in
+    and_from _ _ (and_from _ _ (small_slot most slot short low) (and_from _ _ (lt-ltb row.launched (2 ^ 31) (omega (arith, here.0))) (lt-ltb row.voided (2 ^ 31) (omega (arith, here.1)))))
+    (small_rows jobs most slot rows short low (λ other has. each other (in_rest row rows other has)))
+
+one_small : (jobs : ℕ) (one : Packet) → is_small jobs one ≡ true → are_small jobs (one ∷ []) ≡ true
+one_small jobs one is = and_from (is_small jobs one) true is refl
+
+message_small : (table : Table) (most : ℕ) (message : Message) → most < 2 ^ 59 → IsMessageWithin most message → HasRows table message → are_small (length table.jobs) (packets_of message) ≡ true
+unfolding packets_of
+message_small table most (Prepare ballot slot) short (round, low) has = one_small (length table.jobs) (packet.Prepare ballot slot) (and_from _ _ (small_ballot most ballot short round) (small_slot most slot short low))
+message_small table most (Promise ballot slot votes) short (round, low, within) has =
+    and_from _ _ (and_from _ _ (small_ballot most ballot short round) (small_slot most slot short low))
+    (small_votes (length table.jobs) most ballot votes short round (λ vote inside. All-contains (IsVoteWithin most) votes vote within inside))
+message_small table most (Accept vote) short within has =
+    let slot : vote.slot ≤ most = omega (arith, within.slot) in
+    one_small (length table.jobs) (packet.Accept vote.ballot vote.slot vote.entry) (and_from _ _ (small_ballot most vote.ballot short within.round) (small_slot most vote.slot short slot))
+message_small table most (Accepted ballot slot) short (round, low) has = one_small (length table.jobs) (packet.Accepted ballot slot) (and_from _ _ (small_ballot most ballot short round) (small_slot most slot short low))
+message_small table most (Nack ballot promised) short (round, low) has = one_small (length table.jobs) (packet.Nack ballot promised) (and_from _ _ (small_ballot most ballot short round) (small_ballot most promised short low))
+message_small table most (Known slot entry) short low has = one_small (length table.jobs) (packet.Known slot entry) (small_slot most slot short low)
+message_small table most (AskFrom slot) short low has = one_small (length table.jobs) (packet.AskFrom slot) (small_slot most slot short low)
+message_small table most (Snap slot rows) short (low, within) (count, below) =
+    and_from _ _ (and_from _ _ (small_slot most slot short low) (eq-eqb (length rows) (length table.jobs) count))
+    (small_rows (length table.jobs) most slot rows short low (λ row inside. All-contains (λ row. (row.launched < 2 ^ 20) × (row.voided < 2 ^ 20)) rows row below inside))
+message_small table most (Lead ballot slot) short (round, low) has = one_small (length table.jobs) (packet.Lead ballot slot) (and_from _ _ (small_ballot most ballot short round) (small_slot most slot short low))
+message_small table most (Mention ballot) short low has = refl
+
+messages_small : (table : Table) (messages : List Message) → ((message : Message) → Contains messages message → are_small (length table.jobs) (packets_of message) ≡ true) → are_small (length table.jobs) (flat_map packets_of messages) ≡ true
+messages_small table [] each = refl
+messages_small table (message ∷ messages) each =
+    small_append (length table.jobs) (packets_of message) (flat_map packets_of messages) (each message (in_first message messages))
+    (messages_small table messages (λ other has. each other (in_rest message messages other has)))
+
+-- ---- letters
+
+pub letters_small : (n : ℕ) (table : Table) (book : List Row) (letter : PostedLetter) (packets : List Packet) → n ≤ 7 → IsSound table → IsLegal n table book → length book < 2 ^ 59 → Contains (standing_after n (first_rows table) book).posted letter
+    → Spells n letter.from packets letter.bytes → are_small (length table.jobs) packets ≡ true
+letters_small n table book letter packets few sound legal short posted spells =
+    let there = stands n table book few legal in
+    let spelled = there.matches.spelled letter posted in
+    let one = letter_again n letter.from packets letter.bytes spells in
+    let two = letter_again n letter.from (flat_map packets_of spelled.messages) letter.bytes spelled.spells in
+    let same : packets ≡ flat_map packets_of spelled.messages = same_packets letter.from letter.from packets (flat_map packets_of spelled.messages) (sym one.fields ∙ two.fields) in
+    rw same (messages_small table spelled.messages (λ message has.
+    message_small table (length book) message short (message_within (length book) n table there.w letter.from message there.followed there.bounded (spelled.each message has))
+    (has_rows n table there.w letter.from message sound there.followed (spelled.each message has))))
+
+pub letters_whole : (n : ℕ) (table : Table) (book : List Row) (letter : PostedLetter) → n ≤ 7 → IsSound table → IsLegal n table book → length book < 2 ^ 59 → Contains (standing_after n (first_rows table) book).posted letter
+    → length letter.bytes < 56 * 2 ^ 31
+    → (sent : List Message) × Spells n letter.from (flat_map packets_of sent) letter.bytes × IsHeardAs n (length table.jobs) letter.bytes letter.from (flat_map heard_as sent)
+letters_whole n table book letter few sound legal short posted small_bytes =
+    let spelled = (stands n table book few legal).matches.spelled letter posted in
+    let packets : List Packet = flat_map packets_of spelled.messages in
+    let long = (letters_have_packets n letter.from packets letter.bytes spelled.spells).1 in
+    let fewer : length packets < 2 ^ 31 = omega (arith, long, small_bytes) in
+    let small : is_small_letter (length table.jobs) packets ≡ true =
+    and_from (ltb (length packets) (2 ^ 31)) (are_small (length table.jobs) packets) (lt-ltb (length packets) (2 ^ 31) fewer) (letters_small n table book letter packets few sound legal short posted spelled.spells) in
+    (spelled.messages, spelled.spells, record { packets = packets; spells = spelled.spells; heard = rw small (sym (messages_heard spelled.messages)) })

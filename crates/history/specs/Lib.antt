@@ -1,0 +1,9 @@
+pub mod Agrees
+pub mod Book
+pub mod Launches
+pub mod Legal
+pub mod Numbers
+pub mod Snapshots
+pub mod Some
+pub mod Steps
+pub mod Takeover

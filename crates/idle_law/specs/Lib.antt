@@ -1,2 +1,0 @@
-pub mod CatchUp
-pub mod Quiet

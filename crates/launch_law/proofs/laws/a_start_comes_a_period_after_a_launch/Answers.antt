@@ -1,5 +1,0 @@
-use Rattle.launch_law.proofs.PeriodLemmas.{start_apart}
-use Rattle.launch_law.proofs.laws.a_start_comes_a_period_after_a_launch.Goals as goal
-
-pub returns : goal.returns
-returns c = start_apart

@@ -1,5 +1,0 @@
-use Rattle.launch_law.proofs.VoidLemmas.{void_of_date_fits}
-use Rattle.launch_law.proofs.laws.a_void_of_a_date_fits_its_log.Goals as goal
-
-pub returns : goal.returns
-returns c = void_of_date_fits

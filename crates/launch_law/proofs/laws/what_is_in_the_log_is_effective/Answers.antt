@@ -1,5 +1,0 @@
-use Rattle.launch_law.proofs.EffectLemmas.{effective_each}
-use Rattle.launch_law.proofs.laws.what_is_in_the_log_is_effective.Goals as goal
-
-pub returns : goal.returns
-returns c = effective_each

@@ -1,5 +1,0 @@
-use Rattle.launch_law.proofs.OrderLemmas.{fits_whole}
-use Rattle.launch_law.proofs.laws.what_is_named_once_and_backed_fits.Goals as goal
-
-pub returns : goal.returns
-returns c = fits_whole

@@ -1,0 +1,24 @@
+//! What has to hold between a log of launch starts and ends and the rows that a scheduler holds; that it holds of legal histories;
+//! and that each start and each call was asked for in a turn whose clock read its instant.
+#![tactic(auto)]
+
+mod histories;
+mod logs;
+mod readings;
+
+pub use histories::{
+    a_job_may_be_launched_on_two_dates, a_late_call_may_arrive_behind_a_void, a_launch_ends_once,
+    a_launch_may_end_in_time, a_log_goes_on, a_log_leaves_a_table, a_takeover_holds_its_launch,
+    an_answer_that_waits_is_held, each_call_was_started, each_end_says_what_is_held,
+    each_entry_takes_effect, every_legal_book_fits,
+};
+pub use logs::{
+    a_held_launch_had_come, a_held_launch_was_started, a_job_has_one_latest_launch,
+    a_job_opens_a_period_after_each_launch, a_launch_is_held_once,
+    a_settled_log_has_each_due_instant, a_start_comes_a_period_after_a_launch,
+    a_start_stands_before_its_end, a_void_fits_its_log, a_void_of_a_date_fits_its_log,
+    an_end_says_what_is_held, each_due_instant_is_launched, launches_are_a_period_apart,
+    no_due_instant_is_passed_over, what_is_effective_stays, what_is_in_the_log_is_effective,
+    what_is_named_once_and_backed_fits, what_was_started_is_a_period_apart,
+};
+pub use readings::{each_call_was_read, each_start_was_read, no_start_is_ahead};

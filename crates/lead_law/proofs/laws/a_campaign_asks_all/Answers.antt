@@ -1,8 +1,0 @@
-use Rattle.lead_law.proofs.MadeLemmas.{again_made, first_made}
-use Rattle.lead_law.proofs.laws.a_campaign_asks_all.Goals as goal
-
-pub returns-clause-first : goal.returns-clause-first
-returns-clause-first c = first_made
-
-pub returns-clause-again : goal.returns-clause-again
-returns-clause-again c = again_made

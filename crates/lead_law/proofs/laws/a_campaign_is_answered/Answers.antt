@@ -1,9 +1,0 @@
-use Rattle.lead_law.proofs.AnswerLemmas.{first_answered}
-use Rattle.lead_law.proofs.DecidedLemmas.{second_decides}
-use Rattle.lead_law.proofs.laws.a_campaign_is_answered.Goals as goal
-
-pub returns-clause-answered : goal.returns-clause-answered
-returns-clause-answered c = first_answered
-
-pub returns-clause-decided : goal.returns-clause-decided
-returns-clause-decided c = second_decides

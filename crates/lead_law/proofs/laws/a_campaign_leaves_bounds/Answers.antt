@@ -1,9 +1,0 @@
-use Rattle.lead_law.proofs.BoundedRounds.{second_bounded}
-use Rattle.lead_law.proofs.YieldLemmas.{prefix_kept}
-use Rattle.lead_law.proofs.laws.a_campaign_leaves_bounds.Goals as goal
-
-pub returns : goal.returns
-returns c = λ members candidate top best at now then_now advice then_advice answers then_answers calm campaigned advised then_advised low. (
-  second_bounded members candidate top best at now then_now advice then_advice answers then_answers calm campaigned advised then_advised low,
-  prefix_kept members candidate top best at now then_now advice then_advice answers then_answers calm campaigned advised then_advised low,
-)

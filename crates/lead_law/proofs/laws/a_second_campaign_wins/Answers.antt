@@ -1,9 +1,0 @@
-use Rattle.lead_law.proofs.PromiseLemmas.{third_round}
-use Rattle.lead_law.proofs.WinLemmas.{second_wins}
-use Rattle.lead_law.proofs.laws.a_second_campaign_wins.Goals as goal
-
-pub returns-clause-promised : goal.returns-clause-promised
-returns-clause-promised c = third_round
-
-pub returns-clause-wins : goal.returns-clause-wins
-returns-clause-wins c = second_wins

@@ -1,4 +1,0 @@
-pub mod Again
-pub mod Campaign
-pub mod Made
-pub mod Named

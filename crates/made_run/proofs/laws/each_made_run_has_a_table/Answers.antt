@@ -1,5 +1,0 @@
-use Rattle.made_run.proofs.JobLemmas.{table_exists}
-use Rattle.made_run.proofs.laws.each_made_run_has_a_table.Goals as goal
-
-pub returns : goal.returns
-returns c = table_exists

@@ -1,0 +1,4 @@
+pub mod Barred
+pub mod Continues
+pub mod Readings
+pub mod Whole

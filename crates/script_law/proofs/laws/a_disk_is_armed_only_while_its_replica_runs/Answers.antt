@@ -1,5 +1,0 @@
-use Rattle.script_law.proofs.RunningArms.{part_keeps}
-use Rattle.script_law.proofs.laws.a_disk_is_armed_only_while_its_replica_runs.Goals as goal
-
-pub returns-clause-on : goal.returns-clause-on
-returns-clause-on c = part_keeps

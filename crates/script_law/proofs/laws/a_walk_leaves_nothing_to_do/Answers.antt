@@ -1,8 +1,0 @@
-use Rattle.script_law.proofs.WalkLemmas.{settled, walked}
-use Rattle.script_law.proofs.laws.a_walk_leaves_nothing_to_do.Goals as goal
-
-pub returns-clause-settled : goal.returns-clause-settled
-returns-clause-settled c = settled
-
-pub returns-clause-walked : goal.returns-clause-walked
-returns-clause-walked c = walked

@@ -1,8 +1,0 @@
-use Rattle.script_law.proofs.StartLemmas.{all_run, same_states}
-use Rattle.script_law.proofs.laws.settling_starts_all_that_are_stopped.Goals as goal
-
-pub returns-clause-runs : goal.returns-clause-runs
-returns-clause-runs c = all_run
-
-pub returns-clause-states : goal.returns-clause-states
-returns-clause-states c = same_states

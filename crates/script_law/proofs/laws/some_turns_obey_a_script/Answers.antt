@@ -1,6 +1,0 @@
-use Rattle.std.proofs.Common.{refl}
-use Rattle.script_law.proofs.SomeScript.{is_legal, obeys, some_rows}
-use Rattle.script_law.proofs.laws.some_turns_obey_a_script.Goals as goal
-
-pub returns : goal.returns
-returns c = (some_rows, refl, is_legal, obeys)

@@ -1,0 +1,10 @@
+pub mod Arms
+pub mod Commands
+pub mod Free
+pub mod Others
+pub mod Parts
+pub mod Round
+pub mod Script
+pub mod Settling
+pub mod Situation
+pub mod Starts

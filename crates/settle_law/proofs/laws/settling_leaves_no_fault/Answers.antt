@@ -1,8 +1,0 @@
-use Rattle.settle_law.proofs.LeadLemmas.{campaign_faultless, soon_faultless}
-use Rattle.settle_law.proofs.laws.settling_leaves_no_fault.Goals as goal
-
-pub returns-clause-campaign : goal.returns-clause-campaign
-returns-clause-campaign c = campaign_faultless
-
-pub returns-clause-round : goal.returns-clause-round
-returns-clause-round c = soon_faultless

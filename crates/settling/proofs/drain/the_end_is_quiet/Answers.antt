@@ -1,0 +1,5 @@
+use Rattle.settling.proofs.DrainRestLemmas.{ends_quietly}
+use Rattle.settling.proofs.drain.the_end_is_quiet.Goals as goal
+
+pub returns : goal.returns
+returns c = ends_quietly

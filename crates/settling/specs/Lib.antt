@@ -1,0 +1,11 @@
+pub mod Alone
+pub mod Campaigns
+pub mod Drain
+pub mod Leads
+pub mod Quiet
+pub mod Rest
+pub mod Rounds
+pub mod Settles
+pub mod Stands
+pub mod Tried
+pub mod Within

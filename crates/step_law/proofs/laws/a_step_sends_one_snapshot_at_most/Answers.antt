@@ -1,5 +1,0 @@
-use Rattle.step_law.proofs.CopyLemmas.{step_copies}
-use Rattle.step_law.proofs.laws.a_step_sends_one_snapshot_at_most.Goals as goal
-
-pub returns : goal.returns
-returns c = step_copies

@@ -1,0 +1,11 @@
+pub mod CopyLemmas
+pub mod DeltaLemmas
+pub mod HeardLemmas
+pub mod LineLemmas
+pub mod Lists
+pub mod OutLemmas
+pub mod RowLemmas
+pub mod Said
+pub mod SmallLemmas
+pub mod SoundLemmas
+pub mod VoteLemmas

@@ -1,0 +1,71 @@
+-- What is in lists, and what lists of acts and of events come to.
+use Rattle.std.proofs.Common.{◌≡◌, ℕ, suc, zero, ◌+◌, ◌<◌, ◌≤◌, Bool, true, List, [], ◌∷◌, ◌++◌, eqb, refl, inl, inr, arith, subst, cond}
+use Rattle.std.specs.List.{AllByRecursion, Contains, flat_map, range_with_len}
+use Rattle.std.proofs.lemmas.Bool.{cases_eq, eq-eqb}
+use Rattle.std.proofs.lemmas.List.Elements.{Contains-append_left, Contains-append_right}
+use Rattle.due_set.specs.Table.{Table}
+use Rattle.step_spec.specs.Act.{Act, Send, after_act}
+use Rattle.step_spec.specs.Folds.{after_acts, sent_by, sent_to}
+use Rattle.step_spec.specs.Message.{Message, Only}
+use Rattle.step_spec.specs.State.{Identity, State}
+use Rattle.step_spec.specs.Step.{Event, step}
+use Rattle.step_spec.proofs.Lists.{cons_cases, in_first, in_rest, nothing_in}
+use Rattle.synchronous_rounds.specs.Calm.{ArePlanned, after_events}
+
+-- ---- acts and events, one part after another
+
+pub acts_append : (xs ys : List Act) (state : State) → after_acts (xs ++ ys) state ≡ after_acts ys (after_acts xs state)
+acts_append [] ys state = refl
+acts_append (act ∷ acts) ys state = acts_append acts ys (after_act act state)
+
+pub events_append : (self : Identity) (xs ys : List Event) (state : State) → after_events self (xs ++ ys) state ≡ after_events self ys (after_events self xs state)
+events_append self [] ys state = refl
+events_append self (x ∷ xs) ys state = events_append self xs ys (after_acts (step self x state) state)
+
+pub planned_behind : (self : Identity) (table : Table) (xs ys : List Event) (state : State) → ArePlanned self table (xs ++ ys) state → ArePlanned self table ys (after_events self xs state)
+planned_behind self table [] ys state planned = planned
+planned_behind self table (x ∷ xs) ys state planned = planned_behind self table xs ys (after_acts (step self x state) state) planned.1
+
+-- ---- lists
+
+-- what is in a list that a list gives
+pub flat_in : {A B : Type 0} (f : A → List B) (xs : List A) (x : A) (y : B) → Contains xs x → Contains (f x) y → Contains (flat_map f xs) y
+flat_in f [] x y has inside = nothing_in has
+flat_in f (z ∷ xs) x y has inside = elim (cons_cases z xs x has) [
+  | inl same ↦ Contains-append_left (f z) (flat_map f xs) y (rw same inside)
+  | inr later ↦ Contains-append_right (f z) (flat_map f xs) y (flat_in f xs x y later inside)
+]
+
+-- a number of a range is in it
+pub range_in : (from n k : ℕ) → from ≤ k → k < from + n → Contains (range_with_len from n) k
+range_in from zero k least within = absurd (omega (arith, least, within))
+range_in from (suc n) k least within = elim (cases_eq from k) [
+  | inl same ↦ subst (λ x. Contains (range_with_len from (suc n)) x) same (in_first from (range_with_len (from + 1) n))
+  | inr other ↦ in_rest from (range_with_len (from + 1) n) k (range_in (from + 1) n k (omega (arith, least, other)) (omega (arith, within)))
+]
+
+-- a number of a range is below its end
+pub range_below : (from n k : ℕ) → Contains (range_with_len from n) k → k < from + n
+range_below from zero k has = nothing_in has
+range_below from (suc n) k has = elim (cons_cases from (range_with_len (from + 1) n) k has) [
+  | inl same ↦ omega (arith, same)
+  | inr later ↦ let rest = range_below (from + 1) n k later in omega (arith, rest)
+]
+
+-- what holds of each in two lists holds of each in both
+pub all_join : {X : Type 0} (P : X → Type 0) → (xs ys : List X) → AllByRecursion P xs → AllByRecursion P ys → AllByRecursion P (xs ++ ys)
+all_join P [] ys first second = second
+all_join P (x ∷ xs) ys first second = (first.0, all_join P xs ys first.1 second)
+
+-- what holds of each in each list that a list gives
+pub all_flat : {X Y : Type 0} (P : Y → Type 0) → (f : X → List Y) (xs : List X) → ((x : X) → Contains xs x → AllByRecursion P (f x)) → AllByRecursion P (flat_map f xs)
+all_flat P f [] each = tt
+all_flat P f (x ∷ xs) each = all_join P (f x) (flat_map f xs) (each x (in_first x xs)) (all_flat P f xs (λ y has. each y (in_rest x xs y has)))
+
+-- what is sent to one replica is among what it is sent
+pub sent_in : (me to : ℕ) (message : Message) (acts : List Act) → Contains acts (Send (Only to) message) → Contains (sent_to me to acts) message
+unfolding sent_by
+sent_in me to message acts has = flat_in (sent_by me to) acts (Send (Only to) message) message has (go (eqb to to) (eq-eqb to to refl))
+  where
+    go : (b : Bool) → b ≡ true → Contains (cond b (message ∷ []) []) message
+    go b is = rw is (in_first message [])

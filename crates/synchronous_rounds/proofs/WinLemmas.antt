@@ -1,0 +1,80 @@
+-- The second campaign wins.
+use Rattle.std.proofs.Common.{◌≡◌, ℕ, ◌+◌, ◌<◌, ◌≤◌, List, Option, None, ℤ, refl, inl, inr, ◌⊎◌, arith}
+use Rattle.std.proofs.lemmas.Bool.{cases_eq}
+use Rattle.paxos_base.specs.declared.entry.Entry.{Entry}
+use Rattle.paxos_base.specs.declared.entry.Vote.{Vote}
+use Rattle.cluster_sched.specs.declared.row.SchedRow.{SchedRow}
+use Rattle.due_set.specs.Table.{IsSound}
+use Rattle.step_spec.specs.Message.{Known}
+use Rattle.step_spec.specs.State.{prefix_of}
+use Rattle.agreement.specs.Transition.{identity_of}
+use Rattle.synchronous_rounds.specs.Calm.{Advice, Calm, IsAdvised, calm_round}
+use Rattle.synchronous_rounds.specs.Flights.{with_base}
+use Rattle.synchronous_rounds.specs.Ruled.{IsRuled, Occurs, Progress}
+use Rattle.synchronous_rounds.proofs.RuledLemmas.{ruled_by}
+use Rattle.synchronous_rounds.specs.Again.{ComesToLeadAgain, HasCampaignedAgain, IsPromised}
+use Rattle.synchronous_rounds.proofs.CandidateLemmas.{Bid, Competes, Promised, all_lead, begins_alone, competes_mail}
+use Rattle.synchronous_rounds.proofs.DecidedLemmas.{all_or_some, leads_alone}
+use Rattle.synchronous_rounds.proofs.NextEntryLemmas.{ahead, may_learn_mail}
+use Rattle.synchronous_rounds.proofs.PromiseLemmas.{third_round}
+
+-- it has learned one entry more, and tells it
+record IsAhead (candidate : ℕ) (at : Progress) (calm : Calm) (who : ℕ) : Type 0 where
+  entry : Entry
+  told : Occurs (calm.mails candidate) who (Known at.prefix entry)
+
+-- where all others have promised, the candidate leads after one more round
+fourth_wins : (members candidate : ℕ) (best : List Vote) (at : Progress) (sound : IsSound at.table) (now : ℤ) (advice : ℕ → Advice) (answers : ℕ → Option SchedRow) (calm : Calm) → IsPromised members candidate best at calm → calm.waits candidate ≡ None → IsAdvised members at.table now advice calm → ((q : ℕ) → at.prefix ≤ q → ((who : ℕ) → who < members → (who ≡ candidate → ⊥) → prefix_of (calm.replicas who) ≤ q) → IsRuled members candidate at.ballot q calm) → ComesToLeadAgain members candidate at advice calm (calm_round members now advice answers calm)
+fourth_wins members candidate best at sound now advice answers calm promised alone advised ruled_if =
+    elim (all_or_some members (λ who. (who ≡ candidate → ⊥) → prefix_of (calm.replicas who) ≤ at.prefix) (IsAhead candidate at calm) learned) [
+      | inl level ↦
+          let ruled = ruled_if at.prefix (omega arith) level in
+          let competes = competes_mail bid (λ q. q ≡ candidate) (calm.mails candidate) (calm.replicas candidate) promised.one.few (ruled.from candidate promised.one.member) (ruled.within candidate promised.one.member) start in
+          let leads = all_lead bid (λ q. (q ≡ candidate) ⊎ Promised bid (calm.mails candidate) q) _ (omega (arith, promised.one.more)) promised.one.few all competes in
+          record { later = at; ballot = refl; table = refl; leads = leads_alone members candidate at now advice answers calm alone advised ruled leads }
+      | inr some ↦
+          let ruled = ruled_if (at.prefix + 1) (omega arith) near in
+          elim (may_learn_mail bid (λ q. q ≡ candidate) ⊥ sound (calm.mails candidate) (calm.replicas candidate) promised.one.few (ruled.from candidate promised.one.member) (ruled.within candidate promised.one.member) (inl (start, λ no. no))) [
+            | inl early ↦ absurd (early.1 (inr (some.0, (some.2.entry, some.2.told))))
+            | inr late ↦
+                let later : Progress = (ahead bid late.0 late.1).at in
+                let leads = all_lead (ahead bid late.0 late.1) (λ q. (q ≡ candidate) ⊎ Promised bid (calm.mails candidate) q) _ (omega (arith, promised.one.more)) promised.one.few all late.2 in
+                record { later = later; ballot = refl; table = refl; leads = leads_alone members candidate later now advice answers calm alone advised ruled leads }
+          ]
+    ]
+  where
+    bid : Bid
+    bid = record { self = identity_of members candidate; at = at; first = at.prefix }
+
+    start : Competes bid (λ q. q ≡ candidate) (calm.replicas candidate)
+    start = begins_alone bid best (calm.replicas candidate) promised.one.more (omega (arith, promised.one.member, promised.one.few)) promised.stands
+
+    all : (q : ℕ) → q < members → (q ≡ candidate) ⊎ Promised bid (calm.mails candidate) q
+    all q below = elim (cases_eq q candidate) [ inl same ↦ inl same | inr apart ↦ let mine = promised.promised q below apart in inr (mine.votes, mine.told) ]
+
+    learned : (who : ℕ) → who < members → ((who ≡ candidate → ⊥) → prefix_of (calm.replicas who) ≤ at.prefix) ⊎ IsAhead candidate at calm who
+    learned who below = elim (cases_eq who candidate) [
+      | inl same ↦ inl (λ apart. absurd (apart same))
+      | inr apart ↦ elim (promised.promised who below apart).learned [
+        | inl less ↦ inl (λ again. less)
+        | inr told ↦ inr (record { entry = told.0; told = told.1 })
+      ]
+    ]
+
+    near : (who : ℕ) → who < members → (who ≡ candidate → ⊥) → prefix_of (calm.replicas who) ≤ at.prefix + 1
+    near who below apart = (promised.promised who below apart).behind.short
+
+-- where all others have promised, the letters name no higher ballot, and tell no more than the others have learned
+promised_ruled : (members candidate : ℕ) (best : List Vote) (at : Progress) (now : ℤ) (advice : ℕ → Advice) (answers : ℕ → Option SchedRow) (calm : Calm) → IsAdvised members at.table now advice calm → IsPromised members candidate best at (calm_round members now advice answers calm) → (q : ℕ) → at.prefix ≤ q → ((who : ℕ) → who < members → (who ≡ candidate → ⊥) → prefix_of ((calm_round members now advice answers calm).replicas who) ≤ q) → IsRuled members candidate at.ballot q (calm_round members now advice answers calm)
+promised_ruled members candidate best at now advice answers calm advised promised q up short =
+    ruled_by members candidate at.ballot q at.table now advice answers calm promised.one.member promised.one.few promised.one.more advised
+    (λ who below apart. let mine = (promised.promised who below apart).behind in record { promised = mine.promised; follows = mine.follows; short = short who below apart })
+    (omega (arith, promised.stands.promised)) (omega (arith, promised.stands.learned, up))
+
+-- the two rounds after a second campaign
+pub second_wins : (members candidate top : ℕ) (best : List Vote) (at : Progress) (sound : IsSound at.table) (now then_now : ℤ) (advice then_advice : ℕ → Advice) (answers then_answers : ℕ → Option SchedRow) (calm : Calm) → HasCampaignedAgain members candidate top best at calm → IsAdvised members at.table now advice calm → answers candidate ≡ None → IsAdvised members at.table then_now then_advice (calm_round members now advice answers calm) → ComesToLeadAgain members candidate at then_advice (calm_round members now advice answers calm) (calm_round members then_now then_advice then_answers (calm_round members now advice answers calm))
+second_wins members candidate top best at sound now then_now advice then_advice answers then_answers calm campaigned advised alone then_advised =
+    let third = third_round members candidate top best at now advice answers calm campaigned advised in
+    let far : Progress = with_base third.0 at in
+    let won = fourth_wins members candidate best far sound then_now then_advice then_answers (calm_round members now advice answers calm) third.1 alone then_advised (promised_ruled members candidate best far now advice answers calm advised third.1) in
+    record { later = won.later; ballot = won.ballot; table = won.table; leads = won.leads }

@@ -1,0 +1,11 @@
+pub mod Again
+pub mod Begins
+pub mod Calm
+pub mod Campaign
+pub mod CatchUp
+pub mod Flights
+pub mod Made
+pub mod Measure
+pub mod Named
+pub mod Rounds
+pub mod Ruled

@@ -1,4 +1,0 @@
-pub mod Offers
-pub mod Asking
-pub mod Rises
-pub mod Whole

@@ -1,5 +1,0 @@
-use Rattle.world_parts.proofs.Stopped.{stands_stopped}
-use Rattle.world_parts.proofs.laws.a_stopped_replica_has_what_it_keeps.Goals as goal
-
-pub returns : goal.returns
-returns c = stands_stopped
