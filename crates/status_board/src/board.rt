@@ -5,10 +5,10 @@ ghost use Rattle.status_board.specs.Upkeep.{IsKeptUp, shown_by};
 ghost use Rattle.status_board.specs.Writing.{AreReadersOf, Starts, sight_of};
 ghost use Rattle.launch_machine.specs.Clerk.{first_rows};
 
-use crate::history::begin;
 use crate::keeper::Keeper;
 use crate::latest::Latest;
 use crate::naming::{Show, Tell};
+use crate::past::begin;
 use crate::reader::BoardReader;
 use crate::sheet::Sheet;
 use crate::writer::BoardWriter;

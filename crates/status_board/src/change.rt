@@ -3,7 +3,7 @@ ghost use Rattle.std.specs.Prelude.{◌≡◌, IfOk, List, length};
 ghost use Rattle.paxos_base.specs.declared.rows.JobRow.{JobRow};
 ghost use Rattle.status_board.specs.Change.{with_new};
 
-use crate::history::Past;
+use crate::past::Past;
 use cron_io::OutOfMemory;
 use paxos_base::{JobRow, RowList};
 use std::alloc::Global;

@@ -12,11 +12,11 @@ ghost use Rattle.status_board.specs.Sight.{EndsAt};
 ghost use Rattle.status_board.specs.Upkeep.{IsKeptUp, changes_of, shown_by};
 
 use crate::change::{Change, NewRows};
-use crate::history::{Head, Past, add};
 use crate::latest::Latest;
 use crate::mark::Mark;
 use crate::name::Name;
 use crate::naming::{Naming, Show};
+use crate::past::{Head, Past, add};
 use crate::sheet::Sheet;
 use cron_io::OutOfMemory;
 use due_set::JobTable;
@@ -82,24 +82,17 @@ impl Keeper {
     }
 
     /// Takes a later state, all of whose rows are new.
-    pub fn install(
-        &mut self,
-        table: &JobTable,
-        latest: Latest,
-        rows: NewRows,
-    ) -> Result<(), OutOfMemory>
-        requires kept { IsKeptUp table.now true self.old }
+    pub fn install(&mut self, latest: Latest, rows: NewRows) -> Result<(), OutOfMemory>
+        requires kept { (table : Table) × IsKeptUp table true self.old × StandsFor table latest.machine }
         requires rises { self.old.latest.prefix < latest.prefix }
-        requires stands { StandsFor table.now latest.machine }
         requires rows { with_new rows self.old.latest.machine.rows ≡ latest.machine.rows }
-        ensures kept { OnOk result (IsKeptUp table.now true self.new) }
-        ensures failed { OnErr result (IsKeptUp table.now false self.new) }
+        ensures kept { (table : Table) → IsKeptUp table true self.old → StandsFor table latest.machine → OnOk result (IsKeptUp table true self.new) }
+        ensures failed { (table : Table) → IsKeptUp table true self.old → StandsFor table latest.machine → OnErr result (IsKeptUp table false self.new) }
         ensures shown { shown_by self.new ≡ shown_by self.old }
         ensures board { self.new.past.book ≡ self.old.past.book }
         ensures latest { self.new.latest ≡ latest }
         ensures states { OnOk result (self.new.past.log ≡ self.old.past.log ++ state_of latest.prefix latest.machine.rows ∷ []) }
     {
-        let _ = table;
         let before = self.latest.prefix;
         self.latest = latest;
         self.append(before, rows)

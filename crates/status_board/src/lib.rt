@@ -3,12 +3,12 @@
 
 mod board;
 mod change;
-mod history;
 mod keeper;
 mod latest;
 mod mark;
 mod name;
 mod naming;
+mod past;
 mod reader;
 mod sheet;
 mod shown;

@@ -1,4 +1,4 @@
-use crate::history::Past;
+use crate::past::Past;
 use std::marker::Model;
 
 /// A place in the published states of a board, of which its readers may be told.

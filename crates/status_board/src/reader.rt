@@ -3,10 +3,10 @@ ghost use Rattle.std.specs.Prelude.{◌≡◌, ◌<◌, ◌⊎◌, Some, MatchRe
 ghost use mathlib.Core.List.{IsPrefix};
 ghost use Rattle.status_board.specs.Sight.{ViewsOn};
 
-use crate::history::Past;
 use crate::mark::Mark;
 use crate::name::Name;
 use crate::naming::{LetIn, Naming};
+use crate::past::Past;
 use crate::sheet::Sheet;
 use left_right::reader::{Reader, Reading};
 use paxos_base::JobRow;

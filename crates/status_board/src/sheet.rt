@@ -3,7 +3,7 @@ ghost use Rattle.std.specs.Prelude.{◌≡◌, ◌==◌, ◌<◌, Some, if◌the
 ghost use Rattle.paxos_base.specs.Rows.{fresh_rows};
 
 use crate::change::{Change, NewRows};
-use crate::history::Past;
+use crate::past::Past;
 use cron_io::OutOfMemory;
 use left_right::Absorb;
 use paxos_base::{JobRow, RowList};

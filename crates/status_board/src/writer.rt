@@ -126,7 +126,7 @@ impl BoardWriter {
         let latest = Latest::of(self.alloc, table, base, rows)?;
         let all = NewRows::all(self.alloc, rows)?;
         self.ready = false;
-        self.keeper.install(table, latest, all)?;
+        self.keeper.install(latest, all)?;
         self.ready = true;
         Ok(true)
     }

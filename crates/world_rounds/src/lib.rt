@@ -15,7 +15,7 @@ mod parts;
 mod quiet;
 mod rooms;
 mod rounds;
-mod settling;
+mod settle;
 mod start;
 mod steps;
 mod turns;

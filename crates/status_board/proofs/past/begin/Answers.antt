@@ -4,7 +4,7 @@ use Rattle.paxos_base.specs.Rows.{RowsStand, fresh_rows}
 use Rattle.status_board.specs.declared.shown.Shown.{Shown}
 use Rattle.status_board.specs.Shown.{IsHistory, state_of}
 use Rattle.status_board.proofs.StateLemmas.{history_first}
-use Rattle.status_board.proofs.history.begin.Goals as goal
+use Rattle.status_board.proofs.past.begin.Goals as goal
 
 -- the state before the log
 first_is : (prefix jobs : ℕ) (rows : List JobRow) → prefix ≡ 0 → rows ≡ fresh_rows jobs → RowsStand rows jobs → IsHistory jobs (state_of prefix rows ∷ [])

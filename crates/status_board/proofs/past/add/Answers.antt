@@ -2,7 +2,7 @@ use Rattle.std.proofs.Common.{ℕ, sym, ◌∙◌, ap, subst}
 use Rattle.status_board.specs.Shown.{IsHistory}
 use Rattle.status_board.proofs.StateLemmas.{same_jobs}
 use Rattle.status_board.proofs.StepLemmas.{adds_moves}
-use Rattle.status_board.proofs.history.add.Goals as goal
+use Rattle.status_board.proofs.past.add.Goals as goal
 
 pub compare_exchange-found-requires : goal.compare_exchange-found-requires
 compare_exchange-found-requires c =
