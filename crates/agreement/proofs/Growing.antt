@@ -18,6 +18,7 @@ use Rattle.step_spec.specs.State.{State, Identity, prefix_of, promised_in}
 use Rattle.step_spec.proofs.VoteLemmas.{found_vote}
 use Rattle.agreement.specs.Agree.{HasCast}
 use Rattle.agreement.specs.World.{CastVote, cast_after, said_after, with_replica}
+use Rattle.step_spec.proofs.ListLemmas.{from_filter as kept_by_filter}
 
 -- the act casts the vote
 abbrev pub Casts : Act → Vote → Type 0
@@ -96,10 +97,6 @@ unchanged kept act = record {
   votes = λ slot vote within is. record { vote = vote; is = is; later = omega arith };
   stored = λ vote has. inl has;
 }
-
--- what a filter keeps was there
-pub kept_by_filter : {X : Type 0} (p : X → Bool) (xs : List X) (x : X) → Contains (filter p xs) x → Contains xs x
-kept_by_filter p xs x has = All-contains (Contains xs) (filter p xs) x (All-filter p (Contains xs) xs (All-contains_itself xs)) has
 
 -- the votes from a slot on were there
 pub from_there : (first : ℕ) (votes : List Vote) (vote : Vote) → Contains (votes_from first votes) vote → Contains votes vote

@@ -9,9 +9,10 @@ use Rattle.cluster_sched.specs.declared.row.SchedRow.{SchedRow}
 use Rattle.step_spec.specs.Act.{Act, Observe, Stand, Gather, TakeLead, Pledge, Cast, Propose, Count, Wait, Learn, Rebase, Call, Send, Restart}
 use Rattle.step_spec.specs.May.{May, Ending}
 use Rattle.step_spec.specs.Step.{Campaign}
-use Rattle.step_spec.proofs.Lists.{in_first, in_rest, nothing_in}
+use Rattle.step_spec.proofs.Lists.{nothing_in}
 use Rattle.agreement.specs.World.{Doing, MayDo, World, after_all, after_doing, after_done, answered_after, first_world}
 use Rattle.agreement.proofs.KeptLemmas.{setting_of}
+use Rattle.due_set.proofs.Rising.{Contains-head as in_first, Contains-tail as in_rest}
 
 pub stands_told : (members : ℕ) (table : Table) (world : World) (doing : Doing) (me ballot : ℕ) → MayDo members table world doing → doing.act ≡ Stand me ballot → doing.event ≡ Some Campaign
 unfolding May

@@ -25,6 +25,7 @@ use Rattle.agreement.proofs.Chosen.{AreKnown}
 use Rattle.agreement.proofs.ChosenLemmas.{chosen_on}
 use Rattle.agreement.proofs.LogLemmas.{chosen_front, chosen_short}
 use Rattle.agreement.proofs.Whole.{IsWhole}
+use Rattle.step_spec.proofs.ListLemmas.{applied_append}
 
 -- the rows are the launch table after so many chosen entries, which began with these rows
 pub record IsTableAt (n : ℕ) (table : Table) (first : List JobRow) (cast : List CastVote) (slot : ℕ) (rows : List JobRow) : Type 0 where
@@ -47,22 +48,18 @@ table_on n table first by act cast slot rows at =
     record { entries = at.entries; long = at.long; chosen = are_chosen_on n by act cast 0 at.entries at.chosen; applied = at.applied }
 
 -- entries that are known are chosen, one behind the other
-known_chosen : (n : ℕ) (cast : List CastVote) (slot : ℕ) (entries : List Entry) → ((at : ℕ) (entry : Entry) → Contains (known_from slot entries) (Known at entry) → IsChosen n cast at entry) → AreChosen n cast slot entries
+pub known_chosen : (n : ℕ) (cast : List CastVote) (slot : ℕ) (entries : List Entry) → ((at : ℕ) (entry : Entry) → Contains (known_from slot entries) (Known at entry) → IsChosen n cast at entry) → AreChosen n cast slot entries
 known_chosen n cast slot [] known = tt
 known_chosen n cast slot (entry ∷ entries) known = (
   known slot entry (Contains-append_left (Known slot entry ∷ []) (known_from (slot + 1) entries) (Known slot entry) (Contains-push [] (Known slot entry))),
   known_chosen n cast (slot + 1) entries (λ at other has. known at other (Contains-append_right (Known slot entry ∷ []) (known_from (slot + 1) entries) (Known at other) has)),
 )
 
-chosen_append : (n : ℕ) (cast : List CastVote) (slot : ℕ) (xs ys : List Entry) → AreChosen n cast slot xs → AreChosen n cast (slot + length xs) ys → AreChosen n cast slot (xs ++ ys)
+pub chosen_append : (n : ℕ) (cast : List CastVote) (slot : ℕ) (xs ys : List Entry) → AreChosen n cast slot xs → AreChosen n cast (slot + length xs) ys → AreChosen n cast slot (xs ++ ys)
 chosen_append n cast slot [] ys front back = let at : slot + 0 ≡ slot = omega arith in rw at at back
 chosen_append n cast slot (x ∷ xs) ys front back =
     let at : slot + suc (length xs) ≡ slot + 1 + length xs = omega arith in
     (front.0, chosen_append n cast (slot + 1) xs ys front.1 (rw at at back))
-
-applied_append : (table : Table) (first middle last : List JobRow) (xs ys : List Entry) → AppliesAll table first xs middle → AppliesAll table middle ys last → AppliesAll table first (xs ++ ys) last
-applied_append table first middle last [] ys front back = subst (λ rows. AppliesAll table rows ys last) front back
-applied_append table first middle last (x ∷ xs) ys (next, applies, rest) back = (next, applies, applied_append table next middle last xs ys rest back)
 
 -- the entries below a replica's base and those that it has learned are chosen, and its launch table is theirs
 pub all_of : (n : ℕ) (table : Table) (first : List JobRow) (w : World) (q : ℕ) (rows : List JobRow) → AreKnown n w → Tables n table first w → IsLaunchTable table (w.replicas q) rows → IsTableAt n table first w.cast (prefix_of (w.replicas q)) rows

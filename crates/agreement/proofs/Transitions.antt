@@ -27,12 +27,12 @@ use Rattle.agreement.proofs.Tables.{Tables, tables_after}
 use Rattle.agreement.proofs.Whole.{IsWhole, first_is_whole, whole_after}
 
 -- what was said stays said
-said_stays : (by : ℕ) (act : Act) (said : List Saying) (saying : Saying) → Contains said saying → Contains (said_after by act said) saying
+pub said_stays : (by : ℕ) (act : Act) (said : List Saying) (saying : Saying) → Contains said saying → Contains (said_after by act said) saying
 said_stays by (Send whom mine) said saying has = Contains-append_left said (record { by = by; message = mine } ∷ []) saying has
 said_stays by act said saying has = has
 
 -- what was answered stays answered
-answered_stays : (by : ℕ) (act : Act) (answer : Option Kind) (answered : List Ending) (ending : Ending) → Contains answered ending → Contains (answered_after by act answer answered) ending
+pub answered_stays : (by : ℕ) (act : Act) (answer : Option Kind) (answered : List Ending) (ending : Ending) → Contains answered ending → Contains (answered_after by act answer answered) ending
 answered_stays by (Call row) (Some kind) answered ending has = Contains-append_left answered (record { to = by; job = row.name.job; at = row.name.at; kind = kind } ∷ []) ending has
 answered_stays by (Call row) None answered ending has = has
 answered_stays by act answer answered ending has = has
@@ -133,12 +133,12 @@ acts_done n table by event answer answered heard (act ∷ acts) w member stays a
 )
 
 -- acts that come first may be done without the rest
-front_may : (setting : Setting) (state : State) (front back : List Act) → AllMay setting state (front ++ back) → AllMay setting state front
+pub front_may : (setting : Setting) (state : State) (front back : List Act) → AllMay setting state (front ++ back) → AllMay setting state front
 front_may setting state [] back may = tt
 front_may setting state (act ∷ front) back may = (may.0, front_may setting (after_act act state) front back may.1)
 
 -- a message that doesn't leave changes nothing for the acts behind it
-silent_may : (setting : Setting) (state : State) (acts : List Act) → AllMay setting state acts → AllMay setting state (filter is_silent acts)
+pub silent_may : (setting : Setting) (state : State) (acts : List Act) → AllMay setting state acts → AllMay setting state (filter is_silent acts)
 unfolding after_act
 silent_may setting state [] may = tt
 silent_may setting state (Send whom message ∷ acts) may = silent_may setting state acts may.1

@@ -17,16 +17,13 @@ use Rattle.agreement.proofs.OneValue.{one_value}
 use Rattle.agreement.proofs.Safe.{AreSafe, safe_after}
 use Rattle.agreement.proofs.Told.{Told}
 use Rattle.agreement.proofs.ToldLemmas.{told_after}
+use Rattle.step_spec.proofs.Lists.{nothing_in as nothing}
 
 pub record IsWhole (n : ℕ) (w : World) : Type 0 where
   pub kept : Kept n w
   pub told : Told n w
   pub safe : AreSafe n w
   pub known : AreKnown n w
-
--- nothing is in an empty list
-nothing : {X : Type 0} {x : X} {P : Type 0} → Contains [] x → P
-nothing (k, within, is) = absurd (omega (arith, within))
 
 first_whole : (n : ℕ) (rows : List JobRow) → IsWhole n (first_world rows)
 first_whole n rows = record {

@@ -10,19 +10,7 @@ use Rattle.anacron_text.specs.declared.answer.PeriodWord.{PeriodWord}
 use Rattle.anacron_text.specs.declared.answer.PeriodWord.TheVariants.{Days, Monthly, Yearly}
 use Rattle.anacron_text.specs.declared.settings.Settings.{Settings}
 use Rattle.cron_io.proofs.NumberLemmas.{own}
-
--- two texts are equal or not
-pub text_or_not : (a b : List ℕ) → Decided (a ≡ b)
-text_or_not [] [] = inl refl
-text_or_not [] (d ∷ ds) = inr (λ e. cc)
-text_or_not (c ∷ cs) [] = inr (λ e. cc)
-text_or_not (c ∷ cs) (d ∷ ds) = elim (eq_dec c d) [
-  | inr other ↦ inr (λ e. let head : c ≡ d = cc in other head)
-  | inl head ↦ elim (text_or_not cs ds) [
-    | inr other ↦ inr (λ e. let tail : cs ≡ ds = cc in other tail)
-    | inl tail ↦ inl cc
-  ]
-]
+use Rattle.cron_fields.proofs.Choice.{text_or_not}
 
 -- some number up to another has a property, or none has
 bounded_or_not : (P : ℕ → Type 0) → ((n : ℕ) → Decided (P n)) → (most : ℕ) → ((n : ℕ) × (n ≤ most) × P n) ⊎ ((n : ℕ) → n ≤ most → P n → ⊥)

@@ -99,7 +99,7 @@ pub record InBounds (kind : FieldKind) (steps : Steps) : Type 0 where
   pub greatest : steps.high ≤ greatest_of kind
   pub some : 0 < steps.step
 
-star_bounds : (kind : FieldKind) → last_of kind ≤ greatest_of kind
+pub star_bounds : (kind : FieldKind) → last_of kind ≤ greatest_of kind
 star_bounds Minute = omega arith
 star_bounds Hour = omega arith
 star_bounds MonthDay = omega arith

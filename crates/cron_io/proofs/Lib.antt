@@ -2,4 +2,5 @@ mod MemoryLemmas
 mod ReadingLemmas
 mod WritingLemmas
 pub mod LawLemmas
+pub mod LineLemmas
 pub mod NumberLemmas

@@ -391,11 +391,6 @@ pub behind_first : (old new : IntoIter (String Global) Global) (name : Option (S
 behind_first old new None steps = no_word_left new steps.1 ∙ sym (ap behind_name (no_word_left old steps.0))
 behind_first old new (Some name) steps = ap (λ words. behind_name (texts_of words)) (sym steps.0)
 
--- what holds anyway holds where there is none
-pub if_none : {T P : Type 0} (r : Option T) → P → IfNone r P
-if_none None p = p
-if_none (Some x) p = tt
-
 -- there is one lane at least
 some_lanes : (choices : List Choice) (words : List (List ℕ)) → AreSpelledBy choices words → 1 ≤ unwrap_or (lanes_of choices) 1
 some_lanes [] words spelled = omega arith

@@ -35,7 +35,7 @@ HasShape Setting text = (name : List ℕ) × (value : List ℕ) × IsAssignment 
 HasShape Other text = IsOther text
 HasShape Under text = BeginsWithByte 64 text
 
-some_byte : (byte : ℕ) (text : List ℕ) → BeginsWithByte byte text → text ≢ []
+pub some_byte : (byte : ℕ) (text : List ℕ) → BeginsWithByte byte text → text ≢ []
 some_byte byte [] begins e = begins
 some_byte byte (c ∷ cs) begins e = cc
 
@@ -56,7 +56,7 @@ no_setting text (name, value, is) byte which begins =
     let first : c ≡ byte = subst (BeginsWithByte byte) parts begins in
     no_setting_byte c start (subst (λ b. (b ≡ 35) ⊎ (b ≡ 64)) (sym first) which)
 
-setting_some : (text : List ℕ) → HasShape Setting text → text ≢ []
+pub setting_some : (text : List ℕ) → HasShape Setting text → text ≢ []
 setting_some text (name, value, is) e =
     let (c, cs, parts, start) = setting_begins text name value is in cc
 
@@ -64,7 +64,7 @@ two_bytes : (a b : ℕ) → a ≡ 35 → b ≡ 64 → a ≡ b → ⊥
 two_bytes a b p q e = omega arith
 
 -- a text has one shape
-same_shape : (a b : Shape) (text : List ℕ) → HasShape a text → HasShape b text → a ≡ b
+pub same_shape : (a b : Shape) (text : List ℕ) → HasShape a text → HasShape b text → a ≡ b
 same_shape Empty Empty text p q = refl
 same_shape Note Note text p q = refl
 same_shape Setting Setting text p q = refl

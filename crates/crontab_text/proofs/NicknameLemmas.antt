@@ -18,6 +18,7 @@ use Rattle.crontab_text.specs.Nickname.{Means, meaning_of}
 use Rattle.crontab_text.specs.NicknameView.{meaning_of_nickname}
 use Rattle.crontab_text.specs.declared.nickname.Nickname.{Nickname}
 use Rattle.crontab_text.specs.declared.nickname.Nickname.TheVariants.{Yearly, Monthly, Weekly, Daily, Hourly, Reboot}
+use Rattle.cron_fields.proofs.FieldText.{star_bounds as last_within}
 
 -- a nickname has a meaning
 some_meaning : (nickname : Nickname) → IsSome (meaning_of_nickname nickname)
@@ -81,13 +82,6 @@ least_within Hour = omega arith
 least_within MonthDay = omega arith
 least_within Month = omega arith
 least_within WeekDay = omega arith
-
-last_within : (kind : FieldKind) → last_of kind ≤ greatest_of kind
-last_within Minute = omega arith
-last_within Hour = omega arith
-last_within MonthDay = omega arith
-last_within Month = omega arith
-last_within WeekDay = omega arith
 
 above : (a b : ℕ) → a < b → b ≢ a
 above a b less is = omega arith

@@ -121,7 +121,7 @@ pub made_done : {T E : Type 0} (fault_as : DiskFault → E) (calls : List DiskCa
 made_done fault_as calls value old new made = made.all
 
 -- the error that was handed on
-err_inner : {U E : Type 0} (one other : E) → ◌≡◌ {A = Result U E} (Err one) (Err other) → one ≡ other
+pub err_inner : {U E : Type 0} (one other : E) → ◌≡◌ {A = Result U E} (Err one) (Err other) → one ≡ other
 err_inner one other same = cc same
 
 pub handed : {T U E : Type 0} (result : Result U E) (given : E) → IsErrAnd result (λ e. e ≡ given) → (e : E) → IsErrOf result e → ◌≡◌ {A = Result T E} (Err given) (Err e)

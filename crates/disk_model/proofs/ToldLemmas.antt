@@ -21,12 +21,12 @@ pub same_told : {fails fails' : Bool} {arm arm' : Option Arm} {stopped stopped' 
     → ◌≡◌ {A = Told} (record { fails = fails; arm = arm; stopped = stopped; done = done; synced = synced; touched = touched }) (record { fails = fails'; arm = arm'; stopped = stopped'; done = done'; synced = synced'; touched = touched' })
 same_told a b c d e f = λ i. record { fails = a i; arm = b i; stopped = c i; done = d i; synced = e i; touched = f i }
 
-is_file-same : (file : FileNo) → is_file file file ≡ true
+pub is_file-same : (file : FileNo) → is_file file file ≡ true
 is_file-same Chooser = refl
 is_file-same AreaA = refl
 is_file-same AreaB = refl
 
-is_file-other : (file other : FileNo) → other ≢ file → is_file file other ≡ false
+pub is_file-other : (file other : FileNo) → other ≢ file → is_file file other ≡ false
 is_file-other Chooser Chooser differs = absurd (differs refl)
 is_file-other Chooser AreaA differs = refl
 is_file-other Chooser AreaB differs = refl

@@ -27,6 +27,7 @@ use Rattle.due_list.specs.CheckText.{AreAnacrontabFaults, AreCrontabFaults, AreF
 use Rattle.due_list.specs.Parts.{AddsFaults, fault_behind}
 use Rattle.due_list.specs.declared.fault.TableFault.{TableFault}
 use Rattle.due_list.proofs.ListLemmas.{map_push, parts_push, zip_push}
+use Rattle.run_text.proofs.AnacrontabLemmas.{logical_is}
 
 -- What was added so far: with the faults that are left behind it, it is those of the whole.
 pub record Added (Whole Left : List TableFault → Type 0) (old now : List TableFault) : Type 0 where
@@ -194,10 +195,6 @@ pub faults_of_crontab : (section : SectionText) (style : Style) (now : TableRead
 faults_of_crontab section style now faults kind is are =
     let here : AreCrontabFaults style section.label.now (section.line + 1) (lines_of section.text.now) faults = subst (λ (r : TableReader). CrontabWhole section.line r faults) is are in
     subst (λ s. AreFaultsBy s (section_of section) faults) (sym kind) here
-
-logical_is : (text : List ℕ) → logical_lines text ≡ joined (lines_of text)
-unfolding logical_lines
-logical_is text = refl
 
 -- a section that is an anacrontab
 pub faults_of_anacrontab : (section : SectionText) (now : AnacronTableReader) (faults : List TableFault) → style_of section.kind ≡ None

@@ -25,7 +25,7 @@ use Rattle.anacron_text.specs.LogicalLines.{joined, line_count}
 use Rattle.anacron_text.specs.Settings.{no_settings}
 use Rattle.anacron_text.specs.declared.settings.Settings.{Settings}
 use Rattle.anacron_text.proofs.ChoiceLemmas.{sets_or_bad}
-use Rattle.anacron_text.proofs.AnswerLemmas.{same_answers_below, some_answer}
+use Rattle.anacron_text.proofs.AnswerLemmas.{same_answers_below, some_answer, some_sets_by as some_next, some_answers_below}
 use Rattle.cron_io.specs.Lines.{text_of_lines}
 use Rattle.run_text.specs.Follow.{style_of}
 use Rattle.run_text.specs.Run.{Run, Section}
@@ -146,24 +146,6 @@ some_crontab : (style : Style) (owner : List ℕ) (first : ℕ) (lines : List (L
 some_crontab style owner first lines =
     let answers = some_zip (IsAnswer style owner) (some_crontab_answer style owner) lines in
     (flat_map (λ (row : ℕ × LineAnswer). crontab_fault row.0 row.1) (zip (numbers_from (λ line. 1) first lines) answers.0), record { answers = answers.0; are = answers.1; faults_are = refl })
-
-some_next : (settings : Settings) (line : List ℕ) (answer : AnacronLineAnswer) → IsAnacronAnswer settings line answer → (next : Settings) × SetsByAnswer answer settings next
-some_next settings line (Said (AssignBody name value)) is = elim (sets_or_bad settings name value) [
-  | inl (next, sets, good) ↦ (next, sets)
-  | inr (cause, bad) ↦ absurd (is.says.good cause bad)
-]
-some_next settings line (Said BlankBody) is = (settings, refl)
-some_next settings line (Said CommentBody) is = (settings, refl)
-some_next settings line (Said (JobBody job)) is = (settings, refl)
-some_next settings line (Broken cause place) is = (settings, refl)
-
-some_answers_below : (lines : List (List ℕ)) (settings : Settings) → (answers : List AnacronLineAnswer) × AreAnswersBelow lines settings answers
-some_answers_below [] settings = ([], tt)
-some_answers_below (line ∷ lines) settings =
-    let first = some_answer settings line in
-    let below = some_next settings line first.0 first.1 in
-    let rest = some_answers_below lines below.0 in
-    (first.0 ∷ rest.0, (below.0, first.1, below.1, rest.1))
 
 some_anacrontab : (settings : Settings) (first : ℕ) (lines : List (List ℕ)) → (faults : List TableFault) × AreAnacrontabFaults settings first lines faults
 some_anacrontab settings first lines =

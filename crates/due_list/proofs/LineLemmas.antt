@@ -19,7 +19,8 @@ use Rattle.due_list.specs.CheckText.{check_lines, fault_line}
 use Rattle.due_list.specs.DueText.{AreEntryLines, AreLinesBy, AreLinesOfJob, IsDueText, anacron_line, due_line, job_line, local_text}
 use Rattle.due_list.specs.Parts.{AppendsJobs, AppendsLines, instants_of}
 use Rattle.due_list.specs.declared.fault.TableFault.{TableFault}
-use Rattle.due_list.proofs.ListLemmas.{parts_push, range_more, text_append, zip_push}
+use Rattle.due_list.proofs.ListLemmas.{parts_push, range_more, zip_push}
+use Rattle.cron_io.proofs.LineLemmas.{text_of_lines-append as text_append}
 
 -- a stamp ends with its `Z`
 stamp_is : (minute : ℤ) → stamp_text minute ≡ local_text minute ++ 90 ∷ []

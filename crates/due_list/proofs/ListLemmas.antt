@@ -7,6 +7,7 @@ use Rattle.std.proofs.lemmas.List.{map-append, take_more}
 use Rattle.std.proofs.lemmas.List.Elements.{Contains-append_left, Contains-append_right}
 use Rattle.due_set.proofs.Rising.{Contains-head, Contains-tail, Contains-cases, Contains-none}
 use Rattle.cron_io.specs.Lines.{text_of_lines}
+use Rattle.cron_io.proofs.LineLemmas.{text_of_lines-append as text_append}
 
 -- one number more
 pub range_more : (a n : ℕ) → range_with_len a (n + 1) ≡ range_with_len a n ++ (a + n) ∷ []
@@ -20,9 +21,6 @@ range_more a n = ap (range_with_len a) plus ∙ by_steps a n
     by_steps a (suc n) =
         let e : (a + 1) + n ≡ a + suc n = omega arith in
         ap (λ (l : List ℕ). a ∷ l) (by_steps (a + 1) n ∙ ap (λ (x : ℕ). range_with_len (a + 1) n ++ x ∷ []) e)
-
-pub text_append : (a b : List (List ℕ)) → text_of_lines (a ++ b) ≡ text_of_lines a ++ text_of_lines b
-text_append a b = flat_map-append (λ (line : List ℕ). line ++ 10 ∷ []) a b
 
 -- the items before a place, and the one there
 take_push : {X : Type 0} (xs : List X) (i : ℕ) (x : X) → i < length xs → x ≡ get_or xs i x → take (i + 1) xs ≡ take i xs ++ x ∷ []

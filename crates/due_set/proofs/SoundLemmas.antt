@@ -48,7 +48,7 @@ pub on_time_in_grace : (table : Table) (number : ℕ) (job : Job) (zone : TimeZo
 on_time_in_grace table number job zone at now is_in plain = on_time_of_kind job.kind zone table.grace at now plain
 
 -- what stands at a place of a list
-at_place : {X : Type 0} (xs : List X) (i : ℕ) → i < length xs → (x : X) × (slice_get xs i ≡ Some x)
+pub at_place : {X : Type 0} (xs : List X) (i : ℕ) → i < length xs → (x : X) × (slice_get xs i ≡ Some x)
 at_place xs i lt = elim ((slice_get_cases xs i).1) [ inl is ↦ (is.0, is.2) | inr past ↦ absurd (omega (arith, past.0)) ]
 
 pub zone_is_read : (table : Table) (number : ℕ) → IsSound table → number < length table.jobs → IsJobRead table number

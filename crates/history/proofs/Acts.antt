@@ -13,7 +13,7 @@ use Rattle.cluster_sched.specs.declared.row.SchedRow.{SchedRow}
 use Rattle.step_spec.specs.Act.{Act, Observe, Stand, Gather, TakeLead, Pledge, Cast, Propose, Count, Wait, Learn, Rebase, Call, Send, Restart, after_act}
 use Rattle.step_spec.specs.Folds.{after_acts, deltas_by, deltas_of, learnt_by, learnt_of}
 use Rattle.step_spec.specs.May.{Ending, HasSaid, Saying}
-use Rattle.step_spec.proofs.Lists.{cons_cases, nothing_in}
+use Rattle.step_spec.proofs.Lists.{nothing_in}
 use Rattle.step_spec.specs.Message.{Message, Whom}
 use Rattle.step_spec.specs.State.{State}
 use Rattle.step_spec.specs.declared.out.LearntRow.{LearntRow}
@@ -21,6 +21,8 @@ use Rattle.agreement.specs.Transition.{is_silent}
 use Rattle.step_spec.specs.Step.{Event}
 use Rattle.agreement.specs.World.{CastVote, Learning, World, after_all, after_doing, after_done, answered_after, cast_after, doings_of, learned_after, said_after, with_replica}
 use Rattle.history.specs.Book.{vote_of_delta, votes_by, votes_of}
+use Rattle.agreement.proofs.Transitions.{said_stays as said_more, answered_stays as answered_more}
+use Rattle.due_set.proofs.Rising.{Contains-cases as cons_cases}
 
 -- the votes of a replica
 abbrev pub cast_rows : ℕ → List Vote → List CastVote
@@ -83,12 +85,6 @@ all_learned by event answer (act ∷ acts) w =
     ∙ append_assoc w.learned (learned_rows by (learnt_by act)) (learned_rows by (learnt_of acts))
     ∙ ap (λ rows. w.learned ++ rows) (sym (map-append _ (learnt_by act) (learnt_of acts)))
 
--- what was answered stays answered
-answered_more : (by : ℕ) (act : Act) (answer : Option Kind) (answered : List Ending) (ending : Ending) → Contains answered ending → Contains (answered_after by act answer answered) ending
-answered_more by (Call row) (Some kind) answered ending has = Contains-append_left answered (record { to = by; job = row.name.job; at = row.name.at; kind = kind } ∷ []) ending has
-answered_more by (Call row) None answered ending has = has
-answered_more by act answer answered ending has = has
-
 pub all_answered_more : (by : ℕ) (event : Option Event) (answer : Option Kind) (acts : List Act) (w : World) (ending : Ending) → Contains w.answered ending → Contains (after_all (doings_of by event answer acts) w).answered ending
 unfolding after_doing
 all_answered_more by event answer [] w ending has = has
@@ -105,11 +101,6 @@ all_answered by event kind (act ∷ acts) w row has = elim (cons_cases act acts 
       (rw same (Contains-push w.answered (record { to = by; job = row.name.job; at = row.name.at; kind = kind })))
   | inr later ↦ all_answered by event kind acts (after_done (record { by = by; event = event; act = act; answer = Some kind }) w) row later
 ]
-
--- what was said stays said
-said_more : (by : ℕ) (act : Act) (said : List Saying) (saying : Saying) → Contains said saying → Contains (said_after by act said) saying
-said_more by (Send whom mine) said saying has = Contains-append_left said (record { by = by; message = mine } ∷ []) saying has
-said_more by act said saying has = has
 
 pub all_said_more : (by : ℕ) (event : Option Event) (answer : Option Kind) (acts : List Act) (w : World) (saying : Saying) → Contains w.said saying → Contains (after_all (doings_of by event answer acts) w).said saying
 unfolding after_doing

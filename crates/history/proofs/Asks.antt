@@ -59,7 +59,7 @@ in_window k within = record { since = omega (arith, ints); before = omega (arith
 pub minute_fits : (k : ℕ) → k < 33 → FitsSigned w64 (minute k)
 minute_fits k within = omega (arith, ints, within)
 
-utc : IsReadable (FixedOffset (pos 0))
+pub utc : IsReadable (FixedOffset (pos 0))
 utc = IsReadable-fixed (pos 0) (grind arith, grind arith)
 
 pub sound : IsSound busy
@@ -74,10 +74,10 @@ sound = record {
 
 -- ---- when the job is due
 
-has_every : (value : ℕ) → value < 64 → Has every value
+pub has_every : (value : ℕ) → value < 64 → Has every value
 has_every value small = (IsBitSet-mask 0 64 value).1 (omega arith, small)
 
-small_weekday : (day : ℤ) → unsigned_abs (int_rem_euclid day (pos 7)) < 64
+pub small_weekday : (day : ℤ) → unsigned_abs (int_rem_euclid day (pos 7)) < 64
 small_weekday (pos n) = omega arith
 small_weekday (negsuc n) = omega arith
 
@@ -144,7 +144,7 @@ end_applies k = inl (
   let more : k + 1 ≡ suc k = omega arith in rw more refl,
 )
 
-nothing_below : (before : ℕ) → before < 0 → ⊥
+pub nothing_below : (before : ℕ) → before < 0 → ⊥
 nothing_below before less = omega (arith, less)
 
 no_call : (k : ℕ) (now : ℤ) → NoCall busy (idle k ∷ []) now

@@ -10,8 +10,8 @@ use Rattle.paxos_base.specs.declared.entry.Kind.TheVariants.{Launch, Void}
 use Rattle.paxos_base.specs.declared.rows.JobRow.{JobRow}
 use Rattle.due_set.specs.Table.{Table}
 use Rattle.launch_machine.specs.Clerk.{Applies, AppliesAll, closed_row, first_rows, opened_row}
-use Rattle.step_spec.proofs.Lists.{in_first, in_rest}
 use Rattle.history.specs.Numbers.{AreRowsBelow, AreRowsWithin}
+use Rattle.due_set.proofs.Rising.{Contains-head as in_first, Contains-tail as in_rest}
 
 -- what holds of each that is in a list
 pub all_in : {X : Type 0} (P : X → Type 0) (xs : List X) → ((x : X) → Contains xs x → P x) → All P xs

@@ -22,7 +22,6 @@ use Rattle.step_spec.specs.Letters.{IsHeardAs, are_small, is_small, is_small_bal
 use Rattle.step_spec.specs.May.{HasSaid}
 use Rattle.step_spec.specs.Message.{Message, Prepare, Promise, Accept, Accepted, Nack, Known, AskFrom, Snap, Lead, Mention}
 use Rattle.step_spec.proofs.HeardLemmas.{messages_heard}
-use Rattle.step_spec.proofs.Lists.{in_first, in_rest}
 use Rattle.agreement.specs.World.{World}
 use Rattle.agreement.proofs.Transitions.{IsFollowed}
 use Rattle.history.specs.Book.{PostedLetter, Row, standing_after}
@@ -31,6 +30,7 @@ use Rattle.history.specs.Numbers.{AreRowsBelow, IsMessageWithin, IsVoteWithin}
 use Rattle.history.proofs.Books.{stands}
 use Rattle.history.proofs.Launched.{few_launched}
 use Rattle.history.proofs.Within.{message_within}
+use Rattle.due_set.proofs.Rising.{Contains-head as in_first, Contains-tail as in_rest}
 
 -- ---- rows
 

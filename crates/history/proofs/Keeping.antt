@@ -31,7 +31,7 @@ use Rattle.history.specs.Legal.{IsAnswered, IsHeard, IsLegal, TakesTurn, answere
 use Rattle.history.specs.declared.turn.CallRow.{CallRow}
 use Rattle.history.specs.declared.turn.Cause.{Cause}
 use Rattle.history.specs.declared.turn.Cause.TheVariants.{Campaign, Tick, Hear, Answer}
-use Rattle.launch_machine.proofs.IntentLemmas.{one_intent}
+use Rattle.launch_machine.proofs.IntentLemmas.{one_intent, same_some}
 
 -- ---- votes and changes
 
@@ -55,7 +55,7 @@ votes_changed (act ∷ acts) =
 abbrev name_of : ℕ → ℤ → Name
 name_of job at = record { job = job; at = at }
 
-name_is : (one other : Name) → is_name one other ≡ true → one ≡ other
+pub name_is : (one other : Name) → is_name one other ≡ true → one ≡ other
 name_is one other is =
     let parts = and_parts (eqb one.job other.job) (int_eq one.at other.at) is in
     let jobs : one.job ≡ other.job = eqb-true one.job other.job parts.0 in
@@ -103,9 +103,6 @@ pub arrival_holds : (old new : Holdings) (row : SchedRow) (stands : Bool) → Ar
 arrival_holds old new row stands arrives = rw (looked_up_under row.name old.held arrives.found arrives.holds.is_found) arrives.holds.held
 
 -- ---- the event of a cause
-
-same_some : {X : Type 0} (a b : X) → Some a ≡ Some b → a ≡ b
-same_some a b same = cc
 
 heard_same : (n jobs : ℕ) (bytes : List ℕ) (from : ℕ) (one other : List Message) → IsHeardAs n jobs bytes from one → IsHeardAs n jobs bytes from other → one ≡ other
 heard_same n jobs bytes from one other a b =

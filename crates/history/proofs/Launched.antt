@@ -27,9 +27,10 @@ use Rattle.due_set.specs.declared.job.JobKind.TheVariants.{Anacron}
 use Rattle.launch_machine.specs.Clerk.{Applies, AppliesAll, MayStart, closed_row, first_rows, opened_row}
 use Rattle.launch_machine.proofs.MachineLemmas.{same_or_not, set_here, set_there}
 use Rattle.launch_machine.proofs.StartLemmas.{may_start_later}
-use Rattle.step_spec.proofs.Lists.{cons_cases, nothing_in}
+use Rattle.step_spec.proofs.Lists.{nothing_in}
 use Rattle.history.specs.Numbers.{AreRowsBelow}
 use Rattle.history.proofs.Counts.{all_in}
+use Rattle.due_set.proofs.Rising.{Contains-cases as cons_cases}
 
 -- ---- when a job may start
 

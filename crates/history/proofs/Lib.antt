@@ -4,6 +4,7 @@ pub mod Asks
 pub mod Books
 pub mod Bounded
 pub mod Counts
+pub mod FrontLemmas
 pub mod Grows
 pub mod Heard
 pub mod Keeping

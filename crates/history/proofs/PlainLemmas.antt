@@ -25,10 +25,11 @@ use Rattle.step_spec.specs.Message.{Message, Prepare, Promise, Accept, Accepted,
 use Rattle.step_spec.specs.Propose.{answer, answer_of, campaign, choose_if, end_if, follow_intent, lead_if, lead_on, propose, proposal, tick, tick_of, wait, is_long, is_open}
 use Rattle.step_spec.specs.State.{State, Identity, prefix_of, promised_in}
 use Rattle.step_spec.specs.Step.{Event, Campaign, Tick, Hear, Answer, step}
-use Rattle.step_spec.proofs.Lists.{cons_cases, in_first, in_rest, nothing_in}
+use Rattle.step_spec.proofs.Lists.{nothing_in}
 use Rattle.agreement.proofs.Growing.{Casts}
 use Rattle.agreement.proofs.Kept.{Origin, asked_by, casts_origin}
 use Rattle.history.specs.Book.{vote_of_delta, votes_by, votes_of}
+use Rattle.due_set.proofs.Rising.{Contains-head as in_first, Contains-tail as in_rest, Contains-cases as cons_cases}
 
 -- the act proposes nothing and calls for nothing, and a vote that it casts was asked for
 abbrev pub IsPlain : (Vote → Type 0) → Act → Type 0
@@ -237,17 +238,17 @@ step_plain self (Answer job at kind rows) state = answer_plain (AsksFor (Answer 
 -- ---- whence votes and calls come
 
 -- a vote of an act is one that it casts
-vote_of_act : (act : Act) (vote : Vote) → Contains (votes_by act) vote → Casts act vote
+pub vote_of_act : (act : Act) (vote : Vote) → Contains (votes_by act) vote → Casts act vote
 vote_of_act (Cast mine) vote has = elim (cons_cases mine [] vote has) [ inl same ↦ same | inr none ↦ nothing_in none ]
 vote_of_act (Propose me mine) vote has = elim (cons_cases mine [] vote has) [ inl same ↦ same | inr none ↦ nothing_in none ]
 vote_of_act act vote has = nothing_in has
 
-plain_vote : (asks : Vote → Type 0) (act : Act) (vote : Vote) → IsPlain asks act → Casts act vote → asks vote
+pub plain_vote : (asks : Vote → Type 0) (act : Act) (vote : Vote) → IsPlain asks act → Casts act vote → asks vote
 plain_vote asks (Cast mine) vote plain casts = subst asks casts plain
 plain_vote asks (Propose me mine) vote plain casts = absurd plain
 plain_vote asks act vote plain casts = absurd casts
 
-plain_votes : (asks : Vote → Type 0) (acts : List Act) (vote : Vote) → AllPlain asks acts → Contains (votes_of acts) vote → asks vote
+pub plain_votes : (asks : Vote → Type 0) (acts : List Act) (vote : Vote) → AllPlain asks acts → Contains (votes_of acts) vote → asks vote
 plain_votes asks [] vote plain has = nothing_in has
 plain_votes asks (act ∷ acts) vote plain has = elim (Contains-append_cases (votes_by act) (votes_of acts) vote has) [
   | inl here ↦ plain_vote asks act vote plain.0 (vote_of_act act vote here)

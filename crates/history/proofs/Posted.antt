@@ -15,7 +15,6 @@ use Rattle.step_spec.specs.May.{HasSaid}
 use Rattle.step_spec.specs.Message.{Message, Prepare, Promise, Accept, Accepted, Nack, Known, AskFrom, Snap, Lead, Mention}
 use Rattle.step_spec.specs.Step.{Event, step}
 use Rattle.step_spec.specs.declared.out.OutLetter.{OutLetter}
-use Rattle.step_spec.proofs.Lists.{in_first, in_rest}
 use Rattle.step_spec.proofs.OutLemmas.{letters_sent}
 use Rattle.agreement.specs.Transition as taken
 use Rattle.agreement.specs.Transition.{MayTake, after_transition, identity_of}
@@ -34,6 +33,7 @@ use Rattle.history.proofs.Books.{stands}
 use Rattle.history.proofs.Bounded.{Bounded}
 use Rattle.history.proofs.Spelled.{IsMessageOf, messages_of_members, spells_of}
 use Rattle.history.proofs.TurnBounds.{bounded_transition}
+use Rattle.due_set.proofs.Rising.{Contains-head as in_first, Contains-tail as in_rest}
 
 -- the ballots of what is said are of the replicas
 said_of_members : (most n : ℕ) (table : Table) (w : World) (q : ℕ) (message : Message) → IsFollowed n table (first_rows table) w → Bounded most n w → HasSaid w.said q message → IsMessageOf n message

@@ -44,8 +44,10 @@ use Rattle.history.specs.declared.turn.Cause.TheVariants as cause
 use Rattle.history.specs.declared.turn.Turn.{Turn}
 use Rattle.history.specs.declared.turn.Turn.TheVariants.{Did, Stopped, Restarted, Arrived}
 use Rattle.history.proofs.Acts.{Sends, Stops, all_answered, all_answered_more, all_cast, all_learned, all_replicas, all_said, all_said_more, back_of, cast_rows, front_of, learned_rows, parts_of, stops_at, with_here, with_twice}
-use Rattle.step_spec.proofs.Lists.{cons_cases, flat_came, found_in, in_first, in_rest, map_came, nothing_in, row_at, take_next, zip_beside}
+use Rattle.step_spec.proofs.Lists.{flat_came, found_in, map_came, nothing_in, take_next, zip_beside}
 use Rattle.step_spec.specs.declared.out.OutLetter.{OutLetter}
+use Rattle.due_set.proofs.Rising.{Contains-head as in_first, Contains-tail as in_rest, Contains-cases as cons_cases}
+use Rattle.launch_machine.proofs.MachineLemmas.{is_some_below as row_at}
 
 -- a row that answered a replica, as what the scheduler has told it
 abbrev pub ending_of : ℕ → SchedRow → Ending
@@ -353,7 +355,7 @@ no_learned : (who : ℕ) (learned : List Learning) (some : List LearntRow) → s
 no_learned who learned some none x has = subst (λ rows. Contains rows x) (ap (λ rows. learned ++ learned_rows who rows) none ∙ append-nil learned) has
 
 -- no answer waits for a replica that has stopped
-none_waits : (who : ℕ) (waits : ℕ → Option SchedRow) (q : ℕ) (row : SchedRow) → with_fact who None waits q ≡ Some row → waits q ≡ Some row
+pub none_waits : (who : ℕ) (waits : ℕ → Option SchedRow) (q : ℕ) (row : SchedRow) → with_fact who None waits q ≡ Some row → waits q ≡ Some row
 none_waits who waits q row is = elim (cases_Bool (eqb q who)) [
   | inl here ↦ let none : None ≡ Some row = rw here at is in absurd cc
   | inr other ↦ rw other at is

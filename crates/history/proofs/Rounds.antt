@@ -195,7 +195,7 @@ known_heard : (slot : ℕ) (e : Entry) → slot < 2 ^ 62 → FitEntryFields (num
 unfolding messages_of
 known_heard slot e small fits = record { packets = packet.Known slot e ∷ []; spells = known_spells slot e small fits; heard = rw (lt-ltb slot (2 ^ 62) small) refl }
 
-last_there : {X : Type 0} (xs : List X) (x : X) → slice_get (xs ++ x ∷ []) (length xs) ≡ Some x
+pub last_there : {X : Type 0} (xs : List X) (x : X) → slice_get (xs ++ x ∷ []) (length xs) ≡ Some x
 last_there [] x = refl
 last_there (y ∷ xs) x = last_there xs x
 

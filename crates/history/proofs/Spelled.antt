@@ -12,7 +12,7 @@ use Rattle.paxos_letter.specs.declared.packet.Packet.{Packet}
 use Rattle.paxos_letter.specs.declared.packet.Packet.TheVariants as packet
 use Rattle.step_spec.specs.Heard.{old_vote, packets_of}
 use Rattle.step_spec.specs.Message.{Message, Prepare, Promise, Accept, Accepted, Nack, Known, AskFrom, Snap, Lead, Mention}
-use Rattle.step_spec.proofs.Lists.{in_first, in_rest}
+use Rattle.due_set.proofs.Rising.{Contains-head as in_first, Contains-tail as in_rest}
 
 -- the ballots that a packet names are of so many replicas
 abbrev pub IsPacketOf : ℕ → Packet → Type 0

@@ -106,10 +106,10 @@ names_once members standing (Arrived number) event letters once = arriving_once 
 
 -- ---- what waits
 
-fact_here : {A : Type 0} (who : ℕ) (fact : A) (facts : ℕ → A) → with_fact who fact facts who ≡ fact
+pub fact_here : {A : Type 0} (who : ℕ) (fact : A) (facts : ℕ → A) → with_fact who fact facts who ≡ fact
 fact_here who fact facts = rw (eq-eqb who who refl) refl
 
-fact_there : {A : Type 0} (who : ℕ) (fact : A) (facts : ℕ → A) (other : ℕ) → other ≢ who → with_fact who fact facts other ≡ facts other
+pub fact_there : {A : Type 0} (who : ℕ) (fact : A) (facts : ℕ → A) (other : ℕ) → other ≢ who → with_fact who fact facts other ≡ facts other
 fact_there who fact facts other apart = rw (ne_eqb other who apart) refl
 
 pub waits_none : (members : ℕ) (standing : Standing) (who : ℕ) (cause : Cause) (event : Event) (letters : List OutLetter) → (after_row members standing (Did who cause None) event letters).waits who ≡ None

@@ -13,7 +13,7 @@ use Rattle.step_spec.proofs.LineLemmas.{step_may}
 use Rattle.agreement.specs.Transition as taken
 use Rattle.agreement.specs.Transition.{AreTransitions, MayCome, MayTake, after_transition, after_transitions, identity_of, is_silent}
 use Rattle.agreement.specs.World.{Doing, MayDo, World, after_all, after_done, doings_of}
-use Rattle.agreement.proofs.Transitions.{IsFollowed, followed_after_all, transitions_followed}
+use Rattle.agreement.proofs.Transitions.{IsFollowed, followed_after_all, transitions_followed, front_may, silent_may}
 use Rattle.history.proofs.Acts.{all_answered_more, all_replicas, all_said_more, with_here}
 use Rattle.history.proofs.Reached.{all_said_still, steps_by, steps_in}
 use Rattle.history.proofs.Bounded.{Bounded, bounded_after, bounded_more, prefix_low}
@@ -31,7 +31,7 @@ MayAll n table by event w acts =
     (said : List Saying) (answered : List Ending) → ((saying : Saying) → Contains w.said saying → Contains said saying)
     → ((ending : Ending) → Contains w.answered ending → Contains answered ending) → AllMay (setting_with n table by event said answered) (w.replicas by) acts
 
-may_rest : (n : ℕ) (table : Table) (by : ℕ) (event : Option Event) (answer : Option Kind) (act : Act) (acts : List Act) (w : World) → MayAll n table by event w (act ∷ acts)
+pub may_rest : (n : ℕ) (table : Table) (by : ℕ) (event : Option Event) (answer : Option Kind) (act : Act) (acts : List Act) (w : World) → MayAll n table by event w (act ∷ acts)
     → MayAll n table by event (after_done (record { by = by; event = event; act = act; answer = answer }) w) acts
 may_rest n table by event answer act acts w may said answered stays answers_stay =
     let next = (may said answered (λ saying has. stays saying (all_said_more by event answer (act ∷ []) w saying has)) (λ ending has. answers_stay ending (all_answered_more by event answer (act ∷ []) w ending has))).1 in
@@ -102,16 +102,6 @@ grows_by_one most n table first w by event few followed bounded may =
     (hears_within (most + 1) n table by w event (bounded_more most (most + 1) n w (omega arith) bounded) may.heard)
 
 -- ---- transitions
-
-front_may : (setting : Setting) (state : State) (front back : List Act) → AllMay setting state (front ++ back) → AllMay setting state front
-front_may setting state [] back may = tt
-front_may setting state (act ∷ front) back may = (may.0, front_may setting (after_act act state) front back may.1)
-
-silent_may : (setting : Setting) (state : State) (acts : List Act) → AllMay setting state acts → AllMay setting state (filter is_silent acts)
-unfolding after_act
-silent_may setting state [] may = tt
-silent_may setting state (Send whom message ∷ acts) may = silent_may setting state acts may.1
-silent_may setting state (act ∷ acts) may = (may.0, silent_may setting (after_act act state) acts may.1)
 
 front_grows : (most n : ℕ) (front back : List Act) → AllGrow most n (front ++ back) → AllGrow most n front
 front_grows most n [] back grow = tt

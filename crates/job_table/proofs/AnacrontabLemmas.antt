@@ -27,6 +27,7 @@ use Rattle.job_table.specs.Marks.{Mark, MarksZone, anacron_mark, anacron_marks, 
 use Rattle.job_table.specs.Table.{HasLineAtFault}
 use Rattle.job_table.specs.Zones.{NamesZone, zone_number}
 use Rattle.job_table.proofs.MarkLemmas.{adds_zone, adds_both, regroup}
+use Rattle.run_text.proofs.AnacrontabLemmas.{logical_is}
 
 -- what some lines say, each of which says something
 pub what_is_said : (settings : Settings) (lines : List (List ℕ)) → SayAll settings lines → (bodies : List AnacronLineBody) × AreAnswersBelow lines settings (map Said bodies)
@@ -56,11 +57,6 @@ answers_first settings new line lines (body ∷ others) answer (next, said, puts
     let same : answer ≡ Said body = same_answer settings line answer (Said body) is said in
     let one : next ≡ new = same_sets_by (Said body) settings next new puts (subst (λ a. SetsByAnswer a settings new) same sets) in
     record { body = body; others = others; is = same; parts = refl; are = subst (λ s. AreAnswersBelow lines s (map Said others)) one more }
-
--- the logical lines of a text are those that its lines make
-logical_is : (text : List ℕ) → logical_lines text ≡ joined (lines_of text)
-unfolding logical_lines
-logical_is text = refl
 
 begin_length : (c : ℕ) (lines : List (List ℕ)) → 0 < length lines → length (begin_with c lines) ≡ length lines
 begin_length c [] some = absurd (omega arith)

@@ -23,6 +23,7 @@ use Rattle.zone_minutes.specs.Zone.{IsReadable, IsRefused}
 use Rattle.zone_minutes.proofs.VerdictLemmas.{not_refused as not_read_and_refused}
 use Rattle.job_table.proofs.DueCountLemmas.{CountsFirst, counts_at_least}
 use Rattle.cron_fields.specs.declared.cause.Cause.TheVariants.{BadZone}
+use Rattle.run_text.proofs.UniqueLemmas.{same_refusal}
 
 same_body : (style : Style) (owner line : List ℕ) (a b : LineBody) → IsLineOf style owner line a → IsLineOf style owner line b → a ≡ b
 same_body style owner line a b first second =
@@ -128,9 +129,6 @@ one_count table a b first second =
     let le = counts_at_least table (length table.jobs) a b (counts_first table a first) (omega arith) second in
     let ge = counts_at_least table (length table.jobs) b a (counts_first table b second) (omega arith) first in
     omega (arith, le, ge)
-
-same_refusal : (a b : Refusal) → a.line ≡ b.line → a.cause ≡ b.cause → a.place ≡ b.place → a ≡ b
-same_refusal a b line cause place = rw (line, cause, place) refl
 
 pub one_table : (run : Run) (a b : Table) → IsTableOf run a → IsTableOf run b → a ≡ b
 one_table run a b first second =

@@ -15,7 +15,8 @@ use Rattle.history.specs.declared.turn.Turn.TheVariants.{Did, Stopped, Restarted
 use Rattle.history.proofs.Agreement.{cut_is_legal}
 use Rattle.history.proofs.Keeping.{one_event, stands_next}
 use Rattle.script_semantics.specs.Situation.{Situation, after_turn, after_turns, arms_after, bases_kept, changes_in, fates_after, latest_after, mails_after}
-use Rattle.world_law.proofs.Settled.{may_next, turns_settle}
+use Rattle.world_law.proofs.Settled.{turns_settle}
+use Rattle.history.proofs.FrontLemmas.{follows_there as may_next}
 
 -- from a standing on, the turns are the same, change the same and come to the same
 abbrev pub AreTwins : ℕ → Standing → List Row → List Row → Type 0

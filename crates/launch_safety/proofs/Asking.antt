@@ -22,7 +22,7 @@ use Rattle.step_spec.specs.Propose.{bound_by}
 use Rattle.step_spec.specs.State.{State, prefix_of}
 use Rattle.step_spec.specs.Step.{Event, Campaign, Tick, Hear, Answer, IsLaunchTable, IsPlanned, Plan}
 use Rattle.step_spec.proofs.LineLemmas.{step_may}
-use Rattle.step_spec.proofs.Lists.{in_first, map_came, nothing_in}
+use Rattle.step_spec.proofs.Lists.{map_came, nothing_in}
 use Rattle.step_spec.proofs.VoteLemmas.{found_vote}
 use Rattle.agreement.specs.Agree.{HasCast}
 use Rattle.agreement.specs.Transition.{identity_of}
@@ -38,11 +38,13 @@ use Rattle.history.specs.declared.turn.Turn.TheVariants.{Did, Stopped, Restarted
 use Rattle.history.proofs.Acts.{cast_rows}
 use Rattle.history.proofs.Reached.{heard_event}
 use Rattle.history.proofs.Standings.{call_asked}
-use Rattle.launch_safety.proofs.Logs.{Stands, stands}
+use Rattle.launch_safety.proofs.Logs.{Stands}
 use Rattle.history.proofs.PlainLemmas.{AsksFor, step_calls, votes_of_deltas}
 use Rattle.launch_safety.proofs.CallLemmas.{call_read}
 use Rattle.launch_safety.specs.Asked.{ReadsAt, TicksAt, state_before}
 use Rattle.launch_safety.proofs.Offers.{IsOffered, IsTicked, heard_accept, step_votes}
+use Rattle.due_set.proofs.Rising.{Contains-head as in_first}
+use Rattle.history.proofs.Agreement.{stands}
 
 -- a vote for the entry at the slot is among the votes
 pub record WasCast (votes : List CastVote) (slot : ℕ) (entry : Entry) : Type 0 where

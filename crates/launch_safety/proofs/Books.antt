@@ -21,7 +21,7 @@ use Rattle.launch_safety.specs.Fits.{IsBacked}
 use Rattle.launch_safety.proofs.EffectLemmas.{IsBacked-more}
 use Rattle.step_spec.specs.Act.{Act}
 use Rattle.step_spec.specs.Folds.{calls_of, deltas_of}
-use Rattle.step_spec.proofs.Lists.{cons_cases, found_in, in_first, in_rest, map_came, nothing_in, row_at, take_next}
+use Rattle.step_spec.proofs.Lists.{found_in, map_came, nothing_in, take_next}
 use Rattle.agreement.specs.Log.{IsLog}
 use Rattle.agreement.specs.World.{CastVote}
 use Rattle.history.specs.Book.{Row, Standing, acts_at, after_row, answer_to, arriving, first_standing, held_after, is_name, late_call, standing_after, turn_of, under, vote_of_delta, votes_in, votes_of, with_fact}
@@ -38,6 +38,9 @@ use Rattle.launch_safety.proofs.Invariant.{SaysHeld, Fitting, first_fitting, say
 use Rattle.launch_safety.proofs.Logs.{log_goes_on}
 use Rattle.history.proofs.PlainLemmas.{votes_of_deltas}
 use Rattle.launch_safety.proofs.Turns.{turn_calls, turn_votes}
+use Rattle.due_set.proofs.Rising.{Contains-head as in_first, Contains-tail as in_rest, Contains-cases as cons_cases}
+use Rattle.history.proofs.Reached.{none_waits}
+use Rattle.launch_machine.proofs.MachineLemmas.{is_some_below as row_at}
 
 -- ---- what is held
 
@@ -161,12 +164,6 @@ cast_fits held table log who votes each cast has =
 no_votes : (held : List SchedRow) (table : Table) (log : List Entry) (votes : List Vote) → votes ≡ [] → (vote : Vote) → Contains votes vote
     → SaysHeld held vote.entry × TakesEffectAt table log vote.slot vote.entry
 no_votes held table log votes none vote has = nothing_in (subst (λ some. Contains some vote) none has)
-
-none_waits : (who : ℕ) (waits : ℕ → Option SchedRow) (q : ℕ) (row : SchedRow) → with_fact who None waits q ≡ Some row → waits q ≡ Some row
-none_waits who waits q row is = elim (cases_Bool (eqb q who)) [
-  | inl here ↦ let none : None ≡ Some row = rw here at is in absurd cc
-  | inr other ↦ rw other at is
-]
 
 -- the vote that is kept of a step is a vote of the step
 kept_vote : (acts : List Act) (delta : Delta) (kept : Bool) (vote : Vote) → deltas_of acts ≡ delta ∷ [] → Contains (kept_votes kept delta) vote → Contains (votes_of acts) vote

@@ -20,7 +20,7 @@ use Rattle.step_spec.specs.Hear.{hear, hear_all}
 use Rattle.step_spec.specs.Propose.{answer, answer_of, campaign, end_if, follow_intent, is_long, is_open, lead_on, propose, tick, tick_of}
 use Rattle.step_spec.specs.State.{State, Identity, prefix_of}
 use Rattle.step_spec.specs.Step.{Event, Campaign, Tick, Hear, Answer, Plan, step}
-use Rattle.step_spec.proofs.Lists.{cons_cases, in_first, nothing_in}
+use Rattle.step_spec.proofs.Lists.{nothing_in}
 use Rattle.agreement.specs.Transition.{identity_of}
 use Rattle.history.specs.Book.{Row, Standing}
 use Rattle.history.specs.Legal.{IsEventOfCause, MayFollow}
@@ -30,6 +30,7 @@ use Rattle.history.specs.declared.turn.Cause.TheVariants as causes
 use Rattle.history.specs.declared.turn.Turn.TheVariants.{Did}
 use Rattle.history.proofs.Standings.{call_asked}
 use Rattle.history.proofs.PlainLemmas.{AllPlain, AsksFor, IsPlain, RestPlain, step_plain}
+use Rattle.due_set.proofs.Rising.{Contains-head as in_first, Contains-cases as cons_cases}
 
 -- the event is a tick, and the call has its reading
 record IsTickAt (call : SchedRow) (event : Event) : Type 0 where

@@ -35,6 +35,7 @@ use Rattle.history.proofs.Turns.{Book}
 use Rattle.launch_safety.specs.Parts.{HasTwoDates}
 use Rattle.launch_safety.proofs.Alone.{Stands, calls, end, leading, led, start, vote}
 use Rattle.launch_safety.proofs.Ended.{ends_alone}
+use Rattle.history.proofs.Asks.{utc}
 
 -- ---- the table: a job that runs each day, in UTC, over a window of two days
 
@@ -49,9 +50,6 @@ only_zone = utc_over two_days
 
 abbrev daily : Table
 daily = record { window = two_days; grace = 0; zones = only_zone ∷ []; jobs = daily_job ∷ [] }
-
-utc : IsReadable (FixedOffset (pos 0))
-utc = IsReadable-fixed (pos 0) (grind arith, grind arith)
 
 sound : IsSound daily
 sound = record {

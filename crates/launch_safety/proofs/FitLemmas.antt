@@ -26,7 +26,7 @@ use Rattle.launch_safety.specs.Fits.{Fits, HasStart, HasEnd, IsBacked}
 use Rattle.launch_safety.specs.Launched.{IsWanted, LaunchesEachDue, OpensBy}
 use Rattle.launch_safety.proofs.CoverLemmas.{HasStart-more, IsCovered, clerk_covers}
 
-name_is : (a b : Name) → a.job ≡ b.job → a.at ≡ b.at → a ≡ b
+pub name_is : (a b : Name) → a.job ≡ b.job → a.at ≡ b.at → a ≡ b
 name_is a b jobs instants =
     let make : ℕ → ℤ → Name = λ j t. record { job = j; at = t } in
     let both : make a.job a.at ≡ make b.job b.at = ap (λ (j : ℕ). make j a.at) jobs ∙ ap (make b.job) instants in

@@ -8,7 +8,6 @@ use Rattle.launch_machine.specs.Clerk.{first_rows}
 use Rattle.step_spec.specs.Hear.{known_from}
 use Rattle.step_spec.specs.Message.{Known}
 use Rattle.step_spec.specs.State.{State}
-use Rattle.step_spec.proofs.Lists.{in_first, in_rest}
 use Rattle.agreement.specs.Agree.{IsChosen, vote_for}
 use Rattle.agreement.specs.Log.{AreChosen, IsLog}
 use Rattle.agreement.specs.Transition.{after_transitions}
@@ -18,21 +17,15 @@ use Rattle.agreement.proofs.Transitions.{IsFollowed, first_followed, transitions
 use Rattle.history.specs.Book.{Row, learned_in, standing_after, votes_in}
 use Rattle.history.specs.Legal.{IsLegal}
 use Rattle.history.proofs.Reached.{Matches, reaches}
+use Rattle.agreement.proofs.Tables.{known_chosen, chosen_append}
+use Rattle.due_set.proofs.Rising.{Contains-head as in_first, Contains-tail as in_rest}
+use Rattle.history.proofs.Agreement.{stands}
 
 -- a world that comes to what a legal book comes to
 pub record Stands (n : ℕ) (table : Table) (book : List Row) : Type 0 where
   pub w : World
   pub followed : IsFollowed n table (first_rows table) w
   pub matches : Matches n (length table.jobs) (standing_after n (first_rows table) book) (votes_in book) (learned_in book) w
-
-pub stands : (n : ℕ) (table : Table) (book : List Row) → n ≤ 7 → IsLegal n table book → Stands n table book
-stands n table book few legal =
-    let to = reaches n table book legal in
-    record {
-      w = after_transitions n to.turns (first_world (first_rows table));
-      followed = transitions_followed n table (first_rows table) (first_world (first_rows table)) to.turns few (first_followed n table (first_rows table)) to.are;
-      matches = to.matches;
-    }
 
 -- votes are among others
 abbrev pub AreAmong : List CastVote → List CastVote → Type 0
@@ -71,20 +64,6 @@ chosen_there n cast slot (first ∷ before) after entry chosen =
     rw (← at) (chosen_there n cast (slot + 1) before after entry chosen.1)
 
 -- ---- what a replica has learned
-
--- entries that are known are chosen, one behind the other
-known_chosen : (n : ℕ) (cast : List CastVote) (slot : ℕ) (entries : List Entry) → ((at : ℕ) (entry : Entry) → Contains (known_from slot entries) (Known at entry) → IsChosen n cast at entry) → AreChosen n cast slot entries
-known_chosen n cast slot [] known = tt
-known_chosen n cast slot (entry ∷ entries) known = (
-  known slot entry (in_first (Known slot entry) (known_from (slot + 1) entries)),
-  known_chosen n cast (slot + 1) entries (λ at other has. known at other (in_rest (Known slot entry) (known_from (slot + 1) entries) (Known at other) has)),
-)
-
-chosen_append : (n : ℕ) (cast : List CastVote) (slot : ℕ) (xs ys : List Entry) → AreChosen n cast slot xs → AreChosen n cast (slot + length xs) ys → AreChosen n cast slot (xs ++ ys)
-chosen_append n cast slot [] ys front back = let at : slot + 0 ≡ slot = omega arith in rw at at back
-chosen_append n cast slot (x ∷ xs) ys front back =
-    let at : slot + suc (length xs) ≡ slot + 1 + length xs = omega arith in
-    (front.0, chosen_append n cast (slot + 1) xs ys front.1 (rw at at back))
 
 -- the entries stand in the log from that slot on
 pub record StandAt (log : List Entry) (slot : ℕ) (entries : List Entry) : Type 0 where

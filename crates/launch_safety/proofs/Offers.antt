@@ -19,10 +19,11 @@ use Rattle.step_spec.specs.Message.{Message, Accept}
 use Rattle.step_spec.specs.Propose.{answer, answer_of, campaign, end_if, follow_intent, is_long, is_open, lead_on, propose, proposal, tick, tick_of}
 use Rattle.step_spec.specs.State.{State, Identity, prefix_of}
 use Rattle.step_spec.specs.Step.{Event, Campaign, Tick, Hear, Answer, Plan, step}
-use Rattle.step_spec.proofs.Lists.{cons_cases, nothing_in}
+use Rattle.step_spec.proofs.Lists.{nothing_in}
 use Rattle.agreement.proofs.Growing.{Casts}
 use Rattle.history.specs.Book.{votes_by, votes_of}
-use Rattle.history.proofs.PlainLemmas.{AllPlain, AsksFor, IsPlain, RestPlain, step_plain}
+use Rattle.history.proofs.PlainLemmas.{AllPlain, AsksFor, IsPlain, RestPlain, step_plain, vote_of_act, plain_vote, plain_votes}
+use Rattle.due_set.proofs.Rising.{Contains-cases as cons_cases}
 
 -- the event is a tick at the start's instant, and its plan is that start; of another entry nothing is asked
 abbrev pub IsTicked : Event → Entry → Type 0
@@ -93,23 +94,6 @@ step_offers self (Hear from (message ∷ messages)) state = λ vote has. nothing
 step_offers self (Answer job at kind rows) state = answer_offers self (Answer job at kind rows) state job at kind (is_open job at rows) state.term refl
 
 -- ---- what is asked for
-
-vote_of_act : (act : Act) (vote : Vote) → Contains (votes_by act) vote → Casts act vote
-vote_of_act (Cast mine) vote has = elim (cons_cases mine [] vote has) [ inl same ↦ same | inr none ↦ nothing_in none ]
-vote_of_act (Propose me mine) vote has = elim (cons_cases mine [] vote has) [ inl same ↦ same | inr none ↦ nothing_in none ]
-vote_of_act act vote has = nothing_in has
-
-plain_vote : (asks : Vote → Type 0) (act : Act) (vote : Vote) → IsPlain asks act → Casts act vote → asks vote
-plain_vote asks (Cast mine) vote plain casts = subst asks casts plain
-plain_vote asks (Propose me mine) vote plain casts = absurd plain
-plain_vote asks act vote plain casts = absurd casts
-
-plain_votes : (asks : Vote → Type 0) (acts : List Act) (vote : Vote) → AllPlain asks acts → Contains (votes_of acts) vote → asks vote
-plain_votes asks [] vote plain has = nothing_in has
-plain_votes asks (act ∷ acts) vote plain has = elim (Contains-append_cases (votes_by act) (votes_of acts) vote has) [
-  | inl here ↦ plain_vote asks act vote plain.0 (vote_of_act act vote here)
-  | inr later ↦ plain_votes asks acts vote plain.1 later
-]
 
 -- a vote of a step was asked for in a letter, or is offered
 pub step_votes : (self : Identity) (event : Event) (state : State) (vote : Vote) → Contains (votes_of (step self event state)) vote → AsksFor event vote ⊎ IsOffered event state vote

@@ -12,7 +12,7 @@ use Rattle.cluster_sched.specs.declared.row.SchedRow.{SchedRow}
 use Rattle.launch_machine.specs.Clerk.{first_rows}
 use Rattle.step_spec.specs.Step.{Event}
 use Rattle.step_spec.specs.declared.out.OutLetter.{OutLetter}
-use Rattle.step_spec.proofs.Lists.{cons_cases, found_in, nothing_in}
+use Rattle.step_spec.proofs.Lists.{found_in, nothing_in}
 use Rattle.history.specs.Book.{Row, Standing, after_row, arriving, first_standing, late_call, standing_after, under}
 use Rattle.history.specs.Legal.{IsEventOfCause, IsLegal, MayFollow}
 use Rattle.history.specs.declared.turn.CallRow.{CallRow}
@@ -24,6 +24,8 @@ use Rattle.history.proofs.Agreement.{cut_is_legal}
 use Rattle.history.proofs.Turns.{AllFollow, after_rows}
 use Rattle.launch_safety.specs.Readings.{AreTurnsBy, IsTurnBy, ReadsBy}
 use Rattle.launch_safety.proofs.CallLemmas.{call_read}
+use Rattle.due_set.proofs.Rising.{Contains-cases as cons_cases}
+use Rattle.history.proofs.FrontLemmas.{finds_first, take_front}
 
 -- ---- rows that join
 
@@ -103,14 +105,6 @@ turns_by n table at standing (row ∷ rows) (may, all) by calls =
     turns_by n table at (after_row n standing row.turn row.event row.letters) rows all (All-tail (λ (r : Row). IsTurnBy at r.turn) row rows by)
     (turn_by n table at standing row.turn row may (All-head (λ (r : Row). IsTurnBy at r.turn) row rows by) calls)
 
-finds_first : {X : Type 0} (front : List X) (x : X) (back : List X) → slice_get (front ++ x ∷ back) (length front) ≡ Some x
-finds_first [] x back = refl
-finds_first (y ∷ front) x back = finds_first front x back
-
-take_front : {X : Type 0} (front back : List X) → take (length front) (front ++ back) ≡ front
-take_front [] back = refl
-take_front (x ∷ front) back = ap (λ rest. x ∷ rest) (take_front front back)
-
 follow_on : (n : ℕ) (table : Table) (book rows : List Row) → IsLegal n table (book ++ rows) → AllFollow n table (standing_after n (first_rows table) book) rows
 follow_on n table book [] legal = tt
 follow_on n table book (row ∷ rows) legal = (
@@ -119,9 +113,6 @@ follow_on n table book (row ∷ rows) legal = (
   subst (λ standing. AllFollow n table standing rows) (fold_push _ (first_standing n (first_rows table)) book row)
       (follow_on n table (book ++ row ∷ []) rows (subst (λ list. IsLegal n table list) (sym (append_assoc book (row ∷ []) rows)) legal)),
 )
-
-pub front_legal : (n : ℕ) (table : Table) (book rows : List Row) → IsLegal n table (book ++ rows) → IsLegal n table book
-front_legal n table book rows legal = subst (λ front. IsLegal n table front) (take_front book rows) (cut_is_legal n table (book ++ rows) (length book) legal)
 
 -- each row that is held was called at the instant or before, where no clock reading is later
 pub held_by : (n : ℕ) (table : Table) (at : ℤ) (book : List Row) (row : SchedRow) → IsLegal n table book → AreTurnsBy at book → Contains (standing_after n (first_rows table) book).held row → row.now.0 ≤ℤ at

@@ -17,8 +17,8 @@ use Rattle.history.specs.Book.{Row, Standing, acts_at, after_row, first_standing
 use Rattle.history.specs.Legal.{IsLegal, MayFollow}
 use Rattle.history.specs.declared.turn.Turn.{Turn}
 use Rattle.history.specs.declared.turn.Turn.TheVariants.{Did, Stopped, Restarted, Arrived}
-use Rattle.launch_safety.proofs.ReadLemmas.{front_legal}
 use Rattle.launch_safety.proofs.Asking.{acts_may, setting}
+use Rattle.history.proofs.FrontLemmas.{finds_first, take_front, front_legal, follows_there}
 
 -- an act of a step learns or leaves what was learned
 act_rises : (setting : Setting) (state : State) (event : Event) (act : Act) → setting.event ≡ Some event → May setting state act → prefix_of state ≤ prefix_of (after_act act state)
@@ -73,19 +73,6 @@ module _ (n : ℕ) (table : Table) (book : List Row) (few : n ≤ 7) (legal : Is
   turn_rises (Arrived number) row q may goes = omega arith
 
 -- ---- rows of a book
-
-finds_first : {X : Type 0} (front : List X) (x : X) (back : List X) → slice_get (front ++ x ∷ back) (length front) ≡ Some x
-finds_first [] x back = refl
-finds_first (y ∷ front) x back = finds_first front x back
-
-take_front : {X : Type 0} (front back : List X) → take (length front) (front ++ back) ≡ front
-take_front [] back = refl
-take_front (x ∷ front) back = ap (λ rest. x ∷ rest) (take_front front back)
-
--- a turn of a legal book may follow those before it
-pub follows_there : (n : ℕ) (table : Table) (front back : List Row) (row : Row) → IsLegal n table (front ++ row ∷ back) → MayFollow n table (standing_after n (first_rows table) front) row.turn row
-follows_there n table front back row legal =
-    subst (λ rows. MayFollow n table (standing_after n (first_rows table) rows) row.turn row) (take_front front (row ∷ back)) (legal (length front) row (finds_first front row back))
 
 -- no replica stops in the turns
 abbrev pub AllGoOn : List Row → Type 0

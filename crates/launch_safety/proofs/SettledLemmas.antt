@@ -21,7 +21,7 @@ use Rattle.launch_safety.specs.Settled.{IsSettled}
 use Rattle.launch_safety.proofs.CoverLemmas.{IsCovered, IsOver, clerk_covers}
 
 -- an entry leaves as many rows
-Applies-length : (table : Table) (old : List JobRow) (entry : Entry) (new : List JobRow) → Applies table old entry new → length new ≡ length old
+pub Applies-length : (table : Table) (old : List JobRow) (entry : Entry) (new : List JobRow) → Applies table old entry new → length new ≡ length old
 Applies-length table old entry new (inr (not, e)) = ap length e
 Applies-length table old Noop new (inl (takes, e)) = ap length e
 Applies-length table old (Start job at now) new (inl (takes, e)) =
@@ -29,13 +29,13 @@ Applies-length table old (Start job at now) new (inl (takes, e)) =
 Applies-length table old (End job at kind) new (inl (takes, e)) =
     ap length e ∙ length-set old job (closed_row at kind (get_or old job (fresh_row job)))
 
-AppliesAll-length : (table : Table) (old : List JobRow) (entries : List Entry) (new : List JobRow) → AppliesAll table old entries new → length new ≡ length old
+pub AppliesAll-length : (table : Table) (old : List JobRow) (entries : List Entry) (new : List JobRow) → AppliesAll table old entries new → length new ≡ length old
 AppliesAll-length table old [] new e = ap length e
 AppliesAll-length table old (entry ∷ entries) new (middle, step, rest) =
     AppliesAll-length table middle entries new rest ∙ Applies-length table old entry middle step
 
 -- each job of the table has a row
-row_of : (table : Table) (log : List Entry) (rows : List JobRow) (job : ℕ) → IsClerkOf table log rows → job < length table.jobs
+pub row_of : (table : Table) (log : List Entry) (rows : List JobRow) (job : ℕ) → IsClerkOf table log rows → job < length table.jobs
     → (row : JobRow) × (slice_get rows job ≡ Some row)
 row_of table log rows job clerk lt =
     let count : length rows ≡ length table.jobs =

@@ -24,7 +24,7 @@ use Rattle.step_spec.specs.Propose.{bound_by, is_open, is_row_open}
 use Rattle.step_spec.specs.State.{State, prefix_of}
 use Rattle.step_spec.specs.Step.{Event, Campaign, Tick, Hear, Answer}
 use Rattle.step_spec.proofs.LineLemmas.{step_may}
-use Rattle.step_spec.proofs.Lists.{cons_cases, found_in, in_first, nothing_in}
+use Rattle.step_spec.proofs.Lists.{found_in, nothing_in}
 use Rattle.step_spec.proofs.VoteLemmas.{found_vote}
 use Rattle.agreement.specs.Agree.{HasCast}
 use Rattle.agreement.specs.Log.{FollowsLog, IsLog}
@@ -36,12 +36,13 @@ use Rattle.history.specs.Book.{Row, Standing, acts_at, learned_in, standing_afte
 use Rattle.history.specs.Legal.{IsEventOfCause, IsLegal, TakesTurn}
 use Rattle.history.specs.declared.turn.Cause.{Cause}
 use Rattle.history.specs.declared.turn.Cause.TheVariants as causes
-use Rattle.history.proofs.Agreement.{agrees}
+use Rattle.history.proofs.Agreement.{agrees, stands}
 use Rattle.history.proofs.Reached.{Matches}
 use Rattle.launch_safety.specs.Fitting.{TakesEffectAt}
 use Rattle.launch_safety.proofs.Invariant.{SaysHeld, Fitting}
-use Rattle.launch_safety.proofs.Logs.{Stands, stands}
+use Rattle.launch_safety.proofs.Logs.{Stands}
 use Rattle.history.proofs.PlainLemmas.{step_calls, step_origin}
+use Rattle.due_set.proofs.Rising.{Contains-head as in_first, Contains-cases as cons_cases}
 
 -- an open launch may be ended
 open_takes : (rows : List JobRow) (job : ℕ) (at : ℤ) (found : Option JobRow) → slice_get rows job ≡ found → is_row_open at found ≡ true → TakesEnd rows job at

@@ -18,7 +18,7 @@ use Rattle.cluster_sched.specs.declared.row.SchedRow.{SchedRow}
 use Rattle.launch_machine.specs.Answers.{IsCallKind, IsIntent}
 use Rattle.launch_machine.specs.Clerk.{AppliesAll, first_rows}
 use Rattle.launch_machine.specs.declared.machine.Intent.TheVariants as intent
-use Rattle.step_spec.proofs.Lists.{in_first, nothing_in}
+use Rattle.step_spec.proofs.Lists.{nothing_in}
 use Rattle.history.specs.Book.{Row}
 use Rattle.history.specs.Legal.{IsLegal}
 use Rattle.history.proofs.Asks.{busy, call_asked, idle, in_window, is_open_then, minute, opened, sound, start_applies, start_asked, start_entry}
@@ -26,6 +26,7 @@ use Rattle.history.proofs.Turns.{Book}
 use Rattle.launch_safety.specs.Parts.{ArrivesTooLate}
 use Rattle.launch_safety.proofs.Alone.{Stands, arrive, calls, end, leading, led, start, vote}
 use Rattle.launch_safety.proofs.Ended.{ends_alone}
+use Rattle.due_set.proofs.Rising.{Contains-head as in_first}
 
 -- the job, where there is one, is an entry of a crontab
 abbrev IsCrontab : Option Job → Type 0

@@ -18,7 +18,7 @@ use Rattle.launch_machine.specs.declared.machine.Intent.{Intent}
 use Rattle.launch_machine.specs.declared.machine.Intent.TheVariants as intent
 use Rattle.launch_safety.specs.Fits.{IsEffective}
 use Rattle.step_spec.specs.State.{prefix_of}
-use Rattle.step_spec.proofs.Lists.{cons_cases, found_in, in_first, nothing_in, row_at, take_next}
+use Rattle.step_spec.proofs.Lists.{found_in, nothing_in, take_next}
 use Rattle.agreement.specs.Agree.{vote_for}
 use Rattle.agreement.specs.Log.{AreChosen, IsLog}
 use Rattle.agreement.specs.World.{CastVote}
@@ -35,6 +35,8 @@ use Rattle.launch_safety.proofs.Logs.{chosen_there}
 use Rattle.launch_safety.specs.Readings.{AreTurnsBy, IsTurnBy, ReadsBy}
 use Rattle.launch_safety.specs.Asked.{IsAskedAt, ReadsAt, TicksAt}
 use Rattle.launch_safety.proofs.Asking.{AsksEntry, AsksIn, row_call, row_votes}
+use Rattle.due_set.proofs.Rising.{Contains-head as in_first, Contains-cases as cons_cases}
+use Rattle.launch_machine.proofs.MachineLemmas.{is_some_below as row_at}
 
 -- ---- what was asked for stays so
 

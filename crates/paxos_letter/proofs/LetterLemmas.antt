@@ -132,7 +132,7 @@ pub record Again (members from : ℕ) (packets : List Packet) (bytes : List ℕ)
   pub fields : all_in bytes ≡ all_fields_of from packets
   pub fault : fault_of members bytes ≡ fault_from members from no_group 0 (all_fields_of from packets)
 
-fields_of-from : (from : ℕ) (packet : Packet) → (fields_of from packet).from ≡ from
+pub fields_of-from : (from : ℕ) (packet : Packet) → (fields_of from packet).from ≡ from
 fields_of-from from (Prepare ballot slot) = refl
 fields_of-from from (Promise ballot slot count) = refl
 fields_of-from from (OldVote ballot slot cast entry) = refl

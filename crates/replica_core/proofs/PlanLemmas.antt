@@ -28,20 +28,7 @@ use Rattle.paxos_base.specs.Rows.{OpenHaveCursors}
 use Rattle.replica_draft.specs.declared.draft.Draft.{Draft}
 use Rattle.replica_core.specs.declared.parts.Core.{Core}
 use Rattle.replica_draft.proofs.DraftLemmas.{done-nil}
-
--- a packet's fields name the replica that it is from
-named : (from : ℕ) (packet : Packet) → (fields_of from packet).from ≡ from
-named from (Prepare ballot slot) = refl
-named from (Promise ballot slot count) = refl
-named from (OldVote ballot slot cast entry) = refl
-named from (Accept ballot slot entry) = refl
-named from (Accepted ballot slot) = refl
-named from (Nack ballot promised) = refl
-named from (Known slot entry) = refl
-named from (AskFrom slot) = refl
-named from (Snap slot count) = refl
-named from (SnapRow slot row) = refl
-named from (Lead ballot slot) = refl
+use Rattle.paxos_letter.proofs.LetterLemmas.{fields_of-from as named}
 
 -- a letter that was read is from one of the replicas
 pub read-from : (members from : ℕ) (packets : List Packet) (bytes : List ℕ) → Spells members from packets bytes → from < members

@@ -14,13 +14,13 @@ use Rattle.paxos_base.specs.declared.entry.Kind.TheVariants.{Launch, Void}
 use Rattle.paxos_base.specs.declared.rows.JobRow.{JobRow}
 use Rattle.due_set.specs.Table.{Table}
 use Rattle.launch_machine.specs.Clerk.{Applies, AppliesAll, closed_row, opened_row}
-use Rattle.launch_machine.proofs.MachineLemmas.{same_or_not, set_here, set_there}
+use Rattle.launch_machine.proofs.MachineLemmas.{same_or_not, set_here, set_there, closed_job as closed-job}
 use Rattle.step_spec.specs.Letters.{IsHeardAs}
 use Rattle.step_spec.specs.Message.{Message, Prepare, Promise, Accept, Accepted, Nack, Known, AskFrom, Snap, Lead, Mention}
-use Rattle.step_spec.proofs.Lists.{in_first, in_rest}
 use Rattle.step_spec.proofs.RowLemmas.{copied_stand, heard_stand}
 use Rattle.replica_draft.specs.Letters.{IsCopyable, IsCopyableIn}
 use Rattle.replica_core.specs.Heard.{BringsRows}
+use Rattle.due_set.proofs.Rising.{Contains-head as in_first, Contains-tail as in_rest}
 
 -- a row that comes in the place of one of the same job
 stand-set : (rows : List JobRow) (jobs job : ℕ) (row new : JobRow) → slice_get rows job ≡ Some row → new.job ≡ row.job → RowsStand (slice_set rows job new) jobs → RowsStand rows jobs
@@ -38,10 +38,6 @@ stand-set rows jobs job row new is same stand = record {
     | inr apart ↦ stand.in_order k other (set_there rows job k new apart ∙ there)
   ];
 }
-
-closed-job : (at : ℤ) (kind : Kind) (row : JobRow) → (closed_row at kind row).job ≡ row.job
-closed-job at Launch row = refl
-closed-job at Void row = refl
 
 stand-one : (table : Table) (old new : List JobRow) (entry : Entry) (jobs : ℕ) → Applies table old entry new → RowsStand new jobs → RowsStand old jobs
 stand-one table old new entry jobs (inr (not, same)) stand = subst (λ rows. RowsStand rows jobs) same stand

@@ -24,6 +24,7 @@ use Rattle.replica_draft.specs.declared.draft.Draft.{Draft}
 use Rattle.replica_core.specs.declared.parts.Core.{Core}
 use Rattle.replica_core.proofs.LineLemmas.{base-drafted, next-learned, rows-drafted}
 use Rattle.replica_core.proofs.TableLemmas.{cursors-applied}
+use Rattle.step_spec.proofs.ListLemmas.{applied_append}
 
 -- where a flight stands says nothing of the votes
 flies_bound : (slot : ℕ) (best : List Vote) (term : Term) → FliesAt slot term → FliesAt slot (with_best best term)
@@ -78,11 +79,6 @@ pub steady_in : (table : Table) (core : Core) (draft : Draft) → IsWhole core �
 steady_in table core draft whole steady = rw (← whole.base) steady
 
 -- ---- The launch table
-
-applied_append : (table : Table) (first middle last : List JobRow) (xs ys : List Entry) → AppliesAll table first xs middle → AppliesAll table middle ys last → AppliesAll table first (xs ++ ys) last
-applied_append table first middle last [] ys front back = subst (λ (rows : List JobRow). AppliesAll table rows ys last) front back
-applied_append table first middle last (x ∷ xs) ys (next, applies, rest) back =
-    (next, applies, applied_append table next middle last xs ys rest back)
 
 -- the launch table of what was learned with a draft
 launches_by : (table : Table) (made : Option Change) (machine : Launches) (base prefix : ℕ) (rows last : List JobRow) (learned : List Entry) (learnt : List LearntRow) → IsSupplied table machine base prefix made

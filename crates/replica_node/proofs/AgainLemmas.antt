@@ -6,30 +6,11 @@ use Rattle.std.proofs.lemmas.List.Elements.{All-head, All-tail, All-weaker, All-
 use Rattle.std.proofs.lemmas.Option.{none-some}
 use Rattle.paxos_base.specs.declared.entry.Vote.{Vote}
 use Rattle.paxos_base.specs.Vote.{SlotsRise, vote_at, votes_below, votes_from, put_vote}
-
-filter_all : {X : Type 0} (p : X → Bool) (xs : List X) → All (λ x. p x ≡ true) xs → filter p xs ≡ xs
-filter_all p [] all = refl
-filter_all p (x ∷ xs) all =
-    let here : p x ≡ true = All-head (λ y. p y ≡ true) x xs all in
-    rw here (ap (λ rest. x ∷ rest) (filter_all p xs (All-tail (λ y. p y ≡ true) x xs all)))
-
-filter_none : {X : Type 0} (p : X → Bool) (xs : List X) → All (λ x. p x ≡ false) xs → filter p xs ≡ []
-filter_none p [] all = refl
-filter_none p (x ∷ xs) all =
-    let here : p x ≡ false = All-head (λ y. p y ≡ false) x xs all in
-    rw here (filter_none p xs (All-tail (λ y. p y ≡ false) x xs all))
-
-find_none : {X : Type 0} (p : X → Bool) (xs : List X) → All (λ x. p x ≡ false) xs → find p xs ≡ None
-find_none p [] all = refl
-find_none p (x ∷ xs) all =
-    let here : p x ≡ false = All-head (λ y. p y ≡ false) x xs all in
-    rw here (find_none p xs (All-tail (λ y. p y ≡ false) x xs all))
+use Rattle.paxos_base.proofs.PlaceLemmas.{filter_all, filter_none, find_none}
+use Rattle.term_core.proofs.BestLemmas.{rise_tail as later_rise}
 
 later_slots : (vote : Vote) (votes : List Vote) → SlotsRise (vote ∷ votes) → All (λ other. vote.slot < other.slot) votes
 later_slots vote votes rise = All-from_get_or (λ (other : Vote). vote.slot < other.slot) votes vote (λ i within. rise 0 (suc i) vote (omega arith) (omega (arith, within)))
-
-later_rise : (vote : Vote) (votes : List Vote) → SlotsRise (vote ∷ votes) → SlotsRise votes
-later_rise vote votes rise = λ i j d before within. rise (suc i) (suc j) d (omega (arith, before)) (omega (arith, within))
 
 same_vote : (one other : Vote) → Some one ≡ Some other → one ≡ other
 same_vote one other is = cc is

@@ -21,6 +21,7 @@ use Rattle.store_format.specs.Order.{IsChangeLog, IsKeptSound, IsPromised, delta
 use Rattle.store_format.specs.Records.{AreRecords, tried_in}
 use Rattle.store_format.proofs.LogLemmas.{IsChangeLog-empty, IsChangeLog-uncons}
 use Rattle.store_format.proofs.SoundLemmas.{StandFor-sound}
+use Rattle.replica_store.proofs.RowsLemmas.{rows_stand as stands_rows}
 
 -- ---- the rows: a log has no base, so it leaves them
 
@@ -36,10 +37,6 @@ log_rows jobs kept last [] log = ap (λ (k : Durable). k.rows) (IsChangeLog-empt
 log_rows jobs kept last (item ∷ items) log =
     let parts = IsChangeLog-uncons jobs kept last item items log in
     log_rows jobs (after_delta parts.change kept) last items parts.rest ∙ same_rows kept parts.change item parts.is_record
-
-stands_rows : (jobs : ℕ) (items : List Record) (kept : Durable) → Stands jobs items kept → RowsStand kept.rows jobs
-stands_rows jobs items kept (inl log) = fresh_stand kept.rows jobs (log_rows jobs (fresh_kept jobs) kept items log)
-stands_rows jobs items kept (inr base) = subst (λ (rows : List JobRow). RowsStand rows jobs) (sym (log_rows jobs _ kept base.log base.is_log)) base.rows_stand
 
 -- ---- the replica's own ballot: it is written in eight bytes
 

@@ -21,12 +21,13 @@ use Rattle.replica_store.specs.Files.{FilesStand, IsRecoverable, selected}
 use Rattle.replica_store.specs.Made.{area_after}
 use Rattle.replica_store.specs.Store.{IsStoreSettled, StoreKeeps, jobs_of}
 use Rattle.replica_store.specs.declared.store.Store.{Store}
-use Rattle.replica_store.proofs.FileLemmas.{files_stand_for_one, recoverable_stands, same_file}
+use Rattle.replica_store.proofs.FileLemmas.{files_stand_for_one, recoverable_stands}
 use Rattle.replica_store.proofs.SaveLemmas.{settled_recoverable}
 use Rattle.replica_node.specs.Change.{IsDecided}
 use Rattle.replica_node.specs.Kept.{IsAnsweredByArm, IsKeptByArm, KeepsChange, LeavesByArm, area_for}
 use Rattle.replica_node.specs.Stopped.{HasPlanned}
 use Rattle.replica_node.proofs.ChangeLemmas.{decided_kept, decided_lost}
+use Rattle.disk_model.proofs.DiskLemmas.{cases_file as same_file}
 
 -- the step that was cut short is the one that was planned
 pub planned_as : (table : Table) (replica : ReplicaState) (one other : Planned) (change : Delta) (held : Option Planned) → held ≡ Some one → held ≡ Some other → HasPlanned table replica other change → HasPlanned table replica one change

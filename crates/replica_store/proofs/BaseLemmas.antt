@@ -26,8 +26,9 @@ use Rattle.replica_store.specs.Kept.{IsClean, StopsInSave, Shows}
 use Rattle.replica_store.specs.Made.{choose_calls, save_calls}
 use Rattle.replica_store.proofs.FileLemmas.{byte_selects, other_differs, other_is_area, same_chooser, selects_area}
 use Rattle.replica_store.proofs.KeptLemmas.{StandsIn, record_long, selects_in}
-use Rattle.replica_store.proofs.PendingLemmas.{IsPending, clean_left, file_of-same, file_of-other, pending_clean, pending_left, pending_same, pending_touched}
+use Rattle.replica_store.proofs.PendingLemmas.{IsPending, clean_left, file_of-other, pending_clean, pending_left, pending_same, pending_touched}
 use Rattle.replica_store.proofs.StoppedLemmas.{StopsLater, breaks_first, hidden, none_breaks, shown, stops_in_write}
+use Rattle.disk_model.proofs.DiskLemmas.{file_of-with_file as file_of-same}
 
 -- a file was cut to nothing, or that was stopped within
 pub record IsEmptied (file : FileNo) (old new : Told) : Type 0 where

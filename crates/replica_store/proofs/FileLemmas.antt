@@ -10,18 +10,7 @@ use Rattle.store_format.specs.Area.{fresh_kept}
 use Rattle.store_format.proofs.BodyLemmas.{StandFor-same}
 use Rattle.store_format.proofs.LogLemmas.{IsChangeLog-nil}
 use Rattle.replica_store.specs.Files.{selected, selected_by, bit_of, other_area, BodiesStand, BodiesStandForEither, FilesStand, FilesStandForEither, IsAreaStaged, IsRecoverable}
-
--- two files are the same, or differ
-pub same_file : (one other : FileNo) → (one ≡ other) ⊎ (one ≢ other)
-same_file Chooser Chooser = inl refl
-same_file Chooser AreaA = inr (λ is. absurd (cc is))
-same_file Chooser AreaB = inr (λ is. absurd (cc is))
-same_file AreaA Chooser = inr (λ is. absurd (cc is))
-same_file AreaA AreaA = inl refl
-same_file AreaA AreaB = inr (λ is. absurd (cc is))
-same_file AreaB Chooser = inr (λ is. absurd (cc is))
-same_file AreaB AreaA = inr (λ is. absurd (cc is))
-same_file AreaB AreaB = inl refl
+use Rattle.disk_model.proofs.DiskLemmas.{cases_file as same_file}
 
 not_chooser : (odd : Bool) → (if odd then AreaB else AreaA) ≢ Chooser
 not_chooser true is = absurd (cc is)

@@ -5,7 +5,7 @@ use Rattle.disk_model.specs.declared.fault.DiskFault.TheVariants as Disk
 use Rattle.disk_model.specs.declared.fault.FileNo.{FileNo}
 use Rattle.disk_model.specs.Told.{Told, AfterLook}
 use Rattle.disk_model.specs.Made.{DiskCall, SyncOf, IsAnswered, AllDone, BreaksOff, MadeCalls}
-use Rattle.disk_model.proofs.MadeLemmas.{breaks_later, look_breaks, no_memory_first, one_done, runs_on}
+use Rattle.disk_model.proofs.MadeLemmas.{breaks_later, look_breaks, no_memory_first, one_done, runs_on, err_inner}
 use Rattle.gate_file.specs.declared.fault.GateFault.{GateFault}
 use Rattle.gate_file.specs.declared.fault.GateFault.TheVariants as Gate
 use Rattle.gate_file.specs.Faults.{fault_of}
@@ -55,9 +55,6 @@ records_memory (Read.Damaged number) Disk.OutOfMemory is = refl
 records_memory Read.OutOfMemory Disk.Stopped is = absurd (cc is)
 records_memory Read.OutOfMemory Disk.Failed is = absurd (cc is)
 records_memory Read.OutOfMemory Disk.OutOfMemory is = refl
-
-err_inner : {U E : Type 0} (one other : E) → ◌≡◌ {A = Result U E} (Err one) (Err other) → one ≡ other
-err_inner one other same = cc same
 
 pub disk_handed : {T U : Type 0} (result : Result U StoreFault) (given : DiskFault) → IsErrAnd result (λ e. e ≡ of_disk given) → (fault : DiskFault) → IsErrOf result (of_disk fault) → ◌≡◌ {A = Result T DiskFault} (Err given) (Err fault)
 disk_handed (Ok value) given gives fault is = absurd gives

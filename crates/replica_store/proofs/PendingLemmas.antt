@@ -11,29 +11,10 @@ use Rattle.disk_model.proofs.FileLemmas.{length-overwritten, get_or-overwritten}
 use Rattle.disk_model.proofs.RunLemmas.{not_torn}
 use Rattle.gate_file.proofs.GateLemmas.{holds_torn}
 use Rattle.replica_store.specs.Kept.{IsClean}
+use Rattle.disk_model.proofs.DiskLemmas.{file_of-with_file as file_of-same}
+use Rattle.disk_model.proofs.ToldLemmas.{is_file-same as same_is, is_file-other as differs_is}
 
 -- ---- files of an image
-
-pub same_is : (file : FileNo) → is_file file file ≡ true
-same_is Chooser = refl
-same_is AreaA = refl
-same_is AreaB = refl
-
-pub differs_is : (file other : FileNo) → other ≢ file → is_file file other ≡ false
-differs_is Chooser Chooser differs = absurd (differs refl)
-differs_is Chooser AreaA differs = refl
-differs_is Chooser AreaB differs = refl
-differs_is AreaA Chooser differs = refl
-differs_is AreaA AreaA differs = absurd (differs refl)
-differs_is AreaA AreaB differs = refl
-differs_is AreaB Chooser differs = refl
-differs_is AreaB AreaA differs = refl
-differs_is AreaB AreaB differs = absurd (differs refl)
-
-pub file_of-same : (file : FileNo) (bytes : List ℕ) (image : Image) → file_of file (with_file file bytes image) ≡ bytes
-file_of-same Chooser bytes image = refl
-file_of-same AreaA bytes image = refl
-file_of-same AreaB bytes image = refl
 
 pub file_of-other : (file other : FileNo) (bytes : List ℕ) (image : Image) → other ≢ file → file_of other (with_file file bytes image) ≡ file_of other image
 file_of-other Chooser Chooser bytes image differs = absurd (differs refl)

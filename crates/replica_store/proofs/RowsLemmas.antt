@@ -44,7 +44,7 @@ fresh_order from (suc count) (suc k) row is = let e : row.job ≡ from + 1 + k =
 fresh_stand : (jobs : ℕ) → RowsStand (fresh_kept jobs).rows jobs
 fresh_stand jobs = record { count = fresh_count 0 jobs; in_order = λ k row is. let e : row.job ≡ 0 + k = fresh_order 0 jobs k row is in omega (arith, e) }
 
-rows_stand : (jobs : ℕ) (items : List Record) (kept : Durable) → Stands jobs items kept → RowsStand kept.rows jobs
+pub rows_stand : (jobs : ℕ) (items : List Record) (kept : Durable) → Stands jobs items kept → RowsStand kept.rows jobs
 rows_stand jobs items kept (inl log) = rows_log jobs (fresh_kept jobs) kept items log (fresh_stand jobs)
 rows_stand jobs items kept (inr base) = rows_log jobs (after_copy base.slot base.rows base.copy base.promised) kept base.log base.is_log base.rows_stand
 

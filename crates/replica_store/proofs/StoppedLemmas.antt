@@ -13,7 +13,9 @@ use Rattle.disk_model.proofs.MadeLemmas.{runs_on}
 use Rattle.disk_model.proofs.StopLemmas.{one_passes, one_stops}
 use Rattle.gate_file.proofs.GateLemmas.{byte_written}
 use Rattle.replica_store.specs.Kept.{IsClean, Shows}
-use Rattle.replica_store.proofs.PendingLemmas.{IsPending, same_is, file_of-same, file_of-other, in_image_0, in_image_1, in_image_2, pending_clean, pending_same}
+use Rattle.replica_store.proofs.PendingLemmas.{IsPending, file_of-other, in_image_0, in_image_1, in_image_2, pending_clean, pending_same}
+use Rattle.disk_model.proofs.DiskLemmas.{file_of-with_file as file_of-same}
+use Rattle.disk_model.proofs.ToldLemmas.{is_file-same as same_is}
 
 -- ---- the first of some calls
 

@@ -14,10 +14,11 @@ use Rattle.cluster_sched.specs.Held.{AreNamedOnce}
 use Rattle.cluster_sched.specs.declared.row.SchedRow.{SchedRow}
 use Rattle.launch_machine.proofs.MachineLemmas.{due_by_instant}
 use Rattle.launch_safety.specs.Launched.{IsWanted, LaunchesEachDue, OpensBy}
-use Rattle.launch_safety.proofs.FitLemmas.{launched_due}
+use Rattle.launch_safety.proofs.FitLemmas.{launched_due, name_is as same_name}
 use Rattle.report_text.specs.Report.{IsInOrder, IsNotAfter}
 use Rattle.report_text.specs.Listing.{instants_of}
-use Rattle.report_text.proofs.OneOrder.{AreNamedOnce-permutation, same_name}
+use Rattle.report_text.proofs.OneOrder.{AreNamedOnce-permutation}
+use Rattle.step_spec.proofs.ListLemmas.{from_filter as Contains-from_filter, in_map as Contains-map, kept_first, kept_behind, in_filter as Contains-filter}
 
 -- where both are of one job, the first is earlier
 abbrev IsBefore : SchedRow → SchedRow → Type 0
@@ -55,13 +56,6 @@ rising job (row ∷ rows) of_job pairs =
     behind : All (λ other. row.name.at <ℤ other.name.at) rows
     behind k d within = pairs 0 (suc k) d (omega arith) (omega arith) (first ∙ sym (eqb-true _ _ (rest k d within)))
 
-Contains-map : {X Y : Type 0} (f : X → Y) (xs : List X) (x : X) → Contains xs x → Contains (map f xs) (f x)
-Contains-map f [] x h = absurd (Contains-none x h)
-Contains-map f (first ∷ xs) x h = elim (Contains-cases first xs x h) [
-  | inl e ↦ subst (λ y. Contains (f first ∷ map f xs) (f y)) e (Contains-head (f first) (map f xs))
-  | inr more ↦ Contains-tail (f first) (map f xs) (f x) (Contains-map f xs x more)
-]
-
 -- a member of a map, and a member that it is the image of
 record IsMapped {X Y : Type 0} (f : X → Y) (xs : List X) (y : Y) : Type 0 where
   origin : X
@@ -74,26 +68,6 @@ mapped f (first ∷ xs) y h = elim (Contains-cases (f first) (map f xs) y h) [
   | inl e ↦ record { origin = first; among = Contains-head first xs; is = e }
   | inr more ↦ (let rest = mapped f xs y more in record { origin = rest.origin; among = Contains-tail first xs rest.origin rest.among; is = rest.is })
 ]
-
-kept_first : {X : Type 0} (b : Bool) (x : X) (xs : List X) → b ≡ true → Contains (cond b (x ∷ xs) xs) x
-kept_first true x xs e = Contains-head x xs
-kept_first false x xs e = absurd (cc)
-
-kept_behind : {X : Type 0} (b : Bool) (first : X) (xs : List X) (x : X) → Contains xs x → Contains (cond b (first ∷ xs) xs) x
-kept_behind true first xs x h = Contains-tail first xs x h
-kept_behind false first xs x h = h
-
--- what passes is kept
-Contains-filter : {X : Type 0} (p : X → Bool) (xs : List X) (x : X) → p x ≡ true → Contains xs x → Contains (filter p xs) x
-Contains-filter p [] x passes h = absurd (Contains-none x h)
-Contains-filter p (first ∷ xs) x passes h = elim (Contains-cases first xs x h) [
-  | inl e ↦ subst (λ y. Contains (filter p (first ∷ xs)) y) e (kept_first (p first) first (filter p xs) (ap p e ∙ passes))
-  | inr more ↦ kept_behind (p first) first (filter p xs) x (Contains-filter p xs x passes more)
-]
-
--- what is kept was there
-Contains-from_filter : {X : Type 0} (p : X → Bool) (xs : List X) (x : X) → Contains (filter p xs) x → Contains xs x
-Contains-from_filter p xs x h = All-contains (Contains xs) (filter p xs) x (All-filter p (Contains xs) xs (All-contains_itself xs)) h
 
 -- a row that is held, of an instant or a date that is listed
 record IsListedRow (held : List SchedRow) (job : ℕ) (at : ℤ) : Type 0 where

@@ -15,9 +15,7 @@ use Rattle.report_text.specs.declared.fault.ReportFault.{ReportFault}
 use Rattle.report_text.specs.declared.fault.ReportFault.TheVariants.{OutOfMemory}
 use Rattle.report_text.proofs.OrderLemmas.{some_order}
 use Rattle.report_text.proofs.WritingLemmas.{writes_no_memory}
-
-text_of_lines-append : (a b : List (List ℕ)) → text_of_lines (a ++ b) ≡ text_of_lines a ++ text_of_lines b
-text_of_lines-append a b = flat_map-append (λ (line : List ℕ). line ++ 10 ∷ []) a b
+use Rattle.cron_io.proofs.LineLemmas.{text_of_lines-append}
 
 pub report_parts : (table : Table) (members : ℕ) (held rows : List SchedRow) → text_of_lines (report_lines table members held rows)
     ≡ text_of_lines (head_lines table members) ++ (text_of_lines (map (count_line table held) (range_with_len 0 (length table.jobs))) ++ (text_of_lines (map (row_line table) rows) ++ text_of_lines (codes "end" ∷ [])))

@@ -33,12 +33,13 @@ use Rattle.history.specs.Legal.{IsLegal}
 use Rattle.history.proofs.Agreement.{book_log}
 use Rattle.launch_safety.specs.Fitting.{held_in}
 use Rattle.launch_safety.proofs.Whole.{whole}
-use Rattle.launch_safety.proofs.ReadLemmas.{front_legal, held_by}
+use Rattle.launch_safety.proofs.ReadLemmas.{held_by}
 use Rattle.run_outcome.proofs.SettledLemmas.{Passes}
 use Rattle.launch_safety.proofs.WholeReadings.{not_ahead}
 use Rattle.run_outcome.specs.Barred.{IsBarred, IsVoidedSooner}
 use Rattle.run_outcome.proofs.FrontLemmas.{front_log, held_on, table_at}
-use Rattle.run_outcome.proofs.RowLemmas.{row_of}
+use Rattle.history.proofs.FrontLemmas.{front_legal}
+use Rattle.launch_safety.proofs.SettledLemmas.{row_of}
 
 -- no launch that was called before is of the date or a later one
 pub later_than_each : (table : Table) (held : List SchedRow) (job : ℕ) (now date at then : ℤ) → OpensBy table held job now date → IsCalledAt held job at Launch then → then <ℤ now → at <ℤ date

@@ -9,7 +9,7 @@ use Rattle.zone_minutes.specs.declared.minute.Window.{Window}
 use Rattle.due_set.specs.Table.{Table}
 use Rattle.term_core.specs.declared.term.Term.{Term}
 use Rattle.term_core.specs.declared.term.Term.TheVariants.{Follower, Candidate, Leader}
-use Rattle.step_spec.proofs.Lists.{cons_cases, flat_came, in_first, in_rest, nothing_in}
+use Rattle.step_spec.proofs.Lists.{flat_came, nothing_in}
 use Rattle.cluster_sched.specs.declared.fate.Fate.{Fate}
 use Rattle.history.specs.Book.{Row}
 use Rattle.history.specs.declared.turn.Cause.{Cause}
@@ -20,6 +20,8 @@ use Rattle.script_semantics.specs.Settling.{Drains, DrainsIn, IsQuiet, Settles, 
 use Rattle.script_semantics.specs.Situation.{AreTurnsFor, IsTurnFor, Performs, Situation, Task, Arrive, Do, Restart, Stop, after_turn, after_turns}
 use Rattle.script_semantics.proofs.RoundLemmas.{is_step, reading}
 use Rattle.launch_safety.specs.Readings.{AreTurnsBy, IsTurnBy, ReadsBy}
+use Rattle.due_set.proofs.Rising.{Contains-head as in_first, Contains-tail as in_rest, Contains-cases as cons_cases}
+use Rattle.script_semantics.proofs.WalkLemmas.{drained_in as quiet_in}
 
 -- ---- tasks
 
@@ -121,14 +123,6 @@ drains_in (suc more) members table who at minute situation rows after right from
 pub drains_by : (members : ℕ) (table : Table) (who : ℕ) (at minute : ℤ) (situation : Situation) (rows : List Row) (after : Situation) → AreRight situation → table.window.from.0 ≤ℤ at → minute ≤ℤ at
     → Drains members table who minute situation rows after → IsCalm at rows after
 drains_by members table who at minute situation rows after right from low (rounds, drains) = drains_in rounds members table who at minute situation rows after right from low drains
-
-quiet_in : (rounds members : ℕ) (table : Table) (who : ℕ) (at : ℤ) (situation : Situation) (rows : List Row) (after : Situation) → DrainsIn rounds members table who at situation rows after → IsQuiet members table who at after
-quiet_in zero members table who at situation rows after drains = subst (IsQuiet members table who at) (sym drains.stays.is) drains.is_quiet
-quiet_in (suc more) members table who at situation rows after drains =
-    let parts = drains.goes_on in quiet_in more members table who at parts.middle parts.back after parts.two
-
-pub drains_quiet : (members : ℕ) (table : Table) (who : ℕ) (at : ℤ) (situation : Situation) (rows : List Row) (after : Situation) → Drains members table who at situation rows after → IsQuiet members table who at after
-drains_quiet members table who at situation rows after (rounds, drains) = quiet_in rounds members table who at situation rows after drains
 
 -- ---- settling
 

@@ -14,7 +14,7 @@ use Rattle.term_core.specs.declared.term.Term.{Term}
 use Rattle.term_core.specs.declared.term.Term.TheVariants.{Follower, Candidate, Leader}
 use Rattle.launch_machine.specs.Clerk.{first_rows}
 use Rattle.step_spec.specs.State.{prefix_of}
-use Rattle.step_spec.proofs.Lists.{cons_cases, flat_came, in_first, in_rest, nothing_in}
+use Rattle.step_spec.proofs.Lists.{flat_came, nothing_in}
 use Rattle.cluster_sched.specs.declared.fate.Fate.{Fate}
 use Rattle.history.specs.Book.{Row, Standing, after_row, first_standing, standing_after}
 use Rattle.history.specs.declared.turn.Cause.{Cause}
@@ -27,12 +27,13 @@ use Rattle.script_semantics.specs.Script.{Obeys}
 use Rattle.script_semantics.specs.Settling.{AsksNothing, Drains, DrainsIn, IsQuiet, Settles, WalksIn, campaign_tasks, coordinator, restart_tasks}
 use Rattle.script_semantics.specs.Situation.{AreTurnsFor, IsTurnFor, Performs, Situation, Task, Arrive, Do, Restart, Stop, after_turn, after_turns, first_situation}
 use Rattle.script_semantics.proofs.RoundLemmas.{is_step, reading}
-use Rattle.script_semantics.proofs.WalkLemmas.{settled}
+use Rattle.script_semantics.proofs.WalkLemmas.{settled, drained as drains_quiet}
 use Rattle.launch_safety.specs.Readings.{AreTurnsBy, IsTurnBy, ReadsBy}
-use Rattle.run_outcome.proofs.DrainLemmas.{AreRight, drains_quiet}
+use Rattle.run_outcome.proofs.DrainLemmas.{AreRight}
 use Rattle.run_outcome.proofs.PartLemmas.{Comes, drains_come, settles_come}
 use Rattle.launch_safety.specs.Asked.{ReadsAt, TicksAt}
 use Rattle.launch_safety.proofs.Rises.{AllGoOn, GoesOn}
+use Rattle.due_set.proofs.Rising.{Contains-head as in_first, Contains-tail as in_rest, Contains-cases as cons_cases}
 
 -- ---- the turns of a minute
 

@@ -28,6 +28,7 @@ use Rattle.launch_machine.specs.declared.machine.Intent.TheVariants as intent
 use Rattle.launch_machine.proofs.StartLemmas.{may_start_later}
 use Rattle.launch_machine.proofs.MachineLemmas.{may_start_on}
 use Rattle.step_spec.specs.Propose.{is_open}
+use Rattle.history.proofs.Asks.{utc}
 
 -- ---- the table
 
@@ -52,9 +53,6 @@ today = pos 365
 
 pub inside : IsInWindow one_minute now
 inside = record { since = omega (arith, ints); before = omega (arith, ints) }
-
-utc : IsReadable (FixedOffset (pos 0))
-utc = IsReadable-fixed (pos 0) (grind arith, grind arith)
 
 pub sound : IsSound daily
 sound = record {

@@ -16,7 +16,7 @@ use Rattle.launch_machine.specs.declared.machine.Intent.TheVariants as intent
 use Rattle.launch_machine.proofs.ClerkLemmas.{AppliesAll-same}
 use Rattle.launch_safety.specs.Launched.{IsLatest, OpensBy}
 use Rattle.step_spec.specs.State.{State, prefix_of}
-use Rattle.step_spec.proofs.Lists.{cons_cases, nothing_in}
+use Rattle.step_spec.proofs.Lists.{nothing_in}
 use Rattle.history.specs.Book.{Row, Standing}
 use Rattle.history.specs.Legal.{IsLegal}
 use Rattle.history.specs.declared.turn.Cause.{Cause}
@@ -30,6 +30,7 @@ use Rattle.script_semantics.specs.Parts.{Then}
 use Rattle.script_semantics.specs.Situation.{Performs, Situation, Task, Do, after_turn, delivered, first_situation}
 use Rattle.run_outcome.proofs.SomeDaily.{applied_end, applied_none, applied_start, call_asked, call_row, daily, idle, now, opened, opens, over, rest_asked, sound, start_asked, today}
 use Rattle.run_outcome.proofs.SomeTurns.{Has, Move, calls, delivers, ended_state, ends, leads, new, rests, started_state, starts, tick_now}
+use Rattle.due_set.proofs.Rising.{Contains-cases as cons_cases}
 
 -- ---- turns of tasks
 

@@ -28,6 +28,7 @@ use Rattle.launch_machine.specs.Intent.{NoCall, NoStart}
 use Rattle.launch_machine.specs.declared.machine.Intent.TheVariants as intent
 use Rattle.launch_safety.proofs.CoverLemmas.{due_never_opens}
 use Rattle.step_spec.specs.Propose.{is_open}
+use Rattle.history.proofs.Asks.{utc, has_every, small_weekday, nothing_below}
 
 -- ---- the table
 
@@ -56,9 +57,6 @@ minute k = pos (525_600 + k)
 pub in_window : (k : ℕ) → k < 2 → IsInWindow brief.window (minute k)
 in_window k within = record { since = omega (arith, ints); before = omega (arith, ints, within) }
 
-utc : IsReadable (FixedOffset (pos 0))
-utc = IsReadable-fixed (pos 0) (grind arith, grind arith)
-
 pub sound : IsSound brief
 sound = record {
   limits = record { since = grind arith; until = grind arith; ordered = grind arith; short = grind arith };
@@ -70,13 +68,6 @@ sound = record {
 }
 
 -- ---- when the job is due
-
-has_every : (value : ℕ) → value < 64 → Has every value
-has_every value small = (IsBitSet-mask 0 64 value).1 (omega arith, small)
-
-small_weekday : (day : ℤ) → unsigned_abs (int_rem_euclid day (pos 7)) < 64
-small_weekday (pos n) = omega arith
-small_weekday (negsuc n) = omega arith
 
 matches_all : (local : ℤ) → IsCalendarMinute local → Matches each_minute local
 matches_all local inside =
@@ -140,9 +131,6 @@ end_applies k = inl (
   record { row = opened k; is_row = refl; since = minute k; is_open = refl; cursor = refl },
   let more : k + 1 ≡ suc k = omega arith in rw more refl,
 )
-
-nothing_below : (before : ℕ) → before < 0 → ⊥
-nothing_below before less = omega (arith, less)
 
 no_call : (k : ℕ) (now : ℤ) → NoCall brief (idle k ∷ []) now
 no_call k now zero at may = let row : idle k ≡ may.row = cc in let shut : None ≡ Some may.since = ap (λ r. r.open_now) row ∙ may.is_open in cc

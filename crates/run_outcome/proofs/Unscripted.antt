@@ -30,7 +30,6 @@ use Rattle.launch_safety.proofs.EffectLemmas.{IsEffective-more}
 use Rattle.launch_safety.proofs.FitLemmas.{start_before}
 use Rattle.launch_safety.proofs.PeriodLemmas.{IsStartedBy, clerk_dates, started_once}
 use Rattle.step_spec.specs.State.{prefix_of}
-use Rattle.step_spec.proofs.Lists.{in_first}
 use Rattle.agreement.specs.Log.{IsLog}
 use Rattle.history.specs.Book.{Row, Standing, standing_after, turn_of, votes_in}
 use Rattle.history.specs.Legal.{IsLegal, MayFollow}
@@ -40,13 +39,15 @@ use Rattle.history.proofs.Agreement.{book_log}
 use Rattle.launch_safety.specs.Fitting.{held_in}
 use Rattle.launch_safety.proofs.Whole.{held_backed, whole}
 use Rattle.launch_safety.specs.Readings.{AreTurnsBy, IsTurnBy}
-use Rattle.launch_safety.proofs.ReadLemmas.{front_legal, held_by}
+use Rattle.launch_safety.proofs.ReadLemmas.{held_by}
 use Rattle.launch_safety.specs.Asked.{IsAskedAt, ReadsAt}
-use Rattle.launch_safety.proofs.Rises.{AllGoOn, follows_there, rises}
+use Rattle.launch_safety.proofs.Rises.{AllGoOn, rises}
 use Rattle.launch_safety.proofs.WholeReadings.{held_asked, logged_asked, not_ahead, reads_by}
 use Rattle.run_outcome.proofs.FrontLemmas.{by_front, cut_at, held_on, log_on, short_at, table_at}
 use Rattle.run_outcome.proofs.Minutes.{AllDrained, IsDrained, IsDrainedBy, Place, earlier, go_back, go_front, later, place}
-use Rattle.run_outcome.proofs.RowLemmas.{row_of}
+use Rattle.due_set.proofs.Rising.{Contains-head as in_first}
+use Rattle.history.proofs.FrontLemmas.{front_legal, follows_there}
+use Rattle.launch_safety.proofs.SettledLemmas.{row_of}
 
 -- who has a turn that reads an instant is one of the replicas
 member_of : (n : ℕ) (table : Table) (standing : Standing) (turn : Turn) (row : Row) (now : ℤ) → MayFollow n table standing turn row → ReadsAt now turn → turn_of turn < n

@@ -21,10 +21,10 @@ use Rattle.launch_safety.specs.Fitting.{held_in}
 use Rattle.script_semantics.specs.Script.{Obeys}
 use Rattle.script_semantics.specs.Settling.{AsksNothing, WalksIn, coordinator}
 use Rattle.script_semantics.specs.Situation.{Situation, first_situation}
-use Rattle.script_semantics.proofs.WalkLemmas.{settled, walked}
+use Rattle.script_semantics.proofs.WalkLemmas.{settled, walked, drained as drains_quiet}
 use Rattle.run_outcome.specs.Readings.{IsGraceLong, script_end, script_turns}
 use Rattle.launch_safety.specs.Readings.{AreTurnsBy, IsTurnBy}
-use Rattle.run_outcome.proofs.DrainLemmas.{AreRight, drains_by, drains_quiet, settles_by}
+use Rattle.run_outcome.proofs.DrainLemmas.{AreRight, drains_by, settles_by}
 use Rattle.run_outcome.proofs.PartLemmas.{Comes, drains_come, each_by, latest_by, parts_come, settles_come, walks_come}
 use Rattle.run_outcome.proofs.SettledLemmas.{EndsAtRest, Passes, called, called_held, ended, launched}
 

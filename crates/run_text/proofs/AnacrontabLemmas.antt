@@ -156,7 +156,7 @@ pub passed_all : (text : List ℕ) (now : AnacronTableReader) → Passed text no
 passed_all text now so_far end = so_far.said (rw (end, logical-none) (say_none now.settings))
 
 -- the logical lines of a text are those that its lines make
-logical_is : (text : List ℕ) → logical_lines text ≡ joined (lines_of text)
+pub logical_is : (text : List ℕ) → logical_lines text ≡ joined (lines_of text)
 unfolding logical_lines
 logical_is text = refl
 

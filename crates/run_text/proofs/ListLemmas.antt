@@ -2,6 +2,7 @@
 use Rattle.std.proofs.Common.{◌≡◌, ◌≢◌, ℕ, ◌<◌, List, [], ◌∷◌, ◌++◌, length, get_or, refl, subst}
 use Rattle.std.specs.List.{AllByRecursion}
 use Rattle.std.proofs.lemmas.List.Elements.{All-from_get_or, recursion_from_All}
+use Rattle.crontab_text.proofs.ListLemmas.{LacksAny-from_get_or}
 
 -- the text begins with a byte of the kind
 abbrev pub BeginsWith : (ℕ → Type 0) → List ℕ → Type 0
@@ -34,12 +35,6 @@ lacks_none P [] [] px lacks = px
 lacks_none P [] (x ∷ xs) px lacks = lacks.0 px
 lacks_none P (a ∷ as') x px lacks = lacks_none P as' x px lacks.1
 
-pub LacksAny-from_get_or : (P : ℕ → Type 0) (xs : List ℕ) → ((i : ℕ) → i < length xs → P (get_or xs i 0) → ⊥) → LacksAny P xs
-LacksAny-from_get_or P xs h = recursion_from_All (λ x. P x → ⊥) xs (All-from_get_or (λ x. P x → ⊥) xs 0 h)
-
 -- the byte stands nowhere in the text
 abbrev pub Lacks : ℕ → List ℕ → Type 0
 Lacks byte text = LacksAny (λ c. c ≡ byte) text
-
-pub Lacks-from_get_or : (byte : ℕ) (text : List ℕ) → ((i : ℕ) → i < length text → get_or text i 0 ≢ byte) → Lacks byte text
-Lacks-from_get_or byte text h = LacksAny-from_get_or (λ c. c ≡ byte) text h

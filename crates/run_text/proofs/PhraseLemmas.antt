@@ -8,11 +8,8 @@ use Rattle.std.proofs.lemmas.Fmt.{decimal_injective}
 use Rattle.run_text.specs.Grammar.{IsLabelStart, IsLabelByte, IsLabel, IsZoneByte, IsZoneName, replicas_line, IsReplicasLine, IsGraceLine, section_word, IsSectionLine, HasSectionWord}
 use Rattle.run_text.specs.declared.run.SectionKind.{SectionKind}
 use Rattle.run_text.specs.declared.run.SectionKind.TheVariants.{User, System, Anacron}
-use Rattle.run_text.proofs.ListLemmas.{Lacks, Lacks-from_get_or, same_cut, lacks_none}
-
--- what `strip_prefix` leaves
-pub strips : (prefix text rest : List ℕ) → StripsPrefix (FindsTextPrefix prefix) text rest → text ≡ prefix ++ rest
-strips prefix text rest (n, found, is, long) = found.1 ∙ ap (λ t. prefix ++ t) (sym is)
+use Rattle.run_text.proofs.ListLemmas.{Lacks, same_cut, lacks_none}
+use Rattle.script_text.proofs.CutLemmas.{Lacks-from_get_or}
 
 -- what the parts of `split_once` at a space lack
 pub lacks_space : (text : List ℕ) → ((i : ℕ) → i < length text → get_or text i 0 ≢ 32) → Lacks 32 text
@@ -23,20 +20,11 @@ pub record IsCutAtSpace (text front back : List ℕ) : Type 0 where
   pub parts : text ≡ front ++ 32 ∷ back
   pub lacks : Lacks 32 front
 
-pub cut_at_space : (text : List ℕ) (parts : Bor (List ℕ) × Bor (List ℕ)) → IsSplitOnceResult 32 text (Some parts) → IsCutAtSpace text parts.0.now parts.1.now
-cut_at_space text parts split =
-    let (is, lacks) = split_parts 32 text (Some parts) split (omega arith) in
-    record { parts = is; lacks = lacks_space parts.0.now lacks }
-
 pub same_space : (text a b x y : List ℕ) → IsCutAtSpace text a x → text ≡ b ++ 32 ∷ y → Lacks 32 b → (a ≡ b) × (x ≡ y)
 same_space text a b x y cut is lacks =
     let same = same_cut (λ c. c ≡ 32) a b (32 ∷ x) (32 ∷ y) cut.lacks lacks refl refl (sym cut.parts ∙ is) in
     let tails = same.1 in
     (same.0, cc)
-
-pub no_space : (text : List ℕ) → IsSplitOnceResult 32 text None → (a b : List ℕ) → text ≡ a ++ 32 ∷ b → ⊥
-no_space text split a b is =
-    lacks_none (λ c. c ≡ 32) a (32 ∷ b) refl (subst (Lacks 32) is (lacks_space text (split_parts 32 text None split (omega arith))))
 
 -- neither a label, nor a zone's name, nor the word of a section has a space
 label_start_no_space : (c : ℕ) → IsLabelStart c → c ≡ 32 → ⊥

@@ -152,7 +152,7 @@ said_or_broken Judged None number section zero line refusal may refused =
     anacrontab.said_or_broken no_settings (joined (with_line section line).lines) refused.0 refusal.cause refusal.place may refused.1
 said_or_broken Judged None number section (suc left) line refusal may refused = refused
 
-same_refusal : (a b : Refusal) → a.line ≡ b.line → a.cause ≡ b.cause → a.place ≡ b.place → a ≡ b
+pub same_refusal : (a b : Refusal) → a.line ≡ b.line → a.cause ≡ b.cause → a.place ≡ b.place → a ≡ b
 same_refusal a b line cause place = rw (line, cause, place) refl
 
 one_break : (tables : Tables) (style : Option Style) (number : ℕ) (section : Section) (left : ℕ) (line : List ℕ) (a b : Refusal) → RefusesInTable tables style number section left line a → RefusesInTable tables style number section left line b → a ≡ b

@@ -6,16 +6,6 @@ use Rattle.run_text.specs.declared.refusal.Refusal.{Refusal}
 use Rattle.run_text.specs.declared.refusal.RunFault.{RunFault}
 use Rattle.run_text.specs.declared.refusal.RunFault.TheVariants.{Refused}
 
--- a fact that holds anyway holds for `None`
-pub if_none : {T : Type 0} (r : Option T) {P : Type 0} → P → IfNone r P
-if_none None p = p
-if_none (Some x) p = tt
-
--- a fact of the error that a `?` hands on
-pub handed_on : {T E : Type 0} (r : Result T E) (e : E) (P : E → Type 0) → IsErrAnd r (λ x. x ≡ e) → P e → IfErr r P
-handed_on (Ok x) e P is holds = tt
-handed_on (Err x) e P is holds = subst P (sym is) holds
-
 -- what a clause says where the variant is known
 pub at_some : {T : Type 0} (r : Option T) (P : T → Type 0) (x : T) → r ≡ Some x → IfSome r P → P x
 at_some None P x is p = cc

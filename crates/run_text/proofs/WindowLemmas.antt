@@ -12,10 +12,9 @@ use Rattle.zone_minutes.specs.declared.minute.Window.{Window}
 use Rattle.zone_minutes.proofs.StampLemmas.{stamp_text-injective}
 use Rattle.run_text.specs.Grammar.{IsWindowLine}
 use Rattle.run_text.proofs.ListLemmas.{LacksAny, same_cut, lacks_none}
-use Rattle.run_text.proofs.PhraseLemmas.{strips, lacks_space}
-
-digit_no_space : (n : ℕ) → 48 + n ≡ 32 → ⊥
-digit_no_space n e = omega arith
+use Rattle.run_text.proofs.PhraseLemmas.{lacks_space}
+use Rattle.script_text.proofs.CutLemmas.{strips}
+use Rattle.script_text.proofs.OperandLemmas.{digit_no_space}
 
 -- a stamp has no space
 stamp_no_space : (at : ℤ) → LacksAny (λ c. c ≡ 32) (stamp_text at)

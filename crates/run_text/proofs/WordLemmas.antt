@@ -5,7 +5,8 @@ use Rattle.std.proofs.lemmas.Bool.{ne_eqb}
 use Rattle.std.proofs.lemmas.Bool.Decides.{eqb_tells}
 use Rattle.std.proofs.lemmas.List.{get_or_default}
 use Rattle.run_text.specs.Grammar.{first_word}
-use Rattle.run_text.proofs.ListLemmas.{Lacks, Lacks-from_get_or}
+use Rattle.run_text.proofs.ListLemmas.{Lacks}
+use Rattle.script_text.proofs.CutLemmas.{Lacks-from_get_or}
 
 word_before : (word rest : List ℕ) → Lacks 32 word → first_word (word ++ 32 ∷ rest) ≡ word
 word_before [] rest lacks = refl

@@ -12,8 +12,8 @@ use Rattle.script_semantics.specs.Script.{IsPartOf}
 use Rattle.script_semantics.specs.Settling.{Drains, DrainsIn, Settles, Walks, WalksIn, campaign_tasks, coordinator}
 use Rattle.script_semantics.specs.Situation.{AreTurnsFor, Armed, Performs, Situation, Do, Stop, after_turn, after_turns}
 use Rattle.script_semantics.proofs.ArmsLemmas.{unarmed_performed}
-use Rattle.script_semantics.proofs.MailLemmas.{own_fact}
-use Rattle.script_semantics.proofs.StopLemmas.{arms_of_stop, other_fact}
+use Rattle.script_semantics.proofs.StopLemmas.{arms_of_stop}
+use Rattle.history.proofs.Standings.{fact_here as own_fact, fact_there as other_fact}
 
 -- ---- an arm begins
 

@@ -14,9 +14,9 @@ use Rattle.history.specs.declared.turn.Turn.TheVariants.{Stopped}
 use Rattle.script_semantics.specs.Free.{Course, GoesFreely, IsFreePart, after_all_posted, after_posted, after_row_of, begun, course_of, is_turn_of}
 use Rattle.script_semantics.specs.Situation.{Situation}
 use Rattle.script_semantics.specs.Others.{AreOthers, turns_had}
-use Rattle.script_semantics.proofs.NextLemmas.{fact_here}
 use Rattle.script_semantics.proofs.PartLemmas.{course_with_others, seen_next}
 use Rattle.script_semantics.proofs.SeenLemmas.{seen_passes}
+use Rattle.history.proofs.Standings.{fact_here}
 
 found_there : {R : Type 0} (front : List R) (row : R) (rows : List R) → slice_get (front ++ row ∷ rows) (length front) ≡ Some row
 found_there [] row rows = refl

@@ -10,7 +10,7 @@ use Rattle.history.specs.declared.turn.Turn.TheVariants.{Did, Stopped, Restarted
 use Rattle.script_semantics.specs.Arms.{AreTurnsByArms, IsTurnByArm, is_task_of, tasks_left}
 use Rattle.script_semantics.specs.Free.{is_turn_of}
 use Rattle.script_semantics.specs.Situation.{Situation, Task, Arrive, Do, Restart, Stop, after_turn}
-use Rattle.script_semantics.proofs.ListLemmas.{in_filter}
+use Rattle.step_spec.proofs.ListLemmas.{in_filter}
 
 -- none of the tasks is the replica's
 abbrev AreOfOthers : ℕ → List Task → Type 0

@@ -6,6 +6,7 @@ use Rattle.std.proofs.lemmas.Bool.{cases_Bool}
 use Rattle.std.proofs.lemmas.List.FromFn.{length-range_with_len, get_or-range_with_len}
 use Rattle.std.proofs.lemmas.List.Elements.{All-contains, All-contains_itself, All-filter, Contains-append_left, Contains-append_right, Contains-append_cases}
 use Rattle.due_set.proofs.Rising.{Contains-head, Contains-tail, Contains-cases, Contains-none}
+use Rattle.step_spec.proofs.ListLemmas.{kept_first, kept_behind}
 
 pub in_range : (members who : ℕ) → who < members → Contains (range_with_len 0 members) who
 in_range members who member =
@@ -49,39 +50,12 @@ pub record IsMapped {X Y : Type 0} (f : X → Y) (xs : List X) (y : Y) : Type 0 
   pub among : Contains xs origin
   pub is : f origin ≡ y
 
-pub in_map : {X Y : Type 0} (f : X → Y) (xs : List X) (x : X) → Contains xs x → Contains (map f xs) (f x)
-in_map f [] x has = absurd (Contains-none x has)
-in_map f (first ∷ xs) x has = elim (Contains-cases first xs x has) [
-  | inl same ↦ subst (λ y. Contains (f first ∷ map f xs) (f y)) same (Contains-head (f first) (map f xs))
-  | inr more ↦ Contains-tail (f first) (map f xs) (f x) (in_map f xs x more)
-]
-
 pub from_map : {X Y : Type 0} (f : X → Y) (xs : List X) (y : Y) → Contains (map f xs) y → IsMapped f xs y
 from_map f [] y has = absurd (Contains-none y has)
 from_map f (first ∷ xs) y has = elim (Contains-cases (f first) (map f xs) y has) [
   | inl same ↦ record { origin = first; among = Contains-head first xs; is = same }
   | inr more ↦ (let rest = from_map f xs y more in record { origin = rest.origin; among = Contains-tail first xs rest.origin rest.among; is = rest.is })
 ]
-
-kept_first : {X : Type 0} (b : Bool) (x : X) (xs : List X) → b ≡ true → Contains (cond b (x ∷ xs) xs) x
-kept_first true x xs is = Contains-head x xs
-kept_first false x xs is = absurd cc
-
-kept_behind : {X : Type 0} (b : Bool) (first : X) (xs : List X) (x : X) → Contains xs x → Contains (cond b (first ∷ xs) xs) x
-kept_behind true first xs x has = Contains-tail first xs x has
-kept_behind false first xs x has = has
-
--- what passes is kept
-pub in_filter : {X : Type 0} (p : X → Bool) (xs : List X) (x : X) → p x ≡ true → Contains xs x → Contains (filter p xs) x
-in_filter p [] x passes has = absurd (Contains-none x has)
-in_filter p (first ∷ xs) x passes has = elim (Contains-cases first xs x has) [
-  | inl same ↦ subst (λ y. Contains (filter p (first ∷ xs)) y) same (kept_first (p first) first (filter p xs) (ap p same ∙ passes))
-  | inr more ↦ kept_behind (p first) first (filter p xs) x (in_filter p xs x passes more)
-]
-
--- what is kept was there
-pub from_filter : {X : Type 0} (p : X → Bool) (xs : List X) (x : X) → Contains (filter p xs) x → Contains xs x
-from_filter p xs x has = All-contains (Contains xs) (filter p xs) x (All-filter p (Contains xs) xs (All-contains_itself xs)) has
 
 -- what is kept passes
 pub passes_filter : {X : Type 0} (p : X → Bool) (xs : List X) (x : X) → Contains (filter p xs) x → p x ≡ true

@@ -10,10 +10,8 @@ use Rattle.history.specs.Book.{PostedLetter, with_fact}
 use Rattle.history.specs.Legal.{IsLate}
 use Rattle.script_semantics.specs.Commands.{arrival_tasks, each_once, from_one, from_others, has_number, is_from}
 use Rattle.script_semantics.specs.Situation.{Situation, Arrive}
-use Rattle.script_semantics.proofs.ListLemmas.{from_filter, in_filter, passes_filter}
-
-pub own_fact : {A : Type 0} (who : ℕ) (fact : A) (facts : ℕ → A) → with_fact who fact facts who ≡ fact
-own_fact who fact facts = rw (eq-eqb who who refl) refl
+use Rattle.script_semantics.proofs.ListLemmas.{passes_filter}
+use Rattle.step_spec.proofs.ListLemmas.{from_filter, in_filter}
 
 -- ---- letters of one replica
 
@@ -59,7 +57,7 @@ in_each_once (first ∷ numbers) number has =
       ]
     ]
 
-from_each_once : (numbers : List ℕ) (number : ℕ) → Contains (each_once numbers) number → Contains numbers number
+pub from_each_once : (numbers : List ℕ) (number : ℕ) → Contains (each_once numbers) number → Contains numbers number
 from_each_once [] number has = absurd (Contains-none number has)
 from_each_once (first ∷ numbers) number has = elim (Contains-cases first (filter (λ other. not (other == first)) (each_once numbers)) number has) [
   | inl same ↦ subst (Contains (first ∷ numbers)) same (Contains-head first numbers)

@@ -14,9 +14,7 @@ use Rattle.script_semantics.specs.Situation.{Situation, after_turn, letters_for,
 use Rattle.script_semantics.specs.Free.{after_all_posted, after_posted, is_time_to_stand, next_cause, next_cause_by}
 use Rattle.script_semantics.specs.Others.{AreOthers, mail_behind}
 use Rattle.script_semantics.proofs.FreeMailLemmas.{others_pass}
-
-pub fact_here : {A : Type 0} (who : ℕ) (fact : A) (facts : ℕ → A) → with_fact who fact facts who ≡ fact
-fact_here who fact facts = rw (eq-eqb who who refl) refl
+use Rattle.history.proofs.Standings.{fact_here}
 
 -- a replica without a letter hears none
 pub idle_hears_none : (stands : Bool) (now : Minute) (number : ℕ) → Hear number ≡ (if stands then Campaign else Tick now) → ⊥

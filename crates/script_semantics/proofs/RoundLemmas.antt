@@ -12,7 +12,8 @@ use Rattle.history.specs.declared.turn.Cause.{Cause}
 use Rattle.history.specs.declared.turn.Cause.TheVariants.{Tick, Hear, Answer}
 use Rattle.script_semantics.specs.Round.{answer_tasks, clock_reading, hear_tasks, round_tasks, tasks_of}
 use Rattle.script_semantics.specs.Situation.{Situation, Task, Do}
-use Rattle.script_semantics.proofs.ListLemmas.{from_flat_map, from_map, in_flat_map, in_map, in_range}
+use Rattle.script_semantics.proofs.ListLemmas.{from_flat_map, from_map, in_flat_map, in_range}
+use Rattle.step_spec.proofs.ListLemmas.{in_map}
 
 -- the task takes an answer that waits
 record Takes (situation : Situation) (who : ℕ) (task : Task) : Type 0 where

@@ -38,13 +38,13 @@ performed : (members : ℕ) (tasks : List Task) (situation : Situation) (rows : 
 performed members tasks situation rows after steps performs =
     ap (λ (s : Situation). s.standing.runs) performs.is ∙ steps_keep members situation tasks rows steps performs.turns
 
-one_step : (who : ℕ) (cause : Cause) → AreSteps (Do who cause ∷ [])
+pub one_step : (who : ℕ) (cause : Cause) → AreSteps (Do who cause ∷ [])
 one_step who cause task has = elim (Contains-cases (Do who cause) [] task has) [
   | inl same ↦ (who, cause, sym same)
   | inr none ↦ absurd (Contains-none task none)
 ]
 
-campaign_steps : (who : ℕ) (term : Term) → AreSteps (campaign_tasks who term)
+pub campaign_steps : (who : ℕ) (term : Term) → AreSteps (campaign_tasks who term)
 campaign_steps who (Follower ended) task has = one_step who Campaign task has
 campaign_steps who (Candidate ballot first heard best) task has = absurd (Contains-none task has)
 campaign_steps who (Leader ballot best flight) task has = absurd (Contains-none task has)

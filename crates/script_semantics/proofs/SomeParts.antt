@@ -67,7 +67,7 @@ unheard = ticks 1 ∷ ticks 1 ∷ stands ∷ ticks 0 ∷ []
 abbrev pub May : List Row → Row → Type 0
 May book row = MayFollow 2 no_jobs (standing_after 2 (first_rows no_jobs) book) row.turn row
 
-nothing_found : {X : Type 0} {x : X} (k : ℕ) → slice_get [] k ≡ Some x → ⊥
+pub nothing_found : {X : Type 0} {x : X} (k : ℕ) → slice_get [] k ≡ Some x → ⊥
 nothing_found k is = cc
 
 asks_nothing : IsIntent no_jobs [] (pos 0) intent.Rest

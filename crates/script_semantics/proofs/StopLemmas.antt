@@ -12,10 +12,7 @@ use Rattle.history.specs.declared.turn.Turn.TheVariants.{Did, Stopped, Restarted
 use Rattle.script_semantics.specs.Arms.{IsEnough, IsTurnByArm, StopsInStep}
 use Rattle.script_semantics.specs.Free.{is_turn_of}
 use Rattle.script_semantics.specs.Situation.{Armed, Does, Situation, Do, after_turn, armed_after, arms_after, bases_kept, bases_with, calls_for, changes_in}
-use Rattle.script_semantics.proofs.MailLemmas.{own_fact}
-
-pub other_fact : {A : Type 0} (who : ℕ) (fact : A) (facts : ℕ → A) (other : ℕ) → other ≢ who → with_fact who fact facts other ≡ facts other
-other_fact who fact facts other differs = rw (ne_eqb other who differs) refl
+use Rattle.history.proofs.Standings.{fact_here as own_fact, fact_there as other_fact}
 
 is_other : (who other : ℕ) → (who == other) ≡ false → other ≢ who
 is_other who other others same = (let is = eq-eqb who other (sym same) in cc)

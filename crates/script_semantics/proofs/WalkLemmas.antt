@@ -8,14 +8,14 @@ use Rattle.script_semantics.specs.Settling.{AsksNothingUntil, Drains, DrainsIn, 
 use Rattle.script_semantics.specs.Situation.{Situation}
 use Rattle.script_semantics.proofs.StartLemmas.{same_coordinator}
 
-drained_in : (rounds members : ℕ) (table : Table) (who : ℕ) (at : ℤ) (situation : Situation) (rows : List Row) (after : Situation)
+pub drained_in : (rounds members : ℕ) (table : Table) (who : ℕ) (at : ℤ) (situation : Situation) (rows : List Row) (after : Situation)
     → DrainsIn rounds members table who at situation rows after → IsQuiet members table who at after
 drained_in zero members table who at situation rows after drains = subst (IsQuiet members table who at) (sym drains.stays.is) drains.is_quiet
 drained_in (suc more) members table who at situation rows after drains =
     let parts = drains.goes_on in
     drained_in more members table who at parts.middle parts.back after parts.two
 
-drained : (members : ℕ) (table : Table) (who : ℕ) (at : ℤ) (situation : Situation) (rows : List Row) (after : Situation)
+pub drained : (members : ℕ) (table : Table) (who : ℕ) (at : ℤ) (situation : Situation) (rows : List Row) (after : Situation)
     → Drains members table who at situation rows after → IsQuiet members table who at after
 drained members table who at situation rows after (rounds, drains) = drained_in rounds members table who at situation rows after drains
 

@@ -20,7 +20,7 @@ use Rattle.script_text.specs.declared.command.Command.{Command}
 use Rattle.script_text.specs.declared.command.Command.TheVariants.{Round, Campaign, Stop, Break, Restart, Cut, Heal, Drop, Repeat, Reverse, Again, Skew, Fate, Arrive, Settle, Walk, Free}
 use Rattle.script_text.specs.declared.command.FateWord.{FateWord}
 use Rattle.script_text.specs.declared.command.FateWord.TheVariants.{Done, LostBefore, LostAfter, Late}
-use Rattle.script_text.proofs.OperandLemmas.{own}
+use Rattle.cron_io.proofs.NumberLemmas.{own}
 
 -- a printable byte of ASCII, the space among them
 abbrev IsPrintable : ℕ → Type 0

@@ -10,16 +10,14 @@ use Rattle.zone_minutes.specs.declared.minute.Window.{Window}
 use Rattle.zone_minutes.proofs.StampLemmas.{stamp_text-injective}
 use Rattle.script_text.specs.Command.{IsStampIn, IsSkew}
 use Rattle.script_text.proofs.CutLemmas.{Lacks, Lacks-from_get_or, IsCutAtSpace, same_parts}
-
-pub own : IsNumeralModel (AllDigits 10) (digits_value 10)
-own = numerals_by_value (AllDigits 10) tells_digits
+use Rattle.cron_io.proofs.NumberLemmas.{own}
 
 -- a number has no space
 pub decimal_no_space : (n : ℕ) → n < 2 ^ 64 → Lacks 32 (decimal n)
 decimal_no_space n small =
     Lacks-from_get_or 32 (decimal n) (λ i inside. not_in_digits own (decimal n) 32 (digits_decimal own n small) (λ range. omega arith) i inside)
 
-digit_no_space : (n : ℕ) → 48 + n ≡ 32 → ⊥
+pub digit_no_space : (n : ℕ) → 48 + n ≡ 32 → ⊥
 digit_no_space n e = omega arith
 
 -- a stamp has no space

@@ -21,9 +21,10 @@ use Rattle.synchronous_rounds.specs.Rounds.{IsAnswerTo}
 use Rattle.script_semantics.specs.Round.{answer_tasks, hear_tasks}
 use Rattle.script_semantics.specs.Situation.{AreTurnsFor, Situation, Task, Do, after_turns}
 use Rattle.settling.specs.Stands.{IsHeardLike, IsLetterAt}
-use Rattle.settling.proofs.PartLemmas.{TakesPart, fact_here, takes_part, zip_posted}
-use Rattle.settling.proofs.PassLemmas.{Passes, fact_there, whole_left, whole_right, zip_append}
+use Rattle.settling.proofs.PartLemmas.{TakesPart, takes_part, zip_posted}
+use Rattle.settling.proofs.PassLemmas.{Passes, whole_left, whole_right, zip_append}
 use Rattle.settling.proofs.PostLemmas.{AreWhole, is_to}
+use Rattle.history.proofs.Standings.{fact_here, fact_there}
 
 -- what is told to a replica, by an advice
 abbrev pub told_by : ℤ → Calm → Advice → ℕ → List Event

@@ -18,14 +18,7 @@ use Rattle.history.proofs.Heard.{letters_small}
 use Rattle.script_semantics.specs.Situation.{Situation, after_turn, after_turns}
 use Rattle.settling.specs.Rounds.{IsWithinBounds}
 use Rattle.settling.proofs.PostLemmas.{AreWhole}
-
-finds_first : {X : Type 0} (front : List X) (x : X) (back : List X) → slice_get (front ++ x ∷ back) (length front) ≡ Some x
-finds_first [] x back = refl
-finds_first (y ∷ front) x back = finds_first front x back
-
-pub take_front : {X : Type 0} (front back : List X) → take (length front) (front ++ back) ≡ front
-take_front [] back = refl
-take_front (x ∷ front) back = ap (λ rest. x ∷ rest) (take_front front back)
+use Rattle.history.proofs.FrontLemmas.{finds_first, take_front}
 
 pub all_follow : (members : ℕ) (table : Table) (book rows : List Row) → IsLegal members table (book ++ rows)
     → AllFollow members table (standing_after members (first_rows table) book) rows

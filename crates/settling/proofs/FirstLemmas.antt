@@ -19,11 +19,11 @@ use Rattle.script_semantics.specs.Situation.{Situation}
 use Rattle.script_semantics.proofs.CoordinatorLemmas.{furthest_most, furthest_within}
 use Rattle.settling.specs.Stands.{IsLetterAt, StandsFor}
 use Rattle.settling.proofs.BookLemmas.{front_legal}
-use Rattle.settling.proofs.PartLemmas.{fact_here}
 use Rattle.settling.specs.Campaigns.{GoesCampaign, unanswered}
 use Rattle.settling.specs.Within.{LeadsWithin}
 use Rattle.settling.proofs.TriedLemmas.{next_is_new}
 use Rattle.settling.proofs.TurnLemmas.{campaign_stands}
+use Rattle.history.proofs.Standings.{fact_here}
 
 -- what a situation stands for in which no letter waits
 abbrev unread : Situation → Calm

@@ -11,13 +11,7 @@ use Rattle.history.specs.Book.{answer_to, is_name, under}
 use Rattle.history.specs.Legal.{IsMade, answered}
 use Rattle.history.specs.declared.turn.CallRow.{CallRow}
 use Rattle.synchronous_rounds.specs.Rounds.{IsAnswerTo}
-
-named : (one other : Name) → is_name one other ≡ true → one ≡ other
-named one other is =
-    let parts = and_parts _ (int_eq one.at other.at) is in
-    let job : one.job ≡ other.job = eqb-true one.job other.job parts.0 in
-    let at : one.at ≡ other.at = (Decides-int_eq one.at other.at).0 parts.1 in
-    rw (job, at) refl
+use Rattle.history.proofs.Keeping.{name_is as named}
 
 -- what is found under a name has it
 pub under_named : (name : Name) (held : List SchedRow) (row : SchedRow) → under name held ≡ Some row → row.name ≡ name

@@ -26,10 +26,10 @@ use Rattle.synchronous_rounds.specs.Rounds.{IsAnswerTo}
 use Rattle.synchronous_rounds.specs.Ruled.{IsLeading, Progress}
 use Rattle.synchronous_rounds.proofs.BeginLemmas.{Begun, begins_entry, calls_for, says_lead, ends, next_entry, proposing, takes_end, tick_begins}
 use Rattle.synchronous_rounds.proofs.NearLemmas.{learned_nearer}
-use Rattle.synchronous_rounds.proofs.OutcomeLemmas.{long_tick, no_call_rebase, saying_stays, short_tick}
+use Rattle.synchronous_rounds.proofs.OutcomeLemmas.{long_tick, no_call_rebase, saying_stays, short_tick, one_call, call_stays}
 use Rattle.synchronous_rounds.proofs.TickLemmas.{due_by, due_is, due_then, holds_rebased, none_due}
 use Rattle.settling.specs.Alone.{IfWaits}
-use Rattle.settling.proofs.StepLemmas.{alone, call_stays, learns_it, one_call, uncalled_lead, uncalled_proposal, untold_call, untold_lead, untold_proposal, untold_rebase}
+use Rattle.settling.proofs.StepLemmas.{alone, learns_it, uncalled_lead, uncalled_proposal, untold_call, untold_lead, untold_proposal, untold_rebase}
 
 -- no vote binds it, no answer waits, and its launch table asks for nothing
 pub record HasNothing (best : List Vote) (at : Progress) (now : ℤ) (waits : Option SchedRow) : Type 0 where

@@ -18,7 +18,7 @@ use Rattle.history.specs.declared.turn.CallRow.{CallRow}
 use Rattle.history.specs.declared.turn.Cause.{Cause}
 use Rattle.history.specs.declared.turn.Cause.TheVariants.{Tick, Hear, Answer}
 use Rattle.history.specs.declared.turn.Turn.TheVariants.{Did}
-use Rattle.history.proofs.Standings.{waits_made, waits_none}
+use Rattle.history.proofs.Standings.{waits_made, waits_none, fact_here}
 use Rattle.history.proofs.Turns.{AllFollow}
 use Rattle.history.proofs.Keeping.{one_event}
 use Rattle.synchronous_rounds.specs.Calm.{Advice, HeardLetter, after_events, answer_events, events_of, hear_events}
@@ -28,17 +28,12 @@ use Rattle.script_semantics.specs.Situation.{AreTurnsFor, Situation, Task, Do, D
 use Rattle.settling.specs.Stands.{IsLetterAt}
 use Rattle.settling.proofs.NameLemmas.{made_answer}
 use Rattle.settling.proofs.PassLemmas.{Passes, pass_join, pass_none, turn_passes}
-
-same_some : {X : Type 0} (a b : X) → Some a ≡ Some b → a ≡ b
-same_some a b same = cc
+use Rattle.launch_machine.proofs.IntentLemmas.{same_some}
 
 pub front_has : {X : Type 0} (front back : List X) (number : ℕ) (x : X) → slice_get front number ≡ Some x → slice_get (front ++ back) number ≡ Some x
 front_has [] back number x is = absurd cc
 front_has (y ∷ front) back zero x is = is
 front_has (y ∷ front) back (suc number) x is = front_has front back number x is
-
-pub fact_here : {A : Type 0} (who : ℕ) (fact : A) (facts : ℕ → A) → with_fact who fact facts who ≡ fact
-fact_here who fact facts = rw (eq-eqb who who refl) refl
 
 -- The first turns are those of a replica that has taken the events, with this mail left; then come those of the tasks that are left.
 pub record Part (members : ℕ) (table : Table) (who : ℕ) (events : List Event) (mail : List ℕ) (tasks : List Task) (situation : Situation) (rows : List Row) : Type 0 where

@@ -22,6 +22,9 @@ use Rattle.synchronous_rounds.proofs.MailLemmas.{letters_append}
 use Rattle.script_semantics.specs.Situation.{Situation, after_turn, fates_after, mails_after}
 use Rattle.settling.specs.Stands.{IsHeardLike}
 use Rattle.settling.proofs.PostLemmas.{AreWhole, is_to, one_to}
+use Rattle.history.proofs.FrontLemmas.{replica_there}
+use Rattle.history.proofs.Standings.{fact_there}
+use Rattle.synchronous_rounds.proofs.SomeIdle.{planned_append as planned_join}
 
 -- The replica has taken the events: it is what they leave, it has posted what they say, and of the others nothing has changed.
 pub record Passes (members : ℕ) (table : Table) (jobs who : ℕ) (events : List Event) (before after : Situation) : Type 0 where
@@ -64,11 +67,6 @@ zip_append R [] (u ∷ us) ys vs front back = absurd front
 zip_append R (x ∷ xs) [] ys vs front back = absurd front
 zip_append R (x ∷ xs) (u ∷ us) ys vs front back = (front.0, zip_append R xs us ys vs front.1 back)
 
-pub planned_join : (self : Identity) (table : Table) (xs ys : List Event) (state : State) → ArePlanned self table xs state
-    → ArePlanned self table ys (after_events self xs state) → ArePlanned self table (xs ++ ys) state
-planned_join self table [] ys state front back = back
-planned_join self table (x ∷ xs) ys state front back = (front.0, planned_join self table xs ys _ front.1 back)
-
 pub whole_left : (members jobs : ℕ) (xs ys : List PostedLetter) → AreWhole members jobs (xs ++ ys) → AreWhole members jobs xs
 whole_left members jobs xs ys whole letter has = whole letter (Contains-append_left xs ys letter has)
 
@@ -103,14 +101,8 @@ pass_join members table jobs who xs ys before middle after one two =
 
 -- ---- one turn
 
-replica_there : (who : ℕ) (state : State) (replicas : ℕ → State) (other : ℕ) → other ≢ who → with_replica who state replicas other ≡ replicas other
-replica_there who state replicas other apart = rw (ne_eqb other who apart) refl
-
 replica_here : (who : ℕ) (state : State) (replicas : ℕ → State) → with_replica who state replicas who ≡ state
 replica_here who state replicas = rw (eq-eqb who who refl) refl
-
-pub fact_there : {A : Type 0} (who : ℕ) (fact : A) (facts : ℕ → A) (other : ℕ) → other ≢ who → with_fact who fact facts other ≡ facts other
-fact_there who fact facts other apart = rw (ne_eqb other who apart) refl
 
 fates_done : (who : ℕ) (cause : Cause) (made : Option CallRow) (situation : Situation) (other : ℕ) → situation.fates other ≡ fate.Done
     → fates_after (Did who cause made) situation.fates other ≡ fate.Done

@@ -33,11 +33,11 @@ use Rattle.settling.specs.Leads.{GoesDrainRound, LeadsAlone}
 use Rattle.settling.specs.Rounds.{StandsForRound}
 use Rattle.settling.specs.Stands.{StandsFor}
 use Rattle.settling.proofs.CalmLemmas.{round_is_calm}
-use Rattle.settling.proofs.PartLemmas.{fact_here}
 use Rattle.settling.specs.Campaigns.{unanswered}
 use Rattle.settling.specs.Within.{FirstCampaign, FirstRound, IsAfterYielding, IsAfterAnswers, IsAfterCampaign, IsOnItsWay, IsAfterPromises, LeadsWithin, after_first}
 use Rattle.settling.proofs.CallLemmas.{candidate_alone}
 use Rattle.settling.proofs.CampaignRoundLemmas.{AtRound, campaigns_round, waits_round}
+use Rattle.history.proofs.Standings.{fact_here}
 
 -- ---- the round of a drain
 

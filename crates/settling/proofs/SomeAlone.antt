@@ -23,6 +23,7 @@ use Rattle.settling.specs.Campaigns.{GoesCampaign}
 use Rattle.settling.specs.Rest.{IsAtRest}
 use Rattle.settling.specs.Alone.{LeadsItself}
 use Rattle.settling.proofs.AloneBookLemmas.{campaign_is_won, campaign_leaves_no_fault}
+use Rattle.script_semantics.proofs.SomeParts.{nothing_found}
 
 abbrev quiet_table : Table
 quiet_table = record { window = record { from = record { 0 = pos 525_600 }; until = record { 0 = pos 525_601 } }; grace = 0; zones = []; jobs = [] }
@@ -57,9 +58,6 @@ elected = delivered 0 (after_turns 1 start (stands_for ∷ []))
 
 abbrev untouched : Situation
 untouched = delivered 0 (after_turns 1 elected [])
-
-nothing_found : {X : Type 0} {x : X} (k : ℕ) → slice_get [] k ≡ Some x → ⊥
-nothing_found k is = cc
 
 may_stand : MayFollow 1 quiet_table (first_standing 1 []) stands_for.turn stands_for
 unfolding step campaign after_row after_act after_delta deltas_by learnt_by calls_by sent_by with_member

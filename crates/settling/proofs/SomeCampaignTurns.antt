@@ -15,7 +15,7 @@ use Rattle.step_spec.specs.Letters.{heard_in}
 use Rattle.step_spec.specs.Message.{Message}
 use Rattle.step_spec.specs.Step.{Campaign, Event, Hear, IsLaunchTable, Tick}
 use Rattle.step_spec.specs.declared.out.OutLetter.{OutLetter}
-use Rattle.step_spec.proofs.Lists.{cons_cases, nothing_in}
+use Rattle.step_spec.proofs.Lists.{nothing_in}
 use Rattle.history.specs.Book.{PostedLetter, Row, Standing, standing_after}
 use Rattle.history.specs.Legal.{MayFollow, TakesTurn}
 use Rattle.history.specs.declared.turn.Cause.{Cause}
@@ -24,6 +24,8 @@ use Rattle.history.specs.declared.turn.Turn.TheVariants.{Did}
 use Rattle.zone_minutes.specs.Window.{IsInWindow}
 use Rattle.script_semantics.specs.Situation.{Situation, first_situation}
 use Rattle.settling.specs.Rounds.{IsFaultless}
+use Rattle.due_set.proofs.Rising.{Contains-cases as cons_cases}
+use Rattle.script_semantics.proofs.SomeParts.{nothing_found}
 
 -- ---- the table
 
@@ -42,9 +44,6 @@ no_job_is_sound = record {
 
 pub in_window : IsInWindow no_job.window (pos 525_600)
 in_window = record { since = grind arith; before = grind arith }
-
-nothing_found : {X : Type 0} {x : X} (k : ℕ) → slice_get [] k ≡ Some x → ⊥
-nothing_found k is = cc
 
 -- its launch table asks for nothing
 pub asks_nothing : IsIntent no_job [] (pos 525_600) intent.Rest

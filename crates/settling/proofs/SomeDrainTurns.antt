@@ -25,6 +25,7 @@ use Rattle.history.specs.Book.{PostedLetter, Row, Standing, acts_at, votes_of}
 use Rattle.history.specs.Legal.{BringsStep, IsMade, MayFollow}
 use Rattle.history.specs.declared.turn.Cause.TheVariants as cause
 use Rattle.history.specs.declared.turn.Turn.TheVariants.{Did}
+use Rattle.script_semantics.proofs.SomeParts.{nothing_found}
 
 -- ---- the table
 
@@ -40,9 +41,6 @@ bare_sound = record {
   few = grind arith;
   distinct = λ i j d before within. absurd (omega (arith, within));
 }
-
-nothing_found : {X : Type 0} {x : X} (k : ℕ) → slice_get [] k ≡ Some x → ⊥
-nothing_found k is = cc
 
 abbrev pub now : ℤ
 now = pos 525_600

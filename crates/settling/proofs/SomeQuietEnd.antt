@@ -20,6 +20,7 @@ use Rattle.history.proofs.SomeBook.{some_book, some_book_is_legal}
 use Rattle.script_semantics.specs.Settling.{IsQuiet}
 use Rattle.script_semantics.specs.Situation.{Situation}
 use Rattle.settling.specs.Quiet.{EndsQuietly, HasPromisedMost}
+use Rattle.script_semantics.proofs.SomeParts.{nothing_found}
 
 abbrev elected : List Row
 elected = take 4 some_book
@@ -36,9 +37,6 @@ after_it =
       arms = λ who. None;
       bases = λ who. 0;
     }
-
-nothing_found : {X : Type 0} {x : X} (k : ℕ) → slice_get [] k ≡ Some x → ⊥
-nothing_found k is = cc
 
 level : (other : ℕ) → other < 2 → prefix_of (after_it.standing.replicas other) ≡ prefix_of (after_it.standing.replicas 0)
 unfolding step campaign tick hear hear_all line on_prepare on_promise after_row after_act after_delta with_member votes_from

@@ -15,7 +15,7 @@ use Rattle.step_spec.specs.Message.{Lead}
 use Rattle.step_spec.specs.Propose.{campaign, tick}
 use Rattle.step_spec.specs.State.{State, prefix_of}
 use Rattle.step_spec.specs.Step.{step}
-use Rattle.step_spec.proofs.Lists.{cons_cases, nothing_in}
+use Rattle.step_spec.proofs.Lists.{nothing_in}
 use Rattle.history.specs.Book.{PostedLetter, Row, after_row, first_standing, standing_after}
 use Rattle.history.specs.Legal.{IsLegal}
 use Rattle.history.specs.declared.turn.Cause.TheVariants as cause
@@ -36,17 +36,11 @@ use Rattle.settling.specs.Drain.{RestsFor}
 use Rattle.settling.specs.Rest.{IsAtRest}
 use Rattle.settling.proofs.DrainLeadLemmas.{delivers_none}
 use Rattle.settling.proofs.SomeDrainTurns.{bare, bare_rests, bare_sound, follower, follower_stays, hearer_stays, hears, lead_heard, lead_letter, leader, leader_stays, leads, may_hear, may_lead, may_tick, now, ticks}
+use Rattle.due_set.proofs.Rising.{Contains-cases as cons_cases}
+use Rattle.history.proofs.Rounds.{last_there as found_last}
+use Rattle.step_spec.proofs.ListLemmas.{found_still}
 
 -- ---- lists
-
-found_still : {X : Type 0} (xs ys : List X) (k : ℕ) (x : X) → slice_get xs k ≡ Some x → slice_get (xs ++ ys) k ≡ Some x
-found_still [] ys k x is = absurd cc
-found_still (y ∷ xs) ys zero x is = is
-found_still (y ∷ xs) ys (suc k) x is = found_still xs ys k x is
-
-found_last : {X : Type 0} (xs : List X) (x : X) → slice_get (xs ++ x ∷ []) (length xs) ≡ Some x
-found_last [] x = refl
-found_last (y ∷ xs) x = found_last xs x
 
 -- ---- letters
 

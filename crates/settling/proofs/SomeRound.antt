@@ -18,6 +18,7 @@ use Rattle.synchronous_rounds.specs.Calm.{Calm}
 use Rattle.script_semantics.specs.Situation.{Situation, after_turns, delivered, first_situation}
 use Rattle.settling.specs.Rounds.{GoesRound}
 use Rattle.settling.specs.Stands.{StandsFor}
+use Rattle.script_semantics.proofs.SomeParts.{nothing_found}
 
 abbrev quiet_table : Table
 quiet_table = record { window = record { from = record { 0 = pos 525_600 }; until = record { 0 = pos 525_601 } }; grace = 0; zones = []; jobs = [] }
@@ -46,9 +47,6 @@ two_ticks = tick_of 0 ∷ tick_of 1 ∷ []
 
 abbrev start : Situation
 start = first_situation 2 quiet_table
-
-nothing_found : {X : Type 0} {x : X} (k : ℕ) → slice_get [] k ≡ Some x → ⊥
-nothing_found k is = cc
 
 may_tick : MayFollow 2 quiet_table (first_standing 2 []) (tick_of 0).turn (tick_of 0)
 unfolding step tick after_row after_act deltas_by learnt_by calls_by sent_by

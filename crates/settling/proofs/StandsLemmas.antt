@@ -5,13 +5,14 @@ use Rattle.due_set.specs.Table.{Table}
 use Rattle.launch_machine.specs.Clerk.{first_rows}
 use Rattle.step_spec.specs.Letters.{IsHeardAs}
 use Rattle.step_spec.specs.Message.{Message}
-use Rattle.step_spec.proofs.Lists.{found_in, in_first, in_rest}
+use Rattle.step_spec.proofs.Lists.{found_in}
 use Rattle.history.specs.Book.{PostedLetter, Row, Standing, standing_after}
 use Rattle.history.specs.Legal.{IsLegal}
 use Rattle.history.proofs.Posted.{posted_heard}
 use Rattle.synchronous_rounds.specs.Calm.{Calm, HeardLetter}
 use Rattle.script_semantics.specs.Situation.{Situation}
 use Rattle.settling.specs.Stands.{AreMailsPosted, IsLetterAt, StandsFor}
+use Rattle.due_set.proofs.Rising.{Contains-head as in_first, Contains-tail as in_rest}
 
 -- each letter of some numbers is heard
 heard_mail : (members jobs : ℕ) (posted : List PostedLetter) (who : ℕ) (numbers : List ℕ)

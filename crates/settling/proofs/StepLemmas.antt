@@ -106,17 +106,9 @@ pub untold_lead : (ballot slot : ℕ) → sent_to 0 0 (Send Others (Lead ballot 
 unfolding sent_by
 untold_lead ballot slot = refl
 
-pub one_call : (row : SchedRow) → calls_of (Call row ∷ []) ≡ row ∷ []
-unfolding calls_by
-one_call row = refl
-
 pub untold_call : (row : SchedRow) → sent_to 0 0 (Call row ∷ []) ≡ []
 unfolding sent_by
 untold_call row = refl
-
-pub call_stays : (row : SchedRow) (state : State) → after_acts (Call row ∷ []) state ≡ state
-unfolding after_act
-call_stays row state = refl
 
 pub untold_rebase : (slot : ℕ) (rows : List JobRow) → sent_to 0 0 (Rebase slot rows ∷ []) ≡ []
 unfolding sent_by

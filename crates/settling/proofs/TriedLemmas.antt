@@ -24,12 +24,12 @@ use Rattle.agreement.specs.World.{CastVote, Doing, MayDo, World, after_all, afte
 use Rattle.agreement.proofs.Growing.{each_replica, goes_on, said_cases}
 use Rattle.agreement.proofs.Kept.{Kept, leads_own, own_ballot, says_may}
 use Rattle.agreement.proofs.KeptLemmas.{setting_of}
-use Rattle.agreement.proofs.Transitions.{IsFollowed, first_followed, followed_after_all, transitions_followed}
+use Rattle.agreement.proofs.Transitions.{IsFollowed, first_followed, followed_after_all, transitions_followed, front_may, silent_may}
 use Rattle.history.specs.Book.{PostedLetter, Row, standing_after, votes_in}
 use Rattle.history.specs.Legal.{IsLegal}
 use Rattle.history.proofs.Acts.{all_answered_more, all_replicas, all_said_more, with_here}
 use Rattle.history.proofs.Reached.{Matches, reaches}
-use Rattle.history.proofs.TurnBounds.{step_all}
+use Rattle.history.proofs.TurnBounds.{step_all, may_rest}
 use Rattle.settling.specs.Tried.{IsTried}
 use Rattle.settling.proofs.TakesLemmas.{AllName, AllTake, Takes, step_takes}
 
@@ -132,12 +132,6 @@ MayAll n table by event w acts =
     (said : List Saying) (answered : List Ending) → ((saying : Saying) → Contains w.said saying → Contains said saying)
     → ((ending : Ending) → Contains w.answered ending → Contains answered ending) → AllMay (setting_with n table by event said answered) (w.replicas by) acts
 
-may_rest : (n : ℕ) (table : Table) (by : ℕ) (event : Option Event) (answer : Option Kind) (act : Act) (acts : List Act) (w : World) → MayAll n table by event w (act ∷ acts)
-    → MayAll n table by event (after_done (record { by = by; event = event; act = act; answer = answer }) w) acts
-may_rest n table by event answer act acts w may said answered stays answers_stay =
-    let next = (may said answered (λ saying has. stays saying (all_said_more by event answer (act ∷ []) w saying has)) (λ ending has. answers_stay ending (all_answered_more by event answer (act ∷ []) w ending has))).1 in
-    subst (λ s. AllMay (setting_with n table by event said answered) s acts) (sym (all_replicas by event answer (act ∷ []) w by ∙ with_here by (after_act act (w.replicas by)) w.replicas)) next
-
 -- what holds of the ballots of some acts holds where more follows of it
 take_more : (P Q : ℕ → Type 0) (acts : List Act) → ((ballot : ℕ) → P ballot → Q ballot) → AllTake P acts → AllTake Q acts
 take_more P Q [] more take = tt
@@ -186,16 +180,6 @@ event_tried n table by w Campaign tried tells = tt
 event_tried n table by w (Tick now plan) tried tells = tt
 event_tried n table by w (Hear from messages) tried tells = all_tried n w from messages tried tells
 event_tried n table by w (Answer job at kind rows) tried tells = tt
-
-front_may : (setting : Setting) (state : State) (front back : List Act) → AllMay setting state (front ++ back) → AllMay setting state front
-front_may setting state [] back may = tt
-front_may setting state (act ∷ front) back may = (may.0, front_may setting (after_act act state) front back may.1)
-
-silent_may : (setting : Setting) (state : State) (acts : List Act) → AllMay setting state acts → AllMay setting state (filter is_silent acts)
-unfolding after_act
-silent_may setting state [] may = tt
-silent_may setting state (Send whom message ∷ acts) may = silent_may setting state acts may.1
-silent_may setting state (act ∷ acts) may = (may.0, silent_may setting (after_act act state) acts may.1)
 
 front_takes : (P : ℕ → Type 0) (front back : List Act) → AllTake P (front ++ back) → AllTake P front
 front_takes P [] back take = tt

@@ -2,6 +2,7 @@ pub mod CopyLemmas
 pub mod DeltaLemmas
 pub mod HeardLemmas
 pub mod LineLemmas
+pub mod ListLemmas
 pub mod Lists
 pub mod OutLemmas
 pub mod RowLemmas

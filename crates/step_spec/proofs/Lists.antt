@@ -2,23 +2,11 @@
 use Rattle.std.proofs.Common.{◌≡◌, ℕ, zero, suc, ◌<◌, Some, List, [], ◌∷◌, ◌++◌, length, map, take, refl, ap, inl, inr, arith, ◌⊎◌, subst}
 use Rattle.std.specs.List.{AllZip, Contains, flat_map, slice_get}
 use Rattle.std.proofs.lemmas.List.Elements.{Contains-push, Contains-push_cases, Contains-append_left, Contains-append_right, Contains-append_cases}
+use Rattle.due_set.proofs.Rising.{Contains-head as in_first, Contains-tail as in_rest, Contains-cases as cons_cases}
 
 -- nothing is in an empty list
 pub nothing_in : {X : Type 0} {x : X} {P : Type 0} → Contains [] x → P
 nothing_in (k, within, is) = absurd (omega (arith, within))
-
--- what is in a list with a first element is that, or is behind it
-pub cons_cases : {X : Type 0} (x : X) (xs : List X) (y : X) → Contains (x ∷ xs) y → (x ≡ y) ⊎ Contains xs y
-cons_cases x xs y has = elim (Contains-append_cases (x ∷ []) xs y has) [
-  | inl here ↦ elim (Contains-push_cases [] x y here) [ inl none ↦ nothing_in none | inr same ↦ inl same ]
-  | inr later ↦ inr later
-]
-
-pub in_first : {X : Type 0} (x : X) (xs : List X) → Contains (x ∷ xs) x
-in_first x xs = Contains-append_left (x ∷ []) xs x (Contains-push [] x)
-
-pub in_rest : {X : Type 0} (x : X) (xs : List X) (y : X) → Contains xs y → Contains (x ∷ xs) y
-in_rest x xs y has = Contains-append_right (x ∷ []) xs y has
 
 -- what a number finds is there
 pub found_in : {X : Type 0} (xs : List X) (k : ℕ) (x : X) → slice_get xs k ≡ Some x → Contains xs x
@@ -72,9 +60,3 @@ pub take_next : {X : Type 0} (xs : List X) (k : ℕ) (x : X) → slice_get xs k 
 take_next [] k x is = absurd cc
 take_next (y ∷ xs) zero x is = let same : y ≡ x = cc in rw same refl
 take_next (y ∷ xs) (suc k) x is = ap (λ rest. y ∷ rest) (take_next xs k x is)
-
--- each number below the length finds an element
-pub row_at : {X : Type 0} (xs : List X) (k : ℕ) → k < length xs → (x : X) × (slice_get xs k ≡ Some x)
-row_at [] k within = absurd (omega (arith, within))
-row_at (x ∷ xs) zero within = (x, refl)
-row_at (x ∷ xs) (suc k) within = row_at xs k (omega (arith, within))

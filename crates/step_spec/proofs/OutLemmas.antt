@@ -16,7 +16,8 @@ use Rattle.step_spec.specs.Folds.{Addressed, calls_by, calls_of, learnt_by, lear
 use Rattle.step_spec.specs.Message.{Message, Whom, Only, Others, Outside, goes_to}
 use Rattle.step_spec.specs.State.{State, Identity, prefix_of}
 use Rattle.step_spec.specs.declared.out.LearntRow.{LearntRow}
-use Rattle.step_spec.proofs.Lists.{cons_cases, flat_came, in_first, in_rest, nothing_in}
+use Rattle.step_spec.proofs.Lists.{flat_came, nothing_in}
+use Rattle.due_set.proofs.Rising.{Contains-head as in_first, Contains-tail as in_rest, Contains-cases as cons_cases}
 
 -- what an element's list has is in the lists of all
 pub flat_has : {A B : Type 0} (f : A → List B) (xs : List A) (x : A) (y : B) → Contains xs x → Contains (f x) y → Contains (flat_map f xs) y

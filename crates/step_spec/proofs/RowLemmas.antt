@@ -14,8 +14,9 @@ use Rattle.paxos_letter.specs.declared.packet.Packet.TheVariants as packet
 use Rattle.step_spec.specs.Heard.{messages_of, row_in}
 use Rattle.step_spec.specs.Letters.{IsHeardAs, are_small, heard_in, is_small, is_small_letter, is_small_row, is_small_slot}
 use Rattle.step_spec.specs.Message.{Message, Snap}
-use Rattle.step_spec.proofs.Lists.{cons_cases, nothing_in}
+use Rattle.step_spec.proofs.Lists.{nothing_in}
 use Rattle.step_spec.proofs.SmallLemmas.{heard_whole}
+use Rattle.due_set.proofs.Rising.{Contains-cases as cons_cases}
 
 -- ---- rows of a copy
 

@@ -1,7 +1,6 @@
 -- For whatever a replica is told there is a setting in which it was said.
 use Rattle.std.proofs.Common.{ℕ, ◌<◌, List, [], ◌∷◌, Some, refl}
 use Rattle.std.specs.Prelude.{Contains, map}
-use Rattle.step_spec.proofs.Lists.{in_first, in_rest}
 use Rattle.std.specs.List.{AllByRecursion}
 use Rattle.due_set.specs.Table.{Table}
 use Rattle.step_spec.specs.Coherent.{IsCoherent}
@@ -11,6 +10,7 @@ use Rattle.step_spec.specs.Message.{Message, Prepare, Promise, Accept, Accepted,
 use Rattle.step_spec.specs.State.{Identity, State}
 use Rattle.step_spec.specs.Step.{Event, Campaign, Tick, Hear, Answer, IsPlanned, step}
 use Rattle.step_spec.proofs.LineLemmas.{acts_sound, step_may}
+use Rattle.due_set.proofs.Rising.{Contains-head as in_first, Contains-tail as in_rest}
 
 -- what was said where this is heard: the message itself, and a promise for the mention of one of its votes
 abbrev meant_by : Message → Message

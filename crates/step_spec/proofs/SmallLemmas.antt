@@ -8,7 +8,8 @@ use Rattle.paxos_letter.specs.declared.packet.Packet.TheVariants as packet
 use Rattle.step_spec.specs.Heard.{messages_of}
 use Rattle.step_spec.specs.Letters.{are_small, heard_in, is_small, is_small_ballot, is_small_letter, is_small_slot}
 use Rattle.step_spec.specs.Message.{Message, ballot_in, slot_in}
-use Rattle.step_spec.proofs.Lists.{cons_cases, nothing_in}
+use Rattle.step_spec.proofs.Lists.{nothing_in}
+use Rattle.due_set.proofs.Rising.{Contains-cases as cons_cases}
 
 -- the ballot and the slot that a message names are within the bounds
 abbrev pub IsBounded : Message → Type 0

@@ -16,7 +16,6 @@ use Rattle.step_spec.specs.Message.{Message, Nack, Only, Prepare, Promise}
 use Rattle.step_spec.specs.Propose.{is_long, tick, tick_of}
 use Rattle.step_spec.specs.State.{Identity, State, prefix_of, promised_in}
 use Rattle.step_spec.specs.Step.{Answer, Event, Hear, IsLaunchTable, Plan, Tick, step}
-use Rattle.step_spec.proofs.Lists.{in_first}
 use Rattle.agreement.specs.Transition.{identity_of}
 use Rattle.step_spec.proofs.Said.{stays_coherent}
 use Rattle.synchronous_rounds.specs.Calm.{Advice, ArePlanned, Calm, HeardLetter, IsAdvised, after_events, answer_events, before_tick, calm_round, events_at, hear_events, letter_from, letters_to}
@@ -29,6 +28,7 @@ use Rattle.synchronous_rounds.proofs.RoundLemmas.{round_after, round_planned}
 use Rattle.synchronous_rounds.proofs.TickLemmas.{holds_rebased}
 use Rattle.synchronous_rounds.specs.Campaign.{HasCampaigned, HasPromised, HasRefused, IsAnswered, IsCandidate}
 use Rattle.synchronous_rounds.proofs.ReplyLemmas.{answers_steady, hears_campaign, tick_steady}
+use Rattle.due_set.proofs.Rising.{Contains-head as in_first}
 
 -- a replica has answered a campaign
 abbrev pub Replies : (me ballot prefix : ℕ) → List HeardLetter → State → Type 0

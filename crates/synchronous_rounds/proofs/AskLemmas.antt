@@ -10,7 +10,7 @@ use Rattle.step_spec.specs.Hear.{Once, hear, hear_all, line, not_yet, on_lead, o
 use Rattle.step_spec.specs.Message.{Message, AskFrom, Lead, Only}
 use Rattle.step_spec.specs.State.{Identity, State, prefix_of}
 use Rattle.step_spec.specs.Step.{Tick, Plan, step}
-use Rattle.step_spec.proofs.Lists.{cons_cases, in_first, in_rest, nothing_in}
+use Rattle.step_spec.proofs.Lists.{nothing_in}
 use Rattle.agreement.specs.Transition.{identity_of}
 use Rattle.synchronous_rounds.specs.Calm.{Advice, Calm, HeardLetter, after_events, calm_round, hear_events, letter_from, letters_to}
 use Rattle.synchronous_rounds.specs.Ruled.{AreWithin, IsBehind, IsRuled, Occurs, StaysWithin}
@@ -19,6 +19,7 @@ use Rattle.synchronous_rounds.proofs.Lists.{acts_append, sent_in}
 use Rattle.synchronous_rounds.proofs.MailLemmas.{occurs_left, occurs_letter, occurs_next, occurs_right}
 use Rattle.synchronous_rounds.specs.CatchUp.{HasSaid, HaveAsked}
 use Rattle.synchronous_rounds.proofs.KeepLemmas.{answer_after, answer_letters, keeps_all, keeps_mail, level_mail, stays_level}
+use Rattle.due_set.proofs.Rising.{Contains-head as in_first, Contains-tail as in_rest, Contains-cases as cons_cases}
 
 -- ---- a letter
 

@@ -25,11 +25,11 @@ use Rattle.step_spec.specs.Folds.{after_acts, calls_by, sent_by, sent_to}
 use Rattle.step_spec.specs.Message.{Message, Accept, Lead, Others}
 use Rattle.step_spec.specs.Propose.{answer_of, bound_by, end_if, follow_intent, is_at, is_open, is_row_open, lead_on, propose, proposal, tick_of}
 use Rattle.step_spec.specs.State.{Identity, State, prefix_of}
-use Rattle.step_spec.proofs.Lists.{in_first}
 use Rattle.synchronous_rounds.specs.Begins.{NextEntry, proposal_of}
 use Rattle.synchronous_rounds.specs.Flights.{IsNeeded, Proposes}
 use Rattle.synchronous_rounds.specs.Ruled.{IsLeading, Progress}
 use Rattle.synchronous_rounds.proofs.CountLemmas.{few_alone, in_with}
+use Rattle.due_set.proofs.Rising.{Contains-head as in_first}
 
 -- ---- a proposal
 

@@ -13,13 +13,14 @@ use Rattle.step_spec.specs.Hear.{Once, hear, hear_all, line, not_yet, on_accepte
 use Rattle.step_spec.specs.Message.{Message, Promise, ballot_in}
 use Rattle.step_spec.specs.State.{Identity, State}
 use Rattle.step_spec.specs.Step.{step}
-use Rattle.step_spec.proofs.Lists.{cons_cases, nothing_in}
+use Rattle.step_spec.proofs.Lists.{nothing_in}
 use Rattle.synchronous_rounds.specs.Calm.{HeardLetter, after_events, hear_events}
 use Rattle.synchronous_rounds.specs.Ruled.{AreFrom, AreWithin, IsHolding, IsLeading, Occurs, Progress, StaysWithin}
 use Rattle.synchronous_rounds.proofs.ActLemmas.{observed}
 use Rattle.synchronous_rounds.proofs.CountLemmas.{all_are_enough, few_alone, in_with}
 use Rattle.synchronous_rounds.proofs.LeaderLemmas.{free_hear, hold_line}
 use Rattle.synchronous_rounds.proofs.Lists.{acts_append}
+use Rattle.due_set.proofs.Rising.{Contains-cases as cons_cases}
 
 -- whose campaign it is, how far it is, and the slot from which on it asked for votes
 pub record Bid : Type 0 where

@@ -15,13 +15,14 @@ use Rattle.step_spec.specs.Hear.{Once, hear, hear_all, line, not_yet, on_accepte
 use Rattle.step_spec.specs.Message.{Message, Accepted, ballot_in}
 use Rattle.step_spec.specs.State.{State, prefix_of}
 use Rattle.step_spec.specs.Step.{step}
-use Rattle.step_spec.proofs.Lists.{cons_cases, nothing_in}
+use Rattle.step_spec.proofs.Lists.{nothing_in}
 use Rattle.synchronous_rounds.specs.Calm.{HeardLetter, after_events, hear_events}
 use Rattle.synchronous_rounds.specs.Flights.{IsFlight, Proposal, Proposes, learned_by}
 use Rattle.synchronous_rounds.specs.Ruled.{AreFrom, AreWithin, IsLeading, StaysWithin, Occurs}
 use Rattle.synchronous_rounds.proofs.ActLemmas.{observed}
 use Rattle.synchronous_rounds.proofs.LeaderLemmas.{free_hear, lead_line, leading_observed}
 use Rattle.synchronous_rounds.proofs.Lists.{acts_append}
+use Rattle.due_set.proofs.Rising.{Contains-cases as cons_cases}
 
 -- the proposal is under way, and all of these are counted; or it has been learned
 pub record Counts (proposal : Proposal) (counted : ℕ → Type 0) (state : State) : Type 0 where

@@ -23,13 +23,14 @@ use Rattle.step_spec.specs.Message.{Message, Prepare, Promise, Accept, Accepted,
 use Rattle.step_spec.specs.State.{Identity, State, prefix_of, promised_in}
 use Rattle.step_spec.specs.Step.{Event, Hear, step}
 use Rattle.step_spec.proofs.LineLemmas.{acts_sound}
-use Rattle.step_spec.proofs.Lists.{in_first, in_rest}
 use Rattle.step_spec.proofs.Said.{setting_of, stays_coherent, step_may_be_done}
 use Rattle.synchronous_rounds.specs.Calm.{HeardLetter, after_events, hear_events, letter_from, letters_to}
 use Rattle.synchronous_rounds.specs.Ruled.{AreWithin, Occurs, StaysWithin}
 use Rattle.synchronous_rounds.proofs.ActLemmas.{rebased_prefix, silent_ask, silent_sends, silent_snapshot}
-use Rattle.synchronous_rounds.proofs.Lists.{acts_append, flat_in}
+use Rattle.synchronous_rounds.proofs.Lists.{acts_append}
 use Rattle.synchronous_rounds.proofs.MailLemmas.{occurs_left, occurs_letter, occurs_right}
+use Rattle.due_set.proofs.Rising.{Contains-head as in_first, Contains-tail as in_rest}
+use Rattle.step_spec.proofs.OutLemmas.{flat_has as flat_in}
 
 -- acts that may be done one after another, taken apart
 may_split : (setting : Setting) (state : State) (xs ys : List Act) → AllMay setting state (xs ++ ys) → AllMay setting state xs × AllMay setting (after_acts xs state) ys

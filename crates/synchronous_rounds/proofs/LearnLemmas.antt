@@ -12,7 +12,7 @@ use Rattle.step_spec.specs.Hear.{Once, hear, hear_all, known_from, line, not_yet
 use Rattle.step_spec.specs.Message.{Message, Known, Snap}
 use Rattle.step_spec.specs.State.{Identity, State, prefix_of}
 use Rattle.step_spec.specs.Step.{Tick, Plan, step}
-use Rattle.step_spec.proofs.Lists.{cons_cases, nothing_in}
+use Rattle.step_spec.proofs.Lists.{nothing_in}
 use Rattle.agreement.specs.Transition.{identity_of}
 use Rattle.synchronous_rounds.specs.Calm.{Advice, Calm, HeardLetter, after_events, calm_round, hear_events}
 use Rattle.synchronous_rounds.specs.Ruled.{AreWithin, IsBehind, IsRuled, StaysWithin}
@@ -21,6 +21,7 @@ use Rattle.synchronous_rounds.proofs.FollowerLemmas.{behind_all, behind_hear}
 use Rattle.synchronous_rounds.proofs.Lists.{acts_append}
 use Rattle.synchronous_rounds.specs.CatchUp.{AreTold, IsTold, Tells, entries_from, table_and}
 use Rattle.synchronous_rounds.proofs.KeepLemmas.{answer_after, keeps_all, keeps_hear, level_mail, stays_level}
+use Rattle.due_set.proofs.Rising.{Contains-cases as cons_cases}
 
 -- ---- a message
 

@@ -9,8 +9,10 @@ use Rattle.step_spec.specs.Folds.{after_acts, sent_by, sent_to}
 use Rattle.step_spec.specs.Message.{Message, Only}
 use Rattle.step_spec.specs.State.{Identity, State}
 use Rattle.step_spec.specs.Step.{Event, step}
-use Rattle.step_spec.proofs.Lists.{cons_cases, in_first, in_rest, nothing_in}
+use Rattle.step_spec.proofs.Lists.{nothing_in}
 use Rattle.synchronous_rounds.specs.Calm.{ArePlanned, after_events}
+use Rattle.due_set.proofs.Rising.{Contains-head as in_first, Contains-tail as in_rest, Contains-cases as cons_cases}
+use Rattle.step_spec.proofs.OutLemmas.{flat_has as flat_in}
 
 -- ---- acts and events, one part after another
 
@@ -27,14 +29,6 @@ planned_behind self table [] ys state planned = planned
 planned_behind self table (x ∷ xs) ys state planned = planned_behind self table xs ys (after_acts (step self x state) state) planned.1
 
 -- ---- lists
-
--- what is in a list that a list gives
-pub flat_in : {A B : Type 0} (f : A → List B) (xs : List A) (x : A) (y : B) → Contains xs x → Contains (f x) y → Contains (flat_map f xs) y
-flat_in f [] x y has inside = nothing_in has
-flat_in f (z ∷ xs) x y has inside = elim (cons_cases z xs x has) [
-  | inl same ↦ Contains-append_left (f z) (flat_map f xs) y (rw same inside)
-  | inr later ↦ Contains-append_right (f z) (flat_map f xs) y (flat_in f xs x y later inside)
-]
 
 -- a number of a range is in it
 pub range_in : (from n k : ℕ) → from ≤ k → k < from + n → Contains (range_with_len from n) k

@@ -11,13 +11,15 @@ use Rattle.step_spec.specs.Hear.{hear_all, not_yet}
 use Rattle.step_spec.specs.Message.{Message, Accept, Accepted}
 use Rattle.step_spec.specs.State.{Identity, State}
 use Rattle.step_spec.specs.Step.{Event, Tick, Answer, Plan, step}
-use Rattle.step_spec.proofs.Lists.{cons_cases, in_first, nothing_in}
+use Rattle.step_spec.proofs.Lists.{nothing_in}
 use Rattle.agreement.specs.Transition.{identity_of}
 use Rattle.synchronous_rounds.specs.Calm.{Advice, Calm, HeardLetter, after_events, answer_events, calm_round, events_at, hear_events, letter_from, letters_to}
 use Rattle.synchronous_rounds.specs.Flights.{IsAccepted, IsAsked}
 use Rattle.synchronous_rounds.specs.Ruled.{AreWithin, IsBehind, IsRuled, Occurs}
 use Rattle.synchronous_rounds.proofs.FollowerLemmas.{behind_all, behind_answer, votes_all}
-use Rattle.synchronous_rounds.proofs.Lists.{flat_in, range_in, sent_in}
+use Rattle.synchronous_rounds.proofs.Lists.{range_in, sent_in}
+use Rattle.due_set.proofs.Rising.{Contains-head as in_first, Contains-cases as cons_cases}
+use Rattle.step_spec.proofs.OutLemmas.{flat_has as flat_in}
 
 -- ---- mails
 

@@ -18,7 +18,7 @@ use Rattle.step_spec.specs.Hear.{Once, hear, hear_all, line, not_yet, on_known, 
 use Rattle.step_spec.specs.Message.{Message, Prepare, Promise, Accept, Accepted, Nack, Known, AskFrom, Snap, Lead, Mention}
 use Rattle.step_spec.specs.State.{Identity, State, prefix_of}
 use Rattle.step_spec.specs.Step.{step}
-use Rattle.step_spec.proofs.Lists.{cons_cases, nothing_in}
+use Rattle.step_spec.proofs.Lists.{nothing_in}
 use Rattle.synchronous_rounds.specs.Calm.{HeardLetter, after_events, hear_events}
 use Rattle.synchronous_rounds.specs.Ruled.{AreFrom, AreWithin, IsHolding, Occurs, StaysWithin}
 use Rattle.synchronous_rounds.proofs.ActLemmas.{observed, rebased_learned, rebased_prefix}
@@ -26,6 +26,7 @@ use Rattle.synchronous_rounds.proofs.BeginLemmas.{decides}
 use Rattle.synchronous_rounds.proofs.LeaderLemmas.{leading_observed}
 use Rattle.synchronous_rounds.proofs.Lists.{acts_append}
 use Rattle.synchronous_rounds.proofs.CandidateLemmas.{Among, AndNow, Bid, Competes, Promised, competes_fewer, competes_hear, gathers_observed}
+use Rattle.due_set.proofs.Rising.{Contains-cases as cons_cases}
 
 -- the same campaign, of one that has learned the next entry, and has these rows and this base
 abbrev pub ahead : Bid → List JobRow → ℕ → Bid

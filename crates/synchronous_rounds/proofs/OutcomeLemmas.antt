@@ -20,7 +20,6 @@ use Rattle.step_spec.specs.Message.{Message, Accept, Lead, Others}
 use Rattle.step_spec.specs.Propose.{is_long, is_open, propose, tick, tick_of, wait}
 use Rattle.step_spec.specs.State.{Identity, State, prefix_of}
 use Rattle.step_spec.specs.Step.{IsLaunchTable, Plan, step}
-use Rattle.step_spec.proofs.Lists.{in_first}
 use Rattle.agreement.specs.Transition.{identity_of}
 use Rattle.synchronous_rounds.specs.Begins.{Begins, calls, proposes, rebases, rests, HasAskedForCall, HasProposed, HasRebased, HasRested, proposal_of}
 use Rattle.synchronous_rounds.specs.Calm.{Advice, Calm, IsAdvised, before_tick, calm_round, letter_from}
@@ -31,6 +30,7 @@ use Rattle.synchronous_rounds.proofs.CountLemmas.{few_alone}
 use Rattle.synchronous_rounds.proofs.MailLemmas.{occurs_letter}
 use Rattle.synchronous_rounds.proofs.RoundLemmas.{round_after, round_occurs, round_planned}
 use Rattle.synchronous_rounds.proofs.TickLemmas.{holds_rebased, long_is}
+use Rattle.due_set.proofs.Rising.{Contains-head as in_first}
 
 -- ---- the acts of a tick
 
@@ -43,11 +43,11 @@ unfolding tick
 long_tick self now rows wanted state long = rw long refl
 
 -- a call asks for itself, and changes nothing
-one_call : (row : SchedRow) → calls_of (Call row ∷ []) ≡ row ∷ []
+pub one_call : (row : SchedRow) → calls_of (Call row ∷ []) ≡ row ∷ []
 unfolding calls_by
 one_call row = refl
 
-call_stays : (row : SchedRow) (state : State) → after_acts (Call row ∷ []) state ≡ state
+pub call_stays : (row : SchedRow) (state : State) → after_acts (Call row ∷ []) state ≡ state
 unfolding after_act
 call_stays row state = refl
 

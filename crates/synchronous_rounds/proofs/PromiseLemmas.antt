@@ -16,7 +16,6 @@ use Rattle.step_spec.specs.Hear.{Once, hear, hear_all, not_yet, on_accepted, on_
 use Rattle.step_spec.specs.Message.{Message, Known, Prepare, Promise, ballot_in}
 use Rattle.step_spec.specs.State.{Identity, State, prefix_of, promised_in}
 use Rattle.step_spec.specs.Step.{Answer, Event, Hear, Plan, Tick, step}
-use Rattle.step_spec.proofs.Lists.{in_first}
 use Rattle.agreement.specs.Transition.{identity_of}
 use Rattle.step_spec.proofs.Said.{stays_coherent}
 use Rattle.synchronous_rounds.specs.Calm.{Advice, ArePlanned, Calm, HeardLetter, IsAdvised, after_events, answer_events, before_tick, calm_round, events_at, hear_events, letter_from, letters_to}
@@ -35,6 +34,7 @@ use Rattle.synchronous_rounds.proofs.DecidedLemmas.{mail_alone, planned_front}
 use Rattle.synchronous_rounds.proofs.EarlyLemmas.{early_mail}
 use Rattle.synchronous_rounds.proofs.ReplyLemmas.{answers_steady, hears_campaign, tick_steady}
 use Rattle.synchronous_rounds.proofs.TermLemmas.{sound_events}
+use Rattle.due_set.proofs.Rising.{Contains-head as in_first}
 
 -- ---- one of the others: other letters, and then the campaign
 

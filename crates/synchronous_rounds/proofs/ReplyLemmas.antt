@@ -23,12 +23,12 @@ use Rattle.step_spec.specs.Message.{Nack, Only, Prepare, Promise}
 use Rattle.step_spec.specs.Propose.{answer, answer_of, end_if, follow_intent, is_long, is_open, lead_on, propose, proposal, tick, tick_of}
 use Rattle.step_spec.specs.State.{Identity, State, prefix_of, promised_in}
 use Rattle.step_spec.specs.Step.{Answer, Hear, Plan, Tick, step}
-use Rattle.step_spec.proofs.Lists.{in_first, in_rest}
 use Rattle.agreement.proofs.Kept.{own_ballot}
 use Rattle.step_spec.proofs.Said.{step_may_be_done}
 use Rattle.synchronous_rounds.proofs.ActLemmas.{rebased_prefix}
 use Rattle.synchronous_rounds.proofs.CountLemmas.{few_alone}
 use Rattle.synchronous_rounds.proofs.TickLemmas.{silent_wait}
+use Rattle.due_set.proofs.Rising.{Contains-head as in_first, Contains-tail as in_rest}
 
 -- neither what is promised nor what is learned changes
 pub record IsSteady (old new : State) : Type 0 where

@@ -24,7 +24,6 @@ use Rattle.step_spec.specs.Folds.{after_acts, calls_by}
 use Rattle.step_spec.specs.Propose.{answer, is_open, propose, tick}
 use Rattle.step_spec.specs.State.{State, prefix_of, promised_in}
 use Rattle.step_spec.specs.Step.{Answer, Hear, IsPlanned, Plan, Tick, step}
-use Rattle.step_spec.proofs.Lists.{in_first}
 use Rattle.agreement.specs.Transition.{identity_of}
 use Rattle.history.proofs.Asks.{busy, call_asked, is_open_then, minute, opened, sound}
 use Rattle.due_set.specs.Table.{IsSound, Table}
@@ -38,6 +37,7 @@ use Rattle.synchronous_rounds.proofs.StageLemmas.{ruled_then}
 use Rattle.synchronous_rounds.proofs.TickLemmas.{LeadsOn}
 use Rattle.synchronous_rounds.proofs.CountLemmas.{few_alone, in_with}
 use Rattle.synchronous_rounds.specs.Ruled.{AreFrom, AreWithin, IsBehind, IsLeading, IsRuled, Progress}
+use Rattle.due_set.proofs.Rising.{Contains-head as in_first}
 
 -- ---- the replicas
 

@@ -59,7 +59,7 @@ rows_then state = all_applied bare bare_sound state.kept.rows state.learned
 
 -- ---- a round
 
-planned_append : (self : Identity) (table : Table) (xs ys : List Event) (state : State) → ArePlanned self table xs state → ArePlanned self table ys (after_events self xs state) → ArePlanned self table (xs ++ ys) state
+pub planned_append : (self : Identity) (table : Table) (xs ys : List Event) (state : State) → ArePlanned self table xs state → ArePlanned self table ys (after_events self xs state) → ArePlanned self table (xs ++ ys) state
 planned_append self table [] ys state first second = second
 planned_append self table (x ∷ xs) ys state first second = (first.0, planned_append self table xs ys (after_acts (step self x state) state) first.1 second)
 

@@ -18,16 +18,18 @@ use Rattle.step_spec.specs.Hear.{Once, ask_below, hear, hear_all, is_vote_of, kn
 use Rattle.step_spec.specs.Message.{Message, Prepare, Promise, Accept, Accepted, Nack, Known, AskFrom, Snap, Lead, Mention, ballot_in}
 use Rattle.step_spec.specs.State.{Identity, State, prefix_of, promised_in}
 use Rattle.step_spec.specs.Step.{Tick, Plan, step}
-use Rattle.step_spec.proofs.Lists.{cons_cases, in_first, nothing_in}
+use Rattle.step_spec.proofs.Lists.{nothing_in}
 use Rattle.agreement.specs.Transition.{identity_of}
 use Rattle.synchronous_rounds.specs.Calm.{Advice, Calm, HeardLetter, calm_round, events_at, hear_events, letter_from, letters_to}
 use Rattle.synchronous_rounds.specs.Rounds.{IsFreeNow}
 use Rattle.synchronous_rounds.specs.Ruled.{AreWithin, IsLeading, Occurs, Progress, StaysWithin}
 use Rattle.synchronous_rounds.proofs.ActLemmas.{observed}
 use Rattle.synchronous_rounds.proofs.LeaderLemmas.{free_all, free_hear, leading_observed}
-use Rattle.synchronous_rounds.proofs.Lists.{flat_in, range_in}
+use Rattle.synchronous_rounds.proofs.Lists.{range_in}
 use Rattle.synchronous_rounds.specs.CatchUp.{AreTold, HaveAsked, IsPieceOf, Tells, entries_from, table_and}
 use Rattle.synchronous_rounds.proofs.KeepLemmas.{answer_after, keeps_mail, level_mail}
+use Rattle.due_set.proofs.Rising.{Contains-head as in_first, Contains-cases as cons_cases}
+use Rattle.step_spec.proofs.OutLemmas.{flat_has as flat_in}
 
 -- ---- pieces
 

@@ -20,12 +20,13 @@ use Rattle.step_spec.specs.May.{AllMay, HasNoOther, IsFollower, May, Setting}
 use Rattle.step_spec.specs.Message.{Message, ballot_in}
 use Rattle.step_spec.specs.State.{Identity, State, prefix_of}
 use Rattle.step_spec.specs.Step.{Event, step}
-use Rattle.step_spec.proofs.Lists.{cons_cases, in_first, nothing_in}
+use Rattle.step_spec.proofs.Lists.{nothing_in}
 use Rattle.step_spec.proofs.Said.{setting_of, stays_coherent, step_may_be_done}
 use Rattle.synchronous_rounds.specs.Calm.{ArePlanned, HeardLetter, after_events, hear_events}
 use Rattle.synchronous_rounds.specs.Ruled.{Occurs}
 use Rattle.synchronous_rounds.proofs.ActLemmas.{follows_later, follows_on}
 use Rattle.synchronous_rounds.proofs.SendLemmas.{IsPlain, no_campaign}
+use Rattle.due_set.proofs.Rising.{Contains-head as in_first, Contains-cases as cons_cases}
 
 -- ---- no act of a round is a campaign or a start
 

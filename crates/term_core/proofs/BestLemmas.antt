@@ -11,24 +11,7 @@ use Rattle.paxos_base.specs.declared.entry.Vote.{Vote}
 use Rattle.paxos_base.specs.Vote.{SlotsRise, vote_at, votes_below, votes_from, put_vote}
 use Rattle.paxos_base.proofs.PutLemmas.{SlotsRise-put_vote}
 use Rattle.term_core.specs.Best.{best_of, is_higher, with_vote}
-
-filter_all : {X : Type 0} (p : X → Bool) (xs : List X) → All (λ x. p x ≡ true) xs → filter p xs ≡ xs
-filter_all p [] all = refl
-filter_all p (x ∷ xs) all =
-    let here : p x ≡ true = All-head (λ y. p y ≡ true) x xs all in
-    rw here (ap (λ rest. x ∷ rest) (filter_all p xs (All-tail (λ y. p y ≡ true) x xs all)))
-
-filter_none : {X : Type 0} (p : X → Bool) (xs : List X) → All (λ x. p x ≡ false) xs → filter p xs ≡ []
-filter_none p [] all = refl
-filter_none p (x ∷ xs) all =
-    let here : p x ≡ false = All-head (λ y. p y ≡ false) x xs all in
-    rw here (filter_none p xs (All-tail (λ y. p y ≡ false) x xs all))
-
-find_none : {X : Type 0} (p : X → Bool) (xs : List X) → All (λ x. p x ≡ false) xs → find p xs ≡ None
-find_none p [] all = refl
-find_none p (x ∷ xs) all =
-    let here : p x ≡ false = All-head (λ y. p y ≡ false) x xs all in
-    rw here (find_none p xs (All-tail (λ y. p y ≡ false) x xs all))
+use Rattle.paxos_base.proofs.PlaceLemmas.{filter_all, filter_none, find_none}
 
 -- each vote is at a slot before this one
 abbrev pub AllBelow : ℕ → List Vote → Type 0
@@ -140,7 +123,7 @@ unfolding with_vote
 with_vote-same vote held votes same above =
     rw (vote_at-same vote.slot held votes same, put_vote-same vote held votes same above) (choose_first (ltb held.ballot vote.ballot) vote held votes)
 
-rise_tail : (vote : Vote) (votes : List Vote) → SlotsRise (vote ∷ votes) → SlotsRise votes
+pub rise_tail : (vote : Vote) (votes : List Vote) → SlotsRise (vote ∷ votes) → SlotsRise votes
 rise_tail vote votes rise = λ i j d before within. rise (suc i) (suc j) d (omega (arith, before)) (omega (arith, within))
 
 rise_above : (vote : Vote) (votes : List Vote) → SlotsRise (vote ∷ votes) → AllAbove vote.slot votes

@@ -14,10 +14,11 @@ use Rattle.history.proofs.Keeping.{one_event, stands_next}
 use Rattle.script_semantics.specs.Free.{after_all_posted, after_posted}
 use Rattle.script_semantics.specs.Situation.{Situation, after_turn, after_turns, bases_kept, changes_in, first_situation}
 use Rattle.world_law.specs.declared.row.BookRow.{BookRow}
-use Rattle.world_law.proofs.Settled.{alike_after, may_next}
+use Rattle.world_law.proofs.Settled.{alike_after}
 use Rattle.world_free.specs.Jobs.{IsOfPlan, situation_in}
 use Rattle.world_free.specs.Plan.{ArePlayed, Plan, SharedBook}
 use Rattle.world_free.proofs.Played.{begun_stands, front_legal, played_turns}
+use Rattle.history.proofs.FrontLemmas.{follows_there as may_next}
 
 -- how many bases the replicas have kept by some rows
 abbrev pub bases_in : Plan → List Row → ℕ → ℕ

@@ -34,7 +34,6 @@ use Rattle.world_steps.specs.Nodes.{IsDiskAt, IsNodeOf, bases_behind}
 use Rattle.world_steps.specs.Parts.{IsBookAt, IsMailOf, IsSentTo, armed_in}
 use Rattle.world_steps.specs.declared.mail.MemberMail.{MemberMail}
 use Rattle.world_steps.proofs.Ended.{running_node, stopped_node}
-use Rattle.world_steps.proofs.Foreseen.{found_more}
 use Rattle.world_free.specs.Ends.{HasEnded, letters_at_end}
 use Rattle.world_free.specs.Jobs.{HasBroken, HasGone, IsBroken, IsIdle, IsJobAt, IsRunner, situation_in}
 use Rattle.world_free.specs.Mails.{IsMailIn, IsPostedTo, IsStoppedMailIn, coming}
@@ -50,6 +49,7 @@ use Rattle.world_free.proofs.Joins.{Joins, joins}
 use Rattle.world_free.proofs.Letters.{coming_is_sent, letters_come, no_letters}
 use Rattle.world_free.proofs.Played.{posted_stands, split_played}
 use Rattle.world_free.proofs.Stepping.{posted_row}
+use Rattle.step_spec.proofs.ListLemmas.{found_still as found_more}
 
 -- ---- letters
 

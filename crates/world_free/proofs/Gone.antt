@@ -5,7 +5,6 @@ use Rattle.std.proofs.lemmas.Bool.{cases_Bool}
 use Rattle.std.proofs.lemmas.List.Sums.{fold-append}
 use Rattle.step_spec.specs.Step.{Event}
 use Rattle.step_spec.specs.declared.out.OutLetter.{OutLetter}
-use Rattle.step_spec.proofs.Lists.{in_rest}
 use Rattle.history.specs.Book.{Row, Standing, after_row, post}
 use Rattle.history.specs.declared.turn.CallRow.{CallRow}
 use Rattle.history.specs.declared.turn.Cause.{Cause}
@@ -24,10 +23,11 @@ use Rattle.turn_book.specs.Rows.{is_seat}
 use Rattle.world_law.specs.Rows.{IsBehind, seat_of}
 use Rattle.world_law.specs.declared.row.BookRow.{BookRow}
 use Rattle.world_steps.proofs.AfterTurn.{did_runs}
-use Rattle.world_steps.proofs.Facts.{fact_here}
 use Rattle.world_free.specs.Jobs.{HasBroken, HasGone, situation_in}
 use Rattle.world_free.specs.Plan.{Plan, course_in}
 use Rattle.world_free.specs.Seats.{rows_by}
+use Rattle.due_set.proofs.Rising.{Contains-tail as in_rest}
+use Rattle.history.proofs.Standings.{fact_here}
 
 -- ---- rows of others
 

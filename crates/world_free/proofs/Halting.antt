@@ -37,7 +37,6 @@ use Rattle.world_steps.specs.Parts.{armed_in}
 use Rattle.world_steps.specs.declared.mail.MemberMail.{MemberMail}
 use Rattle.world_steps.specs.Stops.{IsNextStop, change_kept}
 use Rattle.world_steps.specs.Turns.{IsHalted}
-use Rattle.world_steps.proofs.Facts.{fact_here}
 use Rattle.world_steps.proofs.Foreseen.{added, adds}
 use Rattle.world_steps.proofs.Stopping.{kept_is}
 use Rattle.world_free.specs.Jobs.{HasBroken, IsNodeFit, IsStopper, situation_in}
@@ -51,6 +50,7 @@ use Rattle.world_free.proofs.Letters.{no_letters}
 use Rattle.world_free.proofs.Lists.{zip_join}
 use Rattle.world_free.proofs.Played.{played_stand, situation_stands}
 use Rattle.world_free.proofs.Since.{IsHere, Lately, bases_here, changes_before, changes_seen, few_here, input_here, is_then, lately, left_by, still_at, takes_here, told_here}
+use Rattle.history.proofs.Standings.{fact_here}
 
 -- ---- what a stop leaves
 

@@ -34,8 +34,7 @@ use Rattle.world_steps.specs.Turns.{IsNextStep, MayJoin, arm_then, fate_then, no
 use Rattle.world_steps.specs.declared.steps.Taken.{Taken}
 use Rattle.world_steps.proofs.AfterTurn.{did_arm, did_fate, did_waits}
 use Rattle.world_steps.proofs.Bases.{arm_spent}
-use Rattle.world_steps.proofs.Facts.{fact_here}
-use Rattle.world_steps.proofs.Foreseen.{added, adds, found_more}
+use Rattle.world_steps.proofs.Foreseen.{added, adds}
 use Rattle.world_steps.proofs.Joined.{turn_of_step}
 use Rattle.world_free.specs.Jobs.{HasGone, HasPlayed, IsStepper, situation_in}
 use Rattle.world_free.specs.Mails.{HasLooked, IsMailIn, IsPostedTo, coming, posted_with}
@@ -49,6 +48,8 @@ use Rattle.world_free.proofs.Letters.{coming_in_two, coming_is_sent, letters_com
 use Rattle.world_free.proofs.Lists.{zip_join}
 use Rattle.world_free.proofs.Played.{played_stand, situation_stands}
 use Rattle.world_free.proofs.Since.{IsHere, Lately, changes_before, changes_seen, few_here, is_then, lately, left_by, looked_here, still_at, takes_here, told_here, two}
+use Rattle.history.proofs.Standings.{fact_here}
+use Rattle.step_spec.proofs.ListLemmas.{found_still as found_more}
 
 module _ {D : Type 0} (seen : D → Image) (may_leave : D → Image → Type 0) (honest : D → Type 0) (told_of : D → Option Told) (plan : Plan) (book : SharedBook) (who taken : ℕ) (step : Taken) (job : FreeJob D)
     (stepper : IsStepper seen may_leave honest told_of plan book who taken step job) (gone : List BookRow) (others : rows_by who gone ≡ []) (state : BookState)

@@ -13,9 +13,10 @@ use Rattle.world_law.specs.Book.{BookState, StandsBehind}
 use Rattle.world_law.specs.Rows.{HasRows, IsBehind}
 use Rattle.world_law.specs.declared.row.BookRow.{BookRow}
 use Rattle.world_law.proofs.Rows.{turns_behind}
-use Rattle.world_law.proofs.Settled.{may_next, stand_instead, turns_settle}
+use Rattle.world_law.proofs.Settled.{stand_instead, turns_settle}
 use Rattle.world_free.proofs.Lists.{zip_split}
 use Rattle.world_free.proofs.Played.{front_legal}
+use Rattle.history.proofs.FrontLemmas.{follows_there as may_next}
 
 abbrev turns_of : List Row → List Turn
 turns_of rows = map (λ (row : Row). row.turn) rows

@@ -5,10 +5,11 @@ use Rattle.std.proofs.lemmas.Bool.{cases_Bool, eqb-true}
 use Rattle.std.proofs.lemmas.List.{length-append}
 use Rattle.std.proofs.lemmas.List.Elements.{filter-append}
 use Rattle.history.specs.Book.{PostedLetter}
-use Rattle.step_spec.proofs.Lists.{cons_cases, nothing_in}
+use Rattle.step_spec.proofs.Lists.{nothing_in}
 use Rattle.script_semantics.specs.Situation.{Situation, is_cut, letters_for, reaches}
 use Rattle.script_semantics.proofs.FreeMailLemmas.{found_still, same_passes, split_range}
 use Rattle.world_free.specs.Mails.{IsPostedTo, comes_to, coming}
+use Rattle.due_set.proofs.Rising.{Contains-cases as cons_cases}
 
 filter_none : (test : ℕ → Bool) (xs : List ℕ) → ((x : ℕ) → test x ≡ false) → filter test xs ≡ []
 filter_none test [] none = refl

@@ -14,10 +14,11 @@ use Rattle.script_semantics.specs.Situation.{Situation}
 use Rattle.world_law.specs.Rows.{IsBehind}
 use Rattle.world_law.specs.declared.row.BookRow.{BookRow}
 use Rattle.world_law.proofs.Rows.{turns_behind}
-use Rattle.world_law.proofs.Settled.{may_next, turns_settle}
+use Rattle.world_law.proofs.Settled.{turns_settle}
 use Rattle.world_free.specs.Jobs.{IsOfPlan, situation_in}
 use Rattle.world_free.specs.Plan.{ArePlayed, Plan, SharedBook}
 use Rattle.world_free.proofs.Lists.{zip_split}
+use Rattle.history.proofs.FrontLemmas.{follows_there as may_next}
 
 abbrev turns_of : List Row → List Turn
 turns_of rows = map (λ (row : Row). row.turn) rows

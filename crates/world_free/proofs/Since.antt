@@ -27,12 +27,11 @@ use Rattle.world_law.specs.Rows.{HasRows, IsBehind, seat_of}
 use Rattle.world_law.specs.declared.letter.LetterRow.{LetterRow}
 use Rattle.world_law.specs.declared.row.BookRow.{BookRow}
 use Rattle.world_law.proofs.Rows.{turns_are, turns_behind}
-use Rattle.world_law.proofs.Settled.{may_next}
 use Rattle.world_law.proofs.Steps.{takes_turn}
 use Rattle.world_steps.specs.Nodes.{bases_behind}
 use Rattle.world_steps.specs.Steps.{IsToldOf, waits_in}
 use Rattle.world_steps.proofs.Bases.{deltas_at}
-use Rattle.world_steps.proofs.Foreseen.{found_more, is_input}
+use Rattle.world_steps.proofs.Foreseen.{is_input}
 use Rattle.world_free.specs.Jobs.{HasPlayed, IsOfPlan, situation_in}
 use Rattle.world_free.specs.Plan.{ArePlayed, Plan, Seat, SharedBook}
 use Rattle.world_free.specs.Seats.{IsSeatAt, rows_by}
@@ -41,6 +40,8 @@ use Rattle.world_free.proofs.Gone.{others_behind, others_leave_it, situation_mor
 use Rattle.world_free.proofs.Lists.{cut_front, none_behind, zip_one, zip_split}
 use Rattle.world_free.proofs.Played.{Split, played_stand, situation_stands, split_played, stands_in}
 use Rattle.world_free.proofs.Stepping.{posted_row}
+use Rattle.history.proofs.FrontLemmas.{follows_there as may_next}
+use Rattle.step_spec.proofs.ListLemmas.{found_still as found_more}
 
 -- ---- what others have added
 

@@ -14,7 +14,6 @@ use Rattle.paxos_base.specs.declared.durable.Delta.{Delta}
 use Rattle.cluster_sched.specs.declared.row.SchedRow.{SchedRow}
 use Rattle.term_core.specs.Term.{is_leader}
 use Rattle.step_spec.specs.State.{State}
-use Rattle.step_spec.proofs.Lists.{in_first}
 use Rattle.history.specs.Book.{PostedLetter, Row, Standing}
 use Rattle.history.specs.declared.turn.Cause.{Cause}
 use Rattle.history.specs.declared.turn.Cause.TheVariants.{Campaign, Tick, Hear, Answer}
@@ -44,6 +43,7 @@ use Rattle.world_free.specs.Plan.{ArePlayed, Plan, SharedBook}
 use Rattle.world_free.specs.declared.job.FreeJob.{FreeJob}
 use Rattle.world_free.proofs.BaseLemmas.{bases_still, situation_bases}
 use Rattle.world_free.proofs.Played.{situation_stands}
+use Rattle.due_set.proofs.Rising.{Contains-head as in_first}
 
 clock_inside : (window : Window) (at skew : ℤ) → window.from.0 <ℤ window.until.0 → IsInWindow window (clock_reading window at skew).0
 clock_inside window at skew ordered = record { since = omega (arith, ints, clamps); before = omega (arith, ints, clamps) }

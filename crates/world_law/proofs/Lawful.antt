@@ -26,7 +26,7 @@ use Rattle.turn_book.specs.Rows.{HasLawful, IsLawful}
 use Rattle.world_law.specs.Book.{BookState, IsRowOf, StandsBehind}
 use Rattle.world_law.specs.Rows.{HasRows, IsBehind, MayComeNext}
 use Rattle.world_law.specs.declared.row.BookRow.{BookRow}
-use Rattle.world_law.proofs.Settled.{may_next}
+use Rattle.history.proofs.FrontLemmas.{follows_there as may_next}
 
 -- ---- what came of a turn
 

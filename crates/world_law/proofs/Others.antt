@@ -15,14 +15,10 @@ use Rattle.history.proofs.Keeping.{stands_next}
 use Rattle.replica_core.specs.Replica.{ReplicaState}
 use Rattle.world_law.specs.Book.{BookState, standing_behind}
 use Rattle.world_law.specs.Replicas.{StandsAt, StandsStopped}
+use Rattle.history.proofs.FrontLemmas.{replica_there}
+use Rattle.history.proofs.Standings.{fact_there}
 
-fact_there : {A : Type 0} (who : ℕ) (fact : A) (facts : ℕ → A) (other : ℕ) → other ≢ who → with_fact who fact facts other ≡ facts other
-fact_there who fact facts other differs = rw (ne_eqb other who differs) refl
-
-replica_there : (who : ℕ) (state : State) (replicas : ℕ → State) (other : ℕ) → other ≢ who → with_replica who state replicas other ≡ replicas other
-replica_there who state replicas other differs = rw (ne_eqb other who differs) refl
-
-others_run : (n : ℕ) (s : Standing) (turn : Turn) (event : Event) (letters : List OutLetter) (other : ℕ) → other ≢ turn_of turn
+pub others_run : (n : ℕ) (s : Standing) (turn : Turn) (event : Event) (letters : List OutLetter) (other : ℕ) → other ≢ turn_of turn
     → (after_row n s turn event letters).runs other ≡ s.runs other
 unfolding after_row
 others_run n s (Did who cause made) event letters other differs = refl
@@ -30,7 +26,7 @@ others_run n s (Stopped who cause kept) event letters other differs = fact_there
 others_run n s (Restarted who) event letters other differs = fact_there who _ s.runs other differs
 others_run n s (Arrived number) event letters other differs = refl
 
-others_stay : (n : ℕ) (s : Standing) (turn : Turn) (event : Event) (letters : List OutLetter) (other : ℕ) → other ≢ turn_of turn
+pub others_stay : (n : ℕ) (s : Standing) (turn : Turn) (event : Event) (letters : List OutLetter) (other : ℕ) → other ≢ turn_of turn
     → (after_row n s turn event letters).replicas other ≡ s.replicas other
 unfolding after_row
 others_stay n s (Did who cause made) event letters other differs = replica_there who _ s.replicas other differs

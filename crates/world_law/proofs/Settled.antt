@@ -21,6 +21,7 @@ use Rattle.history.specs.declared.turn.Turn.TheVariants.{Did, Stopped, Restarted
 use Rattle.history.proofs.Keeping.{one_event, stands_next}
 use Rattle.world_law.specs.Book.{BookState, StandsBehind, posting_turns, standing_behind}
 use Rattle.world_law.proofs.Behind.{posting_next}
+use Rattle.history.proofs.FrontLemmas.{follows_there as may_next}
 
 abbrev out_letter : ℕ → List ℕ → OutLetter
 out_letter to bytes = record { to = to; bytes = bytes }
@@ -109,12 +110,6 @@ cut_next : (front back : List Row) → take (length front) (front ++ back) ≡ f
 cut_next [] [] = refl
 cut_next [] (row ∷ back) = refl
 cut_next (first ∷ front) back = ap (λ rows. first ∷ rows) (cut_next front back)
-
-pub may_next : (n : ℕ) (table : Table) (front back : List Row) (row : Row) → IsLegal n table (front ++ row ∷ back)
-    → MayFollow n table (standing_after n (first_rows table) front) row.turn row
-may_next n table front back row legal =
-    subst (λ before. MayFollow n table (standing_after n (first_rows table) before) row.turn row) (cut_next front (row ∷ back))
-    (legal (length front) row (there_next front back row))
 
 votes_next : (front : List Row) (row : Row) → votes_in (front ++ row ∷ []) ≡ votes_in front ++ votes_in (row ∷ [])
 votes_next front row = flat_map-append _ front (row ∷ [])

@@ -40,7 +40,7 @@ use Rattle.world_law.specs.declared.letter.LetterRow.{LetterRow}
 -- ---- the event
 
 -- the letter of a number is the one that was posted
-posted_at : (table : Table) (rows : List Row) (book : BookState) (number : ℕ) (letter : LetterRow) → StandsBehind table rows book → slice_get book.letters number ≡ Some letter
+pub posted_at : (table : Table) (rows : List Row) (book : BookState) (number : ℕ) (letter : LetterRow) → StandsBehind table rows book → slice_get book.letters number ≡ Some letter
     → slice_get (standing_behind table rows book).posted number ≡ Some (posted_as letter)
 posted_at table rows book number letter behind there =
     ap (λ posted. slice_get posted number) (sym behind.letters) ∙ slice_get-map posted_as book.letters number ∙ ap (option_map posted_as) there

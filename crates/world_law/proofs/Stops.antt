@@ -25,11 +25,9 @@ use Rattle.replica_core.specs.declared.input.Input.{Input}
 use Rattle.world_law.specs.Book.{BookState, StandsBehind, standing_behind}
 use Rattle.world_law.specs.Replicas.{IsInputOf, IsRestartOf, IsStopOf, StandsAt, StandsStopped}
 use Rattle.world_law.proofs.Steps.{takes_turn}
+use Rattle.history.proofs.Standings.{fact_here}
 
 -- ---- what stands after such a turn
-
-fact_here : {A : Type 0} (who : ℕ) (fact : A) (facts : ℕ → A) → with_fact who fact facts who ≡ fact
-fact_here who fact facts = rw (eq-eqb who who refl) refl
 
 after_stopped : (n : ℕ) (s : Standing) (who : ℕ) (cause : Option Cause) (kept : Bool) (event : Event) (letters : List OutLetter)
     → ((after_row n s (Stopped who cause kept) event letters).runs who ≡ false) × ((after_row n s (Stopped who cause kept) event letters).replicas who ≡ started who (kept_at n s who event kept))

@@ -22,10 +22,9 @@ use Rattle.script_semantics.specs.Situation.{AreTurnsFor, Restart, Situation, Ta
 use Rattle.script_text.specs.Command.{IsSkew}
 use Rattle.script_text.specs.declared.command.Command.TheVariants as command
 use Rattle.world_law.specs.Book.{BookState}
-use Rattle.world_steps.proofs.Facts.{fact_there}
 use Rattle.world_rounds.proofs.Chains.{after_append, turns_append}
 use Rattle.world_rounds.proofs.Delivery.{range_next}
-use Rattle.world_rounds.proofs.QuietLemmas.{found_at, node_state}
+use Rattle.world_rounds.proofs.QuietLemmas.{node_state}
 use Rattle.world_rounds.proofs.RoundsOfAll.{take_front}
 use Rattle.world_rounds.proofs.Setting.{world_set}
 use Rattle.world_rounds.proofs.StepsAt.{get_set_there}
@@ -37,6 +36,8 @@ use Rattle.world_rounds.specs.World.{GoesOnBy, IsWorld, IsWorldAt}
 use Rattle.world_rounds.specs.declared.member.Member.{Member}
 use Rattle.world_steps.specs.Parts.{armed_in}
 use Rattle.world_rounds.specs.declared.world.World.{World}
+use Rattle.history.proofs.Standings.{fact_there}
+use Rattle.launch_machine.proofs.MachineLemmas.{is_some_below as found_at}
 
 no_skew : IsSkew (pos 0)
 no_skew = (omega (arith, ints), omega (arith, ints))

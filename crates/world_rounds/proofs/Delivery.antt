@@ -27,11 +27,7 @@ use Rattle.world_rounds.specs.World.{IsMemberAhead, IsWorld, IsWorldAt}
 use Rattle.world_steps.specs.declared.mail.MemberMail.{MemberMail}
 use Rattle.world_rounds.specs.declared.member.Member.{Member}
 use Rattle.world_rounds.specs.declared.world.World.{World}
-
-posted_at : (table : Table) (rows : List Row) (book : BookState) (number : ℕ) (letter : LetterRow) → StandsBehind table rows book → slice_get book.letters number ≡ Some letter
-    → slice_get (standing_behind table rows book).posted number ≡ Some (posted_as letter)
-posted_at table rows book number letter behind there =
-    ap (λ posted. slice_get posted number) (sym behind.letters) ∙ slice_get-map posted_as book.letters number ∙ ap (option_map posted_as) there
+use Rattle.world_law.proofs.Steps.{posted_at}
 
 -- whether a letter reaches a replica
 abbrev arrival_by : (number to who : ℕ) → (runs cut : Bool) → List ℕ

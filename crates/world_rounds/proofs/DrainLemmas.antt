@@ -14,7 +14,7 @@ use Rattle.history.specs.declared.turn.CallRow.{CallRow}
 use Rattle.history.specs.declared.turn.Cause.{Cause}
 use Rattle.history.specs.declared.turn.Cause.TheVariants.{Campaign}
 use Rattle.history.specs.declared.turn.Turn.TheVariants.{Did}
-use Rattle.step_spec.proofs.Lists.{in_first, in_rest, cons_cases, nothing_in}
+use Rattle.step_spec.proofs.Lists.{nothing_in}
 use Rattle.script_semantics.proofs.RoundLemmas.{is_step}
 use Rattle.script_semantics.proofs.StartLemmas.{same_coordinator}
 use Rattle.script_semantics.specs.Commands.{Plain, set_by, tasks_for}
@@ -23,18 +23,16 @@ use Rattle.script_semantics.specs.Round.{IsRound, round_tasks}
 use Rattle.script_semantics.specs.Settling.{Drains, IsDrainRound, IsQuiet, Settles, calmed, campaign_tasks, coordinator, restart_tasks}
 use Rattle.script_semantics.specs.Situation.{AreTurnsFor, Do, Does, IsTurnFor, Performs, Situation, Task, after_turn, after_turns, delivered, fates_after, letters_for}
 use Rattle.script_text.specs.declared.command.Command.TheVariants as command
-use Rattle.world_steps.proofs.Facts.{fact_here, fact_there}
 use Rattle.world_rounds.proofs.Delivery.{same_mails}
 use Rattle.world_rounds.proofs.StepsAt.{cases_number}
-use Rattle.world_rounds.proofs.QuietLemmas.{found_at}
 use Rattle.world_rounds.specs.Drains.{DrainsOn}
 use Rattle.world_rounds.specs.Quiet.{AllRun, IsFollower, IsIn, Tells}
 use Rattle.world_rounds.specs.World.{GoesOnBy, IsWorld, IsWorldAt}
 use Rattle.world_rounds.specs.declared.world.World.{World}
-
-pub on_both : {X E : Type 0} (result : Result X E) (P Q R : Type 0) → (P → Q → R) → OnOk result P → OnOk result Q → OnOk result R
-on_both (Ok answer) P Q R so one two = so one two
-on_both (Err fault) P Q R so one two = tt
+use Rattle.due_set.proofs.Rising.{Contains-head as in_first, Contains-tail as in_rest, Contains-cases as cons_cases}
+use Rattle.history.proofs.Standings.{fact_here, fact_there}
+use Rattle.launch_machine.proofs.MachineLemmas.{is_some_below as found_at}
+use Rattle.script_semantics.proofs.RunningLemmas.{one_step, campaign_steps}
 
 -- ---- how drains are put together
 
@@ -114,17 +112,6 @@ performed_calm : (n : ℕ) (tasks : List Task) (situation after : Situation) (ro
 performed_calm n tasks situation after rows steps performs =
     let calm = steps_calm n tasks situation rows steps performs.turns in
     subst (λ after. StaysCalm situation after) (sym performs.is) (record { runs = calm.runs; cuts = calm.cuts; skews = calm.skews; fates = calm.fates })
-
-one_step : (who : ℕ) (cause : Cause) → AreSteps (Do who cause ∷ [])
-one_step who cause task has = elim (cons_cases (Do who cause) [] task has) [
-  | inl same ↦ (who, cause, sym same)
-  | inr none ↦ nothing_in none
-]
-
-campaign_steps : (who : ℕ) (term : Term) → AreSteps (campaign_tasks who term)
-campaign_steps who (Follower ended) task has = one_step who Campaign task has
-campaign_steps who (Candidate ballot first heard best) task has = nothing_in has
-campaign_steps who (Leader ballot best flight) task has = nothing_in has
 
 pub campaigned_calm : (n who : ℕ) (situation after : Situation) (rows : List Row) → Plays n (λ here. Do who Campaign ∷ []) situation rows after → StaysCalm situation after
 campaigned_calm n who situation after rows performs = performed_calm n (Do who Campaign ∷ []) situation after rows (one_step who Campaign) performs

@@ -28,7 +28,6 @@ use Rattle.world_steps.specs.Nodes.{IsDiskAt, bases_behind}
 use Rattle.world_steps.specs.Parts.{armed_in}
 use Rattle.world_steps.proofs.Bases.{bases_same}
 use Rattle.world_steps.proofs.AfterTurn.{leaves_other}
-use Rattle.world_steps.proofs.Facts.{fact_here}
 use Rattle.world_steps.specs.Steps.{IsNodeAhead, IsNodeStopped}
 use Rattle.world_steps.specs.Turns.{HasLetters, IsHalted}
 use Rattle.world_rounds.proofs.AfterTurn.{member_stays}
@@ -39,6 +38,7 @@ use Rattle.world_rounds.specs.Alone.{HasJoinedAlone, IsAlone}
 use Rattle.world_rounds.specs.World.{GoesOnBy, IsMemberAhead, IsWorld, IsWorldAt, none_taken}
 use Rattle.world_rounds.specs.declared.member.Member.{Member}
 use Rattle.world_rounds.specs.declared.world.World.{World}
+use Rattle.history.proofs.Standings.{fact_here}
 
 pub has_same : (old new : BookState) → new.letters ≡ old.letters → HasLetters old.letters new
 has_same old new same = λ number letter there. ap (λ letters. slice_get letters number) same ∙ there

@@ -18,7 +18,6 @@ use Rattle.script_semantics.specs.Arms.{AreTurnsByArms, IsTurnByArm, PerformsByA
 use Rattle.script_semantics.specs.Round.{answer_tasks, clock_reading, hear_tasks, round_tasks, tasks_of}
 use Rattle.script_semantics.specs.Situation.{Do, Situation, Task, after_turn, after_turns, delivered, mails_after}
 use Rattle.world_steps.proofs.AfterTurn.{row_runs}
-use Rattle.world_steps.proofs.Facts.{fact_here}
 use Rattle.world_rounds.proofs.Led.{AreLeft, after_both, back_of, leads_end, others_leave, round_below, round_tasks_of, turns_then, leads_none, leads_step, hears_of, leads_stop, leads_then, tick_of}
 use Rattle.world_rounds.proofs.Delivery.{range_next}
 use Rattle.world_rounds.proofs.RoundsOfAll.{posted_so_far}
@@ -27,12 +26,9 @@ use Rattle.world_rounds.specs.OneByOne.{AreTasksOf, HasPassed, HasStepped, IsLed
 use Rattle.world_rounds.specs.World.{GoesOnBy, IsWorld, IsWorldAt}
 use Rattle.world_rounds.specs.declared.member.Member.{Member}
 use Rattle.world_rounds.specs.declared.world.World.{World}
+use Rattle.history.proofs.Standings.{fact_here}
 
 -- ---- how turns lead on in a world
-
-pub if_ok_to : {X E : Type 0} (result : Result X E) (P Q : X → Type 0) → ((x : X) → P x → Q x) → IfOk result P → IfOk result Q
-if_ok_to (Ok x) P Q so holds = so x holds
-if_ok_to (Err fault) P Q so holds = tt
 
 -- a cause that calls for an answer leaves the mail
 answer_keeps : (who : ℕ) (made : Option CallRow) (mails : ℕ → List ℕ) → mails_after (Did who Answer made) mails who ≡ mails who

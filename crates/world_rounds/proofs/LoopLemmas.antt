@@ -8,7 +8,6 @@ use Rattle.disk_model.specs.Images.{Image}
 use Rattle.disk_model.specs.Told.{Told}
 use Rattle.zone_minutes.specs.Window.{IsInWindow}
 use Rattle.due_set.specs.Table.{Table}
-use Rattle.step_spec.proofs.Lists.{in_first, in_rest, cons_cases}
 use Rattle.step_spec.specs.Step.{Event, IsLaunchTable}
 use Rattle.step_spec.specs.declared.out.OutLetter.{OutLetter}
 use Rattle.replica_node.specs.Node.{replica_of}
@@ -32,7 +31,7 @@ use Rattle.settling.proofs.SettleRestLemmas.{rested_leads, rested_quiet}
 use Rattle.world_law.specs.Book.{posted_as}
 use Rattle.world_law.specs.declared.letter.LetterRow.{LetterRow}
 use Rattle.world_rounds.proofs.DrainLemmas.{HasDrained, runs_in, same_count}
-use Rattle.world_rounds.proofs.QuietLemmas.{found_at, node_state, node_table, node_waits, tells_no_quiet}
+use Rattle.world_rounds.proofs.QuietLemmas.{node_state, node_table, node_waits, tells_no_quiet}
 use Rattle.world_rounds.proofs.Limits.{within_bounds}
 use Rattle.world_rounds.proofs.Waiting.{posted_are}
 use Rattle.world_rounds.specs.Bounds.{AreShort, IsBounded, IsGiven, left_in, left_to}
@@ -41,6 +40,8 @@ use Rattle.world_rounds.specs.Quiet.{AllRun, IsIn, Tells}
 use Rattle.world_rounds.specs.World.{GoesOnBy, IsWorld, IsWorldAt}
 use Rattle.world_rounds.specs.declared.member.Member.{Member}
 use Rattle.world_rounds.specs.declared.world.World.{World}
+use Rattle.due_set.proofs.Rising.{Contains-head as in_first, Contains-tail as in_rest, Contains-cases as cons_cases}
+use Rattle.launch_machine.proofs.MachineLemmas.{is_some_below as found_at}
 
 -- ---- letters
 

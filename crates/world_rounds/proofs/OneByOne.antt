@@ -18,7 +18,7 @@ use Rattle.step_spec.specs.Step.{Event}
 use Rattle.step_spec.specs.declared.out.OutLetter.{OutLetter}
 use Rattle.std.proofs.lemmas.Option.{slice_get_within}
 use Rattle.script_text.specs.Command.{IsSkew}
-use Rattle.step_spec.proofs.Lists.{in_first, in_rest, nothing_in}
+use Rattle.step_spec.proofs.Lists.{nothing_in}
 use Rattle.history.specs.Book.{Row, Standing, after_row, turn_of, with_fact}
 use Rattle.history.specs.declared.turn.Cause.{Cause}
 use Rattle.history.specs.declared.turn.Cause.TheVariants.{Campaign, Tick, Hear, Answer}
@@ -40,7 +40,6 @@ use Rattle.world_steps.specs.Parts.{IsBookAt, armed_in}
 use Rattle.world_steps.specs.declared.mail.MemberMail.{MemberMail}
 use Rattle.world_steps.proofs.AfterTurn.{leaves_other, next_step}
 use Rattle.world_steps.proofs.Bases.{changes_by, changes_stopped, last_may}
-use Rattle.world_steps.proofs.Facts.{fact_here, fact_there}
 use Rattle.world_steps.proofs.Stopping.{bases_stopped, kept_is, stop_turn}
 use Rattle.world_steps.specs.Steps.{IsBeside, IsNodeAhead, IsNodeStopped, IsToldOf, WasToldOf, causes_of, heard_in}
 use Rattle.world_steps.specs.Stops.{HasStopped}
@@ -60,6 +59,8 @@ use Rattle.world_rounds.specs.Taking.{Commits, HasTaken, KeepsSteps, MayCommit, 
 use Rattle.world_rounds.specs.World.{IsMemberAhead, IsWorldAhead, IsWorldAt, none_taken}
 use Rattle.world_rounds.specs.declared.member.Member.{Member}
 use Rattle.world_rounds.specs.declared.world.World.{World}
+use Rattle.due_set.proofs.Rising.{Contains-head as in_first, Contains-tail as in_rest}
+use Rattle.history.proofs.Standings.{fact_here, fact_there}
 
 -- ---- what is known when a replica takes a step
 

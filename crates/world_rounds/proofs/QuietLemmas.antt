@@ -13,7 +13,7 @@ use Rattle.launch_machine.specs.Answers.{IsIntent}
 use Rattle.launch_machine.specs.declared.machine.Intent.{Intent}
 use Rattle.launch_machine.specs.declared.machine.Intent.TheVariants.{Call, Start, Rest}
 use Rattle.launch_machine.proofs.ClerkLemmas.{AppliesAll-same}
-use Rattle.step_spec.proofs.Lists.{cons_cases, nothing_in}
+use Rattle.step_spec.proofs.Lists.{nothing_in}
 use Rattle.step_spec.specs.State.{State, prefix_of}
 use Rattle.replica_core.specs.Replica.{ReplicaState}
 use Rattle.replica_core.specs.Step.{IsOfTable}
@@ -30,6 +30,8 @@ use Rattle.world_rounds.specs.Quiet.{AllRun, Tells}
 use Rattle.world_rounds.specs.World.{IsWorld, IsWorldAt}
 use Rattle.world_rounds.specs.declared.member.Member.{Member}
 use Rattle.world_rounds.specs.declared.world.World.{World}
+use Rattle.due_set.proofs.Rising.{Contains-cases as cons_cases}
+use Rattle.launch_machine.proofs.MachineLemmas.{is_some_below as found_at}
 
 -- ---- a term
 
@@ -72,11 +74,6 @@ asks_some table at replica intent of_table is asks =
     not_rests table at replica.machine.rows intent is (subst (λ rows. IsIntent table rows at Rest) same asks.rests)
 
 -- ---- a replica of the world
-
-pub found_at : {X : Type 0} (xs : List X) (k : ℕ) → k < length xs → (x : X) × (slice_get xs k ≡ Some x)
-found_at [] k below = absurd (omega arith)
-found_at (x ∷ xs) zero below = (x, refl)
-found_at (x ∷ xs) (suc k) below = found_at xs k (omega arith)
 
 -- what holds of those before a place, and of the one there, holds of those before the next place
 pub each_next : {X : Type 0} (holds : X → Type 0) (xs : List X) (index : ℕ) (x : X) → slice_get xs index ≡ Some x → holds x

@@ -6,9 +6,11 @@ use Rattle.std.proofs.Math.Seq.{take-suc}
 use Rattle.std.proofs.lemmas.Bool.{cases_Bool, eqb-true, ne_eqb}
 use Rattle.std.proofs.lemmas.List.Elements.{Contains-append_cases, filter-append}
 use Rattle.history.specs.Book.{PostedLetter}
-use Rattle.script_semantics.proofs.ListLemmas.{from_filter}
 use Rattle.script_semantics.specs.Commands.{each_once, from_one, has_number, is_from}
-use Rattle.step_spec.proofs.Lists.{in_first, in_rest, cons_cases, nothing_in}
+use Rattle.step_spec.proofs.Lists.{nothing_in}
+use Rattle.step_spec.proofs.ListLemmas.{from_filter}
+use Rattle.due_set.proofs.Rising.{Contains-head as in_first, Contains-tail as in_rest, Contains-cases as cons_cases}
+use Rattle.script_semantics.proofs.MailLemmas.{from_each_once}
 
 -- ---- each number once
 
@@ -89,13 +91,6 @@ module _ (posted : List PostedLetter) (who : ℕ) (mail : List ℕ) (place : ℕ
       ∙ ap (λ mail. each_once (from_one posted who mail)) (sym (one_more mail place below))
 
 -- ---- where they come from
-
-from_each_once : (numbers : List ℕ) (number : ℕ) → Contains (each_once numbers) number → Contains numbers number
-from_each_once [] number has = nothing_in has
-from_each_once (first ∷ numbers) number has = elim (cons_cases first (filter (λ other. not (eqb other first)) (each_once numbers)) number has) [
-  | inl same ↦ subst (Contains (first ∷ numbers)) same (in_first first numbers)
-  | inr more ↦ in_rest first numbers number (from_each_once numbers number (from_filter (λ other. not (eqb other first)) (each_once numbers) number more))
-]
 
 -- a mail with its letters from a replica once more has no other letters
 pub repeated_from : (posted : List PostedLetter) (who : ℕ) (mail : List ℕ) (number : ℕ) → Contains (mail ++ each_once (from_one posted who mail)) number → Contains mail number

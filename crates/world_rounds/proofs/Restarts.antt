@@ -21,7 +21,6 @@ use Rattle.world_law.proofs.Stops.{restarts}
 use Rattle.world_law.specs.Book.{BookState, IsRowOf, standing_behind}
 use Rattle.world_law.specs.Replicas.{IsRestartOf, StandsAt, StandsStopped, change_alone}
 use Rattle.world_steps.proofs.AfterTurn.{leaves_other}
-use Rattle.world_steps.proofs.Facts.{fact_here}
 use Rattle.world_steps.specs.Steps.{IsNodeStopped}
 use Rattle.world_rounds.proofs.AfterTurn.{member_stays}
 use Rattle.world_rounds.proofs.Halts.{goes_alone, has_same}
@@ -36,6 +35,7 @@ use Rattle.replica_store.specs.Store.{area_of}
 use Rattle.world_steps.proofs.Bases.{bases_same}
 use Rattle.history.specs.declared.turn.Turn.{Turn}
 use Rattle.world_rounds.specs.declared.world.World.{World}
+use Rattle.history.proofs.Standings.{fact_here}
 
 -- an element that is taken out, and another put into its place
 pub put_back : {X : Type 0} (xs : List X) (i : ℕ) (y : X) → i < length xs → insert (remove xs i) i y ≡ set xs i y

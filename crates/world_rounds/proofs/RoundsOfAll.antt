@@ -30,6 +30,7 @@ use Rattle.world_steps.specs.Parts.{IsBookAt}
 use Rattle.world_rounds.specs.World.{GoesOnBy, IsMemberAhead, IsWorld, IsWorldAt, book_of, none_taken}
 use Rattle.world_rounds.specs.declared.member.Member.{Member}
 use Rattle.world_rounds.specs.declared.world.World.{World}
+use Rattle.due_set.proofs.SoundLemmas.{at_place as found_below}
 
 some_one : {X : Type 0} (found : Option X) (one other : X) → found ≡ Some one → found ≡ Some other → one ≡ other
 some_one found one other a b = cc
@@ -41,10 +42,6 @@ take_front (suc n) [] ys is = absurd (omega arith)
 take_front zero (x ∷ xs) ys is = absurd (omega arith)
 take_front (suc n) (x ∷ xs) ys is = ap (λ xs. x ∷ xs) (take_front n xs ys (omega arith))
 
-pub on_ok : {X E : Type 0} (result : Result X E) (P Q : Type 0) → (P → Q) → OnOk result P → OnOk result Q
-on_ok (Ok answer) P Q so holds = so holds
-on_ok (Err fault) P Q so holds = tt
-
 pub on_any : {X E : Type 0} (result : Result X E) (P : Type 0) → P → OnOk result P
 on_any (Ok answer) P holds = holds
 on_any (Err fault) P holds = tt
@@ -52,11 +49,6 @@ on_any (Err fault) P holds = tt
 pub on_err : {X E : Type 0} (result : Result X E) (P : Type 0) → P → OnErr result P
 on_err (Ok answer) P holds = tt
 on_err (Err fault) P holds = holds
-
-found_below : {X : Type 0} (xs : List X) (i : ℕ) → i < length xs → (x : X) × (slice_get xs i ≡ Some x)
-found_below [] i below = absurd (omega arith)
-found_below (x ∷ xs) zero below = (x, refl)
-found_below (x ∷ xs) (suc i) below = found_below xs i (omega arith)
 
 same_flat : {X : Type 0} (f g : ℕ → List X) (first count : ℕ) → ((k : ℕ) → first ≤ k → k < first + count → f k ≡ g k) → flat_map f (range_with_len first count) ≡ flat_map g (range_with_len first count)
 same_flat f g first zero same = refl

@@ -12,7 +12,6 @@ use Rattle.history.specs.Book.{Row, Standing, with_fact}
 use Rattle.script_semantics.specs.Commands.{Plain}
 use Rattle.script_semantics.specs.Situation.{Situation, Task, delivered, is_cut, letters_for}
 use Rattle.world_law.specs.declared.letter.LetterRow.{LetterRow}
-use Rattle.world_steps.proofs.Facts.{fact_here, fact_there}
 use Rattle.world_rounds.proofs.Delivery.{same_mails}
 use Rattle.world_rounds.proofs.Worlds.{set_cases}
 use Rattle.world_rounds.specs.Mails.{Changes}
@@ -24,6 +23,7 @@ use Rattle.world_rounds.specs.declared.member.Member.{Member}
 use Rattle.script_semantics.specs.Arms.{armed_by}
 use Rattle.script_semantics.specs.Parts.{Sets}
 use Rattle.world_rounds.specs.declared.world.World.{World}
+use Rattle.history.proofs.Standings.{fact_here, fact_there}
 
 -- one pair more from whom to whom letters are lost
 cut_last : (from to : ℕ) (pairs : List (ℕ × ℕ)) (pair : ℕ × ℕ) → is_cut from to (pairs ++ pair ∷ []) ≡ (if eqb pair.0 from && eqb pair.1 to then true else is_cut from to pairs)

@@ -9,7 +9,6 @@ use Rattle.disk_model.specs.Told.{Told}
 use Rattle.due_set.specs.Table.{Table}
 use Rattle.history.specs.Book.{Row, with_fact}
 use Rattle.script_semantics.specs.Situation.{Do, Situation, Task, after_turns, is_cut}
-use Rattle.world_steps.proofs.Facts.{fact_here, fact_there}
 use Rattle.std.proofs.Math.Seq.{take-suc}
 use Rattle.world_steps.specs.Steps.{causes_of}
 use Rattle.world_steps.specs.declared.steps.Taken.{Taken}
@@ -19,6 +18,7 @@ use Rattle.world_rounds.specs.Taking.{Commits, CommitsOwn, HasTaken, KeepsSteps,
 use Rattle.world_rounds.specs.World.{IsMemberAhead, IsWorldAhead, book_of}
 use Rattle.world_rounds.specs.declared.member.Member.{Member}
 use Rattle.world_rounds.specs.declared.world.World.{World}
+use Rattle.history.proofs.Standings.{fact_here, fact_there}
 
 pub get_set_here : {X : Type 0} (xs : List X) (i : ℕ) (y : X) → i < length xs → slice_get (set xs i y) i ≡ Some y
 get_set_here [] i y below = absurd (omega arith)

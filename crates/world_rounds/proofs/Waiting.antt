@@ -13,16 +13,17 @@ use Rattle.history.specs.Book.{PostedLetter, Row, Standing}
 use Rattle.script_semantics.specs.Commands.{set_by, with_letter, with_mail}
 use Rattle.script_semantics.specs.Situation.{Situation}
 use Rattle.script_text.specs.declared.command.Command.TheVariants as command
-use Rattle.step_spec.proofs.Lists.{in_first, in_rest, cons_cases, nothing_in}
+use Rattle.step_spec.proofs.Lists.{nothing_in}
 use Rattle.world_law.specs.Book.{posted_as}
 use Rattle.world_law.specs.declared.letter.LetterRow.{LetterRow}
-use Rattle.world_steps.proofs.Facts.{fact_here, fact_there}
 use Rattle.world_rounds.proofs.Setting.{member_set}
 use Rattle.world_rounds.specs.Mails.{Changes}
 use Rattle.world_steps.specs.Parts.{IsSentTo, armed_in}
 use Rattle.world_rounds.specs.World.{IsWorldAt}
 use Rattle.world_rounds.specs.declared.member.Member.{Member}
 use Rattle.world_rounds.specs.declared.world.World.{World}
+use Rattle.due_set.proofs.Rising.{Contains-head as in_first, Contains-tail as in_rest, Contains-cases as cons_cases}
+use Rattle.history.proofs.Standings.{fact_here, fact_there}
 
 -- ---- what lists have
 

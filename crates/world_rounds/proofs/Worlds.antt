@@ -19,7 +19,6 @@ use Rattle.script_semantics.specs.Situation.{Situation, after_turn, calls_for, i
 use Rattle.world_law.specs.Book.{StandsBehind}
 use Rattle.world_steps.proofs.AfterTurn.{leaves_other, next_step, stands_after}
 use Rattle.world_steps.proofs.Bases.{bases_then}
-use Rattle.world_steps.proofs.Facts.{fact_here, fact_there}
 use Rattle.world_steps.specs.Steps.{IsNodeAhead, causes_of}
 use Rattle.world_steps.specs.Turns.{HasJoinedAt, IsNextStep, MayJoin, noted}
 use Rattle.world_steps.specs.declared.steps.Taken.{Taken}
@@ -28,6 +27,7 @@ use Rattle.world_rounds.specs.Taking.{HasTaken, tasks_by}
 use Rattle.world_rounds.specs.World.{IsMemberAhead, IsWorldAhead}
 use Rattle.world_rounds.specs.declared.member.Member.{Member}
 use Rattle.world_rounds.specs.declared.world.World.{World}
+use Rattle.history.proofs.Standings.{fact_here, fact_there}
 
 -- what is found in a list with another element at one place
 pub set_cases : {X : Type 0} (xs : List X) (i : ℕ) (y : X) (k : ℕ) (x : X) → slice_get (set xs i y) k ≡ Some x → ((k ≡ i) × (x ≡ y)) ⊎ ((k ≢ i) × (slice_get xs k ≡ Some x))

@@ -31,13 +31,12 @@ use Rattle.world_steps.specs.Nodes.{IsDiskAt, bases_behind}
 use Rattle.world_steps.specs.Parts.{IsBookAt, IsMailOf, IsSentTo, armed_in}
 use Rattle.world_steps.specs.declared.mail.MemberMail.{MemberMail}
 use Rattle.world_steps.proofs.Bases.{arm_spent, bases_here, bases_more, others_armed, others_keep}
-use Rattle.world_steps.proofs.Facts.{fact_here, fact_there}
 use Rattle.world_steps.specs.Steps.{IsNodeAhead, IsNodeStopped, IsToldOf, TookSteps, causes_of, changes_of, heard_for, heard_in, waits_in}
 use Rattle.world_steps.specs.Turns.{HasJoinedAt, HasLetters, IsNextStep, arm_then, fate_then, noted}
 use Rattle.world_steps.specs.declared.steps.Taken.{Taken}
-
-replica_there : (who : ℕ) (state : State) (replicas : ℕ → State) (other : ℕ) → other ≢ who → with_replica who state replicas other ≡ replicas other
-replica_there who state replicas other differs = rw (ne_eqb other who differs) refl
+use Rattle.history.proofs.FrontLemmas.{replica_there}
+use Rattle.history.proofs.Standings.{fact_here, fact_there}
+use Rattle.world_law.proofs.Others.{others_run, others_stay}
 
 -- ---- the others
 
@@ -50,22 +49,6 @@ pub record Leaves (n : ℕ) (situation : Situation) (row : Row) (other : ℕ) : 
   pub fate : (after_turn n situation row).fates other ≡ situation.fates other
   pub arm : (after_turn n situation row).arms other ≡ situation.arms other
   pub base : (after_turn n situation row).bases other ≡ situation.bases other
-
-others_stay : (n : ℕ) (s : Standing) (turn : Turn) (event : Event) (letters : List OutLetter) (other : ℕ) → other ≢ turn_of turn
-    → (after_row n s turn event letters).replicas other ≡ s.replicas other
-unfolding after_row
-others_stay n s (Did who cause made) event letters other differs = replica_there who _ s.replicas other differs
-others_stay n s (Stopped who cause kept) event letters other differs = replica_there who _ s.replicas other differs
-others_stay n s (Restarted who) event letters other differs = refl
-others_stay n s (Arrived number) event letters other differs = refl
-
-others_run : (n : ℕ) (s : Standing) (turn : Turn) (event : Event) (letters : List OutLetter) (other : ℕ) → other ≢ turn_of turn
-    → (after_row n s turn event letters).runs other ≡ s.runs other
-unfolding after_row
-others_run n s (Did who cause made) event letters other differs = refl
-others_run n s (Stopped who cause kept) event letters other differs = fact_there who _ s.runs other differs
-others_run n s (Restarted who) event letters other differs = fact_there who _ s.runs other differs
-others_run n s (Arrived number) event letters other differs = refl
 
 others_wait : (n : ℕ) (s : Standing) (turn : Turn) (event : Event) (letters : List OutLetter) (other : ℕ) → other ≢ turn_of turn
     → (after_row n s turn event letters).waits other ≡ s.waits other

@@ -21,18 +21,18 @@ use Rattle.history.specs.declared.turn.Turn.TheVariants.{Did, Stopped, Restarted
 use Rattle.history.proofs.Keeping.{one_event}
 use Rattle.replica_core.specs.Replica.{ReplicaState}
 use Rattle.script_semantics.specs.Situation.{Armed, Situation, after_turn, after_turns, armed_after, arms_after, bases_kept, bases_with, calls_for, changes_in, first_situation}
-use Rattle.world_law.proofs.Settled.{may_next}
 use Rattle.world_law.proofs.Steps.{takes_turn}
 use Rattle.world_law.specs.Book.{BookState, StandsBehind, standing_behind}
 use Rattle.world_law.specs.Replicas.{IsInputOf, StandsAt}
 use Rattle.world_steps.specs.Nodes.{bases_behind}
 use Rattle.world_steps.specs.Parts.{IsBookAt, armed_in}
-use Rattle.world_steps.proofs.Facts.{fact_here, fact_there}
 use Rattle.world_steps.proofs.Foreseen.{is_input}
 use Rattle.world_steps.specs.Steps.{TookStep, waits_in}
 use Rattle.world_steps.specs.Stops.{IsNextStop}
 use Rattle.world_steps.specs.Turns.{HasJoined, IsNextStep, arm_then}
 use Rattle.world_steps.specs.declared.steps.Taken.{Taken}
+use Rattle.history.proofs.FrontLemmas.{follows_there as may_next}
+use Rattle.history.proofs.Standings.{fact_here, fact_there}
 
 -- ---- bases behind rows
 

@@ -27,13 +27,9 @@ use Rattle.world_law.proofs.Steps.{step_is_turn}
 use Rattle.world_steps.specs.Steps.{IsToldOf, TookStep, TookSteps}
 use Rattle.world_steps.specs.Turns.{HasLetters}
 use Rattle.world_steps.specs.declared.steps.Taken.{Taken}
+use Rattle.step_spec.proofs.ListLemmas.{found_still as found_more}
 
 -- ---- a letter is there, and stays where it is
-
-pub found_more : {X : Type 0} (xs ys : List X) (k : ℕ) (x : X) → slice_get xs k ≡ Some x → slice_get (xs ++ ys) k ≡ Some x
-found_more [] ys k x is = absurd cc
-found_more (z ∷ xs) ys zero x is = is
-found_more (z ∷ xs) ys (suc k) x is = found_more xs ys k x is
 
 pub there_is : {X : Type 0} (xs : List X) (k : ℕ) → k < length xs → IsSome (slice_get xs k)
 there_is [] k below = absurd (omega arith)

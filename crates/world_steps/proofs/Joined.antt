@@ -22,10 +22,11 @@ use Rattle.world_law.specs.Replicas.{IsInputOf, IsLetterInput, IsTurnOf, StandsA
 use Rattle.world_law.proofs.Called.{alike_stands}
 use Rattle.world_law.proofs.Steps.{step_is_turn, step_may_call}
 use Rattle.world_steps.proofs.Calls.{IsNoTick, no_call}
-use Rattle.world_steps.proofs.Foreseen.{found_more, is_input}
+use Rattle.world_steps.proofs.Foreseen.{is_input}
 use Rattle.world_steps.specs.Steps.{IsToldOf, TookStep, waits_in}
 use Rattle.world_steps.specs.Turns.{HasJoinedAt, IsNextStep}
 use Rattle.world_steps.specs.declared.steps.Taken.{Taken}
+use Rattle.step_spec.proofs.ListLemmas.{found_still as found_more}
 
 -- a replica stands at the same place in a book of as many replicas
 pub at_alike : (table : Table) (rows : List Row) (book other : BookState) (replica : ReplicaState) → other.members ≡ book.members → StandsAt table rows book replica

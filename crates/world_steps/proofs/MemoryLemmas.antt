@@ -9,7 +9,6 @@ use Rattle.paxos_letter.specs.Letters.{fault_of}
 use Rattle.paxos_letter.specs.declared.fault.LetterFault.{LetterFault}
 use Rattle.step_spec.specs.State.{Identity}
 use Rattle.step_spec.proofs.Lists.{found_in}
-use Rattle.script_semantics.proofs.ListLemmas.{in_map}
 use Rattle.history.specs.Book.{PostedLetter, Row}
 use Rattle.history.specs.declared.turn.Cause.{Cause}
 use Rattle.history.specs.declared.turn.Cause.TheVariants.{Campaign, Tick, Hear, Answer}
@@ -29,6 +28,7 @@ use Rattle.world_law.specs.Replicas.{IsLetterInput}
 use Rattle.world_law.specs.declared.letter.LetterRow.{LetterRow}
 use Rattle.world_steps.specs.Steps.{IsToldOf, TookSteps, WasToldOf, waits_behind, waits_in}
 use Rattle.world_steps.specs.declared.steps.Taken.{Taken}
+use Rattle.step_spec.proofs.ListLemmas.{in_map}
 
 -- ---- an answer that tells of no disk and of no letter
 

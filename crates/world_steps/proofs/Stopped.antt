@@ -7,7 +7,7 @@ use Rattle.due_set.specs.Table.{Table}
 use Rattle.launch_machine.specs.Clerk.{first_rows}
 use Rattle.paxos_base.specs.declared.rows.JobRow.{JobRow}
 use Rattle.step_spec.specs.State.{started}
-use Rattle.step_spec.proofs.Lists.{row_at, take_next}
+use Rattle.step_spec.proofs.Lists.{take_next}
 use Rattle.history.specs.Book.{Row, Standing, after_row, first_standing, kept_at, standing_after, with_fact}
 use Rattle.history.specs.Legal.{IsLegal, MayFollow}
 use Rattle.history.specs.declared.turn.Turn.{Turn}
@@ -15,6 +15,7 @@ use Rattle.history.specs.declared.turn.Turn.TheVariants.{Did, Stopped, Restarted
 use Rattle.history.proofs.Keeping.{stands_next}
 use Rattle.world_law.specs.Book.{BookState, StandsBehind, standing_behind}
 use Rattle.world_law.specs.Replicas.{StandsStopped}
+use Rattle.launch_machine.proofs.MachineLemmas.{is_some_below as row_at}
 
 -- each replica that is stopped has what it keeps, and nothing else
 abbrev HaveKept : ℕ → Standing → Type 0

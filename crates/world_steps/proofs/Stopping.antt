@@ -36,10 +36,10 @@ use Rattle.world_law.specs.Book.{BookState, standing_behind}
 use Rattle.world_law.specs.Replicas.{IsStopOf, StandsAt}
 use Rattle.world_steps.specs.Nodes.{bases_behind}
 use Rattle.world_steps.proofs.Bases.{bases_row, changes_stopped, told_stop}
-use Rattle.world_steps.proofs.Facts.{fact_here}
 use Rattle.world_steps.proofs.StepLemmas.{area_with}
 use Rattle.world_steps.specs.Steps.{WasToldOf}
 use Rattle.world_steps.specs.Stops.{HasStopped, IsNextStop, change_kept}
+use Rattle.history.proofs.Standings.{fact_here}
 
 -- what tells something of itself tells
 pub and_some : {X : Type 0} (P : X → Type 0) (told : Option X) → IsSomeAnd told P → IsSome told

@@ -15,6 +15,8 @@ use Rattle.history.proofs.Keeping.{stands_next}
 use Rattle.replica_core.specs.Replica.{ReplicaState}
 use Rattle.world_law.specs.Book.{BookState, standing_behind}
 use Rattle.world_tests.specs.Seat.{IsLeft, IsSeated, SeatState}
+use Rattle.history.proofs.FrontLemmas.{replica_there}
+use Rattle.history.proofs.Standings.{fact_there}
 
 -- what stands after one row more
 pub next_stands : (table : Table) (rows : List Row) (row : Row) (book after : BookState) → after.members ≡ book.members
@@ -27,12 +29,6 @@ record IsUnmoved (before after : Standing) (who : ℕ) : Type 0 where
   pub replicas : after.replicas who ≡ before.replicas who
   pub runs : after.runs who ≡ before.runs who
   pub waits : after.waits who ≡ before.waits who
-
-fact_there : {A : Type 0} (who : ℕ) (fact : A) (facts : ℕ → A) (other : ℕ) → other ≢ who → with_fact who fact facts other ≡ facts other
-fact_there who fact facts other differs = rw (ne_eqb other who differs) refl
-
-replica_there : (who : ℕ) (state : State) (replicas : ℕ → State) (other : ℕ) → other ≢ who → with_replica who state replicas other ≡ replicas other
-replica_there who state replicas other differs = rw (ne_eqb other who differs) refl
 
 others_unmoved : (n : ℕ) (s : Standing) (turn : Turn) (event : Event) (letters : List OutLetter) (other : ℕ) → other ≢ turn_of turn
     → IsUnmoved s (after_row n s turn event letters) other

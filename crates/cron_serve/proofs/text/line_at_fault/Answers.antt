@@ -1,7 +1,7 @@
 use Rattle.std.proofs.Common.{arith}
 use Rattle.cron_serve.proofs.TextLemmas.{passed_more, first_at_fault}
-use Rattle.cron_serve.proofs.VariantLemmas.{at_none}
 use Rattle.cron_serve.proofs.text.line_at_fault.Goals as goal
+use Rattle.run_text.proofs.VariantLemmas.{at_none}
 
 pub overflow_add-number : goal.overflow_add-number
 overflow_add-number c =

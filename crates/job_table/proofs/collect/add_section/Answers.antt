@@ -4,8 +4,8 @@ use Rattle.run_text.specs.Run.{section_of, zone_of}
 use Rattle.run_text.specs.Table.{AreSaid}
 use Rattle.job_table.specs.Collect.{RefusesSection}
 use Rattle.job_table.proofs.SectionLemmas.{zone_refused}
-use Rattle.job_table.proofs.VariantLemmas.{refused_on}
 use Rattle.job_table.proofs.collect.add_section.Goals as goal
+use Rattle.run_text.proofs.VariantLemmas.{refused_on}
 
 pub returns-in_err-zone-clause-refused : goal.returns-in_err-zone-clause-refused
 returns-in_err-zone-clause-refused c =

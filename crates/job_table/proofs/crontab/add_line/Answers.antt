@@ -8,9 +8,10 @@ use Rattle.job_table.specs.Jobs.{named_job, HasJob}
 use Rattle.job_table.specs.Marks.{job_name, kind_of}
 use Rattle.job_table.specs.Table.{at_line}
 use Rattle.job_table.proofs.MarkLemmas.{adds_job, refuses_job}
-use Rattle.job_table.proofs.VariantLemmas.{refused_on, both_lead, err_leads}
+use Rattle.job_table.proofs.VariantLemmas.{both_lead, err_leads}
 use Rattle.cron_fields.specs.declared.cause.Cause.TheVariants.{DuplicateJob}
 use Rattle.job_table.proofs.crontab.add_line.Goals as goal
+use Rattle.run_text.proofs.VariantLemmas.{refused_on}
 
 pub returns-in_err-zone-in-Assign-clause-refused :
     goal.returns-in_err-zone-in-Assign-clause-refused

@@ -1,7 +1,8 @@
 use Rattle.std.proofs.Common.{◌≡◌, codes, ◌∙◌, sym, ap, ◌++◌, arith}
 use Rattle.run_text.specs.Grammar.{replicas_line}
-use Rattle.run_text.proofs.PhraseLemmas.{strips, one_replicas_line}
+use Rattle.run_text.proofs.PhraseLemmas.{one_replicas_line}
 use Rattle.run_text.proofs.head.members_of.Goals as goal
+use Rattle.script_text.proofs.CutLemmas.{strips}
 
 pub returns-then-members-eq0-clause-none : goal.returns-then-members-eq0-clause-none
 returns-then-members-eq0-clause-none c = λ members named.

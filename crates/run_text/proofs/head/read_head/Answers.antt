@@ -1,8 +1,8 @@
 use Rattle.run_text.specs.Steps.{start, RefusedFrom}
 use Rattle.run_text.specs.declared.table.Tables.{Tables}
 use Rattle.run_text.proofs.StepLemmas.{goes_on}
-use Rattle.run_text.proofs.VariantLemmas.{handed_on}
 use Rattle.run_text.proofs.head.read_head.Goals as goal
+use Rattle.crontab_text.proofs.VariantLemmas.{handed_on}
 
 pub returns-in_err-reader-clause-refused : goal.returns-in_err-reader-clause-refused
 returns-in_err-reader-clause-refused c =

@@ -1,9 +1,10 @@
 use Rattle.std.proofs.Common.{None, codes, arith}
 use Rattle.std.proofs.lemmas.Str.Pattern.{split_parts}
-use Rattle.run_text.proofs.PhraseLemmas.{strips, lacks_space}
-use Rattle.run_text.proofs.VariantLemmas.{if_none}
+use Rattle.run_text.proofs.PhraseLemmas.{lacks_space}
 use Rattle.run_text.proofs.WindowLemmas.{window_cut, no_window_without_space, no_window_without_from, no_window_without_until, no_window_past_limits, window_from_parts}
 use Rattle.run_text.proofs.head.window_of.Goals as goal
+use Rattle.crontab_text.proofs.VariantLemmas.{if_none}
+use Rattle.script_text.proofs.CutLemmas.{strips}
 
 pub returns-in_err-from-clause-none : goal.returns-in_err-from-clause-none
 returns-in_err-from-clause-none c =

@@ -7,8 +7,8 @@ use Rattle.run_text.specs.Steps.{place_of, RefusedFrom, HasNames, texts_of}
 use Rattle.run_text.proofs.PartLemmas.{part_refused}
 use Rattle.run_text.proofs.SectionLemmas.{PassesOpening, opening_leads, opening_refused}
 use Rattle.run_text.proofs.StepLemmas.{goes_on, missing_line}
-use Rattle.run_text.proofs.VariantLemmas.{handed_on}
 use Rattle.run_text.proofs.part.read_part.Goals as goal
+use Rattle.crontab_text.proofs.VariantLemmas.{handed_on}
 
 pub returns-in_default-clause-refused : goal.returns-in_default-clause-refused
 returns-in_default-clause-refused c = λ run is.

@@ -3,8 +3,9 @@ use Rattle.run_text.specs.Follow.{Sections, Script}
 use Rattle.run_text.specs.Run.{Run}
 use Rattle.run_text.specs.Steps.{place_of, LeadsTo, RefusedFrom, PassesPart}
 use Rattle.run_text.proofs.PartLemmas.{reads_none, reads_all, reads_refused, reads_next, zones_with, sections_with, less}
-use Rattle.run_text.proofs.VariantLemmas.{at_some, at_none, handed_on}
+use Rattle.run_text.proofs.VariantLemmas.{at_some, at_none}
 use Rattle.run_text.proofs.parts.pass_parts.Goals as goal
+use Rattle.crontab_text.proofs.VariantLemmas.{handed_on}
 
 pub returns-in_err-_part-clause-refused : goal.returns-in_err-_part-clause-refused
 returns-in_err-_part-clause-refused c =

@@ -4,8 +4,9 @@ use Rattle.run_text.specs.Run.{Run, run_with, with_parts, with_commands}
 use Rattle.run_text.specs.Steps.{start, place_of, RefusedFrom, BeginsScript}
 use Rattle.run_text.specs.declared.table.Tables.{Tables}
 use Rattle.run_text.proofs.StepLemmas.{goes_on}
-use Rattle.run_text.proofs.VariantLemmas.{handed_on, ok_so, err_so}
+use Rattle.run_text.proofs.VariantLemmas.{ok_so, err_so}
 use Rattle.run_text.proofs.read.pass_file.Goals as goal
+use Rattle.crontab_text.proofs.VariantLemmas.{handed_on}
 
 pub returns-in_err-pass_parts-clause-refused : goal.returns-in_err-pass_parts-clause-refused
 returns-in_err-pass_parts-clause-refused c =

@@ -7,8 +7,8 @@ use Rattle.run_text.specs.declared.refusal.RunFault.{RunFault}
 use Rattle.run_text.specs.declared.refusal.RunFault.TheVariants.{Refused, OutOfMemory}
 use Rattle.run_text.specs.declared.table.Tables.{Tables}
 use Rattle.run_text.proofs.StepLemmas.{goes_on}
-use Rattle.run_text.proofs.VariantLemmas.{handed_on}
 use Rattle.run_text.proofs.read.read_file.Goals as goal
+use Rattle.crontab_text.proofs.VariantLemmas.{handed_on}
 
 -- what follows where there is a refusal
 refused_so : (fault : RunFault) (P Q : Refusal → Type 0) → ((refusal : Refusal) → P refusal → Q refusal) → IfRefused fault P → IfRefused fault Q

@@ -2,8 +2,8 @@ use Rattle.std.proofs.Common.{◌≡◌, ◌-◌, [], ◌++◌, length, refl, sy
 use Rattle.std.proofs.lemmas.Str.{IsCharBoundary-from_drop}
 use Rattle.run_text.specs.Steps.{IsCut}
 use Rattle.run_text.proofs.CutLemmas.{cut_none, cut_next, too_few, cut_size, cut_at, cut_rest}
-use Rattle.run_text.proofs.VariantLemmas.{if_none}
 use Rattle.run_text.proofs.reader.cut_lines.Goals as goal
+use Rattle.crontab_text.proofs.VariantLemmas.{if_none}
 
 pub lines-init : goal.lines-init
 lines-init c = (c.utf8.text, ([], cut_none c.args.text.now))

@@ -1,7 +1,7 @@
 use Rattle.std.proofs.Common.{arith}
 use Rattle.run_text.proofs.ScriptLemmas.{says_past}
-use Rattle.run_text.proofs.VariantLemmas.{if_none}
 use Rattle.run_text.proofs.script.command_of.Goals as goal
+use Rattle.crontab_text.proofs.VariantLemmas.{if_none}
 
 pub returns-in_err-left-clause-none : goal.returns-in_err-left-clause-none
 returns-in_err-left-clause-none c =

@@ -4,8 +4,9 @@ use Rattle.run_text.specs.Run.{Run}
 use Rattle.run_text.specs.Steps.{place_of, LeadsTo, RefusedFrom, BeginsScript, PassesCommand}
 use Rattle.run_text.specs.declared.table.Tables.{Tables}
 use Rattle.run_text.proofs.ScriptLemmas.{commands_none, commands_next, commands_refused, script_ends}
-use Rattle.run_text.proofs.VariantLemmas.{at_some, at_none, handed_on, ok_so, err_so}
+use Rattle.run_text.proofs.VariantLemmas.{at_some, at_none, ok_so, err_so}
 use Rattle.run_text.proofs.script.pass_script.Goals as goal
+use Rattle.crontab_text.proofs.VariantLemmas.{handed_on}
 
 pub returns-in_err-_command-clause-refused : goal.returns-in_err-_command-clause-refused
 returns-in_err-_command-clause-refused c =

@@ -2,9 +2,9 @@ use Rattle.std.proofs.Common.{◌≡◌, codes, arith, pos, to_z, w16}
 use Rattle.std.proofs.lemmas.Int.{to_z_pos}
 use Rattle.run_text.specs.Zones.{ahead, behind}
 use Rattle.run_text.proofs.OffsetLemmas.{no_offset_ahead, no_offset_behind, negated}
-use Rattle.run_text.proofs.PhraseLemmas.{strips}
-use Rattle.run_text.proofs.VariantLemmas.{if_none}
 use Rattle.run_text.proofs.zone.offset_of.Goals as goal
+use Rattle.crontab_text.proofs.VariantLemmas.{if_none}
+use Rattle.script_text.proofs.CutLemmas.{strips}
 
 pub returns-in_err-minutes-in-Some-clause-none : goal.returns-in_err-minutes-in-Some-clause-none
 returns-in_err-minutes-in-Some-clause-none c =

@@ -3,10 +3,10 @@ use Rattle.std.proofs.lemmas.Grind.{common_steps}
 use Rattle.zone_minutes.specs.Zone.{FixedOffset}
 use Rattle.run_text.specs.Zones.{fixed, IsHexText}
 use Rattle.run_text.proofs.OffsetLemmas.{kept_offset}
-use Rattle.run_text.proofs.VariantLemmas.{if_none}
 use Rattle.run_text.proofs.ZoneLemmas.{decodes, hex_source, no_fixed, no_source}
 use Rattle.run_text.proofs.zone.text_of.Goals.{else-eq-3-via-then-eq-3+else-is_hex_text, else-eq-3-via-else-eq-3}
 use Rattle.run_text.proofs.zone.text_of.Goals as goal
+use Rattle.crontab_text.proofs.VariantLemmas.{if_none}
 
 pub returns-in_err-minutes-clause-none : goal.returns-in_err-minutes-clause-none
 returns-in_err-minutes-clause-none c =

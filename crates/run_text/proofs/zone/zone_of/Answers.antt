@@ -2,10 +2,10 @@ use Rattle.std.proofs.Common.{ℕ, List, codes, sym, subst}
 use Rattle.zone_minutes.specs.Zone.{Source}
 use Rattle.run_text.specs.Grammar.{IsZoneName}
 use Rattle.run_text.specs.Zones.{IsZoneLine}
-use Rattle.run_text.proofs.PhraseLemmas.{strips, cut_at_space, no_space}
-use Rattle.run_text.proofs.VariantLemmas.{if_none}
 use Rattle.run_text.proofs.ZoneLemmas.{behind_zone_word, behind_name, source_behind, zone_from_parts}
 use Rattle.run_text.proofs.zone.zone_of.Goals as goal
+use Rattle.crontab_text.proofs.VariantLemmas.{if_none}
+use Rattle.script_text.proofs.CutLemmas.{strips, cut_at_space, no_space}
 
 pub returns-in_err-name-clause-none : goal.returns-in_err-name-clause-none
 returns-in_err-name-clause-none c =

@@ -1,7 +1,7 @@
 use Rattle.std.proofs.lemmas.Option.{slice_get-get_or}
 use Rattle.world_rounds.proofs.LaneLemmas.{all_run}
-use Rattle.world_rounds.proofs.RoundsOfAll.{on_ok}
 use Rattle.world_rounds.proofs.lanes.share_rounds.Goals as goal
+use Rattle.replica_core.proofs.SteadyLemmas.{on_ok_so as on_ok}
 
 pub run_rounds-requires-clause-may : goal.run_rounds-requires-clause-may
 run_rounds-requires-clause-may g c = λ lives borrowed who none within. c.requires.may who _ (slice_get-get_or c.args.members.now who none within)

@@ -2,8 +2,9 @@ use Rattle.std.proofs.Common.{◌≡◌, Some, IsSome, not, length, refl, sym, a
 use Rattle.std.specs.List.{slice_get}
 use Rattle.std.proofs.lemmas.Option.{slice_get_read}
 use Rattle.world_rounds.proofs.Next.{none_waits, one_waits}
-use Rattle.world_rounds.proofs.InOrder.{if_ok_to, led_answer, led_unanswered, runs_here}
+use Rattle.world_rounds.proofs.InOrder.{led_answer, led_unanswered, runs_here}
 use Rattle.world_rounds.proofs.world.World.answer_next.Goals as goal
+use Rattle.replica_core.proofs.LeadLemmas.{if_ok as if_ok_to}
 
 pub returns-then-is_none-clause-led : goal.returns-then-is_none-clause-led
 returns-then-is_none-clause-led g c =

@@ -2,9 +2,9 @@ use Rattle.std.proofs.Common.{false, refl, sym, ◌∙◌}
 use Rattle.script_semantics.specs.Commands.{set_by, tasks_for}
 use Rattle.script_text.specs.declared.command.Command.TheVariants as command
 use Rattle.world_rounds.proofs.Arrivals.{arrival_goes, asks_arrival, may_come}
-use Rattle.world_rounds.proofs.RoundsOfAll.{on_ok}
 use Rattle.world_rounds.proofs.Setting.{sets_go}
 use Rattle.world_rounds.proofs.world.World.arrive.Goals as goal
+use Rattle.replica_core.proofs.SteadyLemmas.{on_ok_so as on_ok}
 
 pub returns-then-not-may_arrive-clause-goes : goal.returns-then-not-may_arrive-clause-goes
 returns-then-not-may_arrive-clause-goes g c =

@@ -10,9 +10,10 @@ use Rattle.world_law.specs.Book.{BookState}
 use Rattle.world_rounds.specs.Commands.{IsTaken}
 use Rattle.world_rounds.specs.Mails.{Changes}
 use Rattle.world_rounds.specs.World.{GoesOnBy}
-use Rattle.world_rounds.proofs.RoundsOfAll.{on_any, on_ok}
+use Rattle.world_rounds.proofs.RoundsOfAll.{on_any}
 use Rattle.world_rounds.proofs.Setting.{sets_alone, sets_go}
 use Rattle.world_rounds.proofs.world.World.command.Goals as goal
+use Rattle.replica_core.proofs.SteadyLemmas.{on_ok_so as on_ok}
 
 pub returns-in-Round-clause-goes : goal.returns-in-Round-clause-goes
 returns-in-Round-clause-goes g c =

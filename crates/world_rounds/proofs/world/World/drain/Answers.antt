@@ -2,8 +2,8 @@ use Rattle.std.proofs.Common.{◌≡◌, length, arith, ◌∙◌}
 use Rattle.settling.specs.Settles.{HasRestedFor, LeadsNow}
 use Rattle.world_rounds.proofs.DrainLemmas.{same_count}
 use Rattle.world_rounds.proofs.LoopLemmas.{drains_then, given_world}
-use Rattle.world_rounds.proofs.RoundsOfAll.{on_ok}
 use Rattle.world_rounds.proofs.world.World.drain.Goals as goal
+use Rattle.replica_core.proofs.SteadyLemmas.{on_ok_so as on_ok}
 
 pub drain_until_level-requires-clause-member : goal.drain_until_level-requires-clause-member
 drain_until_level-requires-clause-member g c =

@@ -1,10 +1,11 @@
 use Rattle.std.proofs.Common.{◌≤◌, drop, length, ap, sym, subst}
 use Rattle.script_semantics.specs.Settling.{IsDrainRound}
 use Rattle.world_rounds.specs.Bounds.{AreShort}
-use Rattle.world_rounds.proofs.DrainLemmas.{drained_calm, on_both, run_on, world_gone}
+use Rattle.world_rounds.proofs.DrainLemmas.{drained_calm, run_on, world_gone}
 use Rattle.world_rounds.proofs.LoopLemmas.{letters_grow, round_bounded}
 use Rattle.world_rounds.proofs.RoundsOfAll.{legal_world, on_any, on_err}
 use Rattle.world_rounds.proofs.world.World.drain_round.Goals as goal
+use Rattle.replica_draft.proofs.DraftLemmas.{on_ok as on_both}
 
 pub check_bounds-requires : goal.check_bounds-requires
 check_bounds-requires g c =

@@ -2,9 +2,10 @@ use Rattle.script_semantics.specs.Parts.{Plays}
 use Rattle.script_semantics.specs.Situation.{Do}
 use Rattle.history.specs.declared.turn.Cause.TheVariants.{Campaign}
 use Rattle.std.proofs.Common.{◌∷◌, []}
-use Rattle.world_rounds.proofs.DrainLemmas.{campaigned_calm, lead_goes, on_both, run_on}
-use Rattle.world_rounds.proofs.RoundsOfAll.{on_ok}
+use Rattle.world_rounds.proofs.DrainLemmas.{campaigned_calm, lead_goes, run_on}
 use Rattle.world_rounds.proofs.world.World.lead.Goals as goal
+use Rattle.replica_core.proofs.SteadyLemmas.{on_ok_so as on_ok}
+use Rattle.replica_draft.proofs.DraftLemmas.{on_ok as on_both}
 
 pub returns-clause-goes : goal.returns-clause-goes
 returns-clause-goes g c = on_ok c.stand.result _ _ (lead_goes g.D.Disk.seen g.D.Disk.may_leave g.D.Disk.honest g.D.Disk.told c.args.table.now c.args.who c.args.self.now c.stand.new.self c.requires.run c.requires.member) c.stand.ensures.goes

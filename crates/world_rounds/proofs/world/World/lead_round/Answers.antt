@@ -7,9 +7,9 @@ use Rattle.world_rounds.specs.Quiet.{IsFollower, Tells}
 use Rattle.world_rounds.specs.World.{GoesOnBy, IsWorld}
 use Rattle.world_rounds.specs.declared.world.World.{World}
 use Rattle.world_rounds.proofs.DrainLemmas.{led_round, plain_round, world_gone}
-use Rattle.world_rounds.proofs.RoundsOfAll.{on_ok}
 use Rattle.world_rounds.proofs.world.World.lead_round.Goals as goal
 use Rattle.world_rounds.proofs.world.World.lead_round.Goals.{then-follows+in_ok-lead, else-follows}
+use Rattle.replica_core.proofs.SteadyLemmas.{on_ok_so as on_ok}
 
 pub round_once-requires-clause-world : goal.round_once-requires-clause-world
 round_once-requires-clause-world g c = elim c.if-follows.branch [

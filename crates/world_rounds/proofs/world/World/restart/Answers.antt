@@ -5,11 +5,11 @@ use Rattle.std.proofs.lemmas.Option.{slice_get_read}
 use Rattle.script_semantics.specs.Commands.{set_by, tasks_for}
 use Rattle.script_text.specs.declared.command.Command.TheVariants as command
 use Rattle.world_rounds.proofs.Restarts.{may_restart, node_stopped, put_back, restart_goes}
-use Rattle.world_rounds.proofs.RoundsOfAll.{on_ok}
 use Rattle.world_rounds.proofs.Setting.{sets_go}
 use Rattle.world_rounds.proofs.Worlds.{some_same}
 use Rattle.world_rounds.specs.Alone.{HasStartedAgain}
 use Rattle.world_rounds.proofs.world.World.restart.Goals as goal
+use Rattle.replica_core.proofs.SteadyLemmas.{on_ok_so as on_ok}
 
 pub returns-then-index-clause-goes : goal.returns-then-index-clause-goes
 returns-then-index-clause-goes g c =

@@ -1,5 +1,6 @@
-use Rattle.world_rounds.proofs.RoundsOfAll.{on_ok, unarmed_goes}
+use Rattle.world_rounds.proofs.RoundsOfAll.{unarmed_goes}
 use Rattle.world_rounds.proofs.world.World.round_by_arms.Goals as goal
+use Rattle.replica_core.proofs.SteadyLemmas.{on_ok_so as on_ok}
 
 pub returns-else-is_armed-clause-goes : goal.returns-else-is_armed-clause-goes
 returns-else-is_armed-clause-goes g c =

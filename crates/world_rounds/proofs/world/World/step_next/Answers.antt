@@ -2,13 +2,13 @@ use Rattle.std.proofs.Common.{◌≡◌, [], Some, length, refl, subst, arith}
 use Rattle.std.specs.List.{slice_get}
 use Rattle.std.proofs.lemmas.List.{length-set}
 use Rattle.std.proofs.lemmas.Option.{slice_get_read}
-use Rattle.world_steps.proofs.Facts.{fact_here}
 use Rattle.world_rounds.proofs.OneByOne.{idle_here, may_commit_step, may_take_beside, step_ahead, stepped}
 use Rattle.world_rounds.specs.OneByOne.{EndsStep}
 use Rattle.world_rounds.specs.World.{none_taken}
 use Rattle.history.specs.Book.{with_fact}
 use Rattle.std.proofs.Common.{◌∷◌}
 use Rattle.world_rounds.proofs.world.World.step_next.Goals as goal
+use Rattle.history.proofs.Standings.{fact_here}
 
 pub take_next-requires-clause-may : goal.take_next-requires-clause-may
 take_next-requires-clause-may g c =

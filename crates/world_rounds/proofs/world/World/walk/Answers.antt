@@ -1,8 +1,8 @@
 use Rattle.script_semantics.specs.Settling.{Settles}
 use Rattle.world_rounds.proofs.DrainLemmas.{world_gone}
-use Rattle.world_rounds.proofs.RoundsOfAll.{on_ok}
 use Rattle.world_rounds.proofs.WalkLemmas.{earlier_inside, since_in, walks}
 use Rattle.world_rounds.proofs.world.World.walk.Goals as goal
+use Rattle.replica_core.proofs.SteadyLemmas.{on_ok_so as on_ok}
 
 pub settle_led-requires-clause-inside : goal.settle_led-requires-clause-inside
 settle_led-requires-clause-inside g c = earlier_inside c.args.table.now.window c.earlier_of-at.result.0 c.args.self.now.latest.0 c.args.to.0 c.earlier_of-at.ensures
