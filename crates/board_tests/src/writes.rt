@@ -1,7 +1,6 @@
 //! What a writer is told of the log.
 ghost use Rattle.std.specs.Prelude.{◌≡◌, ◌<◌, ◌^◌, IsTrue, true};
-ghost use Rattle.status_board.specs.Writing.{CountsBelow};
-ghost use Rattle.launch_machine.specs.Machine.{StandsFor};
+ghost use Rattle.launch_machine.specs.Machine.{CountsBelow, StandsFor};
 
 use due_set::JobTable;
 use learner_core::Learnt;

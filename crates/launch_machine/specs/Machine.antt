@@ -1,5 +1,5 @@
 -- What a machine keeps: the launch table, and beside each row when its job may be started, or its launch called.
-use Rattle.std.specs.Prelude.{◌≡◌, ℕ, ◌+◌, ◌<◌, ◌^◌, List, length, Option, None, Some, ℤ, ◌≤ℤ◌, IfSome, slice_get, ⊤}
+use Rattle.std.specs.Prelude.{◌≡◌, All, ℕ, ◌+◌, ◌<◌, ◌^◌, List, length, Option, None, Some, ℤ, ◌≤ℤ◌, IfSome, slice_get, ⊤}
 use Rattle.jiff.specs.Types.{TimeZone}
 use Rattle.zone_minutes.specs.Window.{IsInWindow}
 use Rattle.paxos_base.specs.Rows.{RowsStand}
@@ -68,3 +68,7 @@ abbrev pub CanCount : List JobRow → Entry → Type 0
 CanCount rows Noop = ⊤
 CanCount rows (Start job at now) = ⊤
 CanCount rows (End job at kind) = HasRoom rows job
+
+-- each count of the rows is below this
+abbrev pub CountsBelow : ℕ → List JobRow → Type 0
+CountsBelow limit rows = All (λ row. (row.launched < limit) × (row.voided < limit)) rows

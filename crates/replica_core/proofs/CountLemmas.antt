@@ -12,7 +12,7 @@ use Rattle.paxos_base.specs.declared.entry.Kind.{Kind}
 use Rattle.paxos_base.specs.declared.entry.Kind.TheVariants.{Launch, Void}
 use Rattle.paxos_base.specs.declared.rows.JobRow.{JobRow}
 use Rattle.replica_core.specs.Counts.{count_ended, count_of, highest_count}
-use Rattle.replica_core.specs.Replica.{CountsBelow}
+use Rattle.launch_machine.specs.Machine.{CountsBelow}
 
 -- each count of the row is below this
 abbrev CountBelow : ℕ → JobRow → Type 0

@@ -3,7 +3,7 @@ use Rattle.std.proofs.Common.{◌≡◌, ℕ, ◌+◌, ◌≤◌, ◌<◌, ◌^�
 use Rattle.std.proofs.lemmas.List.{get_or-map, length-map, take_all, take_more}
 use Rattle.due_set.specs.Table.{Table}
 use Rattle.launch_machine.specs.Clerk.{Applies, AppliesAll}
-use Rattle.launch_machine.specs.Machine.{Launches, StandsFor}
+use Rattle.launch_machine.specs.Machine.{Launches, StandsFor, CountsBelow}
 use Rattle.launch_machine.proofs.ClerkLemmas.{AppliesAll-push}
 use Rattle.learner_core.specs.Learner.{LearnerState, HasLearned}
 use Rattle.paxos_base.specs.declared.entry.Entry.{Entry}
@@ -11,7 +11,6 @@ use Rattle.step_spec.specs.declared.out.LearntRow.{LearntRow}
 use Rattle.replica_draft.specs.Draft.{entries_in}
 use Rattle.replica_core.specs.Commit.{LearnsAll}
 use Rattle.replica_core.specs.Counts.{count_ended, highest_count}
-use Rattle.replica_core.specs.Replica.{CountsBelow}
 use Rattle.replica_core.proofs.CountLemmas.{counts_applied, highest-applied}
 
 -- The first of some entries are learned and applied, and there is room for the others. The count is the highest of a job that one of

@@ -5,7 +5,7 @@ use Rattle.std.proofs.lemmas.Bool.{cases_Bool, cases_lt, lt-ltb, le-ltb}
 use Rattle.paxos_base.specs.declared.entry.Entry.{Entry}
 use Rattle.paxos_base.specs.declared.rows.JobRow.{JobRow}
 use Rattle.due_set.specs.Table.{Table}
-use Rattle.launch_machine.specs.Machine.{Launches, StandsFor}
+use Rattle.launch_machine.specs.Machine.{Launches, StandsFor, CountsBelow}
 use Rattle.learner_core.specs.Learner as learned
 use Rattle.paxos_base.specs.Members.{has_majority, with_member}
 use Rattle.paxos_base.specs.Rows.{OpenHaveCursors}
@@ -18,7 +18,7 @@ use Rattle.replica_draft.specs.Draft.{Chooses, LearnsNext, SendsOnly, TakesTable
 use Rattle.replica_draft.specs.declared.change.Change.{Change}
 use Rattle.replica_draft.specs.declared.change.Change.TheVariants as change
 use Rattle.replica_draft.specs.declared.draft.Draft.{Draft}
-use Rattle.replica_core.specs.Replica.{CountsBelow, FliesAt, IsReadyAnyhow, IsSteady, IsSupplied, KeepsChange, StaysSteady, base_of, changes_in, next_of, next_slot, since_of}
+use Rattle.replica_core.specs.Replica.{FliesAt, IsReadyAnyhow, IsSteady, IsSupplied, KeepsChange, StaysSteady, base_of, changes_in, next_of, next_slot, since_of}
 use Rattle.replica_core.specs.declared.parts.Core.{Core}
 
 -- ---- one more entry

@@ -14,7 +14,8 @@ use Rattle.step_spec.specs.Letters.{is_small}
 use Rattle.step_spec.specs.Message.{Message, Prepare, Promise, Accept, Accepted, Nack, Known, AskFrom, Snap, Lead, Mention}
 use Rattle.step_spec.specs.State.{State, Identity, prefix_of}
 use Rattle.replica_draft.specs.Draft.{done, drafted, has_copied}
-use Rattle.replica_core.specs.Replica.{CountsBelow, IsSteady, IsWhole, changes_in, fixed_of}
+use Rattle.replica_core.specs.Replica.{IsSteady, IsWhole, changes_in, fixed_of}
+use Rattle.launch_machine.specs.Machine.{CountsBelow}
 use Rattle.replica_draft.specs.declared.draft.Draft.{Draft}
 use Rattle.replica_core.specs.declared.parts.Core.{Core}
 

@@ -99,10 +99,6 @@ pub record HasRoomFor (core : Core) (draft : Draft) : Type 0 where
   pub votes : votes_of draft.change ≤ core.acceptor.spare
   pub entries : length draft.learnt.items ≤ core.learner.spare
 
--- each count of the rows is below this
-abbrev pub CountsBelow : ℕ → List JobRow → Type 0
-CountsBelow limit rows = All (λ row. (row.launched < limit) × (row.voided < limit)) rows
-
 -- the launch table that a change brings, where it brings one
 abbrev pub rebased_of : Option Change → Option Rebased
 rebased_of (Some (change.Rebased rebased)) = Some rebased

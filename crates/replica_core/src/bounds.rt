@@ -2,7 +2,8 @@
 ghost use Rattle.std.specs.Prelude.{◌≡◌, ◌↔◌, ◌^◌, IsTrue};
 ghost use Rattle.step_spec.specs.Letters.{are_small, is_small, is_small_ballot, is_small_letter, is_small_row, is_small_slot};
 ghost use Rattle.replica_core.specs.Counts.{highest_count};
-ghost use Rattle.replica_core.specs.Replica.{CountsBelow, IsSmall, IsWhole, state_of};
+ghost use Rattle.replica_core.specs.Replica.{IsSmall, IsWhole, state_of};
+ghost use Rattle.launch_machine.specs.Machine.{CountsBelow};
 
 use crate::parts::Core;
 use paxos_base::{Ballot, JobRow};

@@ -3,7 +3,7 @@ ghost use Rattle.std.specs.Prelude.{◌≡◌, max, ◌+◌, ◌<◌, ◌≤◌,
 ghost use Rattle.std.specs.Option.{option_map};
 ghost use Rattle.acceptor_core.specs.Acceptor.{votes_in};
 ghost use Rattle.launch_machine.specs.Clerk.{Applies, AppliesAll};
-ghost use Rattle.launch_machine.specs.Machine.{CanCount, StandsFor};
+ghost use Rattle.launch_machine.specs.Machine.{CanCount, StandsFor, CountsBelow};
 ghost use Rattle.learner_core.specs.Learner.{HasLearned};
 ghost use Rattle.learner_core.specs.Learner as learned;
 ghost use Rattle.paxos_base.specs.Ballot.{ballot_number};
@@ -17,7 +17,7 @@ ghost use Rattle.replica_draft.specs.Draft.{delta_of, drafted, entries_in, with_
 ghost use Rattle.replica_draft.specs.declared.change.Change.TheVariants as change;
 ghost use Rattle.replica_core.specs.Commit.{HasLearnedAll, HasStored, LearnsAll, entries_with, launches_of};
 ghost use Rattle.replica_core.specs.Counts.{count_ended, count_of, highest_count};
-ghost use Rattle.replica_core.specs.Replica.{CountsBelow, HasRoomFor, HasTable, IsAlikeCore, IsSteady, IsSupplied, base_of, identity_of, fixed_of, since_of, state_of};
+ghost use Rattle.replica_core.specs.Replica.{HasRoomFor, HasTable, IsAlikeCore, IsSteady, IsSupplied, base_of, identity_of, fixed_of, since_of, state_of};
 
 use crate::out::{Effects, LearntList, StepOut};
 use crate::parts::Core;

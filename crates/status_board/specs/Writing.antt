@@ -59,6 +59,3 @@ pub record Learns (table : Table) (entry : Entry) (old new : Writing) : Type 0 w
 abbrev pub mark_of : Writing → Marked
 mark_of writer = record { board = writer.board; states = writer.states }
 
--- each count of the rows is below this
-abbrev pub CountsBelow : ℕ → List JobRow → Type 0
-CountsBelow limit rows = All (λ row. (row.launched < limit) × (row.voided < limit)) rows

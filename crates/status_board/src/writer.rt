@@ -1,8 +1,8 @@
 //! The writer of a board.
 ghost use Rattle.std.specs.Prelude.{◌≡◌, ◌≢◌, ◌<◌, ◌≤◌, ◌^◌, ◌↔◌, IsTrue, Ok, IfOk, OnOk, Some, length, slice_get, true, false};
-ghost use Rattle.launch_machine.specs.Machine.{StandsFor};
+ghost use Rattle.launch_machine.specs.Machine.{StandsFor, CountsBelow};
 ghost use Rattle.paxos_base.specs.Rows.{RowsStand};
-ghost use Rattle.status_board.specs.Writing.{CountsBelow, HasNext, IsInOrder, Learns, mark_of};
+ghost use Rattle.status_board.specs.Writing.{HasNext, IsInOrder, Learns, mark_of};
 
 use crate::change::NewRows;
 use crate::keeper::Keeper;

@@ -1,11 +1,13 @@
 //! Tests of what a table of jobs says: fields, crontabs, anacrontabs, run files, the jobs that these name, and the
-//! commands of scripts; and of the runs that seeds make.
+//! commands of scripts; of the runs that seeds make; and of due lists and checks.
 #![tactic(auto)]
 
 #[cfg(test)]
 mod anacrontab_rows;
 #[cfg(test)]
 mod anacrontab_tests;
+#[cfg(test)]
+mod check_tests;
 #[cfg(test)]
 mod command_tests;
 #[cfg(test)]
@@ -20,6 +22,10 @@ mod field_tests;
 mod frame_tests;
 #[cfg(test)]
 mod job_tests;
+#[cfg(test)]
+mod list_rows;
+#[cfg(test)]
+mod list_tests;
 #[cfg(test)]
 mod made_tests;
 #[cfg(test)]

@@ -26,7 +26,8 @@ use Rattle.script_text.specs.declared.command.Command.TheVariants as command
 use Rattle.world_rounds.proofs.Delivery.{same_mails}
 use Rattle.world_rounds.proofs.StepsAt.{cases_number}
 use Rattle.world_rounds.specs.Drains.{DrainsOn}
-use Rattle.world_rounds.specs.Quiet.{AllRun, IsFollower, IsIn, Tells}
+use Rattle.world_rounds.specs.Quiet.{AllRun, IsIn, Tells}
+use Rattle.step_spec.specs.May.{IsFollower}
 use Rattle.world_rounds.specs.World.{GoesOnBy, IsWorld, IsWorldAt}
 use Rattle.world_rounds.specs.declared.world.World.{World}
 use Rattle.due_set.proofs.Rising.{Contains-head as in_first, Contains-tail as in_rest, Contains-cases as cons_cases}

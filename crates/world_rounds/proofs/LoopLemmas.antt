@@ -1,6 +1,5 @@
 -- Worlds that drain until one leads, until it rests, and until all are level.
-use Rattle.std.proofs.Common.{◌≡◌, ℕ, suc, ◌+◌, ◌*◌, ◌^◌, ◌<◌, ◌≤◌, true, false, List, [], ◌∷◌, ◌++◌, length, drop, map, ℤ, Some, refl, sym, ap, ◌∙◌, subst, inl, inr, arith, append_assoc, add-one, Option}
-use Rattle.std.proofs.Common.{append-nil as append_nil}
+use Rattle.std.proofs.Common.{◌≡◌, ℕ, suc, ◌+◌, ◌*◌, ◌^◌, ◌<◌, ◌≤◌, true, false, List, [], ◌∷◌, ◌++◌, length, drop, map, ℤ, Some, refl, sym, ap, ◌∙◌, subst, inl, inr, arith, append_assoc, add-one, Option, append-nil as append_nil}
 use Rattle.std.specs.List.{slice_get}
 use Rattle.std.proofs.lemmas.Bool.{cases_lt}
 use Rattle.std.proofs.lemmas.List.{length-append, length-map}

@@ -20,11 +20,6 @@ abbrev pub Tells : {D : Type 0} → (seen : D → Image) → (may_leave : D → 
 Tells seen may_leave honest told_of table holds world answer =
     (rows : List Row) (situation : Situation) → IsWorldAt seen may_leave honest told_of table rows world situation → IsTrue answer ↔ holds situation
 
--- the term is a follower's
-abbrev pub IsFollower : Term → Type 0
-IsFollower (Follower ended) = ⊤
-IsFollower term = ⊥
-
 -- the world is in this situation, whatever rows stand behind its book
 abbrev pub IsIn : {D : Type 0} → (seen : D → Image) → (may_leave : D → Image → Type 0) → (honest : D → Type 0) → (told_of : D → Option Told) → Table → World D → Situation → Type 0
 IsIn seen may_leave honest told_of table world situation = (rows : List Row) × IsWorldAt seen may_leave honest told_of table rows world situation

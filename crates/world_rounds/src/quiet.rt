@@ -7,7 +7,8 @@ ghost use Rattle.replica_core.specs.Step.{IsOfTable};
 ghost use Rattle.replica_node.specs.Node.{replica_of};
 ghost use Rattle.script_semantics.specs.Settling.{AsksNothing, IsFreeTerm, IsQuiet};
 ghost use Rattle.settling.specs.Rest.{IsAtRest};
-ghost use Rattle.world_rounds.specs.Quiet.{AllRun, IsFollower, Tells};
+ghost use Rattle.world_rounds.specs.Quiet.{AllRun, Tells};
+ghost use Rattle.step_spec.specs.May.{IsFollower};
 ghost use Rattle.world_rounds.specs.World.{IsWorld, book_of};
 ghost use Rattle.world_rounds.specs.declared.member.Member.{Member as Seat};
 

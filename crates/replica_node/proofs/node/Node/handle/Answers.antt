@@ -4,15 +4,15 @@ use Rattle.step_spec.specs.Step.{step}
 use Rattle.store_format.specs.Order.{ChangeMayFollow}
 use Rattle.replica_core.specs.Commit.{kept_after}
 use Rattle.replica_core.specs.Replica.{ReplicaState}
-use Rattle.replica_core.specs.Step.{IsAlike}
-use Rattle.replica_store.specs.Files.{FilesStandForEither}
+use Rattle.replica_core.specs.Step.{IsAlike, CanTake}
+use Rattle.replica_store.specs.Files.{FilesStandForEither, IsRecoverable}
 use Rattle.replica_core.specs.declared.out.StepOut.{StepOut}
-use Rattle.replica_node.specs.Faults.{of_disk}
+use Rattle.replica_node.specs.Faults.{of_disk, EndsRun}
 use Rattle.replica_node.specs.declared.fault.NodeFault.TheVariants as Node
 use Rattle.paxos_base.specs.declared.durable.Delta.{Delta}
 use Rattle.step_spec.specs.State.{State}
-use Rattle.std.specs.Prelude.{Option}
-use Rattle.replica_store.specs.Store.{area_of}
+use Rattle.std.specs.Prelude.{Option, IsErrOf}
+use Rattle.replica_store.specs.Store.{area_of, records_of}
 use Rattle.replica_node.specs.Kept.{LeavesByArm, area_for, calls_of}
 use Rattle.replica_node.proofs.KeptLemmas.{count_calls, tells_counted, tells_too_few}
 use Rattle.replica_node.specs.Node.{FilesStandAround, calls_for}
@@ -25,12 +25,7 @@ use Rattle.replica_node.proofs.StoppedLemmas.{stopped_within, tells_stopped}
 use Rattle.replica_node.specs.Reliable.{IsUnfailingAfter}
 use Rattle.disk_model.specs.Made.{MadeCalls}
 use Rattle.disk_model.specs.Told.{Tells}
-use Rattle.std.specs.Prelude.{IsErrOf}
 use Rattle.store_format.specs.Area.{StandFor}
-use Rattle.replica_core.specs.Step.{CanTake}
-use Rattle.replica_store.specs.Files.{IsRecoverable}
-use Rattle.replica_store.specs.Store.{records_of}
-use Rattle.replica_node.specs.Faults.{EndsRun}
 use Rattle.replica_node.specs.declared.fault.NodeFault.{NodeFault}
 use Rattle.replica_node.proofs.node.Node.handle.Goals as goal
 

@@ -2,7 +2,7 @@ use Rattle.std.proofs.Common.{◌≡◌, ◌↔◌, IsTrue, Some, length, refl, 
 use Rattle.std.specs.List.{slice_get}
 use Rattle.std.proofs.lemmas.Option.{slice_get_read}
 use Rattle.replica_core.specs.Replica.{ReplicaState}
-use Rattle.world_rounds.specs.Quiet.{IsFollower}
+use Rattle.step_spec.specs.May.{IsFollower}
 use Rattle.world_rounds.proofs.QuietLemmas.{tells_state}
 use Rattle.world_rounds.proofs.world.World.follows.Goals as goal
 

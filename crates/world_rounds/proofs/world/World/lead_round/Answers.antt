@@ -3,7 +3,8 @@ use Rattle.history.specs.declared.turn.Cause.TheVariants.{Campaign}
 use Rattle.script_semantics.specs.Parts.{Plays}
 use Rattle.script_semantics.specs.Round.{IsRound}
 use Rattle.script_semantics.specs.Situation.{Do}
-use Rattle.world_rounds.specs.Quiet.{IsFollower, Tells}
+use Rattle.world_rounds.specs.Quiet.{Tells}
+use Rattle.step_spec.specs.May.{IsFollower}
 use Rattle.world_rounds.specs.World.{GoesOnBy, IsWorld}
 use Rattle.world_rounds.specs.declared.world.World.{World}
 use Rattle.world_rounds.proofs.DrainLemmas.{led_round, plain_round, world_gone}

@@ -1,5 +1,5 @@
 //! The due lists of the tables that run files name.
-use crate::rows::{FAULTY, NARROW, Row, WHOLE, run_file, short};
+use crate::list_rows::{FAULTY, NARROW, Row, WHOLE, run_file, short};
 use due_list::{ListFault, write_due};
 use job_table::build_table;
 use run_text::read_run;

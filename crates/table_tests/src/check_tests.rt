@@ -1,5 +1,5 @@
 //! The checks of run files.
-use crate::rows::{FAULTY, NARROW, Row, WHOLE, run_file, short};
+use crate::list_rows::{FAULTY, NARROW, Row, WHOLE, run_file, short};
 use due_list::{ListFault, write_check};
 use run_text::read_frame;
 use std::alloc::Global;
