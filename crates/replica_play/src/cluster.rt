@@ -215,6 +215,9 @@ impl<'a> Cluster<'a> {
 
     // A letter that the scenario makes up.
     fn write(&mut self, from: u8, to: u8, packets: &str) -> Result<(), PlayFault> {
+        if self.members() <= from.max(to) {
+            return Err(PlayFault::BadMember);
+        }
         let items = letter_bytes(self.alloc, from, packets)?;
         self.post(OutLetter {
             to,

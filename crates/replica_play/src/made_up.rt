@@ -77,27 +77,54 @@ fn count_of(word: &str) -> Result<u32, PlayFault> {
     }
 }
 
-// Puts a part into a row.
-fn put_part(row: &mut JobRow, name: &str, word: &str) -> Result<(), PlayFault> {
-    match name {
-        "cursor" => row.cursor = Some(minute_of(word)?.0),
-        "open" => row.open_now = Some(minute_of(word)?.0),
-        "last" => row.last = Some(minute_of(word)?.0),
-        "launched" => row.launched = count_of(word)?,
-        "voided" => row.voided = count_of(word)?,
-        _ => return Err(PlayFault::BadRow),
+// The parts of a row that were given.
+#[derive(Default)]
+struct RowParts {
+    cursor: Option<i64>,
+    open: Option<i64>,
+    last: Option<i64>,
+    launched: Option<u32>,
+    voided: Option<u32>,
+}
+
+// Sets a part that isn't set yet.
+fn set_once<T>(part: &mut Option<T>, value: T) -> Result<(), PlayFault> {
+    if part.is_some() {
+        return Err(PlayFault::BadRow);
     }
+    *part = Some(value);
     Ok(())
 }
 
-// A row by its parts, as `cursor 2024-03-31T00:00Z, launched 3`. It is fresh but for these.
+impl RowParts {
+    // Takes a part by its name.
+    fn set(&mut self, name: &str, word: &str) -> Result<(), PlayFault> {
+        match name {
+            "cursor" => set_once(&mut self.cursor, minute_of(word)?.0),
+            "open" => set_once(&mut self.open, minute_of(word)?.0),
+            "last" => set_once(&mut self.last, minute_of(word)?.0),
+            "launched" => set_once(&mut self.launched, count_of(word)?),
+            "voided" => set_once(&mut self.voided, count_of(word)?),
+            _ => Err(PlayFault::BadRow),
+        }
+    }
+}
+
+// A row by its parts, as `cursor 2024-03-31T00:00Z, launched 3`, each at most once. It is fresh but for these.
 fn row_of(parts: &str) -> Result<JobRow, PlayFault> {
-    let mut row = JobRow::fresh(0);
+    let mut given = RowParts::default();
     for part in parts.split(", ") {
         let (name, word) = split(part)?;
-        put_part(&mut row, name, word)?;
+        given.set(name, word)?;
     }
-    Ok(row)
+    Ok(JobRow {
+        cursor: given.cursor,
+        open_now: given.open,
+        last: given.last,
+        launched: given.launched.unwrap_or(0),
+        voided: given.voided.unwrap_or(0),
+        ..JobRow::fresh(0)
+    })
 }
 
 // How many rows there are.

@@ -42,7 +42,8 @@ fn play_text<K: Sink>(alloc: Global, text: &str, sink: &mut K) -> Result<(), Sto
     let table = hour_table(alloc).map_err(PlayFault::from)?;
     let mut cluster = Cluster::new(alloc, &table);
     let mut number = 0usize;
-    for line in text.lines() {
+    // A carriage return is a byte of its line.
+    for line in text.split_terminator('\n') {
         number = number.saturating_add(1);
         if let Err(fault) = tell_line(&mut cluster, line, sink) {
             return Err(Stop {

@@ -38,7 +38,7 @@ fn take_lines<K: Sink>(tables: &Tables, lines: &str, sink: &mut K) -> Result<(),
     let mut seat = Seat::Empty;
     let mut ended = Ok(());
     let mut number = 0usize;
-    for line in lines.lines() {
+    for line in lines.split_terminator('\n') {
         number = number.saturating_add(1);
         let (next, played) = take_line(tables, seat, line, &mut text);
         seat = next;
