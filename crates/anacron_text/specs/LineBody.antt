@@ -1,4 +1,4 @@
--- What a line of an anacrontab says.
+-- What a line of an anacrontab says. Source: anacrontab(5) of cronie.
 use Rattle.std.specs.Prelude.{ℕ, List}
 use Rattle.anacron_text.specs.declared.answer.AnaBody.{AnaBody}
 use Rattle.anacron_text.specs.declared.answer.AnaBody.TheVariants.{Blank, Comment, Assign, Job as JobOfProgram}

@@ -1,4 +1,4 @@
--- What a thread can begin with.
+-- What a thread can begin with. Private functions alone cite it.
 use Rattle.std.specs.Prelude.{◌≡◌, ◌<◌, IfSome, true}
 use Rattle.due_set.specs.Table.{Table}
 use Rattle.launch_machine.specs.Machine.{StandsFor}

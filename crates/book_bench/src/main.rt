@@ -1,6 +1,7 @@
-//! Measures what a book costs: the first of two replicas stands for leader again and again, so that each turn posts one
-//! letter. The program's word is the number of turns; without one it is 100,000. What the book has is written to
-//! standard output, and how many turns were taken in a second of the processor to standard error.
+//! Measures what a book costs: the first of two replicas stands for leader again and again, so that each turn posts
+//! one letter, and each turn joins the book. Proved is that it is safe and adds only turns that may come next: the
+//! replica is always as its book says (`IsAsBooked`), so that the book is legal. What the book has goes to standard
+//! output, and how many turns were taken in a second of the processor to standard error.
 #![tactic(auto)]
 
 mod booked;

@@ -1,4 +1,4 @@
-//! Tests of the calendar: stamps, zones, due instants and dates, against what other programs say.
+//! Zones, stamps, due instants and dates, compared with what other programs say.
 #![tactic(auto)]
 
 #[cfg(test)]

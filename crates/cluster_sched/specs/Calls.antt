@@ -1,4 +1,4 @@
--- A call by a name, of any scheduler.
+-- A call by a name, of any scheduler. Source: "Reliable Cron across the Planet".
 use Rattle.std.specs.Prelude.{◌≡◌, Option, None, Some, Result, Ok, Err}
 use Rattle.cluster_sched.specs.declared.fault.CallFault.{CallFault}
 use Rattle.cluster_sched.specs.declared.row.Name.{Name}

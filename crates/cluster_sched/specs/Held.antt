@@ -1,4 +1,5 @@
 -- What a scheduler holds: under each name the first row that was created there.
+-- Source: "Reliable Cron across the Planet": a launch is looked up by a name that was computed beforehand.
 use Rattle.std.specs.Prelude.{◌≡◌, ◌≢◌, ◌⊎◌, List, [], ◌∷◌, ◌++◌, All, AllPairs, Option, None, Some, Result, Err}
 use Rattle.cluster_sched.specs.declared.fault.CallFault.{CallFault}
 use Rattle.cluster_sched.specs.declared.fault.CallFault.TheVariants.{Failed}

@@ -1,4 +1,4 @@
--- The names of launches, as texts.
+-- The names of launches, as texts. Source: docs/RUN_FILE.md; anacrontab(5) for jobs that run once in a period of days.
 use Rattle.std.specs.Prelude.{◌≢◌, ℕ, ◌<◌, List, [], ◌∷◌, ◌++◌, length, All, Option, None, Some, slice_get, ℤ, pos, ◌+ℤ◌, ◌-ℤ◌, ◌≤ℤ◌}
 use Rattle.zone_minutes.specs.Civil.{day_number, IsCalendarDay, IsCalendarMinute}
 use Rattle.zone_minutes.specs.Stamp.{basic_stamp_text, date_text}

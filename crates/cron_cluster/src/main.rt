@@ -1,4 +1,5 @@
-//! The program: a run file from standard input, its report to standard output, notes to standard error.
+//! The program. `main` hands the arguments, standard input, output and error, and a gate that holds nobody to
+//! `cron_serve::run`, and ends with its status. It promises nothing of its own.
 #![tactic(auto)]
 
 use cron_io::{StdSink, StdSource};

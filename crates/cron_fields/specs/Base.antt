@@ -1,4 +1,4 @@
--- What the parts of the reader answer, in the words of the grammar.
+-- What the parts of the reader answer, in the words of the grammar. Private functions alone cite it.
 use Rattle.std.specs.Prelude.{◌≡◌, ◌⊎◌, ◌↔◌, ◌<◌, ℕ, List, [], length, map, slice_index_or, IsBitSet}
 use Rattle.std.specs.Char.{to_ascii_lowercase}
 use Rattle.cron_fields.specs.Item.{Steps, StepsTo, IsSingle, IsWide}

@@ -1,4 +1,4 @@
--- The numbers of the causes for which an input is refused.
+-- The numbers of the causes for which an input is refused. Source: docs/RUN_FILE.md.
 use Rattle.std.specs.Prelude.{ℕ}
 use Rattle.cron_fields.specs.declared.cause.Cause.{Cause}
 use Rattle.cron_fields.specs.declared.cause.Cause.TheVariants.{Empty, BadNumber, OutOfRange, UnknownName, BadOrder, ZeroStep, StepAfterAtom, Tilde, NoAtom, TooFewFields, NoCommand, BadUser, BadNickname, LongCommand, NotText, BadPeriod, BadDelay, BadIdentifier, BadHours, BadRandomDelay, UnknownZone, DuplicateJob, TooManyJobs, TooManyDue, BadHeader, BadReplicas, BadWindow, BadGrace, BadSection, BadScript, MissingLine, BadZone, TooLarge, BadZoneLine, NoFormYet}

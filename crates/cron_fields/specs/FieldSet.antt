@@ -1,4 +1,4 @@
--- The values of a field.
+-- The values of a field. Source: crontab(5).
 use Rattle.std.specs.Prelude.{ℕ, ◌%◌, ◌↔◌, List, Contains, IsBitSet}
 use Rattle.cron_fields.specs.declared.field.FieldKind.{FieldKind}
 use Rattle.cron_fields.specs.declared.field.FieldKind.TheVariants.{Minute, Hour, MonthDay, Month, WeekDay}

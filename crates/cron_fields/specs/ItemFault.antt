@@ -1,4 +1,5 @@
 -- What is wrong with an item: first the atoms, then their numbers, then the step. A place counts the item's bytes from 0.
+-- Source: crontab(5); the order of faults is this project's.
 use Rattle.std.specs.Prelude.{◌≡◌, ◌≢◌, ℕ, ◌+◌, ◌<◌, List, [], length, codes}
 use Rattle.cron_fields.specs.Atom.{HasNo, IsSplitAt, IsNumber, IsAtom, IsAtomFault, TakesNumber}
 use Rattle.cron_fields.specs.Item.{IsSingle, IsWide}

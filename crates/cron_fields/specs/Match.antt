@@ -1,4 +1,4 @@
--- Which civil times the five fields match (crontab(5)).
+-- Which civil times the five fields match (crontab(5)). Source: crontab(5); cron(8) of cronie.
 use Rattle.std.specs.Prelude.{ℕ, ◌||◌, ◌⊎◌, Bool, MatchBool}
 use Rattle.cron_fields.specs.FieldSet.{Has}
 use Rattle.cron_fields.specs.declared.field.Fields.{Fields}

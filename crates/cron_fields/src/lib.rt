@@ -1,4 +1,8 @@
-//! The five fields of a crontab line: what each text stands for, and which civil times match.
+//! What a field's text stands for, and which civil times match. `read_field` answers with the set of `IsField`, or
+//! with the first rule that the text breaks and the place of the byte (`IsFieldFault`); each text has one of the two
+//! and never both (`a_field_has_one_reading`). `fnv` and `pick` give the value of a hashed field (`hashed_value`).
+//! `Fields::matches_date` is the day rule of crontab(5) (`MatchesDay`), and `matches_time` the match of a time of
+//! day. `atom`, `item` and `read` have the reader in its three layers, `fault` the rules' numbers.
 #![tactic(auto)]
 
 mod atom;

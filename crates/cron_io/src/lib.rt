@@ -1,9 +1,11 @@
-//! Sources and sinks of bytes: what a program reads and writes, with the faults that come from
-//! outside; and how lines and numbers are written.
-//!
-//! A [`Source`] or a [`Sink`] may give or take a part of what it is asked, and may fail. Each counts
-//! its faults, so that code above can promise to fail only where the outside did. [`read_all`] and
-//! [`write_all`] put the parts together.
+//! Bytes come and go whole. `read_all` answers with all bytes up to the end (`IsReadToEnd`), and with `TooLong` only
+//! if more bytes came than the limit; whatever it answers, what is left of the source is a last part of what was
+//! (`HasReadOn`). `write_all` writes all bytes (`HasGained`) or a prefix of them. A fault comes only if the object's
+//! own count of faults rose (`HasCause`). `MemSource` and `MemSink` fail at exactly the calls that they are set to
+//! fail at; if there are none, no read fails, and a write fails exactly if the piece is longer than the room.
+//! `StdSource` and `StdSink` ask their reader or writer once, hand that answer on, and count a fault exactly if it
+//! is one (`HandsOn`). What contracts see of a source or a sink is one value, `SourceView` or `SinkView`.
+//! `OutOfMemory` is the one error of calls that fail for lack of memory alone.
 #![tactic(auto)]
 
 mod asked;

@@ -1,4 +1,4 @@
--- When the program has to end with its text, and when it has to refuse its input.
+-- When the program has to end with its text, and when it has to refuse its input. Source: docs/RUN_FILE.md.
 use Rattle.std.specs.Prelude.{◌≡◌, ◌⊎◌, ℕ, ◌<◌, List, length, Some, IsSomeAnd}
 use Rattle.cron_io.specs.Faults.{Rose}
 use Rattle.cron_io.specs.Views.{SourceView, SinkView}

@@ -1,4 +1,4 @@
--- What each end of the program says of its input, its text, its book and its nodes.
+-- What each end of the program says of its input, its text, its book and its nodes. Source: docs/RUN_FILE.md.
 use Rattle.std.specs.Prelude.{◌≡◌, ◌⊎◌, ◌↔◌, ℕ, ◌≤◌, None, Some, IsSome, IsSomeAnd}
 use Rattle.cron_io.specs.Faults.{Rose}
 use Rattle.cron_io.specs.Reading.{HasReadOn}

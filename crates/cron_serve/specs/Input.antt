@@ -1,4 +1,4 @@
--- Which inputs the program takes, by what it is asked to write, and for what it refuses the others.
+-- Which inputs the program takes, by what it is asked to write, and for what it refuses the others. Source: docs/RUN_FILE.md.
 use Rattle.std.specs.Prelude.{◌≡◌, ◌⊎◌, ℕ, ◌<◌, ◌≤◌, List, length, ⊤}
 use Rattle.crontab_text.specs.Lines.{lines_of}
 use Rattle.due_set.specs.Table.{Table}

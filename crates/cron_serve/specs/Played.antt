@@ -1,4 +1,4 @@
--- A run that was played, as far as the writing of its texts needs it.
+-- A run that was played, as far as the writing of its texts needs it. Private functions alone cite it.
 use Rattle.std.specs.Prelude.{◌≡◌, ◌≤◌, length, None}
 use Rattle.due_set.specs.Table.{IsSound}
 use Rattle.script_semantics.specs.Starts.{AreStarts}

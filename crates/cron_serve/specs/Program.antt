@@ -1,4 +1,4 @@
--- How the program ends, by its exit status.
+-- How the program ends, by its exit status. Source: docs/RUN_FILE.md.
 use Rattle.std.specs.Prelude.{◌≡◌, ℕ}
 use Rattle.cron_io.specs.Views.{SourceView, SinkView}
 use Rattle.cron_serve.specs.Ends.{Ends}

@@ -1,4 +1,4 @@
--- Which stop a fault of a part leads to, and the end that a stop leads to.
+-- Which stop a fault of a part leads to, and the end that a stop leads to. Private functions alone cite it.
 use Rattle.std.specs.Prelude.{ℕ, Option, None, Some, ⊤}
 use Rattle.cron_io.specs.Faults.{Rose}
 use Rattle.cron_io.specs.Views.{SourceView}

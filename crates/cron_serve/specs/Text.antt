@@ -1,4 +1,4 @@
--- Which lines of an input are text, and which line of another input is at fault.
+-- Which lines of an input are text, and which line of another input is at fault. Source: RFC 3629.
 use Rattle.std.specs.Prelude.{◌≡◌, ◌≢◌, ℕ, ◌+◌, List, ◌∷◌, ◌++◌, length, IsUtf8}
 use Rattle.std.specs.List.{AllByRecursion}
 use Rattle.crontab_text.specs.Lines.{lines_of}

@@ -1,4 +1,5 @@
 -- The words of the command line: the options, how each is spelled, which may stand together, and what they ask for.
+-- Source: docs/RUN_FILE.md.
 use Rattle.std.specs.Prelude.{◌≡◌, ◌⊎◌, ◌≤◌, ℕ, List, [], ◌∷◌, ◌++◌, Option, None, Some, unwrap_or, map, codes, decimal, AllPairs, String, string_bytes}
 use Rattle.std.specs.declared.alloc.Global.{Global}
 use Rattle.cron_serve.specs.declared.words.Asked.{Asked}

@@ -1,4 +1,4 @@
--- What the writing of a text did, by the status that it led to.
+-- What the writing of a text did, by the status that it led to. Private functions alone cite it.
 use Rattle.std.specs.Prelude.{◌≡◌, ◌⊎◌, ℕ, ◌<◌, ◌≤◌, List, length, None, Some, Result, Ok, Err}
 use Rattle.cron_io.specs.Faults.{Rose}
 use Rattle.cron_io.specs.Views.{SinkView}

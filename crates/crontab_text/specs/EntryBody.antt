@@ -1,4 +1,4 @@
--- What the readers of an entry hand out.
+-- What the readers of an entry hand out. Private functions alone cite it.
 use Rattle.std.specs.Prelude.{ℕ, List}
 use Rattle.crontab_text.specs.Entry.{IsEntry}
 use Rattle.crontab_text.specs.Nickname.{IsNick}

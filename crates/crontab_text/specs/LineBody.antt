@@ -1,4 +1,4 @@
--- What a line of a crontab says.
+-- What a line of a crontab says. Source: crontab(5).
 use Rattle.std.specs.Prelude.{ℕ, List, Option}
 use Rattle.cron_fields.specs.declared.field.Fields.{Fields}
 use Rattle.crontab_text.specs.declared.answer.Body.{Body}

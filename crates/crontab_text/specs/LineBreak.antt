@@ -1,4 +1,4 @@
--- Where a line breaks a rule.
+-- Where a line breaks a rule. Private functions alone cite it.
 use Rattle.std.specs.Prelude.{ℕ, List}
 use Rattle.crontab_text.specs.Answers.{Breaks}
 use Rattle.crontab_text.specs.Blanks.{SkipsBlanks}

@@ -1,4 +1,4 @@
--- What the program's nicknames stand for.
+-- What the program's nicknames stand for. Private functions alone cite it.
 use Rattle.std.specs.Prelude.{List, ℕ, Option, Some, None, codes}
 use Rattle.crontab_text.specs.declared.nickname.Nickname.{Nickname}
 use Rattle.crontab_text.specs.declared.nickname.Nickname.TheVariants.{Yearly, Monthly, Weekly, Daily, Hourly, Reboot}

@@ -1,4 +1,4 @@
--- The parts of a tail, as the program holds them.
+-- The parts of a tail, as the program holds them. Private functions alone cite it.
 use Rattle.std.specs.Prelude.{◌≡◌, ◌⊎◌, ◌+◌, ℕ, List, [], length}
 use Rattle.crontab_text.specs.Blanks.{SkipsBlanks, IsFirstWord}
 use Rattle.crontab_text.specs.Tail.{IsUser, IsCommand, IsBadCommand}

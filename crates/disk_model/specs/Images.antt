@@ -1,4 +1,5 @@
 -- The files of a disk at one moment, and what a stop may make of them between two syncs.
+-- Source: POSIX write(), ftruncate() and fsync(): what isn't synced may be lost, in part too; the images are this project's.
 use Rattle.std.specs.Prelude.{◌≡◌, ◌≢◌, ◌⊎◌, ℕ, ◌+◌, ◌≤◌, min, max, List, ◌++◌, length, take, drop}
 use Rattle.disk_model.specs.declared.fault.FileNo.{FileNo}
 use Rattle.disk_model.specs.declared.fault.FileNo.TheVariants.{Chooser, AreaA, AreaB}

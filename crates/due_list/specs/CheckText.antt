@@ -1,4 +1,4 @@
--- The check of a frame, as a text: each line of its tables that breaks a rule.
+-- The check of a frame, as a text: each line of its tables that breaks a rule. Source: docs/RUN_FILE.md.
 use Rattle.std.specs.Prelude.{◌≡◌, ℕ, ◌+◌, List, [], ◌∷◌, ◌++◌, length, map, flat_map, zip, codes, decimal, Option, None, Some}
 use Rattle.std.specs.List.{AllZip}
 use Rattle.crontab_text.specs.Answers.{LineAnswer, Said as CrontabSaid, Broken as CrontabBroken, IsAnswer}

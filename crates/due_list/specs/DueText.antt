@@ -1,4 +1,4 @@
--- The due list of a table, as a text.
+-- The due list of a table, as a text. Source: docs/RUN_FILE.md.
 use Rattle.std.specs.Prelude.{◌≡◌, ℕ, List, [], ◌∷◌, ◌++◌, length, map, flat_map, take, codes, decimal, ℤ}
 use Rattle.std.specs.List.{AllZip, range_with_len}
 use Rattle.jiff.specs.Types.{TimeZone}

@@ -1,4 +1,4 @@
--- Parts of a list that are gathered one after another.
+-- Parts of a list that are gathered one after another. Private functions alone cite it.
 use Rattle.std.specs.Prelude.{◌≡◌, ℕ, ◌+◌, List, [], ◌∷◌, ◌++◌, map, flat_map, Option, None, Some, ℤ}
 use Rattle.crontab_text.specs.declared.answer.LineFault.{LineFault}
 use Rattle.zone_minutes.specs.declared.minute.Minute.{Minute}

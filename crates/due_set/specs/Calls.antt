@@ -1,4 +1,5 @@
 -- When a launch may be called, and whether it is then a launch or is given up.
+-- Source: this project; anacron(8) for jobs of a period.
 use Rattle.std.specs.Prelude.{◌≡◌, ℕ, ℤ, pos, ◌+ℤ◌, ◌≤ℤ◌}
 use Rattle.jiff.specs.Types.{TimeZone}
 use Rattle.zone_minutes.specs.Civil.{day_number}

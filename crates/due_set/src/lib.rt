@@ -1,4 +1,14 @@
-//! Tables of jobs, and when their jobs are due.
+//! Which instants are due, and on which dates a job may open. A table of jobs is assembled once
+//! (`JobTable::assemble`) and read from then on. An entry is due exactly if the definition says so (`is_due`:
+//! `IsJobDue`, `IsDue`); `next_due` is the least later due instant of the window, `None` exactly if there is none. A
+//! job of an anacrontab may open on its zone's date, or not at all, exactly as the definition says (`anacron_open`:
+//! `IsJobOpen`); `first_opening` is the first instant of the window at which it may. `count_due` is how much a job
+//! takes of the limit (`IsShare`), `may_call` and `call_kind` say whether a launch's instant or date has come, and
+//! whether it is on time (`HasCome`, `IsOnTime`). What holds of each table, its limits, names and zones, is a clause
+//! of these calls (`sound`: `IsSound`). Each job of it has one list of due instants (`each_job_has_a_due_list`), and
+//! at each instant one date on which it may open or none (`a_job_may_open_or_not`). Due instants are defined by the
+//! local time that `jiff` gives for the rules and files of a run. `scan` finds due instants, `matching` the next
+//! civil minute of an entry, `anacron` the dates of a job that runs by its period.
 #![tactic(auto)]
 
 mod anacron;

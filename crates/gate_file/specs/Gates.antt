@@ -1,4 +1,5 @@
 -- Gates and bodies in the bytes of a file: gate k is the byte at 57k, and body k the 56 bytes after it.
+-- Source: docs/WIRE.md; a file with an append cut short is this project's.
 use Rattle.std.specs.Prelude.{◌≡◌, ◌≢◌, ◌⊎◌, ℕ, ◌+◌, ◌*◌, ◌<◌, ◌≤◌, List, [], ◌∷◌, ◌++◌, length, take, drop, get_or, Option, IsSomeAnd}
 use Rattle.std.specs.List.{flat_map}
 

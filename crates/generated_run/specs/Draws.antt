@@ -1,4 +1,5 @@
 -- The draws of a seed: a linear congruential generator of 64 bits (Knuth's multiplier and increment).
+-- Source: multiplier and increment of Knuth's MMIX.
 use Rattle.std.specs.Prelude.{ℕ, zero, suc, ◌+◌, ◌*◌, ◌/◌, ◌%◌, ◌^◌}
 
 -- the state behind a state

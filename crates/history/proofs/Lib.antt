@@ -1,3 +1,15 @@
+-- Why the proofs hold. Names in backquotes are files of this folder and lemmas in them.
+--
+-- No number of a legal book is above the number of its turns:
+-- - A step stands for leader one round above all that its replica has tried and seen, proposes at its prefix, and
+--   answers within what it has heard (`Grows`: `step_grows`).
+-- - What may be done and grows within a bound keeps it: a vote is cast for what was proposed, a message names what
+--   is promised, voted for or learned (`Bounded`: `bounded_after`).
+-- - What is learned was chosen, so that for each slot below a prefix a vote was cast (`Bounded`: `prefix_low`).
+-- - So a step takes the bound one higher, and a start doesn't, and a turn has one step at most (`TurnBounds`:
+--   `bounded_transition`; `Books`: `stands`).
+-- - An entry raises the counts of a launch table by one at most (`Counts`: `applied_within`).
+
 pub mod Acts
 pub mod Agreement
 pub mod Asks

@@ -1,4 +1,4 @@
--- That the replicas of a book agree.
+-- That the replicas of a book agree. Source: "Paxos Made Simple", section 2.
 use Rattle.std.specs.Prelude.{◌≡◌, ℕ, true, List, Contains}
 use Rattle.paxos_base.specs.declared.entry.Entry.{Entry}
 use Rattle.paxos_base.specs.declared.rows.JobRow.{JobRow}

@@ -1,4 +1,31 @@
 -- Turns of three replicas in which a leader proposes a start and stops, another takes over, and the launch is called and ended.
+--
+-- P is a prepare, p a promise, A an accept, a what answers it, K an entry that was chosen, n a refusal; a number is that of
+-- the letter. The vote of turn 4 outlives its leader: replica 1 sends it in turn 10, so that replica 2 can propose nothing else at
+-- that slot. The launch is called twice and held once. Its end, which turn 20 proposes, says what is held.
+--
+--   turn   replica 0            replica 1               replica 2              chosen        held
+--     0    campaign P0, P1
+--     1                         hears 0: p2
+--     2    hears 2: leads
+--     3    start: votes A3, A4
+--     4                         hears 3: votes a5
+--     5    stops
+--     6    starts again
+--     7                         stops
+--     8                         starts again
+--     9                                                 campaign P6, P7
+--    10                         hears 7: p8, its vote
+--    11                                                 hears 8: leads
+--    12                                                 start: votes A9, A10
+--    13                         hears 10: votes a11                            the start
+--    14                                                 hears 11: K12, K13
+--    15    hears 12: learns
+--    16                         hears 3, late: n14
+--    17                                                 calls: goes late
+--    18    (the late call arrives)                                                           its row
+--    19                                                 calls: that row
+--    20                                                 answer: votes A15, A16
 use Rattle.std.specs.Prelude.{ℕ, ◌<◌, ◌^◌, ℤ, false, List, [], ◌∷◌, None, Some, FitsSigned}
 use Rattle.std.specs.Int.{w64}
 use Rattle.zone_minutes.specs.Window.{IsInWindow}

@@ -1,4 +1,15 @@
-//! Histories: what one to seven replicas did, turn by turn; that legal ones agree, and how large their numbers become.
+//! What one to seven replicas did, turn by turn, and that they agree. A turn is judged by what stands after those
+//! before it (`IsLegal`). Every legal book of one to seven replicas agrees, after each of its turns
+//! (`every_legal_book_agrees`, `a_cut_is_legal`): what was learned was chosen, no two entries were learned for one
+//! slot, and each replica that runs has the launch table of a prefix of the log, of which there is one
+//! (`a_book_has_one_log`, `what_agreement_says`). There are such books (`some_books_are_legal`,
+//! `a_takeover_is_legal`, `a_book_with_snapshots_is_legal`), and turns that break a rule are not legal
+//! (`some_turns_are_not_legal`). Whatever turn comes, a name that is held stays held and gains no second row
+//! (`a_held_name_stays`), and a late call arrives once (`a_late_call_arrives_once`). No number of a legal book is
+//! above the number of its turns (`a_legal_book_counts_its_turns`), so replicas of one of fewer than 2^59 turns are
+//! small enough to take a step (`replicas_of_a_legal_book_are_small`), and a posted letter of fewer than 2^31
+//! packets is heard whole (`posted_letters_are_heard_whole`). A book is kept turn by turn (`a_legal_book_goes_on`,
+//! `a_step_goes_on_a_legal_book`).
 #![tactic(auto)]
 
 mod books;

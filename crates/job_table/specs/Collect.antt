@@ -1,4 +1,4 @@
--- Marks that are collected, and the jobs that they have brought.
+-- Marks that are collected, and the jobs that they have brought. Private functions alone cite it.
 use Rattle.std.specs.Prelude.{◌≡◌, ℕ, ◌+◌, Bool, true, false, List, [], ◌∷◌, ◌++◌, if◌then◌else◌, codes, bytes_eq}
 use Rattle.crontab_text.specs.LineBody.{LineBody, BlankBody, CommentBody, AssignBody, EntryBody, NickBody}
 use Rattle.due_set.specs.Table.{Job}

@@ -1,4 +1,4 @@
--- Jobs that are collected under their names.
+-- Jobs that are collected under their names. Private functions alone cite it.
 use Rattle.std.specs.Prelude.{◌≡◌, ◌⊎◌, ℕ, Bool, true, false, List, [], ◌∷◌, ◌++◌, String, string_bytes}
 use Rattle.std.specs.declared.alloc.Global.{Global}
 use Rattle.due_set.specs.Table.{Job}

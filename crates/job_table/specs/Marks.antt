@@ -1,4 +1,5 @@
 -- What the lines of a run's tables come to: zones that are named, and jobs, in the order of the lines.
+-- Source: crontab(5) of cronie for `CRON_TZ`; anacrontab(5) of cronie, by anacron_text; the names, and that the delay is counted from the first hour, are this project's.
 use Rattle.std.specs.Prelude.{◌≡◌, ◌⊎◌, ℕ, ◌+◌, ◌*◌, List, [], ◌∷◌, ◌++◌, Option, None, Some, if◌then◌else◌, codes, decimal, map, bytes_eq}
 use Rattle.std.specs.List.{AllZip}
 use Rattle.anacron_text.specs.Answers.{Said, AreAnswersBelow}

@@ -1,4 +1,12 @@
-//! The table of a run's jobs.
+//! The table of a run's jobs. `build_table` answers with it (`IsTableOf`), or refuses the run (`IsRefusedRun`): for
+//! the first zone that `jiff` refuses, else for the first line that names no zone of the run or brings a job whose
+//! name is there, else for more than 1,000 jobs, else for more than 20,000 due instants. The table has UTC and each
+//! zone of the run, read as `jiff` reads it; jobs of one zone share it. Each entry of a crontab runs by the zone in
+//! force at its line, and each job of an anacrontab by that of its section, with the period and the minutes of the
+//! day that its line and the variables above it say (`AreMarks`). A run has one table at most or one refusal at
+//! most, never both, and one of the two if `jiff` reads or refuses each of its zones (`a_run_has_one_verdict`).
+//! `zones` builds and numbers the zones, `collect` goes through the sections once, `jobs` has the jobs by their
+//! names.
 #![tactic(auto)]
 
 mod anacrontab;

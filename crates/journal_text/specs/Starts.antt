@@ -1,4 +1,5 @@
 -- The journal of a book whose turns obey a script, and the rows of each part of it.
+-- Source: this project; the parts by script_semantics.
 use Rattle.std.specs.Prelude.{◌≡◌, ℕ, ◌-◌, List, length, take, drop, get_or}
 use Rattle.due_set.specs.Table.{Table}
 use Rattle.script_text.specs.declared.command.Command.{Command}

@@ -1,4 +1,4 @@
--- What is told of a run that was made from a seed.
+-- What is told of a run that was made from a seed. Source: this project; the book by world_law.
 use Rattle.std.specs.Prelude.{◌≡◌, ℕ, List, [], ◌∷◌, ◌++◌, length, count_by, codes, decimal}
 use Rattle.due_set.specs.Table.{Table}
 use Rattle.paxos_base.specs.declared.entry.Kind.{Kind}

@@ -1,4 +1,5 @@
 -- Turns that a line can tell: their instants have stamps, and their answers are launches of the table.
+-- Private functions alone cite it.
 use Rattle.std.specs.Prelude.{⊤, Option, None, Some, IfSome}
 use Rattle.zone_minutes.specs.Civil.{IsCalendarMinute}
 use Rattle.cluster_sched.specs.Names.{IsNameIn}

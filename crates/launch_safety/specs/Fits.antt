@@ -1,4 +1,5 @@
 -- How the log and the rows that the scheduler holds fit together.
+-- Source: "Reliable Cron across the Planet"; that an instant isn't passed over is this project's; anacrontab(5) of cronie for periods.
 use Rattle.std.specs.Prelude.{◌≡◌, ℕ, List, ◌∷◌, ◌++◌, Some, ℤ, ◌<ℤ◌, All, Contains, slice_get}
 use Rattle.jiff.specs.Types.{TimeZone}
 use Rattle.paxos_base.specs.declared.entry.Entry.{Entry}

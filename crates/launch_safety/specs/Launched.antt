@@ -1,4 +1,5 @@
 -- When each due instant is launched, and each date on which a job may open.
+-- Source: anacron(8) of cronie: a job runs where its period has passed since it was last run; this project.
 use Rattle.std.specs.Prelude.{◌≡◌, ◌⊎◌, ℕ, List, Option, None, Some, ℤ, ◌<ℤ◌, ◌≤ℤ◌, All, Contains}
 use Rattle.paxos_base.specs.declared.entry.Kind.{Kind}
 use Rattle.paxos_base.specs.declared.entry.Kind.TheVariants.{Launch}

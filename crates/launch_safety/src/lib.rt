@@ -1,5 +1,15 @@
-//! What has to hold between a log of launch starts and ends and the rows that a scheduler holds; that it holds of legal histories;
-//! and that each start and each call was asked for in a turn whose clock read its instant.
+//! At most once, and none passed over. `Fits` says what has to hold between a log and the rows that are held, over
+//! any list of entries and of rows: a launch is held once (`a_launch_is_held_once`), was started
+//! (`a_held_launch_was_started`) and had come (`a_held_launch_had_come`), an end says the kind that is held
+//! (`an_end_says_what_is_held`), no due instant is passed over (`no_due_instant_is_passed_over`), and two launches
+//! of a job that runs by its period are a period apart (`launches_are_a_period_apart`). In every legal book of one
+//! to seven replicas what the scheduler holds fits the log, after each turn (`every_legal_book_fits`); nothing is
+//! asked of the table of jobs. Each vote for a start goes back to a turn whose clock read the start's instant
+//! (`each_start_was_read`), and so does each call (`each_call_was_read`); if no clock has passed an instant, no
+//! start of the log is of a later one (`no_start_is_ahead`). `LaunchesEachDue` says that every due instant was
+//! launched, and each date on which a job may open by what was called before (`OpensBy`), at the instant at which it
+//! may, and nothing else. There are legal books with each part at work (`a_launch_may_end_in_time`,
+//! `a_takeover_holds_its_launch`, `a_job_may_be_launched_on_two_dates`).
 #![tactic(auto)]
 
 mod histories;

@@ -1,4 +1,4 @@
-//! Tests of launches: the launch table, the scheduler that is called by names, and the report.
+//! The launch table, the scheduler that is called by names, the tree of least instants, and the report.
 #![tactic(auto)]
 
 #[cfg(test)]

@@ -1,5 +1,6 @@
-//! The learner of Paxos, for the slots of a log ("Paxos Made Simple", section 2.3): the entries that a replica knows to be
-//! chosen, one slot after the other without a gap.
+//! The entries that are known to be chosen, without a gap. An entry is learned exactly if its slot is the next one
+//! (`Learner::learn`, clauses `old`, `gap`, `new`); a later base drops the entries below it, and never lowers the
+//! prefix (`rebase`: `IsRebased`).
 #![tactic(auto)]
 
 mod learner;

@@ -1,4 +1,5 @@
 -- The nodes of a tournament tree: node k is the lesser of nodes 2k and 2k+1, and the leaves begin at the width.
+-- Private functions alone cite it.
 use Rattle.std.specs.Prelude.{◌≡◌, ◌≢◌, ◌⊎◌, ℕ, ◌+◌, ◌*◌, ◌^◌, ◌<◌, ◌≤◌, List, length, get_or, Option, None, Some, ℤ, ◌≤ℤ◌}
 use Rattle.min_tree.specs.Least.{IsAtMost}
 

@@ -1,6 +1,8 @@
-//! A list of optional instants with a tree of the least ones over it: the least is known at once, and
-//! the first that is at most a limit is found in a number of steps that grows as the logarithm of the
-//! list's length.
+//! A list of instants, some of which may be missing, whose least is known at once. Contracts see a `LeastTree` as
+//! that list (`build`, `copy`, `len`, `get`, `set`): `set` changes one place and nothing else, `least` is the least
+//! of all (`IsLeast`), and `first_at_most` the first place from another on whose instant is at most a limit
+//! (`IsFirstAtMost`); `None` comes exactly if there is none (clauses `none`). `set` and `first_at_most` go over as
+//! many nodes as the tree is high, which no contract says.
 #![tactic(auto)]
 
 mod nodes;

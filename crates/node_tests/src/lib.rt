@@ -1,6 +1,9 @@
-//! Tests of what no clause of replica_core says: a first campaign by its bytes, and long letters; and of what none of replica_node
-//! says: that a node over a disk in memory is recovered, does steps and finds again
-//! what it kept, and how far it comes where a call of the disk fails or stops.
+//! A replica's first campaign by its bytes, and long letters. A node over a disk in memory: what it finds again
+//! after each start, and how far it comes if a call of the disk fails or stops. A node that has armed its disk is
+//! reopened with the change of a campaign, a promise, a vote and a base exactly if the image that is left has it,
+//! and its disk keeps what was worked out by hand; so with bases that have a row, and after none, one and two of
+//! them. A disk whose area begins with such a base, and has a record whose gate was stopped, is attached again,
+//! armed too.
 #![tactic(auto)]
 
 #[cfg(test)]

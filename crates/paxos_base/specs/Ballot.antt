@@ -1,4 +1,4 @@
--- The numbers of ballots.
+-- The numbers of ballots. Source: "Paxos Made Simple", section 2.4.
 use Rattle.std.specs.Prelude.{ℕ, ◌+◌, ◌*◌, ◌/◌, ◌%◌, ◌^◌, ◌<◌, ◌≤◌, Bool, ◌&&◌, Option, nat_le, nat_lt, IfSome, IsTrue}
 
 -- The number of a replica's ballot in a round: each replica has numbers of its own ("Paxos Made Simple", section 2.4).

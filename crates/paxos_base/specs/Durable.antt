@@ -1,4 +1,4 @@
--- What a replica keeps on its disk, and how it changes.
+-- What a replica keeps on its disk, and how it changes. Source: "Paxos Made Simple"; the base is this project's.
 use Rattle.std.specs.Prelude.{Some}
 use Rattle.paxos_base.specs.declared.durable.Delta.{Delta}
 use Rattle.paxos_base.specs.declared.durable.Delta.TheVariants.{Tried, Promised, Voted, Base}

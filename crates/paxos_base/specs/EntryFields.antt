@@ -1,4 +1,4 @@
--- An entry in a packet: it fills the fields tag, job, at and now.
+-- An entry in a packet: it fills the fields tag, job, at and now. Source: docs/WIRE.md.
 use Rattle.std.specs.Prelude.{◌≡◌, ◌≢◌, ◌⊎◌, ℕ, ◌<◌, ◌^◌, ℤ, pos, List, [], ◌∷◌, slice_index, replicate, ⊤, FitsSigned}
 use Rattle.std.specs.Int.{w32, w64, to_be_bytes}
 use Rattle.paxos_base.specs.Packet.{Field, TagField, JobField, AtField, NowField, offset_of, size_of, field_of, minute_bytes}

@@ -1,4 +1,4 @@
--- Sets of replicas.
+-- Sets of replicas. Source: "Paxos Made Simple".
 use Rattle.std.specs.Prelude.{◌≡◌, ℕ, ◌+◌, ◌*◌, ◌/◌, ◌%◌, ◌^◌, ◌<◌, ◌==◌, nat_le, Bool, List, [], ◌∷◌, bit_or, count_by}
 use Rattle.std.specs.Int.{bit_at}
 

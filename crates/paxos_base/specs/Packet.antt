@@ -1,4 +1,4 @@
--- The layout of a packet: 56 bytes in eleven fields, one after another, with numbers big endian.
+-- The layout of a packet: 56 bytes in eleven fields, one after another, with numbers big endian. Source: docs/WIRE.md.
 use Rattle.std.specs.Prelude.{ℕ, ◌+◌, ℤ, List, [], ◌∷◌, ◌++◌, length, take, drop}
 use Rattle.std.specs.Int.{w64, to_be_bytes, cast_unsigned}
 

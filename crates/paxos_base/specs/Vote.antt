@@ -1,4 +1,4 @@
--- Votes of the log.
+-- Votes of the log. Source: "Paxos Made Simple".
 use Rattle.std.specs.Prelude.{◌≡◌, ℕ, ◌+◌, ◌<◌, ◌==◌, nat_le, nat_lt, Option, Some, List, ◌∷◌, ◌++◌, AllPairs, slice_get}
 use Rattle.std.specs.List.{filter, find}
 use Rattle.paxos_base.specs.declared.entry.Vote.{Vote}

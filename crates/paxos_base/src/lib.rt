@@ -1,5 +1,10 @@
-//! The vocabulary of Paxos over a log of launch starts and ends: ballots, sets of members, entries, votes, the rows of
-//! the launch table, and what a replica keeps on its disk.
+//! The words of Paxos, each call its definition. Ballots are ordered as their numbers (`Ballot`). Two majorities of
+//! the same replicas share one (`majorities_meet`). A list of votes has one vote at a slot at most
+//! (`slots_have_one_vote`), and is looked up and changed by slot (`vote_at`, `put_vote`, `a_vote_takes_its_slot`).
+//! An entry is written into a packet and read back exactly (`put_entry`, `get_entry`). `after_delta` says what a
+//! change does to what a replica keeps on its disk (`a_change_brings_what_it_names`); `Durable::apply` does it, or
+//! nothing changes when memory runs out (clauses `changed`, `unchanged`); `fresh_rows` says with which rows a
+//! replica begins. `layout` has the places of a packet's fields, for entries, letters and the store.
 #![tactic(auto)]
 
 mod ballot;

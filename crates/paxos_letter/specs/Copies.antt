@@ -1,4 +1,4 @@
--- A copy of the rows of the launch table.
+-- A copy of the rows of the launch table. Source: docs/WIRE.md.
 use Rattle.std.specs.Prelude.{ℕ, ◌<◌, ◌^◌, List, ◌∷◌, length, map, All}
 use Rattle.paxos_base.specs.declared.rows.JobRow.{JobRow}
 use Rattle.paxos_base.specs.Rows.{RowsStand, OpenHaveCursors}

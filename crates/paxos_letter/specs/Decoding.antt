@@ -1,4 +1,4 @@
--- What is read of a letter: its sender, and the packet that each 56 bytes are.
+-- What is read of a letter: its sender, and the packet that each 56 bytes are. Source: docs/WIRE.md.
 use Rattle.std.specs.Prelude.{ℕ, List, map, ◌==◌, if◌then◌else◌}
 use Rattle.std.specs.Bool.{then_some}
 use Rattle.std.specs.List.{AllByRecursion}

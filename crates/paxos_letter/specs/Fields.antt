@@ -1,4 +1,4 @@
--- The fields of a packet as numbers, and as its 56 bytes.
+-- The fields of a packet as numbers, and as its 56 bytes. Source: docs/WIRE.md.
 use Rattle.std.specs.Prelude.{ℕ, ℤ, pos, ◌/◌, ◌<◌, ◌^◌, List, [], ◌∷◌, length, map, slice_index, FitsSigned}
 use Rattle.std.specs.Int.{w32, w64, to_be_bytes, from_be_bytes, cast_signed}
 use Rattle.std.specs.List.{flat_map}

@@ -1,4 +1,4 @@
--- How packets follow one another in a letter.
+-- How packets follow one another in a letter. Source: docs/WIRE.md.
 use Rattle.std.specs.Prelude.{◌+◌, ◌-◌, Bool, false, not, ◌&&◌, ◌||◌, ◌==◌, nat_lt, if◌then◌else◌, List, [], ◌∷◌}
 use Rattle.paxos_letter.specs.declared.fields.Fields.{Fields}
 use Rattle.paxos_letter.specs.declared.group.Group.{Group}

@@ -1,4 +1,4 @@
--- The kinds of packets by their numbers.
+-- The kinds of packets by their numbers. Source: docs/WIRE.md.
 use Rattle.std.specs.Prelude.{ℕ}
 
 abbrev pub prepare : ℕ

@@ -1,4 +1,4 @@
--- Letters, and the first rule that bytes break.
+-- Letters, and the first rule that bytes break. Source: docs/WIRE.md.
 use Rattle.std.specs.Prelude.{◌≡◌, ◌≢◌, ◌↔◌, ℕ, ◌+◌, ◌*◌, ◌%◌, ◌<◌, Bool, not, ◌||◌, ◌==◌, if◌then◌else◌, IsTrue, List, [], ◌∷◌, length, map, slice_index, Option, None, Some}
 use Rattle.std.specs.List.{AllByRecursion}
 use Rattle.paxos_base.specs.Packet.{offset_of, FromField}

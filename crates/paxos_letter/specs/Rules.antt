@@ -1,4 +1,4 @@
--- The rules that each packet keeps by itself, as tests of its fields.
+-- The rules that each packet keeps by itself, as tests of its fields. Source: docs/WIRE.md.
 use Rattle.std.specs.Prelude.{ℕ, pos, ◌^◌, List, [], ◌∷◌, Bool, true, false, not, ◌&&◌, ◌||◌, ◌==◌, nat_lt, nat_le, IsTrue}
 use Rattle.std.specs.Int.{bit_at}
 use Rattle.std.specs.List.{list_all}

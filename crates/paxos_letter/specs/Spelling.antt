@@ -1,4 +1,4 @@
--- What each packet puts into its fields, and the one spelling of a list of packets.
+-- What each packet puts into its fields, and the one spelling of a list of packets. Source: docs/WIRE.md.
 use Rattle.std.specs.Prelude.{ℕ, ◌+◌, ℤ, pos, List, Option, is_some, unwrap_or, if◌then◌else◌}
 use Rattle.std.specs.List.{flat_map, AllByRecursion}
 use Rattle.paxos_base.specs.declared.rows.JobRow.{JobRow}

@@ -1,5 +1,4 @@
-//! Tests of what no clause of the crates of Paxos says: numbers and bytes by outside vectors, and protocols played step by
-//! step.
+//! Ballots, letters and votes, compared with bytes and numbers from outside, and protocols played step by step.
 #![tactic(auto)]
 
 #[cfg(test)]

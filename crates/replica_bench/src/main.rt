@@ -1,6 +1,7 @@
-//! Measures the step of a replica: three replicas that hear each other's letters at once, over 10,000 launches of one job
-//! and of 1,000 jobs. What they did is written to standard output, and how much they did in a second of the processor to
-//! standard error.
+//! Measures a replica's step: three replicas that hear each other's letters at once, over 10,000 launches of one job
+//! and of 1,000 jobs. Proved is that it is safe, and asks for no step that a replica may not be asked for. What its
+//! replicas did goes to standard output, which the gate compares; how much of it they did in a second of the
+//! processor goes to standard error.
 #![tactic(auto)]
 
 mod fault;

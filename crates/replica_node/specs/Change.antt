@@ -1,4 +1,4 @@
--- Whether what a replica keeps shows a change that it may have kept.
+-- Whether what a replica keeps shows a change that it may have kept. Private functions alone cite it.
 use Rattle.std.specs.Prelude.{◌≡◌, ◌⊎◌, Option, None, Some}
 use Rattle.paxos_base.specs.Ballot.{round_of}
 use Rattle.paxos_base.specs.Vote.{vote_at}

@@ -1,7 +1,9 @@
-//! Plays letters between replicas by hand, as the commands of scenarios say, and writes what each step does.
-//!
-//! A scenario is read from standard input: commands, and lines that stay as they are. docs/SCENARIOS.md says how to write
-//! one.
+//! Plays letters between replicas by hand, as the commands of a scenario say, and writes what comes of each;
+//! docs/SCENARIOS.md is its manual. Proved is that it asks for no step that a replica may not be asked for
+//! (`running`); a step is the one of replica_core (`step`), and a copy is equal (`copy`). That each scenario comes
+//! to its text is tested. `scenario` goes over the lines, `parse` reads commands, `cluster` has the replicas and
+//! their letters, `host` a replica with its disk, `hour` the one table of jobs, `made_up` the letters that a
+//! scenario makes up.
 #![tactic(auto)]
 
 mod cluster;

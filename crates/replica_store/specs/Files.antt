@@ -1,4 +1,5 @@
 -- What the files of a replica's disk stand for, and from what a replica can go on.
+-- Source: docs/WIRE.md; the disk from which a replica can go on is this project's.
 use Rattle.std.specs.Prelude.{◌≢◌, ◌⊎◌, ℕ, ◌%◌, ◌==◌, if◌then◌else◌, List, [], ◌∷◌, ◌++◌, get_or, Option, IfSome}
 use Rattle.disk_model.specs.declared.fault.FileNo.{FileNo}
 use Rattle.disk_model.specs.declared.fault.FileNo.TheVariants.{AreaA, AreaB}

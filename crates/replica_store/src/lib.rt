@@ -1,4 +1,15 @@
-//! What a replica keeps on its disk: a chooser of one byte, and two areas of records behind gates.
+//! What a replica keeps, over a stop of an honest disk. A change that `Store::save` answered with `Ok` is in the
+//! files whatever a stop does, and whatever a stop within a save or an attach leaves stands for the state before the
+//! change or for the one after it (`save`, `attach`, clauses `images` and `recoverable`;
+//! `a_stop_leaves_one_of_two_states`). `attach` finds one of the two and never damage (clauses `either`, `sound`),
+//! on a disk that was empty at first (`an_empty_disk_is_recoverable`) and that only these two calls wrote, or whose
+//! files are synced and closed (`synced_files_are_recoverable`); if files stand for no state it names the first gate
+//! at fault and writes nothing (`damaged`, `unwritten`). Files stand for one state at most
+//! (`files_stand_for_one_state`). On a disk that shows its calls, both say which they make (`attach_calls`,
+//! `save_calls`), and how many were done at each answer (`told`). If such a disk was armed and stops within a save,
+//! the number of calls left and the number of the image say whether the change is kept, and which area is in use
+//! (`a_stop_may_keep_a_record`, `a_stop_may_keep_a_base`). Over a disk that isn't honest nothing is said of images.
+//! `chooser` has the byte that selects an area, `store` the two calls.
 //!
 //! The low bit of the chooser's byte selects an area: the first for 0, and for an empty chooser, the second for 1. The
 //! records of the selected area stand for what is kept. A change is one record more, appended to that area. A base is the

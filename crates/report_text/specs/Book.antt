@@ -1,4 +1,4 @@
--- The report of a book: over what the scheduler holds after its turns.
+-- The report of a book: over what the scheduler holds after its turns. Source: docs/RUN_FILE.md; the book by world_law.
 use Rattle.std.specs.Prelude.{ℕ, List}
 use Rattle.due_set.specs.Table.{Table}
 use Rattle.history.specs.Book.{Row}

@@ -1,4 +1,4 @@
--- The counts of a job's rows.
+-- The counts of a job's rows. Private functions alone cite it.
 use Rattle.std.specs.Prelude.{ℕ, ◌+◌, List}
 use Rattle.paxos_base.specs.declared.entry.Kind.{Kind}
 use Rattle.paxos_base.specs.declared.entry.Kind.TheVariants.{Launch, Void}

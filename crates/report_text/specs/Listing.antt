@@ -1,4 +1,4 @@
--- The rows of a job that a report lists.
+-- The rows of a job that a report lists. Source: docs/RUN_FILE.md.
 use Rattle.std.specs.Prelude.{ℕ, ◌==◌, ◌&&◌, List, map, filter, ℤ}
 use Rattle.paxos_base.specs.declared.entry.Kind.{Kind}
 use Rattle.cluster_sched.specs.declared.row.SchedRow.{SchedRow}

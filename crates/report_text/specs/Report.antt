@@ -1,4 +1,5 @@
 -- The report's text, as a function of the table of jobs, the number of replicas and the rows that are held.
+-- Source: docs/RUN_FILE.md.
 use Rattle.std.specs.Prelude.{◌≡◌, ◌⊎◌, ℕ, ◌<◌, ◌==◌, ◌&&◌, Bool, true, false, List, [], ◌∷◌, ◌++◌, ◌≤ℤ◌, length, map, count_by, codes, decimal, AllPairs}
 use Rattle.std.specs.List.{range_with_len}
 use Rattle.std.specs.List.Sorted.{IsPermutation}

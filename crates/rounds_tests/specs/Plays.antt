@@ -1,4 +1,4 @@
--- Commands that a world takes one after another.
+-- Commands that a world takes one after another. Private functions alone cite it.
 use Rattle.std.specs.Prelude.{◌≡◌, ℕ, List, [], ◌∷◌, ⊤, pos}
 use Rattle.zone_minutes.specs.declared.minute.Window.{Window}
 use Rattle.script_text.specs.declared.command.Command.{Command}

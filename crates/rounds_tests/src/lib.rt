@@ -1,5 +1,11 @@
-//! Tests of what no clause of world_rounds and world_free says: that worlds in rounds and in threads come to an end of their commands,
-//! and which turns, letters and rows their books have then, worked out by hand; and that threads run at once.
+//! Worlds of replicas over disks in memory, which take commands one after another. From command to command it is
+//! proved that the world is one still, so a test has to show of its commands alone that they are taken (`AreTaken`).
+//! Turns and letters are compared with counts made by hand; turns, letters and rows are the same in one lane, in
+//! three and in eight, with armed disks, and if a world is taken apart and put together again before, between or
+//! after its commands (`parts`). That three lanes run at once is tested on disks that wait in each sync for one
+//! another (`meets`). Parts of free turns: a gate brings about both orders of two replicas (`orders`), three
+//! replicas and seven take 200 turns each, one is armed to stop (`after_free`), and threads wait for each other at a
+//! gate and in a sync, so that they run at once (`threads`).
 #![tactic(auto)]
 
 #[cfg(test)]

@@ -1,5 +1,14 @@
-//! What a run that obeys a script ends with: walks and settles end quietly, each due instant was started and ended, and which dates
-//! of the jobs that run by a period were launched.
+//! What a legal book of one to seven replicas ends with that has obeyed a script and walked to the window's last
+//! minute. Each due instant of a crontab's job has been started and has ended; one that no clock reading of the
+//! script's turns is later than is held as launched, and was called at that instant; and each is held as launched if
+//! grace lasts as long as the window (`a_walk_launches_each_due_instant`). It ends quietly: each replica has learned
+//! the whole log, no launch may be called, and none is to start (`settling_ends_quietly`, `a_walk_ends_quietly`,
+//! `an_obeyed_script_ends_quietly`). All of it as one definition is `IsWholeRun` (`an_obeyed_script_is_whole`,
+//! `what_a_whole_run_says`). A date on which an anacrontab's job may open is launched unless it is barred
+//! (`a_date_is_launched_where_a_job_may_open`), and then the job's zone showed a later date before
+//! (`a_barred_date_was_passed`). Of a script without commands each due instant and each such date is launched, and
+//! nothing else is held (`a_walk_without_a_script_launches_each_due_instant`). There are such books
+//! (`a_walk_may_launch`, `a_whole_run_may_be`, `a_date_may_be_launched`).
 #![tactic(auto)]
 
 mod dates;

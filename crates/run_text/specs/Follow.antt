@@ -1,4 +1,4 @@
--- Which line of a run file may follow which, and why another one may not.
+-- Which line of a run file may follow which, and why another one may not. Source: docs/RUN_FILE.md.
 use Rattle.std.specs.Prelude.{◌≡◌, ◌≢◌, ◌⊎◌, ℕ, zero, suc, ◌+◌, ◌≤◌, List, [], ◌∷◌, ◌++◌, Option, None, Some, codes, ⊤}
 use Rattle.anacron_text.specs.LogicalLines.{joined}
 use Rattle.anacron_text.specs.Settings.{no_settings}

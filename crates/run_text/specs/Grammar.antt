@@ -1,4 +1,4 @@
--- The product's own lines of a run file. Words are separated by one space.
+-- The product's own lines of a run file. Words are separated by one space. Source: docs/RUN_FILE.md.
 use Rattle.std.specs.Prelude.{◌≡◌, ◌⊎◌, ℕ, ◌<◌, ◌≤◌, ◌==◌, if◌then◌else◌, List, [], ◌∷◌, ◌++◌, length, codes, decimal}
 use Rattle.std.specs.List.{AllByRecursion}
 use Rattle.zone_minutes.specs.Window.{IsWithinLimits, window_line}

@@ -1,4 +1,4 @@
--- What a run file says, and for what it is refused. Relations on all its lines.
+-- What a run file says, and for what it is refused. Relations on all its lines. Source: docs/RUN_FILE.md.
 use Rattle.std.specs.Prelude.{◌≡◌, ◌⊎◌, ℕ, ◌+◌, ◌<◌, ◌≤◌, ◌^◌, List, [], ◌∷◌, length, All, Ok, ⊤}
 use Rattle.hex.specs.Hex.{decode_of}
 use Rattle.crontab_text.specs.Lines.{lines_of}

@@ -1,4 +1,5 @@
 -- A run: how many replicas there are, a window of time, the zones under their names, the tables of jobs, and a script.
+-- Source: docs/RUN_FILE.md; hexadecimal digits by `hex`.
 use Rattle.std.specs.Prelude.{ℕ, List, ◌++◌, ◌∷◌, [], map, Result, Ok, Err}
 use Rattle.hex.specs.Hex.{decode_of}
 use Rattle.hex.specs.declared.error.FromHexError.{FromHexError}

@@ -1,4 +1,4 @@
--- What holds of each run that is read.
+-- What holds of each run that is read. Source: docs/RUN_FILE.md.
 use Rattle.std.specs.Prelude.{◌≢◌, ℕ, ◌+◌, ◌<◌, ◌≤◌, List, [], ◌∷◌, length, codes, ⊤}
 use Rattle.std.specs.List.{AllByRecursion}
 use Rattle.zone_minutes.specs.Window.{IsWithinLimits}

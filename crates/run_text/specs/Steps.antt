@@ -1,4 +1,4 @@
--- Where a reader stands in a run file, and what it comes to from there.
+-- Where a reader stands in a run file, and what it comes to from there. Private functions alone cite it.
 use Rattle.std.specs.Prelude.{◌≡◌, ◌⊎◌, ℕ, ◌+◌, ◌<◌, ◌≤◌, ◌^◌, List, [], ◌∷◌, ◌++◌, length, map, ⊤}
 use Rattle.std.specs.Borrow.{Bor}
 use Rattle.crontab_text.specs.Lines.{lines_of}

@@ -1,4 +1,4 @@
--- What the lines of a table come to.
+-- What the lines of a table come to. Source: crontab_text for crontabs, anacron_text for anacrontabs.
 use Rattle.std.specs.Prelude.{◌≡◌, ℕ, ◌+◌, List, ◌∷◌, ◌++◌, length, Option, None, Some}
 use Rattle.std.specs.List.{AllByRecursion}
 use Rattle.anacron_text.specs.LogicalLines.{joined}

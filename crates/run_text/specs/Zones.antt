@@ -1,4 +1,5 @@
 -- The line of a run file that names a zone: zone NAME KIND TEXT.
+-- Source: docs/RUN_FILE.md; POSIX for rules and RFC 8536 for files, as `jiff` and `hex` read them.
 use Rattle.std.specs.Prelude.{◌≡◌, ◌≢◌, ℕ, ◌+◌, ◌*◌, ◌%◌, ◌<◌, ◌≤◌, ℤ, pos, neg_ℤ, List, ◌∷◌, ◌++◌, length, codes, Ok, map, true}
 use Rattle.std.specs.List.{AllByRecursion}
 use Rattle.hex.specs.Hex.{decode_of, is_hex_digit}

@@ -1,4 +1,14 @@
-//! Run files: a head, tables of jobs, and a script.
+//! What a run file says. `read_run` reads a text as a run file with its head, its zones, its sections and its
+//! script, each line after those above it (`IsRunText`), or refuses it at the first line that may not stand there,
+//! with the cause and the place of the byte (`IsRefusedText`); if the file ends too early, at the line that is
+//! missing (`Misses`). Each text has a reading (`a_text_has_a_reading`), and never two (`a_text_has_one_reading`),
+//! and each run that is read keeps its limits: each command is in range, and the script within its limits
+//! (`each_run_is_sound`). Zones and sections are slices of the text; a section is read by crontab_text or
+//! anacron_text. Whether a zone's rule or file is one, `jiff` decides when job_table builds it. `read_frame` reads
+//! the frame of a text: what `read_run` reads, with the lines of tables counted and not judged (`IsFrameText`,
+//! `IsRefusedFrame`). Each text has a frame or is refused (`a_text_has_a_frame`), never in two ways
+//! (`a_text_has_one_frame`); a run is its text's frame (`each_run_is_its_frame`), and a frame whose lines each say
+//! something is a run (`a_frame_without_faults_is_a_run`).
 #![tactic(auto)]
 
 mod head;

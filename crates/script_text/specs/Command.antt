@@ -1,4 +1,5 @@
 -- The commands of a script, each by the text of its line: words separated by one space, and numbers in decimal.
+-- Source: this project; stamps by zone_minutes.
 use Rattle.std.specs.Prelude.{◌≡◌, ℕ, ◌<◌, ◌≤◌, ◌^◌, List, ◌∷◌, ◌++◌, ℤ, pos, negsuc, codes, decimal, ⊤}
 use Rattle.std.specs.Fmt.{signed_decimal}
 use Rattle.jiff_core.specs.Calendar.{IsBetween}

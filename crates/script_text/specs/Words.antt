@@ -1,4 +1,4 @@
--- The first words of commands, by what stands behind them.
+-- The first words of commands, by what stands behind them. Private functions alone cite it.
 use Rattle.std.specs.Prelude.{◌≡◌, ℕ, List, codes}
 
 -- in front of a replica

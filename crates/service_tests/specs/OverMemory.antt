@@ -1,4 +1,4 @@
--- The length of a run's report, beside the room that a sink has.
+-- The length of a run's report, beside the room that a sink has. Private functions alone cite it.
 use Rattle.std.specs.Prelude.{ℕ, ◌<◌, ◌≤◌, List, length}
 use Rattle.disk_model.specs.declared.mem_disk.MemDisk.{MemDisk}
 use Rattle.replica_node.specs.declared.node.Node.{Node}

@@ -1,5 +1,13 @@
-//! How a legal history settles, for each number of replicas: its rounds without loss are synchronous rounds, one replica comes to
-//! lead, comes to rest, and then all have learned as much and it is quiet.
+//! How a legal book settles, for each number of replicas from one to seven. A round of it in which all run, no
+//! letter is lost, each clock is right and each call is answered is a calm round of synchronous_rounds
+//! (`a_round_is_calm`). The next ballot of a replica is new (`a_ballot_is_tried_by_its_own_replica`). If no letter
+//! waits and the coordinator campaigns, it leads after four rounds of a drain at most, and after each round then
+//! (`one_comes_to_lead`); one replica alone leads at its campaign (`one_leads_at_its_campaign`). Once it leads, it
+//! was at rest before a round, or fewer rounds are left to it after it (`one_comes_to_rest`); after five rounds at
+//! rest it is quiet (`one_at_rest_is_quiet_soon`), and the whole log is settled, and learned by all
+//! (`level_and_idle_is_quiet`, `quiet_says_it_of_the_whole_log`, `the_whole_log_is_settled`). No fault comes of the
+//! campaign or of the rounds (`settling_leaves_no_fault`). The limits, fewer than 2^59 turns and letters of fewer
+//! than 2^31 packets, are part of the premises (`IsWithinBounds`). There are such books (`a_cluster_may_settle`).
 #![tactic(auto)]
 
 mod alone;

@@ -1,4 +1,4 @@
--- What a replica does when it hears a message.
+-- What a replica does when it hears a message. Source: "Paxos Made Simple", sections 2.2 and 2.3.
 use Rattle.std.specs.Prelude.{ℕ, ◌+◌, ◌-◌, ◌==◌, nat_le, nat_lt, Bool, false, ◌&&◌, ◌||◌, List, [], ◌∷◌, ◌++◌, length, map, drop, Option, None, Some, if◌then◌else◌}
 use Rattle.paxos_base.specs.Members.{with_member}
 use Rattle.paxos_base.specs.Vote.{vote_at, votes_from}

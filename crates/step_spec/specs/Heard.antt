@@ -1,4 +1,4 @@
--- How messages are spelled in packets, and as what packets are heard.
+-- How messages are spelled in packets, and as what packets are heard. Source: docs/WIRE.md.
 use Rattle.std.specs.Prelude.{ℕ, List, [], ◌∷◌, length, map, take, replicate}
 use Rattle.std.specs.List.{flat_map}
 use Rattle.paxos_base.specs.declared.entry.Vote.{Vote}

@@ -1,4 +1,4 @@
--- The bytes of letters, and as what a replica hears them.
+-- The bytes of letters, and as what a replica hears them. Source: docs/WIRE.md; the bounds are this project's.
 use Rattle.std.specs.Prelude.{◌≡◌, ℕ, ◌^◌, ◌==◌, ◌&&◌, nat_lt, Bool, true, List, [], ◌∷◌, length, if◌then◌else◌}
 use Rattle.std.specs.List.{AllZip, flat_map}
 use Rattle.paxos_base.specs.Ballot.{round_of}

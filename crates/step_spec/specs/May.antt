@@ -1,4 +1,4 @@
--- When a replica may do what: the guard of each act, on its state and on what was said.
+-- When a replica may do what: the guard of each act, on its state and on what was said. Source: "Paxos Made Simple".
 use Rattle.std.specs.Prelude.{◌≡◌, ◌⊎◌, ℕ, ◌<◌, ◌≤◌, ⊤, All, List, [], ◌∷◌, Option, None, Some, Contains, IsTrue, ℤ}
 use Rattle.std.specs.List.{AllByRecursion}
 use Rattle.paxos_base.specs.Ballot.{member_of, round_of}

@@ -1,4 +1,5 @@
 -- How a replica comes to lead, and what a leader proposes.
+-- Source: "Paxos Made Simple", sections 2.2, 2.4 and 3; "Reliable Cron across the Planet".
 use Rattle.std.specs.Prelude.{ℕ, ◌+◌, max, nat_le, Bool, false, ◌&&◌, List, [], ◌∷◌, Option, None, Some, ℤ, if◌then◌else◌, slice_get}
 use Rattle.std.specs.Option.{is_some}
 use Rattle.std.specs.Ordering.{int_eq}

@@ -1,4 +1,4 @@
--- What a replica of the log knows.
+-- What a replica of the log knows. Source: "Paxos Made Simple", section 3; the base is this project's.
 use Rattle.std.specs.Prelude.{ℕ, ◌+◌, max, None, List, [], length, unwrap_or}
 use Rattle.paxos_base.specs.Ballot.{ballot_number}
 use Rattle.paxos_base.specs.declared.durable.Durable.{Durable}

@@ -1,5 +1,6 @@
-//! Measures a store on a disk in memory: 100,000 votes that are saved one after another, and the attaching of the disk that
-//! has them. What was done is written to standard output, and how much in a second of the processor to standard error.
+//! Measures a store on a disk in memory: 100,000 votes that are saved one after another, and the attaching of the
+//! disk that has them. Proved is that it is safe, and saves no change that may not follow what is kept. What was
+//! done goes to standard output, and how much in a second of the processor to standard error.
 #![tactic(auto)]
 
 mod fault;

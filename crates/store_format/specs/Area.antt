@@ -1,4 +1,4 @@
--- What the records of an area stand for, and the first of them that is at fault.
+-- What the records of an area stand for, and the first of them that is at fault. Source: docs/WIRE.md.
 use Rattle.std.specs.Prelude.{◌≡◌, ◌⊎◌, ℕ, ◌+◌, ◌<◌, ◌≤◌, nat_lt, if◌then◌else◌, Option, None, Some, List, [], ◌∷◌, ◌++◌, length, map, take, All, Contains, IfSome}
 use Rattle.std.specs.List.{filter_map}
 use Rattle.paxos_base.specs.declared.durable.Durable.{Durable}

@@ -1,4 +1,5 @@
 -- Which changes may follow what is kept, and what a log of changes leads to.
+-- Source: "Paxos Made Simple", section 2.2: an acceptor remembers its highest promise and its latest vote; docs/WIRE.md.
 use Rattle.std.specs.Prelude.{◌≡◌, ℕ, ◌<◌, ◌≤◌, Option, None, Some, List, map, take, slice_get, All, IfSome, IsSomeAnd}
 use Rattle.std.specs.List.{fold}
 use Rattle.paxos_base.specs.declared.durable.Delta.{Delta}

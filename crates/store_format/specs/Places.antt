@@ -1,4 +1,4 @@
--- How a reader goes over the records of an area, one after another.
+-- How a reader goes over the records of an area, one after another. Private functions alone cite it.
 use Rattle.std.specs.Prelude.{ℕ, ◌+◌, Bool, true, false, ◌&&◌, ◌==◌, nat_lt, nat_le, max, if◌then◌else◌, Option, None, Some, unwrap_or, List, [], ◌∷◌, ◌++◌, length}
 use Rattle.std.specs.Option.{option_or}
 use Rattle.paxos_base.specs.declared.durable.Durable.{Durable}

@@ -1,4 +1,4 @@
--- The records of an area, and the 56 bytes of each.
+-- The records of an area, and the 56 bytes of each. Source: docs/WIRE.md.
 use Rattle.std.specs.Prelude.{◌≡◌, ⊤, ℕ, List, [], ◌∷◌, slice_set, Option, None, Some}
 use Rattle.std.specs.List.{last_or, filter_map}
 use Rattle.paxos_base.specs.Packet.{KindField, offset_of}

@@ -1,4 +1,4 @@
--- What was written behind other bodies.
+-- What was written behind other bodies. Private functions alone cite it.
 use Rattle.std.specs.Prelude.{◌≡◌, ℕ, List, ◌++◌}
 use Rattle.store_format.specs.declared.body.Record.{Record}
 use Rattle.store_format.specs.Records.{AreRecords}

@@ -1,5 +1,5 @@
-//! Tests of what a replica keeps on its disk: sources and sinks, the disk in memory, files behind gates, the records of an
-//! area, and the store.
+//! Disks, gated files, records and stores, with stops and faults at each call, by tables worked out by hand. One of
+//! the tests starts threads.
 #![tactic(auto)]
 
 #[cfg(test)]

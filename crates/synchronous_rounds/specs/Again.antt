@@ -1,4 +1,5 @@
 -- A second campaign, in a ballot above each that was promised or named, and what comes of it in the two rounds after it.
+-- Source: "Paxos Made Simple", sections 2.2 and 2.4.
 use Rattle.std.specs.Prelude.{◌≡◌, ◌⊎◌, ℕ, ◌+◌, ◌<◌, ◌≤◌, List, [], ◌∷◌, ◌++◌, None}
 use Rattle.paxos_base.specs.declared.entry.Entry.{Entry}
 use Rattle.paxos_base.specs.declared.entry.Vote.{Vote}

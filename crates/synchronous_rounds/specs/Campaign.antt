@@ -1,4 +1,5 @@
 -- A campaign of one that has learned no less than any other, and what comes of it in the two rounds after it.
+-- Source: "Paxos Made Simple", sections 2.2 and 2.4.
 use Rattle.std.specs.Prelude.{◌≡◌, ◌⊎◌, ℕ, ◌<◌, ◌≤◌, List, [], ◌∷◌, None}
 use Rattle.paxos_base.specs.Members.{only_member}
 use Rattle.paxos_base.specs.declared.entry.Vote.{Vote}

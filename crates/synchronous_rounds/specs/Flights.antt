@@ -1,4 +1,5 @@
 -- A leader's proposal on its way: who has accepted it, what it comes to in a round, and when it is learned.
+-- Source: "Paxos Made Simple", section 2.3.
 use Rattle.std.specs.Prelude.{◌≡◌, ◌⊎◌, ℕ, ◌+◌, ◌<◌, false, List, ◌∷◌, None, Some}
 use Rattle.paxos_base.specs.Members.{HasMember, has_majority}
 use Rattle.paxos_base.specs.Vote.{votes_from}

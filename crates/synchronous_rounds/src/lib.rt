@@ -1,5 +1,13 @@
-//! Rounds in which all replicas run and no letter is lost: who comes to lead; once one leads alone, each round brings it nearer to
-//! rest; and then the others learn what it has learned.
+//! Rounds in which all of two to seven replicas run and no letter is lost (`calm_round`). Nothing is asked of a
+//! letter, whoever wrote it; each replica is coherent, and what it knows of its launch table is so (`IsAdvised`). If
+//! one leads alone it does so after each round (`one_leads_on`), its proposal is learned in two (`a_flight_lands`),
+//! and each round brings it nearer to rest, by a number of its replica, or finds it at rest
+//! (`each_round_brings_a_leader_nearer`). A campaign of one that has learned no less than any other is answered by
+//! all (`a_campaign_is_answered`); it leads in the next round, or yields and wins its second campaign
+//! (`one_that_yields_campaigns_again`, `a_second_campaign_wins`). Without a campaign the greatest promise stands
+//! still (`no_promise_rises_without_a_campaign`). Once a leader is idle it stays so (`an_idle_leader_stays_idle`)
+//! and after five rounds all others have learned as much (`the_others_catch_up`). That the rounds of a book are such
+//! rounds is settling's.
 #![tactic(auto)]
 
 mod catch_up;

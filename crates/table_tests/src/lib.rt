@@ -1,5 +1,7 @@
-//! Tests of what a table of jobs says: fields, crontabs, anacrontabs, run files, the jobs that these name, and the
-//! commands of scripts; of the runs that seeds make; and of due lists and checks.
+//! What a table says: fields, crontabs, anacrontabs, run files, and the jobs that these name. What a script says:
+//! the lines of its commands, at the ends of their ranges and one beyond, lines of none, and its limits. The runs
+//! that seeds make, compared with what Python makes of the same seeds. Due lists and checks of run files, and sinks
+//! that fail or have no room.
 #![tactic(auto)]
 
 #[cfg(test)]

@@ -1,4 +1,4 @@
--- What a seat is outside of a turn, and within one.
+-- What a seat is outside of a turn, and within one. Private functions alone cite it.
 use Rattle.std.specs.Prelude.{◌≡◌, true, false, [], Option, Some}
 use Rattle.atomic_table.specs.Table.{Me}
 use Rattle.turn_book.specs.declared.law.Law.{Ghosts}

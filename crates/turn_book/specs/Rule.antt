@@ -1,5 +1,6 @@
 -- The rule of a book of turns: what holds of its words, of its slot and of the views of its seats between any two steps.
 -- Word 0 is the next ticket, word 1 the ticket that is served, and word 2 counts the rows that were committed, each modulo 2^64. The slot has the state.
+-- Source: the ticket lock; the rest is this project's.
 use Rattle.std.specs.Prelude.{◌≡◌, ◌≢◌, ◌⊎◌, ℕ, ◌+◌, ◌%◌, ◌<◌, ◌≤◌, Bool, true, false, List, [], ◌∷◌, ◌++◌, length, Option, Some, slice_get}
 use mathlib.Core.Option.{some}
 use mathlib.Core.Option as maybe

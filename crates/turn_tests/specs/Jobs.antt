@@ -1,4 +1,4 @@
--- The work of threads at a book.
+-- The work of threads at a book. Private functions alone cite it.
 use Rattle.std.specs.Prelude.{◌≡◌, ℕ, ◌<◌, List, length, slice_index_or}
 use Rattle.turn_book.specs.declared.book.TurnBook.{TurnBook}
 use Rattle.turn_book.specs.declared.book.TurnSeat.{TurnSeat}

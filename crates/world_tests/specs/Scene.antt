@@ -1,4 +1,4 @@
--- Some replicas, and the book of their turns.
+-- Some replicas, and the book of their turns. Private functions alone cite it.
 use Rattle.std.specs.Prelude.{◌≡◌, ℕ, List, ◌∷◌, [], ◌++◌, Some, slice_get}
 use Rattle.due_set.specs.Table.{Table}
 use Rattle.history.specs.Book.{Row}

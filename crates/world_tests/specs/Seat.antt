@@ -1,4 +1,4 @@
--- One of some replicas, with what is on its disk, beside the book of their turns.
+-- One of some replicas, with what is on its disk, beside the book of their turns. Private functions alone cite it.
 use Rattle.std.specs.Prelude.{◌≡◌, ℕ, ◌<◌, ◌≤◌, false, List, [], ◌∷◌, ◌++◌, Option, None, Some}
 use Rattle.std.specs.Option.{option_to_list}
 use Rattle.due_set.specs.Table.{Table}

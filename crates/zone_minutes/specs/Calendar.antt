@@ -1,4 +1,5 @@
 -- The proleptic Gregorian calendar as one day after another. The year before 1 is 0.
+-- Source: proleptic Gregorian calendar, ISO 8601.
 use Rattle.std.specs.Prelude.{◌≡◌, ◌⊎◌, ℕ, zero, suc, ◌+◌, ◌<◌, nat_lt, if◌then◌else◌, ℤ, pos, ◌+ℤ◌, unsigned_abs}
 use Rattle.jiff_core.specs.Calendar.{days_in_month}
 

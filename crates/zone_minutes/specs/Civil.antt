@@ -1,4 +1,4 @@
--- Civil minutes: minutes since 1970-01-01 00:00 of a local calendar.
+-- Civil minutes: minutes since 1970-01-01 00:00 of a local calendar. Source: proleptic Gregorian calendar, ISO 8601.
 use Rattle.std.specs.Prelude.{ℕ, ◌/◌, ◌%◌, ℤ, pos, negsuc, ◌+ℤ◌, unsigned_abs}
 use Rattle.std.specs.Int.{int_div_euclid, int_rem_euclid}
 use Rattle.jiff_core.specs.Calendar.{days_from_civil, IsBetween}

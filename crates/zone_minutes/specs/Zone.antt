@@ -1,4 +1,5 @@
 -- Local time: what `jiff` gives for a zone at an instant.
+-- Source: POSIX for rules, RFC 8536 for files; rounding down to minutes is this project's.
 use Rattle.std.specs.Prelude.{◌≡◌, ◌⊎◌, ℕ, ℤ, pos, negsuc, ◌+ℤ◌, ◌*ℤ◌, List, Ok, Err, IsNone, ⊤, codes, string_bytes}
 use Rattle.std.specs.Int.{int_div_euclid}
 use Rattle.jiff.specs.Types.{TimeZone, Tzif, TzifFault}
