@@ -24,14 +24,14 @@ pub record IsPart (acceptor : AcceptorState) (durable : Durable) : Type 0 where
   pub base : acceptor.base ≡ durable.base
 
 -- one acceptor is as another, but for the room that it has
-pub record IsAlike (one other : AcceptorState) : Type 0 where
+pub record IsSameAcceptor (one other : AcceptorState) : Type 0 where
   pub promised : one.promised ≡ other.promised
   pub votes : one.votes ≡ other.votes
   pub base : one.base ≡ other.base
 
 -- for how many more votes a change needs room
-abbrev pub votes_in : Delta → ℕ
-votes_in (Tried ballot) = 0
-votes_in (Promised ballot) = 0
-votes_in (Voted vote) = 1
-votes_in (Base slot rows) = 0
+abbrev pub new_votes_in : Delta → ℕ
+new_votes_in (Tried ballot) = 0
+new_votes_in (Promised ballot) = 0
+new_votes_in (Voted vote) = 1
+new_votes_in (Base slot rows) = 0

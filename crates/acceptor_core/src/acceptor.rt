@@ -2,7 +2,7 @@ ghost use Rattle.std.specs.Prelude.{◌≡◌, ℕ, ◌+◌, ◌<◌, ◌≤◌,
 ghost use Rattle.paxos_base.specs.declared.durable.Durable.{Durable};
 ghost use Rattle.paxos_base.specs.Durable.{after_delta};
 ghost use Rattle.paxos_base.specs.Vote.{SlotsRise, votes_from};
-ghost use Rattle.acceptor_core.specs.Acceptor.{HasVoted, IsPart, IsAlike, votes_in};
+ghost use Rattle.acceptor_core.specs.Acceptor.{HasVoted, IsPart, IsSameAcceptor, new_votes_in};
 ghost use Rattle.paxos_base.specs.Ballot.{IsAbove, IsAtLeast};
 
 use crate::answer::{AcceptAnswer, PrepareAnswer};
@@ -46,7 +46,7 @@ impl Acceptor {
 
     /// Makes room for one more vote at least. After want of memory all is as before.
     pub fn reserve(&mut self) -> Result<(), OutOfMemory>
-        ensures alike { IsAlike self.new self.old }
+        ensures alike { IsSameAcceptor self.new self.old }
         ensures room { OnOk result (1 ≤ self.new.spare) }
         ensures had_room { 1 ≤ self.old.spare → IsOk result }
         ensures err { OnErr result (self.new ≡ self.old) }
@@ -89,9 +89,9 @@ impl Acceptor {
     /// Takes over a change of what the replica keeps on its disk. A vote needs room, which [`reserve`](Acceptor::reserve)
     /// makes; it takes constant time at the last slot and behind it.
     pub fn take(&mut self, delta: &Delta)
-        requires room { votes_in delta.now ≤ self.old.spare }
+        requires room { new_votes_in delta.now ≤ self.old.spare }
         ensures part { (durable : Durable) → IsPart self.old durable → IsPart self.new (after_delta delta.now durable) }
-        ensures spare { self.old.spare ≤ self.new.spare + votes_in delta.now }
+        ensures spare { self.old.spare ≤ self.new.spare + new_votes_in delta.now }
     {
         match delta {
             Delta::Tried(ballot) | Delta::Promised(ballot) => self.promised = Some(*ballot),
@@ -117,7 +117,7 @@ impl Acceptor {
 
     /// An equal acceptor, but for the room for votes.
     pub fn copy(&self) -> Result<Acceptor, OutOfMemory>
-        ensures { IfOk result (λ copy. IsAlike copy self.now) }
+        ensures { IfOk result (λ copy. IsSameAcceptor copy self.now) }
     {
         Ok(Acceptor {
             promised: self.promised,

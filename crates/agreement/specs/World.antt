@@ -99,7 +99,13 @@ after_all (doing ∷ doings) world = after_all doings (after_done doing world)
 -- one of so many replicas does an act that it may do, by what was said and answered so far
 pub record MayDo (members : ℕ) (table : Table) (world : World) (doing : Doing) : Type 0 where
   pub member : doing.by < members
-  pub may : May (record { self = record { me = doing.by; members = members }; table = table; event = doing.event; said = world.said; answered = world.answered })
+  pub may : May (record {
+    self = record { me = doing.by; members = members };
+    table = table;
+    event = doing.event;
+    said = world.said;
+    answered = world.answered;
+  })
       (world.replicas doing.by) doing.act
 
 -- each of some acts may be done where it is

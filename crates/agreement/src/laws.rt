@@ -19,7 +19,8 @@ pub fn a_slot_has_one_value()
         → AllMayDo members table (first_world rows) doings → IsChosen members (after_all doings (first_world rows)).cast slot one
         → IsChosen members (after_all doings (first_world rows)).cast slot other → one ≡ other }
     ensures transitions { (members : ℕ) (table : Table) (rows : List JobRow) (transitions : List Transition) (slot : ℕ) (one other : Entry) → members ≤ 7
-        → AreTransitions members table (first_world rows) transitions → IsChosen members (after_transitions members transitions (first_world rows)).cast slot one
+        → AreTransitions members table (first_world rows) transitions
+        → IsChosen members (after_transitions members transitions (first_world rows)).cast slot one
         → IsChosen members (after_transitions members transitions (first_world rows)).cast slot other → one ≡ other }
 {}
 

@@ -12,7 +12,7 @@ use Rattle.anacron_text.specs.Job.{IsJobFault}
 use Rattle.anacron_text.specs.LineBody.{AnacronLineBody, BlankBody, CommentBody, AssignBody, JobBody}
 use Rattle.anacron_text.specs.LogicalLines.{logical_lines}
 use Rattle.anacron_text.specs.Setting.{IsSetting}
-use Rattle.anacron_text.specs.Settings.{Sets, IsBadValue, no_settings}
+use Rattle.anacron_text.specs.Settings.{SetsVariable, IsBadValue, no_settings}
 use Rattle.anacron_text.specs.Spaced.{is_at_line_end, spaced}
 use Rattle.anacron_text.specs.declared.settings.Settings.{Settings}
 use Rattle.anacron_text.proofs.ChoiceLemmas.{same_number, two_names, sets_or_bad, sets_good, same_bad_value}
@@ -202,7 +202,7 @@ some_answer settings line =
     ]
 
 -- what an answer sets
-same_sets : (old a b : Settings) (name value : List ℕ) → Sets old name value a → Sets old name value b → a ≡ b
+same_sets : (old a b : Settings) (name value : List ℕ) → SetsVariable old name value a → SetsVariable old name value b → a ≡ b
 same_sets old a b name value (inl p) (inl q) =
     let number = same_number 0 9999 value p.number q.number (omega arith) p.is_number q.is_number in
     let first = p.new_is in
@@ -266,7 +266,7 @@ pub some_answers : (text : List ℕ) → (answers : List AnacronLineAnswer) × A
 some_answers text = some_answers_below (logical_lines text) no_settings
 
 -- a line that sets a variable
-pub line_sets : (old new : Settings) (line text name value : List ℕ) (left : ℕ) → IsBehindBlanks line text → IsSetting text name value left → Sets old name value new → IsAnacronLineOf old line (AssignBody name value)
+pub line_sets : (old new : Settings) (line text name value : List ℕ) (left : ℕ) → IsBehindBlanks line text → IsSetting text name value left → SetsVariable old name value new → IsAnacronLineOf old line (AssignBody name value)
 line_sets old new line text name value left behind setting sets =
     record { text = text; behind = behind; says = record { left = left; setting = setting; good = sets_good old new name value sets } }
 

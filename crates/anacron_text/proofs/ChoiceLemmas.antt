@@ -5,7 +5,7 @@ use Rattle.std.proofs.lemmas.Str.Parse.{not_in_digits}
 use Rattle.crontab_text.proofs.Choice.{Decided, decided_or, decided_and, decided_all, decided_not, le_or_not}
 use Rattle.crontab_text.proofs.ListLemmas.{eq_dec}
 use Rattle.anacron_text.specs.Job.{IsPeriod, IsIdentifier}
-use Rattle.anacron_text.specs.Settings.{IsNumberWithin, IsHours, Sets, IsBadValue, random_delay, start_hours_range}
+use Rattle.anacron_text.specs.Settings.{IsNumberWithin, IsHours, SetsVariable, IsBadValue, random_delay, start_hours_range}
 use Rattle.anacron_text.specs.declared.answer.PeriodWord.{PeriodWord}
 use Rattle.anacron_text.specs.declared.answer.PeriodWord.TheVariants.{Days, Monthly, Yearly}
 use Rattle.anacron_text.specs.declared.settings.Settings.{Settings}
@@ -169,7 +169,7 @@ two_names name first second =
     let byte : 82 ≡ 83 = ap (λ t. get_or t 0 0) (sym first ∙ second) in omega (arith, byte)
 
 -- a variable sets something, or its value is at fault
-pub sets_or_bad : (old : Settings) (name value : List ℕ) → ((new : Settings) × Sets old name value new × ((cause : ℕ) → IsBadValue name value cause → ⊥)) ⊎ ((cause : ℕ) × IsBadValue name value cause)
+pub sets_or_bad : (old : Settings) (name value : List ℕ) → ((new : Settings) × SetsVariable old name value new × ((cause : ℕ) → IsBadValue name value cause → ⊥)) ⊎ ((cause : ℕ) × IsBadValue name value cause)
 sets_or_bad old name value = elim (text_or_not name random_delay) [
   | inl is ↦ elim (number_or_not 0 9999 value) [
     | inl (n, number) ↦ inl (_, inl (record { name_is = is; number = n; is_number = number; new_is = refl }), good_number is n number)
@@ -204,7 +204,7 @@ same_bad_value name value c d (inr p) (inl q) = absurd (two_names name p.0 q.0)
 same_bad_value name value c d (inr p) (inr q) = p.2 ∙ sym q.2
 
 -- a value that sets something isn't at fault
-pub sets_good : (old new : Settings) (name value : List ℕ) → Sets old name value new → (cause : ℕ) → IsBadValue name value cause → ⊥
+pub sets_good : (old new : Settings) (name value : List ℕ) → SetsVariable old name value new → (cause : ℕ) → IsBadValue name value cause → ⊥
 sets_good old new name value (inl p) cause (inl bad) = two_names name p.name_is bad.0
 sets_good old new name value (inl p) cause (inr bad) = bad.1 p.number p.is_number
 sets_good old new name value (inr (inl p)) cause (inl bad) = bad.1 p.first p.last p.are_hours

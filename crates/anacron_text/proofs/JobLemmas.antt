@@ -7,8 +7,8 @@ use Rattle.crontab_text.proofs.BlankLemmas.{same_word}
 use Rattle.crontab_text.proofs.TotalLemmas.{some_word, some_command}
 use Rattle.crontab_text.proofs.UniqueLemmas.{SameFault, same_command, command_or_fault, same_command_fault}
 use Rattle.anacron_text.specs.Job.{IsPeriod, IsDelay, IsIdentifier, JobWords, BeginsWithWords, added_minutes, IsJob, IsAnacronBadWord, IsPeriodFault, IsDelayFault, IsIdentifierFault, IsAnacronLateFault, IsJobFault}
-use Rattle.anacron_text.specs.LineBody.{Job}
-use Rattle.anacron_text.specs.Spaced.{spaced, StandsIn}
+use Rattle.anacron_text.specs.LineBody.{AnacronJob}
+use Rattle.anacron_text.specs.Spaced.{spaced, IsPartWithin}
 use Rattle.anacron_text.specs.declared.answer.PeriodWord.{PeriodWord}
 use Rattle.anacron_text.specs.declared.settings.Settings.{Settings}
 use Rattle.anacron_text.proofs.ChoiceLemmas.{same_number, same_period, number_or_not, period_or_not, identifier_or_not}
@@ -43,11 +43,11 @@ some_words text =
       record { first = first; second = second; third = third },
     )
 
-abbrev job_of_parts : PeriodWord → (delay added first_hour last_hour : ℕ) → (identifier command : List ℕ) → Job
+abbrev job_of_parts : PeriodWord → (delay added first_hour last_hour : ℕ) → (identifier command : List ℕ) → AnacronJob
 job_of_parts p d a f l i c = record { period = p; delay = d; added = a; first_hour = f; last_hour = l; identifier = i; command = c }
 
 -- a text is one job
-pub same_job : (settings : Settings) (text : List ℕ) (a b : Job) → IsJob settings text a → IsJob settings text b → a ≡ b
+pub same_job : (settings : Settings) (text : List ℕ) (a b : AnacronJob) → IsJob settings text a → IsJob settings text b → a ≡ b
 same_job settings text a b first second =
     let words = same_words (spaced text) first.words second.words first.begins second.begins in
     let period : a.period ≡ b.period = same_period second.words.period a.period b.period (subst (λ w. IsPeriod w.period a.period) words first.period_is) second.period_is in
@@ -72,7 +72,7 @@ Fault words cause left =
     IsPeriodFault words cause left ⊎ (IsDelayFault words cause left ⊎ (IsIdentifierFault words cause left ⊎ IsAnacronLateFault words cause left))
 
 -- or has a fault
-pub job_or_fault : (settings : Settings) (text : List ℕ) (job : Job) (c l : ℕ) → IsJob settings text job → IsJobFault text c l → ⊥
+pub job_or_fault : (settings : Settings) (text : List ℕ) (job : AnacronJob) (c l : ℕ) → IsJob settings text job → IsJobFault text c l → ⊥
 job_or_fault settings text job c l is fault =
     let words = same_words (spaced text) is.words fault.words is.begins fault.begins in
     let period : IsPeriod fault.words.period job.period = subst (λ w. IsPeriod w.period job.period) words is.period_is in
@@ -122,7 +122,7 @@ bad_word [] here rule = (10, 0, inl (refl, refl, refl))
 bad_word (c ∷ cs) here rule = (rule, here, inr (omega arith, refl, refl))
 
 -- what is read at the end of a text is written there
-pub written_at_end : (text read front : List ℕ) → spaced text ≡ front ++ read → (part : List ℕ) × (spaced part ≡ read) × StandsIn text part (length part)
+pub written_at_end : (text read front : List ℕ) → spaced text ≡ front ++ read → (part : List ℕ) × (spaced part ≡ read) × IsPartWithin text part (length part)
 written_at_end text read [] parts = (text, parts, record { before = []; after = []; parts = sym (append-nil text); left_is = omega arith })
 written_at_end [] read (f ∷ front) parts = cc
 written_at_end (c ∷ cs) read (f ∷ front) parts =
@@ -131,7 +131,7 @@ written_at_end (c ∷ cs) read (f ∷ front) parts =
     (part, is, record { before = c ∷ stands.before; after = stands.after; parts = ap (λ t. c ∷ t) stands.parts; left_is = stands.left_is })
 
 -- a text is a job, or has a fault
-pub some_job : (settings : Settings) (text : List ℕ) → ((job : Job) × IsJob settings text job) ⊎ ((cause : ℕ) × (left : ℕ) × IsJobFault text cause left)
+pub some_job : (settings : Settings) (text : List ℕ) → ((job : AnacronJob) × IsJob settings text job) ⊎ ((cause : ℕ) × (left : ℕ) × IsJobFault text cause left)
 some_job settings text =
     let (words, begins) = some_words (spaced text) in
     elim (period_or_not words.period) [
@@ -165,7 +165,7 @@ some_job settings text =
     )
 
     job_of : (words : JobWords) → BeginsWithWords (spaced text) words → (period : PeriodWord) (delay : ℕ) → IsPeriod words.period period → IsDelay words.delay delay → IsIdentifier words.identifier
-        → (read : List ℕ) → EndsWithCommand words.tail read → (job : Job) × IsJob settings text job
+        → (read : List ℕ) → EndsWithCommand words.tail read → (job : AnacronJob) × IsJob settings text job
     job_of words begins period delay is_period is_delay is_identifier read ends =
         let (front, parts) = front_of words begins read ends.skips in
         let (command, is, stands) = written_at_end text read front parts in (
@@ -295,7 +295,7 @@ command_read command is =
 -- a job, by the steps that find it
 pub job_from_steps : (settings : Settings) (text period delay identifier after_period after_delay tail named command : List ℕ) (p : PeriodWord) (n added : ℕ)
     → IsFirstWord (spaced text) period (spaced after_period) → IsFirstWord (spaced after_period) delay (spaced after_delay) → IsFirstWord (spaced after_delay) identifier (spaced tail)
-    → StandsIn text after_period (length after_period) → StandsIn after_period after_delay (length after_delay) → StandsIn after_delay tail (length tail) → StandsIn tail command (length command)
+    → IsPartWithin text after_period (length after_period) → IsPartWithin after_period after_delay (length after_delay) → IsPartWithin after_delay tail (length tail) → IsPartWithin tail command (length command)
     → IsPeriod period p → IsDelay delay n → IsIdentifier identifier → named ≡ identifier → added ≡ added_minutes settings named
     → SkipsBlanks (spaced tail) (spaced command) → IsCommand command
     → IsJob settings text (record {

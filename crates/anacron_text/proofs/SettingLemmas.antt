@@ -1,14 +1,14 @@
 -- Lines that set a variable, and where the value stands.
 use Rattle.std.proofs.Common.{◌≡◌, ◌≢◌, ◌⊎◌, ℕ, ◌+◌, ◌-◌, ◌/◌, ◌<◌, ◌≤◌, zero, suc, List, [], ◌∷◌, ◌++◌, length, get_or, take, drop, refl, ap, ◌∙◌, sym, subst, inl, inr, arith, length-append, append_assoc}
 use Rattle.std.proofs.lemmas.List.{append-nil, take-append-drop, length-take-le, length-drop, get_or-take}
-use Rattle.crontab_text.specs.Assignment.{IsNameByte, IsNoNameByte, IsName, IsQuote, HasQuotes, IsInQuotes, IsUnquoted, IsValue, IsAssignment}
+use Rattle.crontab_text.specs.Assignment.{IsNameByte, IsNoNameByte, IsVariableName, IsQuote, HasQuotes, IsInQuotes, IsUnquoted, IsValue, IsAssignment}
 use Rattle.crontab_text.specs.Blanks.{IsMark, LacksAny, MayBeginWith, IsCutAt, SkipsBlanks, DropsBlanks}
 use Rattle.crontab_text.proofs.AssignmentLemmas.{name_lacks, ends_name, in_quotes, has_quotes, same_assignment, no_name_no_assignment, no_equals_no_assignment}
 use Rattle.crontab_text.proofs.BlankLemmas.{lacks_marks, same_skip, same_drop}
 use Rattle.crontab_text.proofs.ListLemmas.{same_cut}
 use Rattle.crontab_text.proofs.TotalLemmas.{assignment_or_not}
 use Rattle.anacron_text.specs.Setting.{quotes_before, bytes_from_value, IsPlacedValue, IsSetting}
-use Rattle.anacron_text.specs.Spaced.{is_at_line_end, spaced, StandsIn}
+use Rattle.anacron_text.specs.Spaced.{is_at_line_end, spaced, IsPartWithin}
 use Rattle.anacron_text.proofs.SpacedLemmas.{shown, shown_other, shown_or_space, spaced-length, spaced-at, stands_within, same_part}
 
 -- a quote stays where it stands, and stands where it is read
@@ -86,7 +86,7 @@ short_front (suc n) [] is = absurd (omega arith)
 short_front (suc n) (c ∷ cs) is = let tail = short_front n cs (omega arith) in omega arith
 
 -- the value of a text, by the steps that find it
-pub placed_value : (behind rest trimmed value : List ℕ) → SkipsBlanks (spaced behind) (spaced rest) → StandsIn behind rest (length rest)
+pub placed_value : (behind rest trimmed value : List ℕ) → SkipsBlanks (spaced behind) (spaced rest) → IsPartWithin behind rest (length rest)
     → DropsBlanks (spaced rest) (take (length trimmed) (spaced rest)) → trimmed ≡ take (length trimmed) rest → IsUnquoted trimmed value
     → IsPlacedValue behind value (length rest - (length trimmed - length value) / 2)
 placed_value behind rest trimmed value skips stands drops front unquoted =
@@ -182,20 +182,20 @@ name_cut_read text name after cut = record {
     begins (c ∷ cs) none = shown_no_name c cs none
 
 -- a text that sets a variable, by the steps that find it
-pub setting_from_steps : (text name after rest behind value : List ℕ) (left : ℕ) → IsCutAt IsNoNameByte text name after → IsName name
-    → SkipsBlanks (spaced after) (spaced rest) → StandsIn after rest (length rest) → rest ≡ 61 ∷ behind → IsPlacedValue behind value left
+pub setting_from_steps : (text name after rest behind value : List ℕ) (left : ℕ) → IsCutAt IsNoNameByte text name after → IsVariableName name
+    → SkipsBlanks (spaced after) (spaced rest) → IsPartWithin after rest (length rest) → rest ≡ 61 ∷ behind → IsPlacedValue behind value left
     → IsSetting text name value left
 setting_from_steps text name after rest behind value left cut is_name skips stands equals placed =
     let read_cut = name_cut_read text name after cut in
     let read_rest : spaced rest ≡ 61 ∷ spaced behind = ap spaced equals in
-    let after_in_text : StandsIn text after (length after) = record {
+    let after_in_text : IsPartWithin text after (length after) = record {
       before = name;
       after = [];
       parts = cut.parts ∙ ap (λ t. name ++ t) (sym (append-nil after));
       left_is = omega arith;
     } in
     let size = ap length equals in
-    let behind_in_rest : StandsIn rest behind (length behind) = record {
+    let behind_in_rest : IsPartWithin rest behind (length behind) = record {
       before = 61 ∷ [];
       after = [];
       parts = equals ∙ ap (λ t. 61 ∷ t) (sym (append-nil behind));
@@ -219,7 +219,7 @@ setting_from_steps text name after rest behind value left cut is_name skips stan
     }
 
 -- a text whose name is none sets no variable
-pub no_name_no_setting : (text name after : List ℕ) → IsCutAt IsNoNameByte text name after → (IsName name → ⊥) → (other value : List ℕ) → IsAssignment (spaced text) other value → ⊥
+pub no_name_no_setting : (text name after : List ℕ) → IsCutAt IsNoNameByte text name after → (IsVariableName name → ⊥) → (other value : List ℕ) → IsAssignment (spaced text) other value → ⊥
 no_name_no_setting text name after cut none other value is =
     no_name_no_assignment (spaced text) name (spaced after) (name_cut_read text name after cut) none other value is
 
@@ -268,7 +268,7 @@ setting_of text name read is =
             let size = ap length rest_is ∙ length-append read drops.blanks in
             (skips.blanks, drops.blanks, skips.parts ∙ ap (λ t. skips.blanks ++ t) rest_is, omega arith)
 
-    written_here : (text before read after : List ℕ) → spaced text ≡ before ++ (read ++ after) → (value : List ℕ) × StandsIn text value (length read + length after) × (length value ≡ length read)
+    written_here : (text before read after : List ℕ) → spaced text ≡ before ++ (read ++ after) → (value : List ℕ) × IsPartWithin text value (length read + length after) × (length value ≡ length read)
     written_here text [] read after parts =
         let whole = ap length parts ∙ length-append read after in
         let all = spaced-length text in
@@ -326,7 +326,7 @@ same_setting text a b v w l m first second =
     let place = same_place first.is.behind second.is.behind first.read second.read behind first.is.value_is second.is.value_is in
     let left : l ≡ m = first.left_is ∙ (place ∙ sym second.left_is) in
     let size : length v ≡ length w = first.length_is ∙ (ap length both.1 ∙ sym second.length_is) in
-    (both.0, same_part text v w m (subst (StandsIn text v) left first.stands) second.stands size, left)
+    (both.0, same_part text v w m (subst (IsPartWithin text v) left first.stands) second.stands size, left)
 
 -- a value stands within its text
 pub setting_within : (text name value : List ℕ) (left : ℕ) → IsSetting text name value left → left ≤ length text

@@ -7,7 +7,7 @@ use Rattle.std.proofs.lemmas.Str.{IsCharBoundary-before_ascii}
 use Rattle.crontab_text.specs.Blanks.{IsBlank, IsMark, LacksAny, IsFirstIndex, IsCutAt, SkipsBlanks, DropsBlanks, AreBlanksFrom}
 use Rattle.crontab_text.proofs.BlankLemmas.{boundary_after_low, skips_to_mark, skips_all, drops_from, is_blank_before}
 use Rattle.crontab_text.proofs.ListLemmas.{LacksAny-from_get_or, cut_at_index, cut_at_end, eq_dec}
-use Rattle.anacron_text.specs.Spaced.{is_at_line_end, spaced, StandsIn}
+use Rattle.anacron_text.specs.Spaced.{is_at_line_end, spaced, IsPartWithin}
 
 -- a byte as it is read, where a line of the text ends behind it or not
 abbrev pub shown : ℕ → Bool → ℕ
@@ -122,7 +122,7 @@ boundary_at_spaced_end text end blank =
     )
 
 -- what is behind an index stands in the text
-pub stands_behind : (text : List ℕ) (index : ℕ) → index ≤ length text → StandsIn text (drop index text) (length (drop index text))
+pub stands_behind : (text : List ℕ) (index : ℕ) → index ≤ length text → IsPartWithin text (drop index text) (length (drop index text))
 stands_behind text index within = record {
   before = take index text;
   after = [];
@@ -131,17 +131,17 @@ stands_behind text index within = record {
 }
 
 -- nothing stands at the end of each text
-pub stands_at_end : (text : List ℕ) → StandsIn text [] 0
+pub stands_at_end : (text : List ℕ) → IsPartWithin text [] 0
 stands_at_end text = record { before = text; after = []; parts = sym (append-nil text); left_is = refl }
 
 -- what stands in the back of a text stands in the text
-pub stands_within : (text back part : List ℕ) (left : ℕ) → StandsIn text back (length back) → StandsIn back part left → StandsIn text part left
+pub stands_within : (text back part : List ℕ) (left : ℕ) → IsPartWithin text back (length back) → IsPartWithin back part left → IsPartWithin text part left
 stands_within text back part left outer inner =
     let size = outer.left_is in
     let none : length outer.after ≡ 0 = omega arith in
     by_after outer.after none outer.parts
   where
-    by_after : (after : List ℕ) → length after ≡ 0 → text ≡ outer.before ++ (back ++ after) → StandsIn text part left
+    by_after : (after : List ℕ) → length after ≡ 0 → text ≡ outer.before ++ (back ++ after) → IsPartWithin text part left
     by_after [] none parts = record {
       before = outer.before ++ inner.before;
       after = inner.after;
@@ -152,7 +152,7 @@ stands_within text back part left outer inner =
     by_after (c ∷ cs) none parts = absurd (omega arith)
 
 -- what stands at the end of a text is the text from some index on
-pub behind_is_drop : (text back : List ℕ) → StandsIn text back (length back) → back ≡ drop (length text - length back) text
+pub behind_is_drop : (text back : List ℕ) → IsPartWithin text back (length back) → back ≡ drop (length text - length back) text
 behind_is_drop text back stands =
     let size = stands.left_is in
     let none : length stands.after ≡ 0 = omega arith in
@@ -167,17 +167,17 @@ behind_is_drop text back stands =
     by_after (c ∷ cs) none parts = absurd (omega arith)
 
 -- two parts of one length at the end of a text are one
-pub same_behind : (text a b : List ℕ) → StandsIn text a (length a) → StandsIn text b (length b) → length a ≡ length b → a ≡ b
+pub same_behind : (text a b : List ℕ) → IsPartWithin text a (length a) → IsPartWithin text b (length b) → length a ≡ length b → a ≡ b
 same_behind text a b first second size =
     behind_is_drop text a first ∙ (ap (λ n. drop (length text - n) text) size ∙ sym (behind_is_drop text b second))
 
 -- and so are two that are read alike
-pub same_read_behind : (text a b : List ℕ) → StandsIn text a (length a) → StandsIn text b (length b) → spaced a ≡ spaced b → a ≡ b
+pub same_read_behind : (text a b : List ℕ) → IsPartWithin text a (length a) → IsPartWithin text b (length b) → spaced a ≡ spaced b → a ≡ b
 same_read_behind text a b first second same =
     same_behind text a b first second (sym (spaced-length a) ∙ (ap length same ∙ spaced-length b))
 
 -- a part stands at one place
-pub same_part : (text a b : List ℕ) (left : ℕ) → StandsIn text a left → StandsIn text b left → length a ≡ length b → a ≡ b
+pub same_part : (text a b : List ℕ) (left : ℕ) → IsPartWithin text a left → IsPartWithin text b left → length a ≡ length b → a ≡ b
 same_part text a b left first second size =
     let long_first = ap length first.parts ∙ length-append first.before (a ++ first.after) in
     let long_second = ap length second.parts ∙ length-append second.before (b ++ second.after) in
@@ -258,11 +258,11 @@ index_within P text index first =
     let size = spaced-length text in omega arith
 
 -- what is behind the blanks stands in the text
-pub stands_from : (text : List ℕ) (index : ℕ) → IsFirstIndex IsMark (spaced text) index → StandsIn text (drop index text) (length (drop index text))
+pub stands_from : (text : List ℕ) (index : ℕ) → IsFirstIndex IsMark (spaced text) index → IsPartWithin text (drop index text) (length (drop index text))
 stands_from text index first = let inside = index_within IsMark text index first in stands_behind text index (omega arith)
 
 -- and what is behind a word
-pub stands_from_blank : (text : List ℕ) (index : ℕ) → IsFirstIndex IsBlank (spaced text) index → StandsIn text (drop index text) (length (drop index text))
+pub stands_from_blank : (text : List ℕ) (index : ℕ) → IsFirstIndex IsBlank (spaced text) index → IsPartWithin text (drop index text) (length (drop index text))
 stands_from_blank text index first = let inside = index_within IsBlank text index first in stands_behind text index (omega arith)
 
 pub boundary_at_first_blank : (text : List ℕ) (index : ℕ) → IsFirstIndex IsBlank (spaced text) index → IsCharBoundary text index

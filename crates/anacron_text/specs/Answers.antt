@@ -8,8 +8,8 @@ use Rattle.anacron_text.specs.Job.{IsJob, IsJobFault}
 use Rattle.anacron_text.specs.LineBody.{AnacronLineBody, BlankBody, CommentBody, AssignBody, JobBody}
 use Rattle.anacron_text.specs.LogicalLines.{logical_lines}
 use Rattle.anacron_text.specs.Setting.{IsSetting}
-use Rattle.anacron_text.specs.Settings.{Sets, IsBadValue, no_settings}
-use Rattle.anacron_text.specs.Spaced.{spaced, StandsIn}
+use Rattle.anacron_text.specs.Settings.{SetsVariable, IsBadValue, no_settings}
+use Rattle.anacron_text.specs.Spaced.{spaced, IsPartWithin}
 use Rattle.anacron_text.specs.declared.settings.Settings.{Settings}
 
 -- the text is neither empty nor a comment, and sets no variable
@@ -45,7 +45,7 @@ AnacronBreaks text cause left = IsBadSetting text cause left ⊎ (IsAnacronOther
 -- the text is the line without the blanks that it begins with
 pub record IsBehindBlanks (line text : List ℕ) : Type 0 where
   pub skips : SkipsBlanks (spaced line) (spaced text)
-  pub stands : StandsIn line text (length text)
+  pub stands : IsPartWithin line text (length text)
 
 -- what a line says, below these settings
 pub record IsAnacronLineOf (settings : Settings) (line : List ℕ) (body : AnacronLineBody) : Type 0 where
@@ -77,7 +77,7 @@ IsAnacronAnswer settings line (Broken cause place) = IsAnacronLineFault line cau
 
 -- the settings below a line that says this
 abbrev pub SetsBy : AnacronLineBody → Settings → Settings → Type 0
-SetsBy (AssignBody name value) old new = Sets old name value new
+SetsBy (AssignBody name value) old new = SetsVariable old name value new
 SetsBy BlankBody old new = new ≡ old
 SetsBy CommentBody old new = new ≡ old
 SetsBy (JobBody job) old new = new ≡ old

@@ -4,9 +4,9 @@ use Rattle.cron_fields.specs.Hash.{fnv_of, fnv_start}
 use Rattle.crontab_text.specs.Blanks.{IsFirstWord}
 use Rattle.crontab_text.specs.Lines.{Lacks}
 use Rattle.crontab_text.specs.Tail.{EndsWithCommand, IsCommandFault}
-use Rattle.anacron_text.specs.LineBody.{Job, AnacronLineBody, JobBody}
+use Rattle.anacron_text.specs.LineBody.{AnacronJob, AnacronLineBody, JobBody}
 use Rattle.anacron_text.specs.Settings.{IsNumberWithin}
-use Rattle.anacron_text.specs.Spaced.{spaced, StandsIn}
+use Rattle.anacron_text.specs.Spaced.{spaced, IsPartWithin}
 use Rattle.anacron_text.specs.declared.answer.PeriodWord.{PeriodWord}
 use Rattle.anacron_text.specs.declared.answer.PeriodWord.TheVariants.{Days, Monthly, Yearly}
 use Rattle.anacron_text.specs.declared.settings.Settings.{Settings}
@@ -40,6 +40,7 @@ pub record JobWords : Type 0 where
   pub identifier : List ℕ
   pub tail : List ℕ
 
+-- the text begins with these words, each after the one before it
 pub record BeginsWithWords (text : List ℕ) (words : JobWords) : Type 0 where
   pub first : IsFirstWord text words.period words.behind_period
   pub second : IsFirstWord words.behind_period words.delay words.behind_delay
@@ -50,7 +51,7 @@ abbrev pub added_minutes : Settings → List ℕ → ℕ
 added_minutes settings identifier = fnv_of fnv_start identifier % (settings.most_added + 1)
 
 -- The text is a job: its words are read in the line with spaces, and the command is what is written there, up to the end.
-pub record IsJob (settings : Settings) (text : List ℕ) (job : Job) : Type 0 where
+pub record IsJob (settings : Settings) (text : List ℕ) (job : AnacronJob) : Type 0 where
   pub words : JobWords
   pub begins : BeginsWithWords (spaced text) words
   pub period_is : IsPeriod words.period job.period
@@ -58,7 +59,7 @@ pub record IsJob (settings : Settings) (text : List ℕ) (job : Job) : Type 0 wh
   pub identifier_is : IsIdentifier words.identifier
   pub same_identifier : job.identifier ≡ words.identifier
   pub ends : EndsWithCommand words.tail (spaced job.command)
-  pub stands : StandsIn text job.command (length job.command)
+  pub stands : IsPartWithin text job.command (length job.command)
   pub added_is : job.added ≡ added_minutes settings job.identifier
   pub first_hour_is : job.first_hour ≡ settings.first_hour
   pub last_hour_is : job.last_hour ≡ settings.last_hour

@@ -1,12 +1,12 @@
 -- What a line of an anacrontab says. Source: anacrontab(5) of cronie.
 use Rattle.std.specs.Prelude.{ℕ, List}
 use Rattle.anacron_text.specs.declared.answer.AnaBody.{AnaBody}
-use Rattle.anacron_text.specs.declared.answer.AnaBody.TheVariants.{Blank, Comment, Assign, Job as JobOfProgram}
+use Rattle.anacron_text.specs.declared.answer.AnaBody.TheVariants.{Blank, Comment, Assign, AnacronJob as JobOfProgram}
 use Rattle.anacron_text.specs.declared.answer.PeriodWord.{PeriodWord}
 
 -- a job: how often it starts, by how many minutes it's delayed, what is added to them, from which hour to which it may
 -- start, and what it's called and runs
-pub record Job : Type 0 where
+pub record AnacronJob : Type 0 where
   pub period : PeriodWord
   pub delay : ℕ
   pub added : ℕ
@@ -20,7 +20,7 @@ pub data AnacronLineBody : Type 0 where
   BlankBody : AnacronLineBody
   CommentBody : AnacronLineBody
   AssignBody : (name value : List ℕ) → AnacronLineBody
-  JobBody : Job → AnacronLineBody
+  JobBody : AnacronJob → AnacronLineBody
 
 -- what a body of the program stands for
 abbrev pub anacron_body_of : AnaBody → AnacronLineBody

@@ -2,7 +2,7 @@
 use Rattle.std.specs.Prelude.{◌≡◌, ℕ, ◌-◌, List, length}
 use Rattle.std.proofs.Common.{inl, inr}
 use Rattle.crontab_text.specs.Assignment.{IsAssignment, IsValue, IsUnquoted}
-use Rattle.anacron_text.specs.Spaced.{spaced, StandsIn}
+use Rattle.anacron_text.specs.Spaced.{spaced, IsPartWithin}
 
 -- how many bytes of a text stand before what is inside its quotes
 abbrev pub quotes_before : (text inside : List ℕ) → IsUnquoted text inside → ℕ
@@ -18,7 +18,7 @@ pub record IsPlacedValue (text value : List ℕ) (left : ℕ) : Type 0 where
   pub read : List ℕ
   pub is : IsValue (spaced text) read
   pub left_is : left ≡ bytes_from_value (spaced text) read is
-  pub stands : StandsIn text value left
+  pub stands : IsPartWithin text value left
   pub length_is : length value ≡ length read
 
 -- The text with spaces sets the variable to a value, and the value is what is written there. From its first byte on the
@@ -27,5 +27,5 @@ pub record IsSetting (text name value : List ℕ) (left : ℕ) : Type 0 where
   pub read : List ℕ
   pub is : IsAssignment (spaced text) name read
   pub left_is : left ≡ bytes_from_value is.behind read is.value_is
-  pub stands : StandsIn text value left
+  pub stands : IsPartWithin text value left
   pub length_is : length value ≡ length read

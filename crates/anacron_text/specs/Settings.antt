@@ -31,6 +31,7 @@ pub record AreSettings (settings : Settings) : Type 0 where
 abbrev pub random_delay : List ℕ
 random_delay = codes "RANDOM_DELAY"
 
+-- the name of the variable that has the hours
 abbrev pub start_hours_range : List ℕ
 start_hours_range = codes "START_HOURS_RANGE"
 
@@ -56,8 +57,8 @@ pub record SetsNothing (old : Settings) (name : List ℕ) (new : Settings) : Typ
   pub new_is : new ≡ old
 
 -- the settings below a line that sets a variable
-abbrev pub Sets : Settings → (name value : List ℕ) → Settings → Type 0
-Sets old name value new = SetsDelay old name value new ⊎ (SetsHours old name value new ⊎ SetsNothing old name new)
+abbrev pub SetsVariable : Settings → (name value : List ℕ) → Settings → Type 0
+SetsVariable old name value new = SetsDelay old name value new ⊎ (SetsHours old name value new ⊎ SetsNothing old name new)
 
 -- what is wrong with a value: no hours (cause 19), or no number of minutes (20)
 abbrev pub IsBadValue : (name value : List ℕ) (cause : ℕ) → Type 0

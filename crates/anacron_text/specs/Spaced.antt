@@ -17,7 +17,7 @@ spaced [] = []
 spaced (c ∷ cs) = (if is_joint c cs then 32 else c) ∷ spaced cs
 
 -- the part stands in the text, and from its first byte on the text has so many bytes
-pub record StandsIn (text part : List ℕ) (left : ℕ) : Type 0 where
+pub record IsPartWithin (text part : List ℕ) (left : ℕ) : Type 0 where
   pub before : List ℕ
   pub after : List ℕ
   pub parts : text ≡ before ++ (part ++ after)

@@ -1,7 +1,7 @@
 //! Blanks and words of a line that may be continued. A text is the rest of a logical line, up to its end.
 ghost use Rattle.std.specs.Prelude.{◌≡◌, ◌+◌, ◌<◌, ◌≤◌, ◌-◌, ◌↔◌, ℕ, IsTrue, IfSome, IfNone, length, slice_index, take, drop};
 ghost use Rattle.crontab_text.specs.Blanks.{IsBlank, IsMark, LacksAny, IsFirstIndex, IsCutAt, SkipsBlanks, DropsBlanks, IsFirstWord, AreBlanksFrom};
-ghost use Rattle.anacron_text.specs.Spaced.{is_at_line_end, spaced, StandsIn};
+ghost use Rattle.anacron_text.specs.Spaced.{is_at_line_end, spaced, IsPartWithin};
 
 use crontab_text::{Word, is_blank};
 
@@ -31,7 +31,7 @@ fn is_at_line_end(bytes: &[u8], index: usize) -> bool
 /// The text without the blanks that it begins with.
 pub fn skip_blanks(text: &str) -> &str
     ensures skips { SkipsBlanks (spaced text.now) (spaced result.now) }
-    ensures stands { StandsIn text.now result.now (length result.now) }
+    ensures stands { IsPartWithin text.now result.now (length result.now) }
 {
     match first_mark(text) {
         Some(index) => text.split_at(index).1,
@@ -51,7 +51,7 @@ pub fn drop_blanks(text: &str) -> &str
 pub fn take_word(text: &str) -> (Word<'_>, &str)
     ensures word { IsFirstWord (spaced text.now) result.0.text.now (spaced result.1.now) }
     ensures left { result.0.left ≡ length result.0.text.now + length result.1.now }
-    ensures stands { StandsIn text.now result.1.now (length result.1.now) }
+    ensures stands { IsPartWithin text.now result.1.now (length result.1.now) }
 {
     let (word, after) = cut_at_blank(skip_blanks(text));
     let left = word.len() + after.len();
@@ -61,7 +61,7 @@ pub fn take_word(text: &str) -> (Word<'_>, &str)
 // A text up to its first blank, and from there on.
 fn cut_at_blank(text: &str) -> (&str, &str)
     ensures cut { IsCutAt IsBlank (spaced text.now) result.0.now (spaced result.1.now) }
-    ensures stands { StandsIn text.now result.1.now (length result.1.now) }
+    ensures stands { IsPartWithin text.now result.1.now (length result.1.now) }
 {
     match first_blank(text) {
         Some(index) => text.split_at(index),

@@ -1,5 +1,5 @@
 ghost use Rattle.std.specs.Prelude.{◌≡◌, ℕ, IfSome, IfNone, IfOk, IfErr};
-ghost use Rattle.anacron_text.specs.Settings.{AreSettings, IsHours, IsNumberWithin, IsBadValue, Sets, no_settings};
+ghost use Rattle.anacron_text.specs.Settings.{AreSettings, IsHours, IsNumberWithin, IsBadValue, SetsVariable, no_settings};
 
 use crate::setting::Setting;
 use cron_fields::Cause;
@@ -35,7 +35,7 @@ impl Settings {
     /// The settings below a line that sets a variable.
     pub fn with(self, setting: &Setting<'_>) -> Result<Settings, Fault>
         requires { AreSettings self }
-        ensures sets { IfOk result (Sets self setting.now.name.now setting.now.value.text.now) }
+        ensures sets { IfOk result (SetsVariable self setting.now.name.now setting.now.value.text.now) }
         ensures kept { IfOk result AreSettings }
         ensures bad { IfErr result (λ fault.
             IsBadValue setting.now.name.now setting.now.value.text.now fault.cause) }

@@ -26,7 +26,7 @@ use Rattle.replica_core.specs.Replica.{ReplicaState}
 use Rattle.replica_core.specs.Step.{Steps, Takes}
 use Rattle.replica_core.specs.declared.input.Input.TheVariants as input
 use Rattle.replica_core.specs.declared.out.StepOut.{StepOut}
-use Rattle.world_law.specs.Book.{BookState, Commits, IsAlike, IsNext, IsRowOf, StandsBehind, standing_behind}
+use Rattle.world_law.specs.Book.{BookState, Commits, IsSameBook, IsNext, IsRowOf, StandsBehind, standing_behind}
 use Rattle.book_bench.specs.Booked.{BookedState, IsAsBooked}
 
 -- ---- the acts of a campaign
@@ -82,7 +82,7 @@ may_follow booked now new out took = (
 -- ---- the book
 
 -- the replica with another book that is alike
-stays_booked : (table : Table) (replica : ReplicaState) (new old : BookState) → IsAlike new old → IsAsBooked (record { table = table; replica = replica; book = old }) → IsAsBooked (record { table = table; replica = replica; book = new })
+stays_booked : (table : Table) (replica : ReplicaState) (new old : BookState) → IsSameBook new old → IsAsBooked (record { table = table; replica = replica; book = old }) → IsAsBooked (record { table = table; replica = replica; book = new })
 stays_booked table replica new old alike now = record {
   rows = now.rows;
   behind = record {
@@ -106,7 +106,7 @@ taken : (booked : BookedState) (new : ReplicaState) (out : StepOut) → Steps bo
 taken booked new out steps = subst (λ (event : Event). Takes booked.table booked.replica new (step booked.replica.identity event booked.replica.state) out) steps.event_is steps.took
 
 -- the turn comes next in the book that has made room for it
-pub comes_next : (table : Table) (old new : ReplicaState) (out : StepOut) (book roomy : BookState) → IsAsBooked (record { table = table; replica = old; book = book }) → IsAlike roomy book
+pub comes_next : (table : Table) (old new : ReplicaState) (out : StepOut) (book roomy : BookState) → IsAsBooked (record { table = table; replica = old; book = book }) → IsSameBook roomy book
     → Steps table input.Campaign old new out → IsNext table roomy (Did 0 Campaign None) out
 comes_next table old new out book roomy now alike steps = record {
   rows = stays.rows;
@@ -134,7 +134,7 @@ unfolding after_row
 still_runs n before letters = refl
 
 -- the replica is as its book says again
-pub is_booked_again : (table : Table) (old new : ReplicaState) (out : StepOut) (book roomy after : BookState) → IsAsBooked (record { table = table; replica = old; book = book }) → IsAlike roomy book
+pub is_booked_again : (table : Table) (old new : ReplicaState) (out : StepOut) (book roomy after : BookState) → IsAsBooked (record { table = table; replica = old; book = book }) → IsSameBook roomy book
     → Steps table input.Campaign old new out → Commits (Did 0 Campaign None) out.letters roomy after
     → ((rows : List Row) (row : Row) → StandsBehind table rows roomy → IsRowOf (Did 0 Campaign None) out row
     → MayFollow roomy.members table (standing_behind table rows roomy) row.turn row → StandsBehind table (rows ++ row ∷ []) after)

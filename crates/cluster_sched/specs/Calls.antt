@@ -4,7 +4,8 @@ use Rattle.cluster_sched.specs.declared.fault.CallFault.{CallFault}
 use Rattle.cluster_sched.specs.declared.row.Name.{Name}
 use Rattle.cluster_sched.specs.declared.row.SchedRow.{SchedRow}
 
-module _ {S : Type 0} (looks : S → Name → Result (Option SchedRow) CallFault → S → Type 0) (creates : S → SchedRow → Result SchedRow CallFault → S → Type 0) where
+module _ {S : Type 0} (looks : S → Name → Result (Option SchedRow) CallFault → S → Type 0)
+    (creates : S → SchedRow → Result SchedRow CallFault → S → Type 0) where
   -- what follows a look: where it finds nothing, the row is created, and else it answers the call
   abbrev pub AfterLook : Result (Option SchedRow) CallFault → S → SchedRow → Result SchedRow CallFault → S → Type 0
   AfterLook (Ok None) old row result new = creates old row result new

@@ -9,7 +9,7 @@ use Rattle.std.proofs.lemmas.Str.Parse.{IsNumeralModel, numerals_by_value, tells
 use Rattle.std.proofs.lemmas.List.{get_or-map}
 use Rattle.cron_fields.specs.FieldSet.{least_of}
 use Rattle.cron_fields.specs.Atom.{IsNumber, IsName, names_of}
-use Rattle.cron_fields.specs.Base.{StandsAt}
+use Rattle.cron_fields.specs.Base.{IsPlaceInTable}
 use Rattle.cron_fields.specs.declared.field.FieldKind.{FieldKind}
 use Rattle.cron_fields.specs.declared.field.FieldKind.TheVariants.{Minute, Hour, MonthDay, Month, WeekDay}
 
@@ -61,7 +61,7 @@ name_lowered kind i within =
     ∙ ap (λ names. get_or names i []) (names_lowered kind)
 
 -- what stands in the table of the kind is a name
-pub name_from_place : (kind : FieldKind) (text : List ℕ) (i value : ℕ) → StandsAt (names_of kind) text i → value ≡ least_of kind + i → IsName kind text value
+pub name_from_place : (kind : FieldKind) (text : List ℕ) (i value : ℕ) → IsPlaceInTable (names_of kind) text i → value ≡ least_of kind + i → IsName kind text value
 name_from_place kind text i value at is = record {
   index = i;
   within = at.within;
@@ -70,14 +70,14 @@ name_from_place kind text i value at is = record {
 }
 
 -- and a name stands there
-pub place_from_name : (kind : FieldKind) (text : List ℕ) (value : ℕ) (name : IsName kind text value) → StandsAt (names_of kind) text name.index
+pub place_from_name : (kind : FieldKind) (text : List ℕ) (value : ℕ) (name : IsName kind text value) → IsPlaceInTable (names_of kind) text name.index
 place_from_name kind text value name = record {
   within = name.within;
   same = name_lowered kind name.index name.within ∙ sym name.name;
 }
 
 -- where nothing stands in the table there is no name
-pub no_name : (kind : FieldKind) (text : List ℕ) → ((i : ℕ) → StandsAt (names_of kind) text i → ⊥) → (value : ℕ) → IsName kind text value → ⊥
+pub no_name : (kind : FieldKind) (text : List ℕ) → ((i : ℕ) → IsPlaceInTable (names_of kind) text i → ⊥) → (value : ℕ) → IsName kind text value → ⊥
 no_name kind text none value name = none name.index (place_from_name kind text value name)
 
 -- digits that are no number are too many

@@ -7,7 +7,7 @@ use Rattle.cron_fields.specs.Seed.{Seed}
 use Rattle.cron_fields.specs.Atom.{HasNo, no_atom}
 use Rattle.cron_fields.specs.Base.{Joins}
 use Rattle.cron_fields.specs.Hash.{hashed_value}
-use Rattle.cron_fields.specs.Item.{Steps, IsItem}
+use Rattle.cron_fields.specs.Item.{IsStepped, IsItem}
 use Rattle.cron_fields.specs.ItemFault.{bad_atom, bad_single, IsItemFault, bad_item}
 use Rattle.cron_fields.specs.Field.{AnyStepsTo, IsList, IsField, IsItemText, IsListFault, IsFieldFault}
 use Rattle.cron_fields.specs.declared.field.FieldKind.{FieldKind}
@@ -33,11 +33,11 @@ mark_fault : (kind : FieldKind) → IsItemFault kind (codes "?") 9 0
 mark_fault kind =
     bad_item (HasNo-cons 47 63 [] (λ is. omega arith) (HasNo-nil 47)) (bad_single (bad_atom (λ is. cc) (HasNo-cons 45 63 [] (λ is. omega arith) (HasNo-nil 45)) (no_atom (lit< tt) (λ digits. let digit = digits.0 in omega arith) (λ letters. elim (letters 0 (lit< tt)) [ inl upper ↦ omega arith | inr lower ↦ omega arith ]) refl)) refl)
 
-item_or_fault : (kind : FieldKind) (item : List ℕ) (steps : Steps) (cause place : ℕ) → IsItem kind item steps → IsItemFault kind item cause place → ⊥
+item_or_fault : (kind : FieldKind) (item : List ℕ) (steps : IsStepped) (cause place : ℕ) → IsItem kind item steps → IsItemFault kind item cause place → ⊥
 item_or_fault kind item steps cause place read fault =
     let same = item_same kind item (Ok steps) (Err (cause, place)) read fault in cc
 
-mark_alone : (kind : FieldKind) (parts : List Steps) → AllZip (IsItem kind) (codes "?" ∷ []) parts → ⊥
+mark_alone : (kind : FieldKind) (parts : List IsStepped) → AllZip (IsItem kind) (codes "?" ∷ []) parts → ⊥
 mark_alone kind [] each = each
 mark_alone kind (part ∷ parts) each = item_or_fault kind (codes "?") part 9 0 each.0 (mark_fault kind)
 
@@ -46,7 +46,7 @@ mark_no_list kind text set is list =
     let items : codes "?" ∷ [] ≡ list.items = ap pieces_of (sym is) ∙ items_are_pieces text list.items list.split in
     mark_alone kind list.parts (rw (← items) at list.each)
 
-parts_same : (kind : FieldKind) (items : List (List ℕ)) (a b : List Steps) → AllZip (IsItem kind) items a → AllZip (IsItem kind) items b → a ≡ b
+parts_same : (kind : FieldKind) (items : List (List ℕ)) (a b : List IsStepped) → AllZip (IsItem kind) items a → AllZip (IsItem kind) items b → a ≡ b
 parts_same kind [] [] [] p q = refl
 parts_same kind [] [] (y ∷ b) p q = absurd q
 parts_same kind [] (x ∷ a) b p q = absurd p
@@ -74,7 +74,7 @@ field_same kind text seed a b (inl p) (inr q) = absurd (mark_no_list kind text b
 field_same kind text seed a b (inr p) (inl q) = absurd (mark_no_list kind text a q.text_is p)
 field_same kind text seed a b (inr p) (inr q) = list_same kind text a b p q
 
-each_or_fault : (kind : FieldKind) (before : List (List ℕ)) (item : List ℕ) (after : List (List ℕ)) (parts : List Steps) (cause place : ℕ) → AllZip (IsItem kind) (before ++ (item ∷ after)) parts → IsItemFault kind item cause place → ⊥
+each_or_fault : (kind : FieldKind) (before : List (List ℕ)) (item : List ℕ) (after : List (List ℕ)) (parts : List IsStepped) (cause place : ℕ) → AllZip (IsItem kind) (before ++ (item ∷ after)) parts → IsItemFault kind item cause place → ⊥
 each_or_fault kind [] item after [] cause place each fault = each
 each_or_fault kind [] item after (part ∷ parts) cause place each fault = item_or_fault kind item part cause place each.0 fault
 each_or_fault kind (b ∷ before) item after [] cause place each fault = each
@@ -104,11 +104,11 @@ first_same kind (z ∷ a) x b (w ∷ c) y d e f g h p q r s is =
     let head : z ≡ w = cc in
     (cc (head, rest.0), rest.1)
 
-fault_of : Result Steps At → At
+fault_of : Result IsStepped At → At
 fault_of (Ok steps) = (0, 0)
 fault_of (Err fault) = fault
 
-abbrev fault_at : ℕ → ℕ → Result Steps At
+abbrev fault_at : ℕ → ℕ → Result IsStepped At
 fault_at c p = Err (c, p)
 
 err_same : (c p d q : ℕ) → fault_at c p ≡ fault_at d q → (c ≡ d) × (p ≡ q)
@@ -146,7 +146,7 @@ below_64 MonthDay = lit< tt
 below_64 Month = lit< tt
 below_64 WeekDay = lit< tt
 
-join_from : (kind : FieldKind) (before : ℕ) (steps : Steps) (fuel bits number : ℕ) → InBounds kind steps → steps.high < number + fuel → Joining kind before steps bits number → (after : ℕ) × Joins kind before steps after
+join_from : (kind : FieldKind) (before : ℕ) (steps : IsStepped) (fuel bits number : ℕ) → InBounds kind steps → steps.high < number + fuel → Joining kind before steps bits number → (after : ℕ) × Joins kind before steps after
 join_from kind before steps zero bits number bounds enough so_far =
     (bits, Joins-done kind before steps bits number bounds.some (omega arith) so_far)
 join_from kind before steps (suc fuel) bits number bounds enough so_far = ⊎_elim
@@ -157,11 +157,11 @@ join_from kind before steps (suc fuel) bits number bounds enough so_far = ⊎_el
     join_from kind before steps fuel _ (number + steps.step) bounds (omega arith) (Joining-next kind before steps bits number up_to small so_far))
     (cases_lt steps.high number)
 
-joins_exist : (kind : FieldKind) (before : ℕ) (steps : Steps) → InBounds kind steps → (after : ℕ) × Joins kind before steps after
+joins_exist : (kind : FieldKind) (before : ℕ) (steps : IsStepped) → InBounds kind steps → (after : ℕ) × Joins kind before steps after
 joins_exist kind before steps bounds =
     join_from kind before steps (steps.high + 1) before steps.low bounds (omega arith) (Joining-none kind before steps)
 
-bits_exist : (kind : FieldKind) (items : List (List ℕ)) (parts : List Steps) → AllZip (IsItem kind) items parts → (bits : ℕ) × ((value : ℕ) → IsBitSet bits value ↔ AnyStepsTo kind parts value)
+bits_exist : (kind : FieldKind) (items : List (List ℕ)) (parts : List IsStepped) → AllZip (IsItem kind) items parts → (bits : ℕ) × ((value : ℕ) → IsBitSet bits value ↔ AnyStepsTo kind parts value)
 bits_exist kind items [] each = (0, λ value. (λ set. absurd (IsBitSet-zero value set), λ none. absurd none))
 bits_exist kind [] (part ∷ parts) each = absurd each
 bits_exist kind (item ∷ items) (part ∷ parts) each =
@@ -186,13 +186,13 @@ pub record FirstFault (kind : FieldKind) (items : List (List ℕ)) : Type 0 wher
   pub fault : IsItemFault kind item cause place
 
 pub record AllRead (kind : FieldKind) (items : List (List ℕ)) : Type 0 where
-  pub parts : List Steps
+  pub parts : List IsStepped
   pub each : AllZip (IsItem kind) items parts
 
 item_first : (kind : FieldKind) (item : List ℕ) → IsItemText kind item ⊎ ((cause : ℕ) × (place : ℕ) × IsItemFault kind item cause place)
 item_first kind item = let found = item_exists kind item in by found.0 found.1
   where
-    by : (out : Result Steps At) → ReadsItem kind item out → IsItemText kind item ⊎ ((cause : ℕ) × (place : ℕ) × IsItemFault kind item cause place)
+    by : (out : Result IsStepped At) → ReadsItem kind item out → IsItemText kind item ⊎ ((cause : ℕ) × (place : ℕ) × IsItemFault kind item cause place)
     by (Ok steps) read = inl (steps, read)
     by (Err (cause, place)) fault = inr (cause, place, fault)
 

@@ -8,7 +8,7 @@ use Rattle.cron_fields.specs.FieldSet.{Has, least_of, greatest_of, value_of}
 use Rattle.cron_fields.specs.Seed.{Seed}
 use Rattle.cron_fields.specs.Atom.{HasNo, IsNumber, IsAtom}
 use Rattle.cron_fields.specs.Hash.{pick_of}
-use Rattle.cron_fields.specs.Item.{last_of, Steps, StepsTo, IsWide, star, range, IsItem, single, wide, stepped}
+use Rattle.cron_fields.specs.Item.{last_of, IsStepped, StepsTo, IsWide, star, range, IsItem, single, wide, stepped}
 use Rattle.cron_fields.specs.Field.{AnyStepsTo, IsField, IsFieldByte}
 use Rattle.cron_fields.specs.declared.field.FieldKind.{FieldKind}
 use Rattle.cron_fields.specs.declared.field.FieldKind.TheVariants.{Minute, Hour, MonthDay, Month, WeekDay}
@@ -42,26 +42,26 @@ wide_some : (kind : FieldKind) (base : List ℕ) (low high : ℕ) → IsWide kin
 wide_some kind base low high (star is p q) = rw is (lit< tt)
 wide_some kind base low high (range a b split r) = rw split.text_is (omega (arith, length-append a (45 ∷ b)))
 
-item_bytes : (kind : FieldKind) (item : List ℕ) (steps : Steps) → IsItem kind item steps → All IsFieldByte item
+item_bytes : (kind : FieldKind) (item : List ℕ) (steps : IsStepped) → IsItem kind item steps → All IsFieldByte item
 item_bytes kind item steps (single value whole s is) = atom_bytes kind item value s.atom
 item_bytes kind item steps (wide low high whole w is) = wide_bytes kind item low high w
 item_bytes kind item steps (stepped base step low high by split w number some is) =
     rw split.text_is (parts_bytes 47 base step (inr (inr (inr (inr (inl refl))))) (wide_bytes kind base low high w) (number_bytes step by number))
 
-item_some : (kind : FieldKind) (item : List ℕ) (steps : Steps) → IsItem kind item steps → 0 < length item
+item_some : (kind : FieldKind) (item : List ℕ) (steps : IsStepped) → IsItem kind item steps → 0 < length item
 item_some kind item steps (single value whole s is) = atom_some kind item value s.atom
 item_some kind item steps (wide low high whole w is) = wide_some kind item low high w
 item_some kind item steps (stepped base step low high by split w number some is) =
     rw split.text_is (omega (arith, length-append base (47 ∷ step)))
 
-items_bytes : (kind : FieldKind) (items : List (List ℕ)) (parts : List Steps) → AllZip (IsItem kind) items parts → All IsFieldByte (join_with_byte 44 items)
+items_bytes : (kind : FieldKind) (items : List (List ℕ)) (parts : List IsStepped) → AllZip (IsItem kind) items parts → All IsFieldByte (join_with_byte 44 items)
 items_bytes kind [] parts each = All-nil IsFieldByte
 items_bytes kind (item ∷ items) [] each = absurd each
 items_bytes kind (item ∷ []) (part ∷ parts) each = item_bytes kind item part each.0
 items_bytes kind (item ∷ next ∷ items) (part ∷ parts) each =
     parts_bytes 44 item (join_with_byte 44 (next ∷ items)) (inr (inr (inl refl))) (item_bytes kind item part each.0) (items_bytes kind (next ∷ items) parts each.1)
 
-items_some : (kind : FieldKind) (items : List (List ℕ)) (parts : List Steps) → 0 < length items → AllZip (IsItem kind) items parts → 0 < length (join_with_byte 44 items)
+items_some : (kind : FieldKind) (items : List (List ℕ)) (parts : List IsStepped) → 0 < length items → AllZip (IsItem kind) items parts → 0 < length (join_with_byte 44 items)
 items_some kind [] parts some each = some
 items_some kind (item ∷ items) [] some each = absurd each
 items_some kind (item ∷ []) (part ∷ parts) some each = item_some kind item part each.0
@@ -94,7 +94,7 @@ no_tilde text bytes i within is = other (get_or text i 0) (bytes i 0 within) is
         marks (inr (inr (inr (inr p)))) is = omega arith
 
 -- the bounds of an item's numbers
-pub record InBounds (kind : FieldKind) (steps : Steps) : Type 0 where
+pub record InBounds (kind : FieldKind) (steps : IsStepped) : Type 0 where
   pub least : least_of kind ≤ steps.low
   pub greatest : steps.high ≤ greatest_of kind
   pub some : 0 < steps.step
@@ -110,7 +110,7 @@ wide_bounds : (kind : FieldKind) (base : List ℕ) (low high : ℕ) → IsWide k
 wide_bounds kind base low high (star is p q) = let last = star_bounds kind in (omega arith, omega arith)
 wide_bounds kind base low high (range a b split r) = (r.low_taken.least, r.high_taken.greatest)
 
-pub item_bounds : (kind : FieldKind) (item : List ℕ) (steps : Steps) → IsItem kind item steps → InBounds kind steps
+pub item_bounds : (kind : FieldKind) (item : List ℕ) (steps : IsStepped) → IsItem kind item steps → InBounds kind steps
 item_bounds kind item steps (single value whole s is) =
     rw is (record { least = s.taken.least; greatest = s.taken.greatest; some = lit< tt })
 item_bounds kind item steps (wide low high whole w is) =
@@ -127,14 +127,14 @@ value_bounds MonthDay n value least greatest is = (omega arith, omega arith)
 value_bounds Month n value least greatest is = (omega arith, omega arith)
 value_bounds WeekDay n value least greatest is = (omega arith, omega arith)
 
-steps_bounds : (kind : FieldKind) (steps : Steps) (value : ℕ) → InBounds kind steps → StepsTo kind steps value → (least_of kind ≤ value) × (value ≤ last_of kind)
+steps_bounds : (kind : FieldKind) (steps : IsStepped) (value : ℕ) → InBounds kind steps → StepsTo kind steps value → (least_of kind ≤ value) × (value ≤ last_of kind)
 steps_bounds kind steps value bounds s =
     let least = bounds.least in
     let greatest = bounds.greatest in
     let up_to = s.up_to in
     value_bounds kind (steps.low + s.times * steps.step) value (omega arith) (omega arith) s.is
 
-any_bounds : (kind : FieldKind) (items : List (List ℕ)) (parts : List Steps) (value : ℕ) → AllZip (IsItem kind) items parts → AnyStepsTo kind parts value → (least_of kind ≤ value) × (value ≤ last_of kind)
+any_bounds : (kind : FieldKind) (items : List (List ℕ)) (parts : List IsStepped) (value : ℕ) → AllZip (IsItem kind) items parts → AnyStepsTo kind parts value → (least_of kind ≤ value) × (value ≤ last_of kind)
 any_bounds kind items [] value each any = absurd any
 any_bounds kind [] (part ∷ parts) value each any = absurd each
 any_bounds kind (item ∷ items) (part ∷ parts) value each (inl s) =

@@ -4,7 +4,7 @@ use Rattle.std.proofs.lemmas.Bool.{cases_lt}
 use Rattle.std.proofs.lemmas.Str.Parse.{digit_at}
 use Rattle.cron_fields.specs.FieldSet.{least_of}
 use Rattle.cron_fields.specs.Atom.{HasNo, IsSplitAt, IsNumber, IsAtom, TakesNumber}
-use Rattle.cron_fields.specs.Item.{last_of, Steps, IsSingle, IsRange, IsWide, star, range, IsItem, single, wide, stepped}
+use Rattle.cron_fields.specs.Item.{last_of, IsStepped, IsSingle, IsRange, IsWide, star, range, IsItem, single, wide, stepped}
 use Rattle.cron_fields.specs.ItemFault.{bad_atom, bad_number, IsRangeFault, bad_low_atom, bad_high_atom, bad_low_number, bad_high_number, bad_order, IsBaseFault, bad_single, bad_range, IsStepFault, empty_step, no_number, zero_step, IsItemFault, bad_item, bad_base, step_after_atom, bad_step}
 use Rattle.cron_fields.specs.declared.field.FieldKind.{FieldKind}
 use Rattle.cron_fields.proofs.AtomReading.{ReadsAtom, atom_exists, atom_same, empty_text, name_letters, number_or_not, takes_or_not}
@@ -273,26 +273,26 @@ step_exists step = ⊎_elim
     (number_or_not step)
 
 -- what an item is read as: its numbers, or a fault
-abbrev pub ReadsItem : FieldKind → List ℕ → Result Steps At → Type 0
+abbrev pub ReadsItem : FieldKind → List ℕ → Result IsStepped At → Type 0
 ReadsItem kind item (Ok steps) = IsItem kind item steps
 ReadsItem kind item (Err fault) = IsItemFault kind item fault.0 fault.1
 
-whole_verdict : BaseVerdict → Result Steps At
+whole_verdict : BaseVerdict → Result IsStepped At
 whole_verdict (One value) = Ok (record { low = value; high = value; step = 1 })
 whole_verdict (Wide low high) = Ok (record { low = low; high = high; step = 1 })
 whole_verdict (Bad cause place) = Err (cause, place)
 
-cut_verdict : List ℕ → BaseVerdict → Result ℕ ℕ → Result Steps At
+cut_verdict : List ℕ → BaseVerdict → Result ℕ ℕ → Result IsStepped At
 cut_verdict base (One value) r = Err (7, length base + 1)
 cut_verdict base (Wide low high) (Ok by) = Ok (record { low = low; high = high; step = by })
 cut_verdict base (Wide low high) (Err cause) = Err (cause, length base + 1)
 cut_verdict base (Bad cause place) r = Err (cause, place)
 
-data ItemSteps (kind : FieldKind) (item : List ℕ) (out : Result Steps At) : Type 0 where
+data ItemSteps (kind : FieldKind) (item : List ℕ) (out : Result IsStepped At) : Type 0 where
   of_whole : HasNo 47 item → (v : BaseVerdict) → ReadsBase kind item v → out ≡ whole_verdict v → ItemSteps kind item out
   of_cut : (base step : List ℕ) → IsSplitAt 47 item base step → (v : BaseVerdict) → ReadsBase kind base v → (r : Result ℕ ℕ) → ReadsStep step r → out ≡ cut_verdict base v r → ItemSteps kind item out
 
-item_steps : (kind : FieldKind) (item : List ℕ) (out : Result Steps At) → ReadsItem kind item out → ItemSteps kind item out
+item_steps : (kind : FieldKind) (item : List ℕ) (out : Result IsStepped At) → ReadsItem kind item out → ItemSteps kind item out
 unfolding whole_verdict cut_verdict
 item_steps kind item (Ok steps) (single value whole s is) = of_whole whole (One value) s (ap Ok is)
 item_steps kind item (Ok steps) (wide low high whole w is) = of_whole whole (Wide low high) w (ap Ok is)
@@ -306,7 +306,7 @@ item_steps kind item (Err (c, p)) (step_after_atom base step value split s is at
 item_steps kind item (Err (c, p)) (bad_step base step low high split w fault at) =
     of_cut base step split (Wide low high) w (Err c) fault (ap (λ n. Err (c, n)) at)
 
-item_steps_same : (kind : FieldKind) (item : List ℕ) (v w : Result Steps At) → ItemSteps kind item v → ItemSteps kind item w → v ≡ w
+item_steps_same : (kind : FieldKind) (item : List ℕ) (v w : Result IsStepped At) → ItemSteps kind item v → ItemSteps kind item w → v ≡ w
 item_steps_same kind item v w (of_whole a x p is) (of_whole b y q is') =
     is ∙ (ap whole_verdict (base_same kind item x y p q) ∙ sym is')
 item_steps_same kind item v w (of_whole a x p is) (of_cut base step split y q r s is') =
@@ -320,15 +320,15 @@ item_steps_same kind item v w (of_cut base step split x p r s is) (of_cut base' 
     cc (parts.0, bases, steps, is, is')
 
 -- an item is read in one way
-pub item_same : (kind : FieldKind) (item : List ℕ) (v w : Result Steps At) → ReadsItem kind item v → ReadsItem kind item w → v ≡ w
+pub item_same : (kind : FieldKind) (item : List ℕ) (v w : Result IsStepped At) → ReadsItem kind item v → ReadsItem kind item w → v ≡ w
 item_same kind item v w p q = item_steps_same kind item v w (item_steps kind item v p) (item_steps kind item w q)
 
-whole_exists : (kind : FieldKind) (item : List ℕ) (v : BaseVerdict) → HasNo 47 item → ReadsBase kind item v → (out : Result Steps At) × ReadsItem kind item out
+whole_exists : (kind : FieldKind) (item : List ℕ) (v : BaseVerdict) → HasNo 47 item → ReadsBase kind item v → (out : Result IsStepped At) × ReadsItem kind item out
 whole_exists kind item (One value) whole s = (Ok (record { low = value; high = value; step = 1 }), single value whole s refl)
 whole_exists kind item (Wide low high) whole w = (Ok (record { low = low; high = high; step = 1 }), wide low high whole w refl)
 whole_exists kind item (Bad c p) whole fault = (Err (c, p), bad_item whole fault)
 
-cut_exists : (kind : FieldKind) (item base step : List ℕ) (v : BaseVerdict) (r : Result ℕ ℕ) → IsSplitAt 47 item base step → ReadsBase kind base v → ReadsStep step r → (out : Result Steps At) × ReadsItem kind item out
+cut_exists : (kind : FieldKind) (item base step : List ℕ) (v : BaseVerdict) (r : Result ℕ ℕ) → IsSplitAt 47 item base step → ReadsBase kind base v → ReadsStep step r → (out : Result IsStepped At) × ReadsItem kind item out
 cut_exists kind item base step (One value) r split s t =
     (Err (7, length base + 1), step_after_atom base step value split s refl refl)
 cut_exists kind item base step (Wide low high) (Ok by) split w n =
@@ -338,7 +338,7 @@ cut_exists kind item base step (Wide low high) (Err c) split w fault =
 cut_exists kind item base step (Bad c p) r split fault t = (Err (c, p), bad_base base step split fault)
 
 -- each item is read in some way
-pub item_exists : (kind : FieldKind) (item : List ℕ) → (out : Result Steps At) × ReadsItem kind item out
+pub item_exists : (kind : FieldKind) (item : List ℕ) → (out : Result IsStepped At) × ReadsItem kind item out
 item_exists kind item = ⊎_elim
     (λ whole. let v = base_exists kind item in whole_exists kind item v.0 whole v.1)
     (λ (base, step, split).

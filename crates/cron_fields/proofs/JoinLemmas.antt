@@ -4,7 +4,7 @@ use Rattle.std.proofs.Math.Nat.{mul-le-mul_right}
 use Rattle.std.proofs.lemmas.Bool.{cases_eq, cases_lt}
 use Rattle.std.proofs.lemmas.Nat.Bits.{bit_at-pow_same, bit_at-pow_other, bit_at_set_same, bit_at_set_other}
 use Rattle.cron_fields.specs.FieldSet.{value_of}
-use Rattle.cron_fields.specs.Item.{Steps, StepsTo}
+use Rattle.cron_fields.specs.Item.{IsStepped, StepsTo}
 use Rattle.cron_fields.specs.Base.{Joins}
 use Rattle.cron_fields.specs.declared.field.FieldKind.{FieldKind}
 use Rattle.cron_fields.proofs.BitLemmas.{at_from_set, set_from_at}
@@ -26,17 +26,17 @@ bit_joins bits bit value small = ⊎_elim at other (cases_eq value bit)
     )
 
 -- a value of the first few numbers
-pub record StepsBelow (kind : FieldKind) (steps : Steps) (count value : ℕ) : Type 0 where
+pub record StepsBelow (kind : FieldKind) (steps : IsStepped) (count value : ℕ) : Type 0 where
   pub to : StepsTo kind steps value
   pub below : to.times < count
 
 -- the first few values have joined the set, and the next number
-pub record Joining (kind : FieldKind) (before : ℕ) (steps : Steps) (bits number : ℕ) : Type 0 where
+pub record Joining (kind : FieldKind) (before : ℕ) (steps : IsStepped) (bits number : ℕ) : Type 0 where
   pub count : ℕ
   pub next : number ≡ steps.low + count * steps.step
   pub has : (value : ℕ) → IsBitSet bits value ↔ (IsBitSet before value ⊎ StepsBelow kind steps count value)
 
-pub Joining-none : (kind : FieldKind) (before : ℕ) (steps : Steps) → Joining kind before steps before steps.low
+pub Joining-none : (kind : FieldKind) (before : ℕ) (steps : IsStepped) → Joining kind before steps before steps.low
 Joining-none kind before steps = record {
   count = 0;
   next = omega arith;
@@ -46,7 +46,7 @@ Joining-none kind before steps = record {
   );
 }
 
-pub Joining-next : (kind : FieldKind) (before : ℕ) (steps : Steps) (bits number : ℕ) → number ≤ steps.high → value_of kind number < 64 → Joining kind before steps bits number → Joining kind before steps (bit_or bits (1 * 2 ^ value_of kind number % 2 ^ 64)) (number + steps.step)
+pub Joining-next : (kind : FieldKind) (before : ℕ) (steps : IsStepped) (bits number : ℕ) → number ≤ steps.high → value_of kind number < 64 → Joining kind before steps bits number → Joining kind before steps (bit_or bits (1 * 2 ^ value_of kind number % 2 ^ 64)) (number + steps.step)
 Joining-next kind before steps bits number up_to small so_far = record {
   count = so_far.count + 1;
   next = next;
@@ -101,7 +101,7 @@ within low step high count times some up_to past = ⊎_elim (λ less. less) (λ 
     beyond above = let scaled : count * step ≤ times * step = mul-le-mul_right {m = count} {n = times} step above in omega arith
 
 -- once the next number is above the last, all have joined
-pub Joins-done : (kind : FieldKind) (before : ℕ) (steps : Steps) (bits number : ℕ) → 0 < steps.step → steps.high < number → Joining kind before steps bits number → Joins kind before steps bits
+pub Joins-done : (kind : FieldKind) (before : ℕ) (steps : IsStepped) (bits number : ℕ) → 0 < steps.step → steps.high < number → Joining kind before steps bits number → Joins kind before steps bits
 Joins-done kind before steps bits number some past so_far value = (
   λ set. ⊎_elim (λ was. inl was) (λ s. inr s.to) ((so_far.has value).0 set),
   λ has. (so_far.has value).1 (⊎_elim (λ was. inl was) (λ s. inr (record {

@@ -7,7 +7,7 @@ use Rattle.std.proofs.lemmas.List.Sums.{sum_by_push, sum_by-cons, sum_by-append}
 use Rattle.std.proofs.lemmas.Bool.{cases_eq}
 use Rattle.cron_fields.specs.Atom.{HasNo}
 use Rattle.cron_fields.specs.Base.{Joins}
-use Rattle.cron_fields.specs.Item.{Steps, StepsTo, IsItem}
+use Rattle.cron_fields.specs.Item.{IsStepped, StepsTo, IsItem}
 use Rattle.cron_fields.specs.Field.{AreItems, AnyStepsTo, IsItemText}
 use Rattle.cron_fields.specs.declared.field.FieldKind.{FieldKind}
 use Rattle.cron_fields.proofs.Choice.{HasNo-cons, HasNo-nil}
@@ -60,13 +60,13 @@ pieces_at (p ∷ pieces) (suc n) d within = ap (λ rest. p ∷ rest) (pieces_at 
 abbrev pub reach_of : List (List ℕ) → ℕ
 reach_of items = sum_by (λ one. length one + 1) items
 
-AllZip-push : (kind : FieldKind) (items : List (List ℕ)) (parts : List Steps) (item : List ℕ) (part : Steps) → AllZip (IsItem kind) items parts → IsItem kind item part → AllZip (IsItem kind) (items ++ item ∷ []) (parts ++ part ∷ [])
+AllZip-push : (kind : FieldKind) (items : List (List ℕ)) (parts : List IsStepped) (item : List ℕ) (part : IsStepped) → AllZip (IsItem kind) items parts → IsItem kind item part → AllZip (IsItem kind) (items ++ item ∷ []) (parts ++ part ∷ [])
 AllZip-push kind [] [] item part each last = (last, tt)
 AllZip-push kind [] (p ∷ parts) item part each last = absurd each
 AllZip-push kind (i ∷ items) [] item part each last = absurd each
 AllZip-push kind (i ∷ items) (p ∷ parts) item part each last = (each.0, AllZip-push kind items parts item part each.1 last)
 
-AnyStepsTo-push : (kind : FieldKind) (parts : List Steps) (part : Steps) (value : ℕ) → AnyStepsTo kind (parts ++ part ∷ []) value ↔ (AnyStepsTo kind parts value ⊎ StepsTo kind part value)
+AnyStepsTo-push : (kind : FieldKind) (parts : List IsStepped) (part : IsStepped) (value : ℕ) → AnyStepsTo kind (parts ++ part ∷ []) value ↔ (AnyStepsTo kind parts value ⊎ StepsTo kind part value)
 AnyStepsTo-push kind [] part value = (
   λ any. ⊎_elim (λ s. inr s) (λ none. absurd none) any,
   λ any. ⊎_elim (λ none. absurd none) (λ s. inl s) any,
@@ -78,7 +78,7 @@ AnyStepsTo-push kind (p ∷ parts) part value = let rest = AnyStepsTo-push kind 
 
 -- each item so far was read, the bits are their values, and the place is where the next one begins
 pub record Reading (kind : FieldKind) (items : List (List ℕ)) (bits place : ℕ) : Type 0 where
-  pub parts : List Steps
+  pub parts : List IsStepped
   pub each : AllZip (IsItem kind) items parts
   pub has : (value : ℕ) → IsBitSet bits value ↔ AnyStepsTo kind parts value
   pub place_is : place ≡ reach_of items
@@ -91,7 +91,7 @@ Reading-none kind = record {
   place_is = refl;
 }
 
-pub Reading-push : (kind : FieldKind) (items : List (List ℕ)) (bits place : ℕ) (item : List ℕ) (part : Steps) (after : ℕ) → IsItem kind item part → Joins kind bits part after → Reading kind items bits place → Reading kind (items ++ item ∷ []) after (place + (length item + 1))
+pub Reading-push : (kind : FieldKind) (items : List (List ℕ)) (bits place : ℕ) (item : List ℕ) (part : IsStepped) (after : ℕ) → IsItem kind item part → Joins kind bits part after → Reading kind items bits place → Reading kind (items ++ item ∷ []) after (place + (length item + 1))
 Reading-push kind items bits place item part after read joins so_far = record {
   parts = so_far.parts ++ part ∷ [];
   each = AllZip-push kind items so_far.parts item part so_far.each read;
@@ -103,7 +103,7 @@ Reading-push kind items bits place item part after read joins so_far = record {
 }
 
 -- the items that were read are sound
-pub sound_from_each : (kind : FieldKind) (items : List (List ℕ)) (parts : List Steps) → AllZip (IsItem kind) items parts → AllByRecursion (IsItemText kind) items
+pub sound_from_each : (kind : FieldKind) (items : List (List ℕ)) (parts : List IsStepped) → AllZip (IsItem kind) items parts → AllByRecursion (IsItemText kind) items
 sound_from_each kind [] [] each = tt
 sound_from_each kind [] (p ∷ parts) each = absurd each
 sound_from_each kind (i ∷ items) [] each = absurd each

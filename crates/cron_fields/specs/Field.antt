@@ -6,7 +6,7 @@ use Rattle.cron_fields.specs.FieldSet.{Has}
 use Rattle.cron_fields.specs.Seed.{Seed}
 use Rattle.cron_fields.specs.Hash.{hashed_value}
 use Rattle.cron_fields.specs.Atom.{HasNo, IsSplitAt}
-use Rattle.cron_fields.specs.Item.{Steps, StepsTo, IsItem}
+use Rattle.cron_fields.specs.Item.{IsStepped, StepsTo, IsItem}
 use Rattle.cron_fields.specs.ItemFault.{IsItemFault}
 use Rattle.cron_fields.specs.declared.field.FieldKind.{FieldKind}
 use Rattle.cron_fields.specs.declared.field.FieldSet.{FieldSet}
@@ -20,14 +20,14 @@ pub record AreItems (text : List ℕ) (items : List (List ℕ)) : Type 0 where
   pub whole : AllByRecursion (HasNo 44) items
 
 -- a value of one of the items
-abbrev pub AnyStepsTo : FieldKind → List Steps → ℕ → Type 0
+abbrev pub AnyStepsTo : FieldKind → List IsStepped → ℕ → Type 0
 AnyStepsTo kind [] value = ⊥
 AnyStepsTo kind (part ∷ parts) value = StepsTo kind part value ⊎ AnyStepsTo kind parts value
 
 -- a list of items: the set has the values of each, and `star` where the text begins with `*`
 pub record IsList (kind : FieldKind) (text : List ℕ) (set : FieldSet) : Type 0 where
   pub items : List (List ℕ)
-  pub parts : List Steps
+  pub parts : List IsStepped
   pub split : AreItems text items
   pub each : AllZip (IsItem kind) items parts
   pub has : (value : ℕ) → Has set value ↔ AnyStepsTo kind parts value
@@ -55,7 +55,7 @@ pub record IsTilde (text : List ℕ) (cause place : ℕ) : Type 0 where
 
 -- the text has an item
 abbrev pub IsItemText : FieldKind → List ℕ → Type 0
-IsItemText kind item = (steps : Steps) × IsItem kind item steps
+IsItemText kind item = (steps : IsStepped) × IsItem kind item steps
 
 -- the first item that is none, and what is wrong with it
 pub record IsListFault (kind : FieldKind) (text : List ℕ) (cause place : ℕ) : Type 0 where

@@ -14,13 +14,13 @@ last_of Month = 12
 last_of WeekDay = 6
 
 -- the numbers low, low + step, low + 2 * step and so on, up to high
-pub record Steps : Type 0 where
+pub record IsStepped : Type 0 where
   pub low : ℕ
   pub high : ℕ
   pub step : ℕ
 
 -- a value that one of the numbers stands for
-pub record StepsTo (kind : FieldKind) (steps : Steps) (value : ℕ) : Type 0 where
+pub record StepsTo (kind : FieldKind) (steps : IsStepped) (value : ℕ) : Type 0 where
   pub times : ℕ
   pub up_to : steps.low + times * steps.step ≤ steps.high
   pub is : value ≡ value_of kind (steps.low + times * steps.step)
@@ -45,7 +45,8 @@ pub data IsWide (kind : FieldKind) (base : List ℕ) (low high : ℕ) : Type 0 w
   range : (low_text high_text : List ℕ) → IsSplitAt 45 base low_text high_text → IsRange kind low_text high_text low high → IsWide kind base low high
 
 -- an item, and the numbers that it stands for
-pub data IsItem (kind : FieldKind) (item : List ℕ) (steps : Steps) : Type 0 where
+pub data IsItem (kind : FieldKind) (item : List ℕ) (steps : IsStepped) : Type 0 where
   single : (value : ℕ) → HasNo 47 item → IsSingle kind item value → steps ≡ record { low = value; high = value; step = 1 } → IsItem kind item steps
   wide : (low high : ℕ) → HasNo 47 item → IsWide kind item low high → steps ≡ record { low = low; high = high; step = 1 } → IsItem kind item steps
-  stepped : (base step : List ℕ) (low high by : ℕ) → IsSplitAt 47 item base step → IsWide kind base low high → IsNumber step by → 0 < by → steps ≡ record { low = low; high = high; step = by } → IsItem kind item steps
+  stepped : (base step : List ℕ) (low high by : ℕ) → IsSplitAt 47 item base step → IsWide kind base low high → IsNumber step by → 0 < by
+      → steps ≡ record { low = low; high = high; step = by } → IsItem kind item steps

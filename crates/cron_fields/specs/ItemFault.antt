@@ -10,16 +10,20 @@ use Rattle.cron_fields.specs.declared.cause.Cause.TheVariants.{Empty, BadNumber,
 -- what is wrong with an atom alone: the atom itself, or its number is one that the kind doesn't take
 pub data IsSingleFault (kind : FieldKind) (base : List ℕ) (cause : ℕ) : Type 0 where
   bad_atom : base ≢ codes "*" → HasNo 45 base → IsAtomFault kind base cause → IsSingleFault kind base cause
-  bad_number : (value : ℕ) → HasNo 45 base → IsAtom kind base value → (TakesNumber kind value → ⊥) → cause ≡ cause_number OutOfRange → IsSingleFault kind base cause
+  bad_number : (value : ℕ) → HasNo 45 base → IsAtom kind base value → (TakesNumber kind value → ⊥) → cause ≡ cause_number OutOfRange
+      → IsSingleFault kind base cause
 
 -- what is wrong with a range: the low atom, the high atom, the low number, the high number, or their order. The order
 -- counts at the item, the others at their atom.
 pub data IsRangeFault (kind : FieldKind) (low high : List ℕ) (cause place : ℕ) : Type 0 where
   bad_low_atom : IsAtomFault kind low cause → place ≡ 0 → IsRangeFault kind low high cause place
   bad_high_atom : (a : ℕ) → IsAtom kind low a → IsAtomFault kind high cause → place ≡ length low + 1 → IsRangeFault kind low high cause place
-  bad_low_number : (a b : ℕ) → IsAtom kind low a → IsAtom kind high b → (TakesNumber kind a → ⊥) → cause ≡ cause_number OutOfRange → place ≡ 0 → IsRangeFault kind low high cause place
-  bad_high_number : (a b : ℕ) → IsAtom kind low a → IsAtom kind high b → TakesNumber kind a → (TakesNumber kind b → ⊥) → cause ≡ cause_number OutOfRange → place ≡ length low + 1 → IsRangeFault kind low high cause place
-  bad_order : (a b : ℕ) → IsAtom kind low a → IsAtom kind high b → TakesNumber kind a → TakesNumber kind b → b < a → cause ≡ cause_number BadOrder → place ≡ 0 → IsRangeFault kind low high cause place
+  bad_low_number : (a b : ℕ) → IsAtom kind low a → IsAtom kind high b → (TakesNumber kind a → ⊥) → cause ≡ cause_number OutOfRange → place ≡ 0
+      → IsRangeFault kind low high cause place
+  bad_high_number : (a b : ℕ) → IsAtom kind low a → IsAtom kind high b → TakesNumber kind a → (TakesNumber kind b → ⊥)
+      → cause ≡ cause_number OutOfRange → place ≡ length low + 1 → IsRangeFault kind low high cause place
+  bad_order : (a b : ℕ) → IsAtom kind low a → IsAtom kind high b → TakesNumber kind a → TakesNumber kind b → b < a → cause ≡ cause_number BadOrder
+      → place ≡ 0 → IsRangeFault kind low high cause place
 
 -- what is wrong with a base
 pub data IsBaseFault (kind : FieldKind) (base : List ℕ) (cause place : ℕ) : Type 0 where
@@ -36,5 +40,7 @@ pub data IsStepFault (step : List ℕ) (cause : ℕ) : Type 0 where
 pub data IsItemFault (kind : FieldKind) (item : List ℕ) (cause place : ℕ) : Type 0 where
   bad_item : HasNo 47 item → IsBaseFault kind item cause place → IsItemFault kind item cause place
   bad_base : (base step : List ℕ) → IsSplitAt 47 item base step → IsBaseFault kind base cause place → IsItemFault kind item cause place
-  step_after_atom : (base step : List ℕ) (value : ℕ) → IsSplitAt 47 item base step → IsSingle kind base value → cause ≡ cause_number StepAfterAtom → place ≡ length base + 1 → IsItemFault kind item cause place
-  bad_step : (base step : List ℕ) (low high : ℕ) → IsSplitAt 47 item base step → IsWide kind base low high → IsStepFault step cause → place ≡ length base + 1 → IsItemFault kind item cause place
+  step_after_atom : (base step : List ℕ) (value : ℕ) → IsSplitAt 47 item base step → IsSingle kind base value → cause ≡ cause_number StepAfterAtom
+      → place ≡ length base + 1 → IsItemFault kind item cause place
+  bad_step : (base step : List ℕ) (low high : ℕ) → IsSplitAt 47 item base step → IsWide kind base low high → IsStepFault step cause
+      → place ≡ length base + 1 → IsItemFault kind item cause place

@@ -1,7 +1,7 @@
 ghost use Rattle.std.specs.Prelude.{◌≡◌, ◌↔◌, ℕ, IsTrue, IfSome, IfNone, IfOk, IfErr};
 ghost use Rattle.std.specs.Str.Parse.{AllDigits};
 ghost use Rattle.cron_fields.specs.Atom.{AllLetters, IsAtom, IsAtomFault, IsName, IsNumber, TakesNumber};
-ghost use Rattle.cron_fields.specs.Base.{StandsAt};
+ghost use Rattle.cron_fields.specs.Base.{IsPlaceInTable};
 ghost use Rattle.cron_fields.specs.Cause.{cause_number};
 
 use crate::cause::Cause;
@@ -66,8 +66,8 @@ fn read_name(kind: FieldKind, text: &str) -> Option<u32>
 
 // The place of a name in a table, where the case doesn't count.
 fn place_of(text: &str, names: &[[u8; 3]]) -> Option<usize>
-    ensures some { IfSome result (StandsAt names.now text.now) }
-    ensures none { IfNone result ((index : ℕ) → StandsAt names.now text.now index → ⊥) }
+    ensures some { IfSome result (IsPlaceInTable names.now text.now) }
+    ensures none { IfNone result ((index : ℕ) → IsPlaceInTable names.now text.now index → ⊥) }
 {
     for (index, name) in names.iter().enumerate() {
         if name.eq_ignore_ascii_case(text.as_bytes()) {

@@ -2,7 +2,7 @@
 use Rattle.std.proofs.Common.{◌≡◌, ℕ, ◌-◌, ◌^◌, ◌<◌, inl, inr, List, [], ◌++◌, Option, Some, None, refl, sym, ap, ◌∙◌, append-nil, arith}
 use Rattle.std.specs.Io.KnownBytes.{Appends, Consumes, IsAtEnd}
 use Rattle.cron_io.specs.Faults.{Rose}
-use Rattle.cron_io.specs.Reading.{HasTaken, IsReadToEnd}
+use Rattle.cron_io.specs.Reading.{HasTakenBytes, IsReadToEnd}
 use Rattle.cron_io.specs.Views.{SourceView, SinkView}
 use Rattle.cron_io.specs.Writing.{HasGainedPrefix}
 
@@ -31,7 +31,7 @@ taken_all old new had bytes is read =
       parts.2 ∙ ap Some none,
     )
 
-pub taken_front : (old new : SourceView) (had : List ℕ) → old.left ≡ Some had → HasTaken old new
+pub taken_front : (old new : SourceView) (had : List ℕ) → old.left ≡ Some had → HasTakenBytes old new
     → (bytes left : List ℕ) × (had ≡ bytes ++ left) × (new.left ≡ Some left)
 taken_front old new had is taken =
     let parts = Consumes-front old.left new.left had taken.0 is taken.1 in (taken.0, parts.0, parts.1, parts.2)

@@ -9,8 +9,8 @@ pub record StaysReliable (old new : SourceView) (reliable_now : Type 0) : Type 0
   pub still : reliable_now
 
 -- some bytes were taken from the front, and no others lost
-abbrev pub HasTaken : SourceView → SourceView → Type 0
-HasTaken old new = (bytes : List ℕ) × Consumes old.left new.left bytes
+abbrev pub HasTakenBytes : SourceView → SourceView → Type 0
+HasTakenBytes old new = (bytes : List ℕ) × Consumes old.left new.left bytes
 
 -- so many bytes were taken from the front
 abbrev pub HasTakenCount : SourceView → SourceView → ℕ → Type 0
@@ -22,5 +22,5 @@ IsReadToEnd old new bytes = Consumes old.left new.left bytes × IsAtEnd new.left
 
 -- what is left is a back part of what was, and the count of faults didn't fall
 pub record HasReadOn (old new : SourceView) : Type 0 where
-  pub taken : HasTaken old new
+  pub taken : HasTakenBytes old new
   pub later : old.faults ≤ new.faults

@@ -11,12 +11,13 @@ pub record Asking : Type 0 where
   pub calls : ℕ
   pub last : Option ℕ
 
+-- how often a reader or a writer was asked, and what it was asked last
 abbrev pub asking_of : {T : Type 0} → Asked T → Asking
 asking_of asked = record { calls = asked.calls; last = asked.last }
 
 -- it was asked once more, and answered so
-abbrev pub AsksOnce : Asking → Asking → Option ℕ → Type 0
-AsksOnce old new answer = (new.calls ≡ next_count old.calls) × (new.last ≡ answer)
+abbrev pub WasAskedOnce : Asking → Asking → Option ℕ → Type 0
+WasAskedOnce old new answer = (new.calls ≡ next_count old.calls) × (new.last ≡ answer)
 
 -- What an adapter owes: it asks once and hands that answer on, and each error that it tells is one fault more, and no other
 -- call is.
@@ -36,14 +37,18 @@ count_written None = None
 count_written (Some zero) = None
 count_written (Some (suc count)) = Some (suc count)
 
+-- what a source of the standard library was asked
 abbrev pub source_asking : {R : Type 0} → StdSource R → Asking
 source_asking source = asking_of source.reader
 
+-- how many faults such a source has counted
 abbrev pub source_faults : {R : Type 0} → StdSource R → ℕ
 source_faults source = source.faults
 
+-- what a sink of the standard library was asked
 abbrev pub sink_asking : {W : Type 0} → StdSink W → Asking
 sink_asking sink = asking_of sink.writer
 
+-- how many faults such a sink has counted
 abbrev pub sink_faults : {W : Type 0} → StdSink W → ℕ
 sink_faults sink = sink.faults

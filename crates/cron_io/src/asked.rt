@@ -34,13 +34,13 @@ impl<T> Asked<T> {
 }
 
 impl<R: Read> Asked<R> {
-    ghost use Rattle.cron_io.specs.Standard.{asking_of, AsksOnce};
+    ghost use Rattle.cron_io.specs.Standard.{asking_of, WasAskedOnce};
 
     // How many bytes the reader moved to the front of `into`.
     pub(crate) fn read(&mut self, into: &mut [u8]) -> Result<usize, SourceFault>
         ensures bound { ReadsAtMost result into.new }
         ensures bytes { ReadConsumes (R.remaining self.old.inner) (R.remaining self.new.inner) result into.new }
-        ensures once { AsksOnce (asking_of self.old) (asking_of self.new) (result_ok result) }
+        ensures once { WasAskedOnce (asking_of self.old) (asking_of self.new) (result_ok result) }
     {
         let answer = self.inner.read(into).map_err(|_| SourceFault);
         self.calls = self.calls.saturating_add(1);
@@ -50,13 +50,13 @@ impl<R: Read> Asked<R> {
 }
 
 impl<W: Write> Asked<W> {
-    ghost use Rattle.cron_io.specs.Standard.{asking_of, AsksOnce};
+    ghost use Rattle.cron_io.specs.Standard.{asking_of, WasAskedOnce};
 
     // How many bytes of the piece the writer took.
     pub(crate) fn write(&mut self, piece: &[u8]) -> Result<usize, SinkFault>
         ensures bound { WritesAtMost result piece.now }
         ensures bytes { WriteAppends (W.contents self.old.inner) (W.contents self.new.inner) result piece.now }
-        ensures once { AsksOnce (asking_of self.old) (asking_of self.new) (result_ok result) }
+        ensures once { WasAskedOnce (asking_of self.old) (asking_of self.new) (result_ok result) }
     {
         let answer = self.inner.write(piece).map_err(|_| SinkFault);
         self.calls = self.calls.saturating_add(1);

@@ -3,7 +3,7 @@ ghost use Rattle.std.specs.Prelude.{◌≡◌, ◌-◌, ◌^◌, ◌<◌, ◌++�
 ghost use Rattle.cron_io.specs.declared.sink.SinkFault.{SinkFault};
 ghost use Rattle.cron_io.specs.declared.source.SourceFault.{SourceFault};
 ghost use Rattle.cron_io.specs.Faults.{next_count, Rose};
-ghost use Rattle.cron_io.specs.Reading.{HasTaken, IsReadToEnd};
+ghost use Rattle.cron_io.specs.Reading.{HasTakenBytes, IsReadToEnd};
 ghost use Rattle.cron_io.specs.Standard.{Asking, HandsOn, count_read, count_written};
 ghost use Rattle.cron_io.specs.Views.{SourceView, SinkView};
 ghost use Rattle.cron_io.specs.Writing.{HasGainedPrefix};
@@ -17,7 +17,7 @@ pub fn a_count_that_stays_has_not_risen()
 pub fn what_a_source_gave()
     ensures all { (old new : SourceView) (had bytes : List ℕ) → old.left ≡ Some had → IsReadToEnd old new bytes
         → (bytes ≡ had) × (new.left ≡ Some []) }
-    ensures front { (old new : SourceView) (had : List ℕ) → old.left ≡ Some had → HasTaken old new
+    ensures front { (old new : SourceView) (had : List ℕ) → old.left ≡ Some had → HasTakenBytes old new
         → (bytes left : List ℕ) × (had ≡ bytes ++ left) × (new.left ≡ Some left) }
 {}
 

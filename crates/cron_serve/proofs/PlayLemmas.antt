@@ -15,10 +15,10 @@ use Rattle.world_rounds.specs.declared.world.World.{World}
 use Rattle.run_outcome.proofs.WholeLemmas.{script_whole}
 use Rattle.script_play.specs.Play.{AreMemNodesOf, HasRun, IsPlayable}
 use Rattle.script_play.proofs.Taken.{script_taken}
-use Rattle.cron_serve.specs.Input.{IsTaken}
+use Rattle.cron_serve.specs.Input.{IsRunWithTable}
 use Rattle.cron_serve.specs.Serve.{IsRunOf}
 
-module _ (bytes : List ℕ) (run : Run) (table : Table) (taken : IsTaken bytes run table) where
+module _ (bytes : List ℕ) (run : Run) (table : Table) (taken : IsRunWithTable bytes run table) where
   sound : IsSoundRun (1 + length (lines_of bytes)) run
   sound = sound_run bytes run taken.says
 

@@ -8,7 +8,7 @@ use Rattle.run_text.specs.Run.{Run}
 use Rattle.run_text.specs.declared.refusal.Refusal.{Refusal}
 use Rattle.run_text.proofs.UniqueLemmas as reading
 use Rattle.job_table.specs.Table.{IsTableOf, IsRefusedRun}
-use Rattle.cron_serve.specs.Input.{IsTaken, IsTakenFrame, IsRefusedRunFile, IsRefusedAsRun, IsRefusedAsFrame, IsOfInput, IsRefusedBytes, IsRefusedInput, Suits}
+use Rattle.cron_serve.specs.Input.{IsRunWithTable, IsTakenFrame, IsRefusedRunFile, IsRefusedAsRun, IsRefusedAsFrame, IsOfInput, IsRefusedBytes, IsRefusedInput, Suits}
 use Rattle.cron_serve.specs.declared.words.Output.{Output}
 use Rattle.cron_serve.specs.declared.words.Output.TheVariants.{Report, Journal, DueList, Check, Summary}
 use Rattle.cron_serve.proofs.TextLemmas.{never_both, one_fault}
@@ -22,7 +22,7 @@ no_reading : (bytes : List ℕ) (run : Run) (refusal : Refusal) → IsRunText by
 no_reading bytes run refusal says refused = reading.never_both_by Judged (lines_of bytes) run refusal says refused
 
 -- an input is taken in one way
-pub one_taken : (bytes : List ℕ) (run other : Run) (table table' : Table) → IsTaken bytes run table → IsTaken bytes other table' → (run ≡ other) × (table ≡ table')
+pub one_taken : (bytes : List ℕ) (run other : Run) (table table' : Table) → IsRunWithTable bytes run table → IsRunWithTable bytes other table' → (run ≡ other) × (table ≡ table')
 one_taken bytes run other table table' first second =
     let same = same_run bytes run other first.says second.says in
     (same, one_table other table table' (subst (λ (r : Run). IsTableOf r table) same first.table_is) second.table_is)
@@ -66,7 +66,7 @@ one_input output bytes a b (of, inl (large, is)) (of', inr (short, why)) = absur
 one_input output bytes a b (of, inr (short, why)) (of', inl (large, is)) = absurd (omega arith)
 one_input output bytes a b (of, inr (short, why)) (of', inr (also, other)) = one_refused output bytes a b why other
 
-not_refused_file : (bytes : List ℕ) (run : Run) (table : Table) (refusal : Refusal) → IsTaken bytes run table → IsRefusedRunFile bytes refusal → ⊥
+not_refused_file : (bytes : List ℕ) (run : Run) (table : Table) (refusal : Refusal) → IsRunWithTable bytes run table → IsRefusedRunFile bytes refusal → ⊥
 not_refused_file bytes run table refusal taken refused = elim refused.why [
   | inl text ↦ no_reading bytes run refusal taken.says text
   | inr (other, says, why) ↦
@@ -74,7 +74,7 @@ not_refused_file bytes run table refusal taken refused = elim refused.why [
 ]
 
 -- a run that is taken isn't refused
-pub taken_or_refused : (bytes : List ℕ) (run : Run) (table : Table) (refusal : Refusal) → IsTaken bytes run table → IsRefusedAsRun bytes refusal → ⊥
+pub taken_or_refused : (bytes : List ℕ) (run : Run) (table : Table) (refusal : Refusal) → IsRunWithTable bytes run table → IsRefusedAsRun bytes refusal → ⊥
 taken_or_refused bytes run table refusal taken (inl fault) = never_both bytes refusal taken.texts fault
 taken_or_refused bytes run table refusal taken (inr refused) = not_refused_file bytes run table refusal taken refused
 

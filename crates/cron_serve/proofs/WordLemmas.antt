@@ -8,7 +8,7 @@ use Rattle.std.specs.declared.vec.IntoIter.{IntoIter}
 use Rattle.std.proofs.lemmas.Fmt.{decimal_injective}
 use Rattle.std.proofs.lemmas.List.{append-nil, nil_from_length}
 use Rattle.std.proofs.lemmas.List.Quantifiers.{all_pairs_push}
-use Rattle.cron_serve.specs.Words.{IsSpelledBy, BeginsWith, AreSpelledBy, MayStandTogether, output_of, lanes_of, wanted, Asks, AsksNothing, AreWishesOf, texts_of, behind_name}
+use Rattle.cron_serve.specs.Words.{IsSpelledBy, BeginsWith, AreSpelledBy, MayStandTogether, output_of, lanes_of, wanted, Asks, HasNoOptions, AreWishesOf, texts_of, behind_name}
 use Rattle.cron_serve.specs.declared.words.Asked.{Asked}
 use Rattle.cron_serve.specs.declared.words.Choice.{Choice}
 use Rattle.cron_serve.specs.declared.words.Choice.TheVariants as choice
@@ -256,14 +256,14 @@ option_read all rest others old new c read begins more = record {
 
 -- the option may not stand beside those before it
 pub option_clashes : (all rest others : List (List ℕ)) (old : Wishes) (c : Choice) → HasRead all old rest → BeginsWith c rest others
-    → ((before behind : List Choice) → AreWishesOf before old → AllPairs MayStandTogether (before ++ c ∷ behind) → ⊥) → AsksNothing all
+    → ((before behind : List Choice) → AreWishesOf before old → AllPairs MayStandTogether (before ++ c ∷ behind) → ⊥) → HasNoOptions all
 option_clashes all rest others old c read begins clash choices words =
     let next = next_is all rest others old c read begins choices words.spelled in
     clash read.before next.0 read.are (subst (AllPairs MayStandTogether) next.1 words.together)
 
 -- the rest begins with no option
 pub no_option : (all rest tail : List (List ℕ)) (word : List ℕ) (old : Wishes) → HasRead all old rest → rest ≡ word ∷ tail
-    → ((c : Choice) (others : List (List ℕ)) → BeginsWith c (word ∷ tail) others → ⊥) → AsksNothing all
+    → ((c : Choice) (others : List (List ℕ)) → BeginsWith c (word ∷ tail) others → ⊥) → HasNoOptions all
 no_option all rest tail word old read is none choices words = go (read.only choices words.spelled)
   where
     go : (behind : List Choice) × (choices ≡ read.before ++ behind) × AreSpelledBy behind rest → ⊥
@@ -318,7 +318,7 @@ asks_both a b own other asked first second may is =
     (a ∷ b ∷ [], record { spelled = (other, (own, first, refl), spelled_alone b other second); together = together_two a b may }, is)
 
 -- two options that may not stand together ask for nothing, whatever stands behind them
-pub asks_clash : (a b : Choice) (own other behind : List (List ℕ)) → IsSpelledBy a own → IsSpelledBy b other → (MayStandTogether a b → ⊥) → AsksNothing (own ++ (other ++ behind))
+pub asks_clash : (a b : Choice) (own other behind : List (List ℕ)) → IsSpelledBy a own → IsSpelledBy b other → (MayStandTogether a b → ⊥) → HasNoOptions (own ++ (other ++ behind))
 asks_clash a b own other behind first second apart [] are = begins_somewhere a (own ++ (other ++ behind)) (other ++ behind) (own, first, refl) are.spelled
 asks_clash a b own other behind first second apart (x ∷ []) are =
     let spelled = are.spelled in
@@ -356,7 +356,7 @@ module _ (word : List ℕ) (words : List (List ℕ)) (other : IsNoOption word) w
   begins_none (choice.Lanes n) others (own, (l, m, inr spells), whole) = other.with_lanes n l m (is_first _ _ own others spells whole)
 
 -- a first word that begins no option asks for nothing
-pub asks_unknown : (word : List ℕ) (words : List (List ℕ)) → IsNoOption word → AsksNothing (word ∷ words)
+pub asks_unknown : (word : List ℕ) (words : List (List ℕ)) → IsNoOption word → HasNoOptions (word ∷ words)
 asks_unknown word words other [] are = word_there word words (word ∷ words) (word ∷ words) [] refl (sym (append-nil (word ∷ words))) are.spelled
 asks_unknown word words other (x ∷ xs) are = let spelled = are.spelled in begins_none word words other x spelled.0 spelled.1
 

@@ -12,7 +12,7 @@ use Rattle.cron_serve.specs.declared.words.Output.TheVariants.{Report, Journal, 
 use Rattle.cron_fields.specs.declared.cause.Cause.TheVariants.{TooLarge}
 
 -- the input is the text of this run, whose jobs have this table
-pub record IsTaken (bytes : List ℕ) (run : Run) (table : Table) : Type 0 where
+pub record IsRunWithTable (bytes : List ℕ) (run : Run) (table : Table) : Type 0 where
   pub short : length bytes ≤ 1_048_576
   pub texts : AreTexts (lines_of bytes)
   pub says : IsRunText bytes run
@@ -32,9 +32,9 @@ IsOfInput output = ⊤
 -- the input is one of which this can be written: of a run with a table, and the check of any run; and a summary of whatever
 -- stands there, since nothing is read for it
 abbrev pub Suits : Output → List ℕ → Type 0
-Suits Report bytes = (run : Run) × (table : Table) × IsTaken bytes run table
-Suits Journal bytes = (run : Run) × (table : Table) × IsTaken bytes run table
-Suits DueList bytes = (run : Run) × (table : Table) × IsTaken bytes run table
+Suits Report bytes = (run : Run) × (table : Table) × IsRunWithTable bytes run table
+Suits Journal bytes = (run : Run) × (table : Table) × IsRunWithTable bytes run table
+Suits DueList bytes = (run : Run) × (table : Table) × IsRunWithTable bytes run table
 Suits Check bytes = (run : Run) × IsTakenFrame bytes run
 Suits (Summary seed) bytes = ⊤
 

@@ -20,7 +20,7 @@ use Rattle.script_play.specs.Play.{AreMemNodesOf}
 use Rattle.run_text.specs.Run.{Run}
 use Rattle.run_text.specs.declared.refusal.Refusal.{Refusal}
 use Rattle.job_table.specs.Table.{whole_run}
-use Rattle.cron_serve.specs.Input.{IsOfInput, IsTaken, IsTakenFrame, IsRefusedBytes}
+use Rattle.cron_serve.specs.Input.{IsOfInput, IsRunWithTable, IsTakenFrame, IsRefusedBytes}
 use Rattle.cron_serve.specs.declared.words.Output.{Output}
 use Rattle.cron_serve.specs.declared.words.Output.TheVariants.{Report, Journal, DueList, Check, Summary}
 use Rattle.cron_fields.specs.declared.cause.Cause.TheVariants.{TooLarge}
@@ -45,7 +45,7 @@ IsRefused output old new refusal = IsOfInput output × (IsTooLarge old new refus
 -- whole run of its script, and each node keeps what its replica keeps.
 pub record IsRunOf (bytes : List ℕ) (table : Table) (book : BookState) (nodes : List (Node MemDisk)) : Type 0 where
   pub run : Run
-  pub taken : IsTaken bytes run table
+  pub taken : IsRunWithTable bytes run table
   pub members : book.members ≡ run.members
   pub rest : book.pending ≡ None
   pub rows : List Row
@@ -79,7 +79,7 @@ pub record IsSummaryOf (seed : ℕ) (bytes : List ℕ) (book : BookState) (nodes
 pub record IsDueListOf (bytes text : List ℕ) : Type 0 where
   pub run : Run
   pub table : Table
-  pub taken : IsTaken bytes run table
+  pub taken : IsRunWithTable bytes run table
   pub list : IsDueText table text
 
 -- the bytes are the text of a run, and this is the check of its tables

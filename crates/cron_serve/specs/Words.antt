@@ -71,8 +71,8 @@ abbrev pub Asks : List (List ℕ) → Asked → Type 0
 Asks words asked = (choices : List Choice) × AreWordsOf choices words × (asked ≡ wanted choices)
 
 -- the words are those of no options
-abbrev pub AsksNothing : List (List ℕ) → Type 0
-AsksNothing words = (choices : List Choice) → AreWordsOf choices words → ⊥
+abbrev pub HasNoOptions : List (List ℕ) → Type 0
+HasNoOptions words = (choices : List Choice) → AreWordsOf choices words → ⊥
 
 -- the options may stand together, and ask for this
 pub record AreWishesOf (choices : List Choice) (wishes : Wishes) : Type 0 where

@@ -2,7 +2,7 @@ ghost use Rattle.std.specs.Prelude.{◌≤◌, length, IfOk, IfErr};
 ghost use Rattle.run_text.specs.Run.{run_of};
 ghost use Rattle.run_text.specs.Reading.{IsReadFrame};
 ghost use Rattle.run_text.specs.Steps.{IfRefused};
-ghost use Rattle.cron_serve.specs.Input.{IsTaken, IsTakenFrame, IsRefusedAsRun, IsRefusedAsFrame};
+ghost use Rattle.cron_serve.specs.Input.{IsRunWithTable, IsTakenFrame, IsRefusedAsRun, IsRefusedAsFrame};
 
 use crate::text::as_text;
 use due_set::JobTable;
@@ -18,7 +18,7 @@ use std::alloc::Global;
 /// of memory.
 pub fn take_table(alloc: Global, bytes: &[u8]) -> Result<(RunFile<'_>, JobTable), RunFault>
     requires { length bytes.now ≤ 1_048_576 }
-    ensures taken { IfOk result (λ both. IsTaken bytes.now (run_of both.0) both.1) }
+    ensures taken { IfOk result (λ both. IsRunWithTable bytes.now (run_of both.0) both.1) }
     ensures refused { IfErr result (λ fault. IfRefused fault (IsRefusedAsRun bytes.now)) }
 {
     let text = as_text(bytes)?;

@@ -1,7 +1,7 @@
 //! Laws of the program's ends. Each is the contract of a function that does nothing.
 ghost use Rattle.std.specs.Prelude.{◌≡◌, ◌≢◌, ◌⊎◌, ◌≤◌, [], ◌∷◌, ◌++◌, ℕ, ℤ, ◌<ℤ◌, List, Some, IsSomeAnd, Contains, codes, decimal, slice_get};
 ghost use Rattle.cron_io.specs.Faults.{Rose};
-ghost use Rattle.cron_io.specs.Reading.{HasTaken};
+ghost use Rattle.cron_io.specs.Reading.{HasTakenBytes};
 ghost use Rattle.cron_io.specs.Views.{SourceView, SinkView};
 ghost use Rattle.cron_io.specs.Writing.{HasGained, HasGainedPrefix};
 ghost use Rattle.disk_model.specs.declared.mem_disk.MemDisk.{MemDisk};
@@ -30,9 +30,9 @@ ghost use Rattle.journal_text.specs.Summary.{IsBookSummary};
 ghost use Rattle.generated_run.specs.Made.{made_run, made_text};
 ghost use Rattle.cron_serve.specs.Complete.{Completes, EndsUndisturbed};
 ghost use Rattle.cron_serve.specs.Ends.{Ends};
-ghost use Rattle.cron_serve.specs.Input.{IsTaken, IsTakenFrame, IsRefusedInput, Suits};
+ghost use Rattle.cron_serve.specs.Input.{IsRunWithTable, IsTakenFrame, IsRefusedInput, Suits};
 ghost use Rattle.cron_serve.specs.Serve.{IsNoted, IsRefused, IsRunOf, IsTextOf, IsTextOfInput, LeavesNoRun, WritesSome};
-ghost use Rattle.cron_serve.specs.Words.{Asks, AsksNothing, IsNameWithValue, IsSpelledBy, MayStandTogether};
+ghost use Rattle.cron_serve.specs.Words.{Asks, HasNoOptions, IsNameWithValue, IsSpelledBy, MayStandTogether};
 ghost use Rattle.cron_serve.specs.declared.words.Asked.{Asked};
 ghost use Rattle.cron_serve.specs.declared.words.Choice.{Choice};
 ghost use Rattle.cron_serve.specs.declared.words.Output.{Output};
@@ -44,7 +44,7 @@ ghost use Rattle.cron_serve.specs.declared.run_end.RunEnd.{RunEnd};
 /// together ask for nothing, nor does any other word.
 pub fn words_ask_for_one_text()
     ensures one { (words : List (List ℕ)) (a b : Asked) → Asks words a → Asks words b → a ≡ b }
-    ensures none { (words : List (List ℕ)) (asked : Asked) → Asks words asked → AsksNothing words → ⊥ }
+    ensures none { (words : List (List ℕ)) (asked : Asked) → Asks words asked → HasNoOptions words → ⊥ }
     ensures lanes { (words : List (List ℕ)) (asked : Asked) → Asks words asked → (1 ≤ asked.lanes) × (asked.lanes ≤ 8) }
     ensures report { (asked : Asked) → asked.output ≡ Output.Report → asked.lanes ≡ 1 → Asks [] asked }
     ensures list { (asked : Asked) → asked.output ≡ Output.DueList → asked.lanes ≡ 1 → Asks (codes "--list" ∷ []) asked }
@@ -67,18 +67,18 @@ pub fn words_ask_for_one_text()
         → IsNameWithValue (codes "--lanes") (decimal asked.lanes) own → seed ≤ 4_294_967_295 → IsNameWithValue (codes "--make") (decimal seed) other
         → asked.output ≡ Output.Summary seed → Asks (other ++ own) asked × Asks (own ++ other) asked }
     ensures apart { (first second : Choice) (own other behind : List (List ℕ)) → IsSpelledBy first own → IsSpelledBy second other
-        → (MayStandTogether first second → ⊥) → AsksNothing (own ++ (other ++ behind)) }
+        → (MayStandTogether first second → ⊥) → HasNoOptions (own ++ (other ++ behind)) }
     ensures others { (word : List ℕ) (words : List (List ℕ)) → word ≢ codes "--list" → word ≢ codes "--check" → word ≢ codes "--journal"
         → word ≢ codes "--lanes" → ((lanes : ℕ) → 1 ≤ lanes → lanes ≤ 8 → word ≢ codes "--lanes" ++ codes "=" ++ decimal lanes)
         → word ≢ codes "--make" → ((seed : ℕ) → seed ≤ 4_294_967_295 → word ≢ codes "--make" ++ codes "=" ++ decimal seed)
-        → AsksNothing (word ∷ words) }
+        → HasNoOptions (word ∷ words) }
 {}
 
 /// An input is taken as one run with one table at most, and as one frame at most; it is refused for one thing at most; and it isn't
 /// both what is to be written of, and refused.
 pub fn an_input_has_one_verdict()
-    ensures one_run { (bytes : List ℕ) (run other : Run) (table table' : Table) → IsTaken bytes run table
-        → IsTaken bytes other table' → (run ≡ other) × (table ≡ table') }
+    ensures one_run { (bytes : List ℕ) (run other : Run) (table table' : Table) → IsRunWithTable bytes run table
+        → IsRunWithTable bytes other table' → (run ≡ other) × (table ≡ table') }
     ensures one_frame { (bytes : List ℕ) (run other : Run) → IsTakenFrame bytes run → IsTakenFrame bytes other → run ≡ other }
     ensures one_refusal { (output : Output) (bytes : List ℕ) (a b : Refusal) → IsRefusedInput output bytes a → IsRefusedInput output bytes b → a ≡ b }
     ensures not_both { (output : Output) (bytes : List ℕ) (refusal : Refusal) → Suits output bytes
@@ -202,7 +202,7 @@ pub fn a_listing_leaves_no_run()
 /// At each end what is left of the source is a back part of what was, and no count of faults falls.
 pub fn no_end_takes_back()
     ensures taken { (output : Output) (source source' : SourceView) (sink sink' : SinkView) (end : RunEnd)
-        → Ends output source source' sink sink' end → HasTaken source source' }
+        → Ends output source source' sink sink' end → HasTakenBytes source source' }
     ensures faults { (output : Output) (source source' : SourceView) (sink sink' : SinkView) (end : RunEnd)
         → Ends output source source' sink sink' end → (source.faults ≤ source'.faults) × (sink.faults ≤ sink'.faults) }
 {}

@@ -5,7 +5,7 @@ ghost use Rattle.std.specs.IoError.{error_kind};
 ghost use Rattle.std.specs.Vec.Iter.{into_iter_items};
 ghost use Rattle.cron_serve.specs.Program.{EndsProgram, StopsProgram};
 ghost use Rattle.cron_serve.specs.Stop.{StopsAtOnce, status_of};
-ghost use Rattle.cron_serve.specs.Words.{Asks, AsksNothing, behind_name, texts_of};
+ghost use Rattle.cron_serve.specs.Words.{Asks, HasNoOptions, behind_name, texts_of};
 ghost use Rattle.cron_serve.specs.declared.words.Asked.{Asked};
 
 use crate::note::write_note;
@@ -38,7 +38,7 @@ pub fn run<S: Source, K: Sink, E: Sink, R: Threads + Wait + Sync, G: TurnGate + 
         (E.seen notes.old) (E.seen notes.new) result) }
 
     // Status 1: the words behind the name ask for nothing, or one of them is no text. Then nothing is read or written.
-    ensures words { IfOk args (λ args. (result ≡ 1) ↔ AsksNothing (behind_name (texts_of (into_iter_items args)))) }
+    ensures words { IfOk args (λ args. (result ≡ 1) ↔ HasNoOptions (behind_name (texts_of (into_iter_items args)))) }
     ensures no_text { IfErr args (λ error. error_kind error ≡ ErrorKind.InvalidData → result ≡ 1) }
     ensures usage { result ≡ 1 → StopsProgram (S.seen source.old) (S.seen source.new) (K.seen sink.old) (K.seen sink.new)
         (E.seen notes.old) (E.seen notes.new) result }
@@ -67,7 +67,7 @@ fn run_behind_name<S: Source, K: Sink, E: Sink, R: Threads + Wait + Sync, G: Tur
     ensures ends { (asked : Asked) → Asks (behind_name (texts_of (into_iter_items args))) asked
         → EndsProgram asked.output (S.seen source.old) (S.seen source.new) (K.seen sink.old) (K.seen sink.new)
         (E.seen notes.old) (E.seen notes.new) result }
-    ensures words { (result ≡ 1) ↔ AsksNothing (behind_name (texts_of (into_iter_items args))) }
+    ensures words { (result ≡ 1) ↔ HasNoOptions (behind_name (texts_of (into_iter_items args))) }
     ensures usage { result ≡ 1 → StopsProgram (S.seen source.old) (S.seen source.new) (K.seen sink.old) (K.seen sink.new)
         (E.seen notes.old) (E.seen notes.new) result }
 {

@@ -7,7 +7,7 @@ ghost use Rattle.cron_serve.specs.Ends.{Ends, EndsUnread};
 ghost use Rattle.cron_serve.specs.Input.{IsOfInput};
 ghost use Rattle.cron_serve.specs.Serve.{note_text, IsNoted};
 ghost use Rattle.cron_serve.specs.Stop.{StopsFor};
-ghost use Rattle.cron_serve.specs.Words.{Asks, AsksNothing, texts_of};
+ghost use Rattle.cron_serve.specs.Words.{Asks, HasNoOptions, texts_of};
 ghost use Rattle.cron_serve.specs.declared.words.Asked.{Asked};
 ghost use Rattle.cron_serve.specs.declared.words.Output.{Output as Wanted};
 
@@ -153,7 +153,7 @@ pub fn cron_cluster<S: Source, K: Sink, E: Sink, R: Threads + Wait + Sync, G: Tu
         → Ends asked.output (S.seen source.old) (S.seen source.new) (K.seen sink.old) (K.seen sink.new) result }
 
     // Status 1: the words are at fault. Then nothing is read or written.
-    ensures usage { (result.status ≡ 1) ↔ AsksNothing (texts_of (into_iter_items words)) }
+    ensures usage { (result.status ≡ 1) ↔ HasNoOptions (texts_of (into_iter_items words)) }
     ensures unread { result.status ≡ 1 → EndsUnread (S.seen source.old) (S.seen source.new) (K.seen sink.old) (K.seen sink.new) result }
 
     // Where the run that a seed makes is asked for, nothing is read.

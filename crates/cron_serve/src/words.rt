@@ -1,7 +1,7 @@
 //! The words of the command line.
 ghost use Rattle.std.specs.Prelude.{◌≡◌, ◌≢◌, ◌≤◌, ◌∷◌, ◌++◌, [], ℕ, List, None, Some, IfSome, IfNone, IsSome, AllPairs, codes, decimal, unwrap_or};
 ghost use Rattle.std.specs.Vec.Iter.{into_iter_items, into_iter_len};
-ghost use Rattle.cron_serve.specs.Words.{AreWishesOf, Asks, AsksNothing, BeginsWith, IsSpelledBy, MayStandTogether, texts_of};
+ghost use Rattle.cron_serve.specs.Words.{AreWishesOf, Asks, HasNoOptions, BeginsWith, IsSpelledBy, MayStandTogether, texts_of};
 
 use cron_io::read_number;
 use std::env::Args;
@@ -170,7 +170,7 @@ impl Wishes {
 /// may not stand together.
 pub fn read_words(mut words: Args) -> Option<Asked>
     ensures asks { IfSome result (Asks (texts_of (into_iter_items words))) }
-    ensures none { IfNone result (AsksNothing (texts_of (into_iter_items words))) }
+    ensures none { IfNone result (HasNoOptions (texts_of (into_iter_items words))) }
 {
     let mut wishes = Wishes {
         output: None,

@@ -4,7 +4,7 @@ use Rattle.std.specs.List.{AllZip}
 use Rattle.cron_fields.specs.Seed.{Seed}
 use Rattle.cron_fields.specs.declared.field.FieldSet.{FieldSet}
 use Rattle.cron_fields.specs.declared.field.Fields.{Fields}
-use Rattle.crontab_text.specs.Answers.{BeginsWithByte, IsOther, Says, Breaks, LineAnswer, Said, Broken, IsAnswer, AreAnswers}
+use Rattle.crontab_text.specs.Answers.{BeginsWithByte, IsOther, LineSays, Breaks, LineAnswer, Said, Broken, IsAnswer, AreAnswers}
 use Rattle.crontab_text.specs.Assignment.{IsNameStart, IsAssignment}
 use Rattle.crontab_text.specs.Entry.{five_kinds, entry_seed, BeginsWithFields, IsEntry, IsEntryFault}
 use Rattle.crontab_text.specs.LineBody.{LineBody, BlankBody, CommentBody, AssignBody, EntryBody, NickBody}
@@ -98,7 +98,7 @@ shape_of (AssignBody name value) = Setting
 shape_of (EntryBody fields user command) = Other
 shape_of (NickBody fields user command) = Under
 
-says_shape : (style : Style) (owner text : List ℕ) (body : LineBody) → Says style owner text body → HasShape (shape_of body) text
+says_shape : (style : Style) (owner text : List ℕ) (body : LineBody) → LineSays style owner text body → HasShape (shape_of body) text
 says_shape style owner text BlankBody says = says
 says_shape style owner text CommentBody says = says
 says_shape style owner text (AssignBody name value) says = (name, value, says)
@@ -106,7 +106,7 @@ says_shape style owner text (EntryBody fields user command) says = says.0
 says_shape style owner text (NickBody fields user command) says = says.0
 
 -- a text says one thing
-same_says : (style : Style) (owner text : List ℕ) (a b : LineBody) → Says style owner text a → Says style owner text b → a ≡ b
+same_says : (style : Style) (owner text : List ℕ) (a b : LineBody) → LineSays style owner text a → LineSays style owner text b → a ≡ b
 same_says style owner text BlankBody BlankBody p q = refl
 same_says style owner text CommentBody CommentBody p q = refl
 same_says style owner text (AssignBody n v) (AssignBody m w) p q =
@@ -130,7 +130,7 @@ same_says style owner text a b p q =
     let e = same_shape (shape_of a) (shape_of b) text (says_shape style owner text a p) (says_shape style owner text b q) in cc
 
 -- what says something breaks no rule
-no_break : (style : Style) (owner text : List ℕ) (body : LineBody) (c l : ℕ) → Says style owner text body → Breaks style text c l → ⊥
+no_break : (style : Style) (owner text : List ℕ) (body : LineBody) (c l : ℕ) → LineSays style owner text body → Breaks style text c l → ⊥
 no_break style owner text (EntryBody f u a) c l says (inl breaks) = entry_or_fault style owner text f u a c l says.1 breaks.1
 no_break style owner text (NickBody f u a) c l says (inr breaks) = nick_or_fault style text f u a c l says.1 breaks.1
 no_break style owner text body c l says (inl breaks) =
@@ -148,14 +148,14 @@ same_break style text c d l m (inr p) (inr q) = same_nick_fault style text c d l
 pub same_answer : (style : Style) (owner line : List ℕ) (a b : LineAnswer) → IsAnswer style owner line a → IsAnswer style owner line b → a ≡ b
 same_answer style owner line (Said a) (Said b) p q =
     let text = same_skip line p.text q.text p.skips q.skips in
-    let body = same_says style owner q.text a b (subst (λ t. Says style owner t a) text p.says) q.says in
+    let body = same_says style owner q.text a b (subst (λ t. LineSays style owner t a) text p.says) q.says in
     cc
 same_answer style owner line (Said a) (Broken c place) p q =
     let text = same_skip line p.text q.text p.skips q.skips in
-    absurd (no_break style owner q.text a c q.left (subst (λ t. Says style owner t a) text p.says) q.breaks)
+    absurd (no_break style owner q.text a c q.left (subst (λ t. LineSays style owner t a) text p.says) q.breaks)
 same_answer style owner line (Broken c place) (Said b) p q =
     let text = same_skip line q.text p.text q.skips p.skips in
-    absurd (no_break style owner p.text b c p.left (subst (λ t. Says style owner t b) text q.says) p.breaks)
+    absurd (no_break style owner p.text b c p.left (subst (λ t. LineSays style owner t b) text q.says) p.breaks)
 same_answer style owner line (Broken c place) (Broken d other) p q =
     let text = same_skip line p.text q.text p.skips q.skips in
     let same = same_break style q.text c d p.left q.left (subst (λ t. Breaks style t c p.left) text p.breaks) q.breaks in
@@ -208,7 +208,7 @@ some_nick style text =
     ]
 
 -- a text says something or breaks a rule
-some_says : (style : Style) (owner text : List ℕ) → ((body : LineBody) × Says style owner text body) ⊎ ((c : ℕ) × (l : ℕ) × Breaks style text c l)
+some_says : (style : Style) (owner text : List ℕ) → ((body : LineBody) × LineSays style owner text body) ⊎ ((c : ℕ) × (l : ℕ) × Breaks style text c l)
 some_says style owner [] = inl (BlankBody, refl)
 some_says style owner (b ∷ bs) = elim (eq_dec b 35) [
   | inl note ↦ inl (CommentBody, note)

@@ -5,7 +5,7 @@ use Rattle.std.specs.Str.{IsUtf8, IsCharBoundary}
 use Rattle.std.proofs.lemmas.List.{same_from_push, take_more, take_all, get_or_at}
 use Rattle.std.proofs.lemmas.Str.{IsCharBoundary-before_ascii}
 use Rattle.crontab_text.specs.Blanks.{IsBlank, LacksAny, MayBeginWith, IsFirstIndex, IsCutAt, SkipsBlanks, DropsBlanks}
-use Rattle.crontab_text.specs.Assignment.{IsNameByte, IsNoNameByte, IsName, IsQuote, HasQuotes, IsInQuotes, IsUnquoted, IsValue, IsAssignment}
+use Rattle.crontab_text.specs.Assignment.{IsNameByte, IsNoNameByte, IsVariableName, IsQuote, HasQuotes, IsInQuotes, IsUnquoted, IsValue, IsAssignment}
 use Rattle.crontab_text.proofs.ListLemmas.{same_cut_at}
 use Rattle.crontab_text.proofs.BlankLemmas.{same_skip, same_drop, boundary_after_low}
 
@@ -24,7 +24,7 @@ boundary_behind_name text index utf8 first =
     boundary_after_low text index utf8 (omega (arith, first.inside)) (λ k below. low_name_byte _ (first.before k below))
 
 -- a name is bytes that may stand in one, and begins with one that may begin one
-pub name_lacks : (name : List ℕ) → IsName name → LacksAny IsNoNameByte name
+pub name_lacks : (name : List ℕ) → IsVariableName name → LacksAny IsNoNameByte name
 name_lacks [] is = absurd is
 name_lacks (c ∷ cs) is = ((λ none. none (inl is.0)), lacks cs is.1)
   where
@@ -91,7 +91,7 @@ pub record AssignmentSteps (text name value : List ℕ) : Type 0 where
   pub after : List ℕ
   pub behind : List ℕ
   pub cut : IsCutAt IsNoNameByte text name after
-  pub is_name : IsName name
+  pub is_name : IsVariableName name
   pub between : SkipsBlanks after (61 ∷ behind)
   pub value_is : IsValue behind value
 
@@ -124,10 +124,10 @@ assignment_from_steps text name value steps = record {
 }
 
 -- a text whose name is none sets no variable
-pub no_name_no_assignment : (text name after : List ℕ) → IsCutAt IsNoNameByte text name after → (IsName name → ⊥) → (other value : List ℕ) → IsAssignment text other value → ⊥
+pub no_name_no_assignment : (text name after : List ℕ) → IsCutAt IsNoNameByte text name after → (IsVariableName name → ⊥) → (other value : List ℕ) → IsAssignment text other value → ⊥
 no_name_no_assignment text name after cut none other value is =
     let steps = steps_of_assignment text other value is in
-    none (subst IsName (same_cut_at IsNoNameByte text other name steps.after after steps.cut cut).0 steps.is_name)
+    none (subst IsVariableName (same_cut_at IsNoNameByte text other name steps.after after steps.cut cut).0 steps.is_name)
 
 -- nor does one without `=` behind the name
 pub no_equals_no_assignment : (text name after behind : List ℕ) → IsCutAt IsNoNameByte text name after → SkipsBlanks after behind → ((v : List ℕ) → behind ≢ 61 ∷ v) → (other value : List ℕ) → IsAssignment text other value → ⊥

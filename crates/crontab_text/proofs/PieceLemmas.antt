@@ -4,7 +4,7 @@ use Rattle.std.specs.List.{AllByRecursion}
 use Rattle.std.specs.Prelude.{◌==◌}
 use Rattle.std.proofs.lemmas.Bool.Decides.{nat_tests}
 use Rattle.crontab_text.specs.Blanks.{LacksAny}
-use Rattle.crontab_text.specs.Percent.{CommandPiece, TextPiece, NewLinePiece, IsPercent, spelled, IsPiece, AreInOrder, ArePieces, BeginsWithPercent, BeginsWithEscape, MayEndBefore, BeginsWithPiece, bytes_said, said_by}
+use Rattle.crontab_text.specs.Percent.{CommandPiece, TextPiece, NewLinePiece, IsPercent, spelled, IsPiece, AreInOrder, ArePieces, BeginsWithPercent, BeginsWithEscape, MayEndBefore, BeginsWithPiece, bytes_said, text_said_by}
 use Rattle.crontab_text.proofs.Choice.{Decided, decided_and}
 use Rattle.crontab_text.proofs.ListLemmas.{eq_dec}
 use Rattle.crontab_text.proofs.PercentLemmas.{spelled-other, spelled-percent, spelled_some, bare_piece, no_escape, begins_with_text, begins_with_newline}
@@ -208,14 +208,14 @@ same_pieces command a b first second =
 abbrev said_of : List CommandPiece → List ℕ
 said_of pieces = flat_map bytes_said pieces
 
-said_newline : (text : List ℕ) → said_by (37 ∷ text) ≡ 10 ∷ said_by text
+said_newline : (text : List ℕ) → text_said_by (37 ∷ text) ≡ 10 ∷ text_said_by text
 said_newline [] = refl
 said_newline (c ∷ cs) = refl
 
-said_escape : (c : ℕ) (text : List ℕ) → c ≡ 37 → said_by (92 ∷ c ∷ text) ≡ c ∷ said_by text
+said_escape : (c : ℕ) (text : List ℕ) → c ≡ 37 → text_said_by (92 ∷ c ∷ text) ≡ c ∷ text_said_by text
 said_escape c text percent = rw percent refl
 
-said_plain : (c : ℕ) (text : List ℕ) → c ≢ 37 → (c ≡ 92 → BeginsWithPercent text → ⊥) → said_by (c ∷ text) ≡ c ∷ said_by text
+said_plain : (c : ℕ) (text : List ℕ) → c ≢ 37 → (c ≡ 92 → BeginsWithPercent text → ⊥) → text_said_by (c ∷ text) ≡ c ∷ text_said_by text
 said_plain c [] other plain = let no : (c == 37) ≡ false = grind (arith, nat_tests) in rw no refl
 said_plain c (d ∷ ds) other plain =
     let no : (c == 37) ≡ false = grind (arith, nat_tests) in
@@ -223,34 +223,34 @@ said_plain c (d ∷ ds) other plain =
     rw (bare, no) refl
 
 -- a text that begins with another byte than a percent sign says itself
-said_text : (c : ℕ) (cs : List ℕ) (pieces : List CommandPiece) → c ≢ 37 → LacksAny IsPercent cs → AllByRecursion IsPiece pieces → AreInOrder (TextPiece (c ∷ cs) ∷ pieces) → said_by (bytes_of pieces) ≡ said_of pieces → said_by (c ∷ (cs ++ bytes_of pieces)) ≡ c ∷ (cs ++ said_of pieces)
+said_text : (c : ℕ) (cs : List ℕ) (pieces : List CommandPiece) → c ≢ 37 → LacksAny IsPercent cs → AllByRecursion IsPiece pieces → AreInOrder (TextPiece (c ∷ cs) ∷ pieces) → text_said_by (bytes_of pieces) ≡ said_of pieces → text_said_by (c ∷ (cs ++ bytes_of pieces)) ≡ c ∷ (cs ++ said_of pieces)
 said_text c [] pieces other lacks each in_order said =
     said_plain c (bytes_of pieces) other (λ slash begins. no_escape c [] pieces slash tt each in_order begins) ∙ ap (λ t. c ∷ t) said
 said_text c (d ∷ ds) pieces other lacks each in_order said =
     said_plain c (d ∷ (ds ++ bytes_of pieces)) other (λ slash begins. lacks.0 begins)
     ∙ ap (λ t. c ∷ t) (said_text d ds pieces lacks.0 lacks.1 each (order_drop c d ds pieces in_order) said)
 
-said_rest : (c : ℕ) (cs : List ℕ) (pieces : List CommandPiece) → LacksAny IsPercent cs → AllByRecursion IsPiece pieces → AreInOrder (TextPiece (c ∷ cs) ∷ pieces) → said_by (bytes_of pieces) ≡ said_of pieces → said_by (cs ++ bytes_of pieces) ≡ cs ++ said_of pieces
+said_rest : (c : ℕ) (cs : List ℕ) (pieces : List CommandPiece) → LacksAny IsPercent cs → AllByRecursion IsPiece pieces → AreInOrder (TextPiece (c ∷ cs) ∷ pieces) → text_said_by (bytes_of pieces) ≡ said_of pieces → text_said_by (cs ++ bytes_of pieces) ≡ cs ++ said_of pieces
 said_rest c [] pieces lacks each in_order said = said
 said_rest c (d ∷ ds) pieces lacks each in_order said = said_text d ds pieces lacks.0 lacks.1 each (order_drop c d ds pieces in_order) said
 
-said_by_bytes : (pieces : List CommandPiece) → AllByRecursion IsPiece pieces → AreInOrder pieces → said_by (bytes_of pieces) ≡ said_of pieces
+said_by_bytes : (pieces : List CommandPiece) → AllByRecursion IsPiece pieces → AreInOrder pieces → text_said_by (bytes_of pieces) ≡ said_of pieces
 said_by_bytes [] each in_order = refl
 said_by_bytes (NewLinePiece ∷ pieces) each in_order =
     said_newline (bytes_of pieces) ∙ ap (λ t. 10 ∷ t) (said_by_bytes pieces each.1 (order_behind NewLinePiece pieces in_order))
 said_by_bytes (TextPiece [] ∷ pieces) each in_order = absurd each.0
 said_by_bytes (TextPiece (c ∷ cs) ∷ pieces) each in_order =
     let rest = said_by_bytes pieces each.1 (order_behind (TextPiece (c ∷ cs)) pieces in_order) in
-    elim (eq_dec c 37) as (λ _. said_by (bytes_of (TextPiece (c ∷ cs) ∷ pieces)) ≡ said_of (TextPiece (c ∷ cs) ∷ pieces)) [
+    elim (eq_dec c 37) as (λ _. text_said_by (bytes_of (TextPiece (c ∷ cs) ∷ pieces)) ≡ said_of (TextPiece (c ∷ cs) ∷ pieces)) [
       | inl percent ↦
-          ap (λ s. said_by (s ++ bytes_of pieces)) (spelled-percent c cs percent)
+          ap (λ s. text_said_by (s ++ bytes_of pieces)) (spelled-percent c cs percent)
           ∙ (said_escape c (cs ++ bytes_of pieces) percent ∙ ap (λ t. c ∷ t) (said_rest c cs pieces each.0 each.1 in_order rest))
       | inr other ↦
-          ap (λ s. said_by (s ++ bytes_of pieces)) (spelled-other c cs other)
+          ap (λ s. text_said_by (s ++ bytes_of pieces)) (spelled-other c cs other)
           ∙ said_text c cs pieces other each.0 each.1 in_order rest
     ]
 
 -- what the pieces of a command say, the command says
-pub pieces_say : (command : List ℕ) (pieces : List CommandPiece) → ArePieces command pieces → flat_map bytes_said pieces ≡ said_by command
+pub pieces_say : (command : List ℕ) (pieces : List CommandPiece) → ArePieces command pieces → flat_map bytes_said pieces ≡ text_said_by command
 pieces_say command pieces are =
-    sym (said_by_bytes pieces are.each are.in_order) ∙ ap said_by (sym are.command_is)
+    sym (said_by_bytes pieces are.each are.in_order) ∙ ap text_said_by (sym are.command_is)

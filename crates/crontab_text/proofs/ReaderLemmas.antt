@@ -7,7 +7,7 @@ use Rattle.crontab_text.specs.Answers.{LineAnswer, IsLineOf, AreAnswers}
 use Rattle.crontab_text.specs.LineBody.{body_of}
 use Rattle.crontab_text.specs.LineBreak.{IsLineBreak}
 use Rattle.crontab_text.specs.Lines.{BeginsWithLine}
-use Rattle.crontab_text.specs.Reader.{GoesOn, ReadsLine, answer_of}
+use Rattle.crontab_text.specs.Reader.{ReadsOn, ReadsLine, answer_to_line}
 use Rattle.crontab_text.specs.TableReader.{TableReader, rest_of}
 use Rattle.crontab_text.specs.declared.answer.Body.{Body}
 use Rattle.crontab_text.specs.declared.answer.Line.{Line}
@@ -45,7 +45,7 @@ pub reads_line : (text owner rest line after : List ℕ) (style : Style) (passed
 reads_line text owner rest line after style passed answer handed is begins read fault as_ok as_err =
     by_answer answer read fault as_ok as_err
   where
-    goes_on : GoesOn (record { text = text; style = style; owner = owner; place = length text - length rest; passed = passed }) (record { text = text; style = style; owner = owner; place = length text - length after; passed = passed + 1 }) line
+    goes_on : ReadsOn (record { text = text; style = style; owner = owner; place = length text - length rest; passed = passed }) (record { text = text; style = style; owner = owner; place = length text - length after; passed = passed + 1 }) line
     goes_on = record {
       begins = subst (λ t. BeginsWithLine t line (drop (length text - length after) text)) (sym is.back)
           (subst (BeginsWithLine rest line) (sym (behind_line text rest line after is begins).0.back) begins);
@@ -79,7 +79,7 @@ reads_line text owner rest line after style passed answer handed is begins read 
     })
 
 -- the answer to the next line stands before the answers to the rest
-pub answers_before : (old new : TableReader) (handed : Result Line LineFault) (answers : List LineAnswer) → ReadsLine old new handed → AreAnswers old.style old.owner (rest_of new) answers → AreAnswers old.style old.owner (rest_of old) (answer_of handed ∷ answers)
+pub answers_before : (old new : TableReader) (handed : Result Line LineFault) (answers : List LineAnswer) → ReadsLine old new handed → AreAnswers old.style old.owner (rest_of new) answers → AreAnswers old.style old.owner (rest_of old) (answer_to_line handed ∷ answers)
 answers_before old new handed answers reads are =
     rw (lines_of-begins (rest_of old) reads.line (rest_of new) reads.goes_on.begins) (reads.answer, are)
 

@@ -6,7 +6,7 @@ use Rattle.cron_fields.specs.declared.field.FieldKind.{FieldKind}
 use Rattle.cron_fields.specs.declared.field.FieldSet.{FieldSet}
 use Rattle.cron_fields.proofs.FaultLemmas.{field_fault_within}
 use Rattle.cron_fields.proofs.FieldReading.{field_exists}
-use Rattle.crontab_text.specs.Assignment.{IsNameStart, IsNameByte, IsNoNameByte, IsName, HasQuotes, IsUnquoted, IsValue, IsAssignment}
+use Rattle.crontab_text.specs.Assignment.{IsNameStart, IsNameByte, IsNoNameByte, IsVariableName, HasQuotes, IsUnquoted, IsValue, IsAssignment}
 use Rattle.crontab_text.specs.Blanks.{IsBlank, SkipsBlanks, DropsBlanks, IsCutAt, IsFirstWord}
 use Rattle.crontab_text.specs.Entry.{BeginsWithFields, IsBadWord, IsFieldsFault}
 use Rattle.crontab_text.specs.Tail.{IsUser, IsUserByte, EndsWithCommand, IsCommandFault, IsTail, IsTailFault}
@@ -65,7 +65,7 @@ name_start_or_not c = decided_or (in_range 97 122 c) (decided_or (in_range 65 90
 name_byte_or_not : (c : ℕ) → Decided (IsNameByte c)
 name_byte_or_not c = decided_or (name_start_or_not c) (in_range 48 57 c)
 
-name_or_not : (name : List ℕ) → Decided (IsName name)
+name_or_not : (name : List ℕ) → Decided (IsVariableName name)
 name_or_not [] = inr (λ is. is)
 name_or_not (c ∷ cs) = decided_and (name_start_or_not c) (decided_all IsNameByte name_byte_or_not cs)
 

@@ -23,12 +23,12 @@ pub record IsOther (text : List ℕ) : Type 0 where
   pub no_assignment : (name value : List ℕ) → IsAssignment text name value → ⊥
 
 -- what a line says that begins with no blank
-abbrev pub Says : Style → (owner text : List ℕ) → LineBody → Type 0
-Says style owner text BlankBody = text ≡ []
-Says style owner text CommentBody = BeginsWithByte 35 text
-Says style owner text (AssignBody name value) = IsAssignment text name value
-Says style owner text (EntryBody fields user command) = IsOther text × IsEntry style owner text fields user command
-Says style owner text (NickBody fields user command) = BeginsWithByte 64 text × IsNick style text fields user command
+abbrev pub LineSays : Style → (owner text : List ℕ) → LineBody → Type 0
+LineSays style owner text BlankBody = text ≡ []
+LineSays style owner text CommentBody = BeginsWithByte 35 text
+LineSays style owner text (AssignBody name value) = IsAssignment text name value
+LineSays style owner text (EntryBody fields user command) = IsOther text × IsEntry style owner text fields user command
+LineSays style owner text (NickBody fields user command) = BeginsWithByte 64 text × IsNick style text fields user command
 
 -- Why such a line says nothing, and how many bytes stand from the fault to its end. Neither depends on the table's owner.
 abbrev pub Breaks : Style → (text : List ℕ) (cause left : ℕ) → Type 0
@@ -39,7 +39,7 @@ Breaks style text cause left =
 pub record IsLineOf (style : Style) (owner line : List ℕ) (body : LineBody) : Type 0 where
   pub text : List ℕ
   pub skips : SkipsBlanks line text
-  pub says : Says style owner text body
+  pub says : LineSays style owner text body
 
 -- the first rule that a line breaks, by its number, and the place of the byte, counted from 0
 pub record IsLineFault (style : Style) (line : List ℕ) (cause place : ℕ) : Type 0 where

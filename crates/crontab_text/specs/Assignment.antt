@@ -16,9 +16,9 @@ abbrev pub IsNoNameByte : ℕ → Type 0
 IsNoNameByte c = IsNameByte c → ⊥
 
 -- what may begin a name, and what may stand in one
-abbrev pub IsName : List ℕ → Type 0
-IsName [] = ⊥
-IsName (c ∷ cs) = IsNameStart c × AllByRecursion IsNameByte cs
+abbrev pub IsVariableName : List ℕ → Type 0
+IsVariableName [] = ⊥
+IsVariableName (c ∷ cs) = IsNameStart c × AllByRecursion IsNameByte cs
 
 -- a double or a single quote
 abbrev pub IsQuote : ℕ → Type 0
@@ -53,6 +53,6 @@ pub record IsAssignment (text name value : List ℕ) : Type 0 where
   pub between : List ℕ
   pub behind : List ℕ
   pub text_is : text ≡ name ++ (between ++ 61 ∷ behind)
-  pub is_name : IsName name
+  pub is_name : IsVariableName name
   pub between_blank : AllByRecursion IsBlank between
   pub value_is : IsValue behind value

@@ -52,4 +52,5 @@ pub record IsNickFault (style : Style) (text : List ℕ) (cause left : ℕ) : Ty
   pub word : List ℕ
   pub tail : List ℕ
   pub cut : IsFirstWord text word tail
-  pub is : ((meaning_of word ≡ None) × (cause ≡ cause_number BadNickname) × (left ≡ length word + length tail)) ⊎ (IsSome (meaning_of word) × IsTailFault style tail cause left)
+  pub is : ((meaning_of word ≡ None) × (cause ≡ cause_number BadNickname) × (left ≡ length word + length tail))
+      ⊎ (IsSome (meaning_of word) × IsTailFault style tail cause left)

@@ -56,11 +56,11 @@ bytes_said NewLinePiece = 10 ∷ []
 bytes_said (TextPiece text) = text
 
 -- what a command says: an unescaped `%` is a newline, and an escaped one stands without its backslash
-abbrev pub said_by : List ℕ → List ℕ
-said_by [] = []
-said_by (c ∷ []) = (if c == 37 then 10 else c) ∷ []
-said_by (c ∷ d ∷ rest) =
-    if (c == 92) && (d == 37) then 37 ∷ said_by rest else (if c == 37 then 10 else c) ∷ said_by (d ∷ rest)
+abbrev pub text_said_by : List ℕ → List ℕ
+text_said_by [] = []
+text_said_by (c ∷ []) = (if c == 37 then 10 else c) ∷ []
+text_said_by (c ∷ d ∷ rest) =
+    if (c == 92) && (d == 37) then 37 ∷ text_said_by rest else (if c == 37 then 10 else c) ∷ text_said_by (d ∷ rest)
 
 -- the text begins with `%`
 abbrev pub BeginsWithPercent : List ℕ → Type 0

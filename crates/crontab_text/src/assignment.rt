@@ -1,6 +1,6 @@
 ghost use Rattle.std.specs.Prelude.{◌≡◌, ◌↔◌, ℕ, List, IsTrue, IfSome, IfNone};
 ghost use Rattle.crontab_text.specs.Blanks.{IsFirstIndex, IsCutAt, LacksAny};
-ghost use Rattle.crontab_text.specs.Assignment.{IsNameStart, IsNameByte, IsNoNameByte, IsName, HasQuotes, IsUnquoted, IsValue, IsAssignment};
+ghost use Rattle.crontab_text.specs.Assignment.{IsNameStart, IsNameByte, IsNoNameByte, IsVariableName, HasQuotes, IsUnquoted, IsValue, IsAssignment};
 
 use crate::blank::{drop_blanks, skip_blanks};
 
@@ -67,7 +67,7 @@ fn first_other(text: &str) -> Option<usize>
 /// Whether name bytes begin with one that may begin a name.
 pub fn is_name(text: &str) -> bool
     requires { LacksAny IsNoNameByte text.now }
-    ensures { IsTrue result ↔ IsName text.now }
+    ensures { IsTrue result ↔ IsVariableName text.now }
 {
     match text.as_bytes().first() {
         Some(byte) => is_name_start(*byte),

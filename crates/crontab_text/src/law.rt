@@ -2,8 +2,8 @@ ghost use Rattle.std.specs.Prelude.{◌≡◌, ◌<◌, ◌∷◌, [], ℕ, List
 ghost use Rattle.std.specs.List.{slice_range};
 ghost use Rattle.crontab_text.specs.Answers.{AreAnswers, IsAnswer, LineAnswer};
 ghost use Rattle.crontab_text.specs.Lines.{BeginsWithLine, lines_of};
-ghost use Rattle.crontab_text.specs.Percent.{ArePieces, CommandPiece, bytes_said, said_by};
-ghost use Rattle.crontab_text.specs.Reader.{ReadsLine, answer_of};
+ghost use Rattle.crontab_text.specs.Percent.{ArePieces, CommandPiece, bytes_said, text_said_by};
+ghost use Rattle.crontab_text.specs.Reader.{ReadsLine, answer_to_line};
 ghost use Rattle.crontab_text.specs.TableReader.{TableReader, rest_of};
 ghost use Rattle.crontab_text.specs.declared.answer.Line.{Line};
 ghost use Rattle.crontab_text.specs.declared.answer.LineFault.{LineFault};
@@ -39,7 +39,7 @@ pub fn a_table_has_one_list_of_answers()
 pub fn answers_come_in_order()
     ensures next { (old new : TableReader) (handed : Result Line LineFault) (answers : List LineAnswer)
         → ReadsLine old new handed → AreAnswers old.style old.owner (rest_of new) answers
-        → AreAnswers old.style old.owner (rest_of old) (answer_of handed ∷ answers) }
+        → AreAnswers old.style old.owner (rest_of old) (answer_to_line handed ∷ answers) }
     ensures end { (style : Style) (owner : List ℕ) → AreAnswers style owner [] [] }
 {}
 
@@ -54,7 +54,7 @@ pub fn a_command_has_one_list_of_pieces()
 /// escaped ones (crontab(5)).
 pub fn pieces_say_what_the_command_says()
     ensures { (command : List ℕ) (pieces : List CommandPiece)
-        → ArePieces command pieces → flat_map bytes_said pieces ≡ said_by command }
+        → ArePieces command pieces → flat_map bytes_said pieces ≡ text_said_by command }
 {}
 
 /// A law: what stands in the text from the first byte of a line's span up to its last is the line that was read, without its newline.

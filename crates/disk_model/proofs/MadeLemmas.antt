@@ -3,21 +3,21 @@ use Rattle.std.proofs.Common.{◌≡◌, inl, inr, ℕ, false, List, [], ◌∷�
 use Rattle.disk_model.specs.declared.fault.DiskFault.{DiskFault}
 use Rattle.disk_model.specs.declared.fault.DiskFault.TheVariants.{Stopped, Failed, OutOfMemory}
 use Rattle.disk_model.specs.declared.fault.FileNo.{FileNo}
-use Rattle.disk_model.specs.Told.{Told, Tells, AfterLooks, AfterWriteSynced}
-use Rattle.disk_model.specs.Made.{DiskCall, WriteAt, CutTo, SyncOf, IsAnswered, AllDone, EndsAt, BreaksOff, MadeCalls, synced_write}
+use Rattle.disk_model.specs.Told.{Told, TellsThen, AfterLooks, AfterWriteSynced}
+use Rattle.disk_model.specs.Made.{DiskCall, WriteAt, CutTo, SyncOf, GaveAnswer, AllDone, StopsCalls, BreaksOff, MadeCalls, synced_write}
 
-pub tells_then : {P Q R : Told → Told → Type 0} → ((one two three : Told) → P one two → Q two three → R one three) → (old mid new : Option Told) → Tells P old mid → Tells Q mid new → Tells R old new
+pub tells_then : {P Q R : Told → Told → Type 0} → ((one two three : Told) → P one two → Q two three → R one three) → (old mid new : Option Told) → TellsThen P old mid → TellsThen Q mid new → TellsThen R old new
 tells_then both None mid new first second = tt
 tells_then both (Some one) None new first second = absurd first
 tells_then both (Some one) (Some two) None first second = absurd second
 tells_then both (Some one) (Some two) (Some three) first second = both one two three first second
 
-pub tells_weaker : {P Q : Told → Told → Type 0} → ((one two : Told) → P one two → Q one two) → (old new : Option Told) → Tells P old new → Tells Q old new
+pub tells_weaker : {P Q : Told → Told → Type 0} → ((one two : Told) → P one two → Q one two) → (old new : Option Told) → TellsThen P old new → TellsThen Q old new
 tells_weaker weaker None new first = tt
 tells_weaker weaker (Some one) None first = absurd first
 tells_weaker weaker (Some one) (Some two) first = weaker one two first
 
-pub tells_same : (P : Told → Told → Type 0) → ((one : Told) → P one one) → (old : Option Told) → Tells P old old
+pub tells_same : (P : Told → Told → Type 0) → ((one : Told) → P one one) → (old : Option Told) → TellsThen P old old
 tells_same P same None = tt
 tells_same P same (Some one) = same one
 
@@ -27,18 +27,18 @@ pub all_then : (front back : List DiskCall) (old mid new : Told) → AllDone fro
 all_then [] back old mid new is second = subst (λ told. AllDone back told new) is second
 all_then (call ∷ front) back old mid new first second = (first.0, first.1, all_then front back first.0 mid new first.2 second)
 
-pub one_done : (call : DiskCall) (old new : Told) → IsAnswered call (Ok tt) old new → AllDone (call ∷ []) old new
+pub one_done : (call : DiskCall) (old new : Told) → GaveAnswer call (Ok tt) old new → AllDone (call ∷ []) old new
 one_done call old new is = (new, is, refl)
 
 -- a call that was done finds the disk running, and leaves it so
-pub runs_on : (call : DiskCall) (old new : Told) → IsAnswered call (Ok tt) old new → new.stopped ≡ false
+pub runs_on : (call : DiskCall) (old new : Told) → GaveAnswer call (Ok tt) old new → new.stopped ≡ false
 runs_on (WriteAt file at piece) old new is = ap (λ (told : Told). told.stopped) is.2 ∙ is.0
 runs_on (CutTo file size) old new is = ap (λ (told : Told). told.stopped) is.2 ∙ is.0
 runs_on (SyncOf file) old new is = ap (λ (told : Told). told.stopped) is.2 ∙ is.0
 
 -- ---- calls that broke off
 
-pub breaks_here : (fault : DiskFault) (call : DiskCall) (rest : List DiskCall) (old new : Told) → IsAnswered call (Err fault) old new → BreaksOff fault (call ∷ rest) old new
+pub breaks_here : (fault : DiskFault) (call : DiskCall) (rest : List DiskCall) (old new : Told) → GaveAnswer call (Err fault) old new → BreaksOff fault (call ∷ rest) old new
 breaks_here Stopped call rest old new is = record { done = []; rest = call ∷ rest; parts = refl; mid = old; made = refl; ends = is }
 breaks_here Failed call rest old new is = record { done = []; rest = call ∷ rest; parts = refl; mid = old; made = refl; ends = (is.1, is.2) }
 breaks_here OutOfMemory call rest old new is = record { done = []; rest = call ∷ rest; parts = refl; mid = old; made = refl; ends = is.1 }
@@ -57,7 +57,7 @@ breaks_later fault front back old mid new first broken =
 pub breaks_sooner : (fault : DiskFault) (front back : List DiskCall) (old new : Told) → BreaksOff fault front old new → BreaksOff fault (front ++ back) old new
 breaks_sooner Stopped front back old new broken = stops broken.rest broken.parts broken.ends
   where
-    stops : (rest : List DiskCall) → front ≡ broken.done ++ rest → EndsAt Stopped rest broken.mid new → BreaksOff Stopped (front ++ back) old new
+    stops : (rest : List DiskCall) → front ≡ broken.done ++ rest → StopsCalls Stopped rest broken.mid new → BreaksOff Stopped (front ++ back) old new
     stops [] parts ends = absurd ends
     stops (first ∷ rest) parts ends = record { done = broken.done; rest = first ∷ (rest ++ back); parts = ap (λ calls. calls ++ back) parts ∙ append_assoc broken.done (first ∷ rest) back; mid = broken.mid; made = broken.made; ends = ends }
 breaks_sooner Failed front back old new broken = record { done = broken.done; rest = broken.rest ++ back; parts = ap (λ calls. calls ++ back) broken.parts ∙ append_assoc broken.done broken.rest back; mid = broken.mid; made = broken.made; ends = broken.ends }

@@ -5,7 +5,7 @@ use Rattle.std.specs.Prelude.{slice_get}
 use Rattle.disk_model.specs.declared.armed.Arm.{Arm}
 use Rattle.disk_model.specs.declared.fault.DiskFault.TheVariants.{Stopped}
 use Rattle.disk_model.specs.Told.{Told, is_due, one_less}
-use Rattle.disk_model.specs.Made.{DiskCall, WriteAt, CutTo, SyncOf, IsAnswered, AllDone, EndsAt, BreaksOff, StopsAt}
+use Rattle.disk_model.specs.Made.{DiskCall, WriteAt, CutTo, SyncOf, GaveAnswer, AllDone, StopsCalls, BreaksOff, StopsAt}
 use Rattle.disk_model.proofs.MadeLemmas.{runs_on}
 
 not_zero : (number : ℕ) → (number == 0) ≡ false → 0 < number
@@ -19,7 +19,7 @@ not_due arm due = not_zero arm.left due
 
 -- a call that is done takes one from those that are left
 module _ (arm : Arm) (old new : Told) (is : old.arm ≡ Some arm) where
-  pub one_passes : (call : DiskCall) → IsAnswered call (Ok tt) old new → (0 < arm.left) × (new.arm ≡ Some (record arm { left = arm.left - 1 }))
+  pub one_passes : (call : DiskCall) → GaveAnswer call (Ok tt) old new → (0 < arm.left) × (new.arm ≡ Some (record arm { left = arm.left - 1 }))
   one_passes (WriteAt file at piece) passed = (not_due arm (ap is_due (sym is) ∙ passed.1), ap (λ (told : Told). told.arm) passed.2 ∙ ap one_less is)
   one_passes (CutTo file size) passed = (not_due arm (ap is_due (sym is) ∙ passed.1), ap (λ (told : Told). told.arm) passed.2 ∙ ap one_less is)
   one_passes (SyncOf file) passed = (not_due arm (ap is_due (sym is) ∙ passed.1), ap (λ (told : Told). told.arm) passed.2 ∙ ap one_less is)
@@ -39,13 +39,13 @@ all_pass (call ∷ rest) arm old new is done =
     (omega (arith, first.0, later.0), later.1 ∙ ap (λ n. Some (record arm { left = n })) (omega (arith, first.0, later.0)))
 
 -- a call that stops within is the one after those that were to succeed
-pub one_stops : (call : DiskCall) (arm : Arm) (old new : Told) → old.stopped ≡ false → old.arm ≡ Some arm → IsAnswered call (Err Stopped) old new → (arm.left ≡ 0) × (new.stopped ≡ true) × (new.arm ≡ Some arm)
+pub one_stops : (call : DiskCall) (arm : Arm) (old new : Told) → old.stopped ≡ false → old.arm ≡ Some arm → GaveAnswer call (Err Stopped) old new → (arm.left ≡ 0) × (new.stopped ≡ true) × (new.arm ≡ Some arm)
 one_stops call arm old new running is (inl before) = absurd (cc (running, before.0))
 one_stops (WriteAt file at piece) arm old new running is (inr now) = (is_zero arm.left (ap is_due (sym is) ∙ now.1), ap (λ (told : Told). told.stopped) now.2, ap (λ (told : Told). told.arm) now.2 ∙ is)
 one_stops (CutTo file size) arm old new running is (inr now) = (is_zero arm.left (ap is_due (sym is) ∙ now.1), ap (λ (told : Told). told.stopped) now.2, ap (λ (told : Told). told.arm) now.2 ∙ is)
 one_stops (SyncOf file) arm old new running is (inr now) = (is_zero arm.left (ap is_due (sym is) ∙ now.1), ap (λ (told : Told). told.stopped) now.2, ap (λ (told : Told). told.arm) now.2 ∙ is)
 
-pub none_stops : (call : DiskCall) (old new : Told) → old.stopped ≡ false → old.arm ≡ None → IsAnswered call (Err Stopped) old new → ⊥
+pub none_stops : (call : DiskCall) (old new : Told) → old.stopped ≡ false → old.arm ≡ None → GaveAnswer call (Err Stopped) old new → ⊥
 none_stops call old new running is (inl before) = absurd (cc (running, before.0))
 none_stops call old new running is (inr now) = absurd (cc (ap is_due (sym is) ∙ now.1))
 
@@ -54,7 +54,7 @@ pub all_run : (calls : List DiskCall) (old new : Told) → old.stopped ≡ false
 all_run [] old new running done = ap (λ (told : Told). told.stopped) done ∙ running
 all_run (call ∷ rest) old new running done = all_run rest done.0 new (runs_on call old done.0 done.1) done.2
 
-one_unarmed : (call : DiskCall) (old new : Told) → old.arm ≡ None → IsAnswered call (Ok tt) old new → new.arm ≡ None
+one_unarmed : (call : DiskCall) (old new : Told) → old.arm ≡ None → GaveAnswer call (Ok tt) old new → new.arm ≡ None
 one_unarmed (WriteAt file at piece) old new is passed = ap (λ (told : Told). told.arm) passed.2 ∙ ap one_less is
 one_unarmed (CutTo file size) old new is passed = ap (λ (told : Told). told.arm) passed.2 ∙ ap one_less is
 one_unarmed (SyncOf file) old new is passed = ap (λ (told : Told). told.arm) passed.2 ∙ ap one_less is
@@ -76,7 +76,7 @@ split_get (call ∷ done) next rest = split_get done next rest
 pub stops_at : (calls : List DiskCall) (arm : Arm) (old new : Told) → old.stopped ≡ false → old.arm ≡ Some arm → BreaksOff Stopped calls old new → StopsAt arm.left calls old new × (new.stopped ≡ true) × (new.arm ≡ Some (record arm { left = 0 }))
 stops_at calls arm old new running is broken = at broken.rest broken.parts broken.ends
   where
-    at : (rest : List DiskCall) → calls ≡ broken.done ++ rest → EndsAt Stopped rest broken.mid new → StopsAt arm.left calls old new × (new.stopped ≡ true) × (new.arm ≡ Some (record arm { left = 0 }))
+    at : (rest : List DiskCall) → calls ≡ broken.done ++ rest → StopsCalls Stopped rest broken.mid new → StopsAt arm.left calls old new × (new.stopped ≡ true) × (new.arm ≡ Some (record arm { left = 0 }))
     at [] parts ends = absurd ends
     at (next ∷ rest) parts ends =
         let passed = all_pass broken.done arm old broken.mid is broken.made in
@@ -98,6 +98,6 @@ stops_at calls arm old new running is broken = at broken.rest broken.parts broke
 pub never_stops : (calls : List DiskCall) (old new : Told) → old.stopped ≡ false → old.arm ≡ None → BreaksOff Stopped calls old new → ⊥
 never_stops calls old new running is broken = at broken.rest broken.ends
   where
-    at : (rest : List DiskCall) → EndsAt Stopped rest broken.mid new → ⊥
+    at : (rest : List DiskCall) → StopsCalls Stopped rest broken.mid new → ⊥
     at [] ends = absurd ends
     at (next ∷ rest) ends = none_stops next broken.mid new (all_run broken.done old broken.mid running broken.made) (all_unarmed broken.done old broken.mid is broken.made) ends

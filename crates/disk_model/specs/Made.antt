@@ -12,32 +12,32 @@ pub data DiskCall : Type 0 where
   SyncOf : FileNo → DiskCall
 
 -- what a call does, and what it does where it stops within
-abbrev pub after_done : DiskCall → Told → Told
-after_done (WriteAt file at piece) = after_write file at piece
-after_done (CutTo file size) = after_cut file size
-after_done (SyncOf file) = after_sync file
+abbrev pub after_done_call : DiskCall → Told → Told
+after_done_call (WriteAt file at piece) = after_write file at piece
+after_done_call (CutTo file size) = after_cut file size
+after_done_call (SyncOf file) = after_sync file
 
-abbrev pub after_stop : DiskCall → Told → Told
-after_stop (WriteAt file at piece) = after_write file at piece
-after_stop (CutTo file size) = after_cut file size
-after_stop (SyncOf file) = no_change
+abbrev pub after_stopped_call : DiskCall → Told → Told
+after_stopped_call (WriteAt file at piece) = after_write file at piece
+after_stopped_call (CutTo file size) = after_cut file size
+after_stopped_call (SyncOf file) = no_change
 
 -- the call gave this answer
-abbrev pub IsAnswered : DiskCall → Result Unit DiskFault → Told → Told → Type 0
-IsAnswered call result old new = AfterCall (after_done call) (after_stop call) result old new
+abbrev pub GaveAnswer : DiskCall → Result Unit DiskFault → Told → Told → Type 0
+GaveAnswer call result old new = AfterCall (after_done_call call) (after_stopped_call call) result old new
 
 -- these calls were made in order, and each was done
 abbrev pub AllDone : List DiskCall → Told → Told → Type 0
 AllDone [] old new = new ≡ old
-AllDone (first ∷ rest) old new = (mid : Told) × IsAnswered first (Ok tt) old mid × AllDone rest mid new
+AllDone (first ∷ rest) old new = (mid : Told) × GaveAnswer first (Ok tt) old mid × AllDone rest mid new
 
 -- What a fault does with the calls that were still to come: a stop comes within the first of them, and at another fault none of
 -- them has done anything.
-abbrev pub EndsAt : DiskFault → List DiskCall → Told → Told → Type 0
-EndsAt Stopped [] old new = ⊥
-EndsAt Stopped (first ∷ rest) old new = IsAnswered first (Err Stopped) old new
-EndsAt Failed rest old new = (old.fails ≡ true) × (new ≡ old)
-EndsAt OutOfMemory rest old new = new ≡ old
+abbrev pub StopsCalls : DiskFault → List DiskCall → Told → Told → Type 0
+StopsCalls Stopped [] old new = ⊥
+StopsCalls Stopped (first ∷ rest) old new = GaveAnswer first (Err Stopped) old new
+StopsCalls Failed rest old new = (old.fails ≡ true) × (new ≡ old)
+StopsCalls OutOfMemory rest old new = new ≡ old
 
 -- some of these calls were done, in order, and there a fault came
 pub record BreaksOff (fault : DiskFault) (calls : List DiskCall) (old new : Told) : Type 0 where
@@ -46,7 +46,7 @@ pub record BreaksOff (fault : DiskFault) (calls : List DiskCall) (old new : Told
   pub parts : calls ≡ done ++ rest
   pub mid : Told
   pub made : AllDone done old mid
-  pub ends : EndsAt fault rest mid new
+  pub ends : StopsCalls fault rest mid new
 
 -- Of these calls so many were done, in order, and the next one was stopped within.
 pub record StopsAt (count : ℕ) (calls : List DiskCall) (old new : Told) : Type 0 where
@@ -55,7 +55,7 @@ pub record StopsAt (count : ℕ) (calls : List DiskCall) (old new : Told) : Type
   pub made : AllDone (take count calls) old mid
   pub call : DiskCall
   pub is_next : slice_get calls count ≡ Some call
-  pub stopped : IsAnswered call (Err Stopped) mid new
+  pub stopped : GaveAnswer call (Err Stopped) mid new
 
 -- What an answer says of the calls that were to be made, by what each fault of the disk is among its errors: at Ok all are
 -- done, and at a fault they broke off there.

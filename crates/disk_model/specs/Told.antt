@@ -22,10 +22,10 @@ pub record Told : Type 0 where
   pub touched : FileNo → ℕ → Bool
 
 -- where the disk tells, it does so afterwards too, and the two are so
-abbrev pub Tells : (Told → Told → Type 0) → Option Told → Option Told → Type 0
-Tells Step None new = ⊤
-Tells Step (Some old) None = ⊥
-Tells Step (Some old) (Some new) = Step old new
+abbrev pub TellsThen : (Told → Told → Type 0) → Option Told → Option Told → Type 0
+TellsThen Step None new = ⊤
+TellsThen Step (Some old) None = ⊥
+TellsThen Step (Some old) (Some new) = Step old new
 
 -- A stop may leave the image: each file is what may be left of it, by its bytes, those of its last sync and the places that
 -- were touched since.
@@ -34,8 +34,8 @@ MayBeLeft told image =
     (file : FileNo) → IsLeft (file_of file told.synced) (length (file_of file told.done)) (told.touched file) (file_of file image)
 
 -- it tells that it has stopped, or that it has not
-abbrev pub HasStopped : Option Told → Type 0
-HasStopped told = IsSomeAnd told (λ now. now.stopped ≡ true)
+abbrev pub TellsStop : Option Told → Type 0
+TellsStop told = IsSomeAnd told (λ now. now.stopped ≡ true)
 
 abbrev pub IsRunning : Option Told → Type 0
 IsRunning told = IsSomeAnd told (λ now. now.stopped ≡ false)

@@ -1,7 +1,7 @@
 ghost use Rattle.std.specs.Prelude.{◌≡◌, ◌↔◌, ℕ, IsSome};
 ghost use Rattle.disk_model.specs.declared.fault.FileNo.{FileNo};
 ghost use Rattle.disk_model.specs.Images.{Image, IsDurable, NoNewImage};
-ghost use Rattle.disk_model.specs.Told.{Tells, HasStopped, IsRunning, after_arm, after_disarm, after_revive};
+ghost use Rattle.disk_model.specs.Told.{TellsThen, TellsStop, IsRunning, after_arm, after_disarm, after_revive};
 
 use crate::disk::Disk;
 
@@ -20,7 +20,7 @@ pub trait ArmedDisk: Disk {
     /// Lets `pass` more calls of `write_at`, `cut` and `sync` succeed, and the next one stop within and leave the image of
     /// that number. Every call after it is stopped too. A disk that has stopped stays as it is.
     fn arm(&mut self, pass: u32, image: u32)
-        ensures told { Tells (λ old new. new ≡ after_arm pass image old) (Self.told self.old) (Self.told self.new) }
+        ensures told { TellsThen (λ old new. new ≡ after_arm pass image old) (Self.told self.old) (Self.told self.new) }
         ensures seen { Self.seen self.new ≡ Self.seen self.old }
         ensures images { (image : Image) → Self.may_leave self.new image ↔ Self.may_leave self.old image }
         ensures moment { Self.moment self.new ≡ Self.moment self.old }
@@ -30,7 +30,7 @@ pub trait ArmedDisk: Disk {
 
     /// Takes [`ArmedDisk::arm`] back, where no stop has come.
     fn disarm(&mut self)
-        ensures told { Tells (λ old new. new ≡ after_disarm old) (Self.told self.old) (Self.told self.new) }
+        ensures told { TellsThen (λ old new. new ≡ after_disarm old) (Self.told self.old) (Self.told self.new) }
         ensures seen { Self.seen self.new ≡ Self.seen self.old }
         ensures images { (image : Image) → Self.may_leave self.new image ↔ Self.may_leave self.old image }
         ensures moment { Self.moment self.new ≡ Self.moment self.old }
@@ -41,11 +41,11 @@ pub trait ArmedDisk: Disk {
     /// After a stop, makes the files the image that the stop leaves, all of it synced, and takes calls again. Without a
     /// stop nothing changes.
     fn revive(&mut self)
-        ensures told { Tells (λ old new. new ≡ after_revive old) (Self.told self.old) (Self.told self.new) }
+        ensures told { TellsThen (λ old new. new ≡ after_revive old) (Self.told self.old) (Self.told self.new) }
         // The files are an image that the stop may leave.
         ensures left { Self.honest self.old → Self.may_leave self.old (Self.seen self.new) }
         ensures no_new_image { Self.honest self.old → NoNewImage (Self.may_leave self.old) (Self.may_leave self.new) }
-        ensures synced { Self.honest self.old → HasStopped (Self.told self.old)
+        ensures synced { Self.honest self.old → TellsStop (Self.told self.old)
             → (file : FileNo) → IsDurable file (Self.seen self.new) (Self.may_leave self.new) }
         ensures running { IsRunning (Self.told self.old) → self.new ≡ self.old }
         ensures honest { Self.honest self.new ↔ Self.honest self.old }

@@ -2,7 +2,7 @@ ghost use Rattle.std.specs.Prelude.{◌≡◌, ◌↔◌, ◌+◌, ◌≤◌, �
 ghost use Rattle.disk_model.specs.declared.fault.DiskFault.TheVariants.{OutOfMemory};
 ghost use Rattle.disk_model.specs.Faults.{Counts, CountsDiskAnswer, WantsNoMemory};
 ghost use Rattle.disk_model.specs.Images.{Image, file_of, InFile, HoldsPiece, Torn, Cut, ImagesFollow, IsDurable, NoNewImage, Elapses};
-ghost use Rattle.disk_model.specs.Told.{Told, Tells, after_write, after_cut, after_sync, no_change, AfterCall, AfterLook};
+ghost use Rattle.disk_model.specs.Told.{Told, TellsThen, after_write, after_cut, after_sync, no_change, AfterCall, AfterLook};
 
 use crate::fault::{DiskFault, FileNo};
 
@@ -42,7 +42,7 @@ pub trait Disk: Drop {
         ensures honest { honest self.new ↔ honest self.old }
         ensures counts { CountsDiskAnswer (counts self.old) (counts self.new) result }
         ensures memory { WantsNoMemory result }
-        ensures told { Tells (AfterLook result) (told self.old) (told self.new) };
+        ensures told { TellsThen (AfterLook result) (told self.old) (told self.new) };
 
     /// Fills `into` with a file's bytes from an offset on, all of which lie in the file.
     fn read(&mut self, file: FileNo, at: u64, into: &mut [u8]) -> Result<(), DiskFault>
@@ -55,7 +55,7 @@ pub trait Disk: Drop {
         ensures honest { honest self.new ↔ honest self.old }
         ensures counts { CountsDiskAnswer (counts self.old) (counts self.new) result }
         ensures memory { WantsNoMemory result }
-        ensures told { Tells (AfterLook result) (told self.old) (told self.new) };
+        ensures told { TellsThen (AfterLook result) (told self.old) (told self.new) };
 
     /// Writes over a file's bytes from an offset on, and past its end.
     fn write_at(&mut self, file: FileNo, at: u64, bytes: &[u8]) -> Result<(), DiskFault>
@@ -68,7 +68,7 @@ pub trait Disk: Drop {
         ensures no_new_image { IsErrOf result OutOfMemory → honest self.old → NoNewImage (may_leave self.old) (may_leave self.new) }
         ensures honest { honest self.new ↔ honest self.old }
         ensures counts { CountsDiskAnswer (counts self.old) (counts self.new) result }
-        ensures told { Tells (AfterCall (after_write file at bytes.now) (after_write file at bytes.now) result) (told self.old) (told self.new) };
+        ensures told { TellsThen (AfterCall (after_write file at bytes.now) (after_write file at bytes.now) result) (told self.old) (told self.new) };
 
     /// Cuts a file to a length in bytes, which is at most its own.
     fn cut(&mut self, file: FileNo, length: u64) -> Result<(), DiskFault>
@@ -79,7 +79,7 @@ pub trait Disk: Drop {
         ensures honest { honest self.new ↔ honest self.old }
         ensures counts { CountsDiskAnswer (counts self.old) (counts self.new) result }
         ensures memory { WantsNoMemory result }
-        ensures told { Tells (AfterCall (after_cut file length) (after_cut file length) result) (told self.old) (told self.new) };
+        ensures told { TellsThen (AfterCall (after_cut file length) (after_cut file length) result) (told self.old) (told self.new) };
 
     /// After it, whatever image a stop leaves, the file has the bytes that a read gives.
     fn sync(&mut self, file: FileNo) -> Result<(), DiskFault>
@@ -90,7 +90,7 @@ pub trait Disk: Drop {
         ensures honest { honest self.new ↔ honest self.old }
         ensures counts { CountsDiskAnswer (counts self.old) (counts self.new) result }
         ensures memory { WantsNoMemory result }
-        ensures told { Tells (AfterCall (after_sync file) no_change result) (told self.old) (told self.new) };
+        ensures told { TellsThen (AfterCall (after_sync file) no_change result) (told self.old) (told self.new) };
 
     /// This moment is one of those since an earlier one.
     ghost counts_now: { (disk : Self) (start : ℕ) (image : Image) → honest disk → start ≤ moment disk → may_leave disk image → left_since disk start image };

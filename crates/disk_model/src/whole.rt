@@ -2,7 +2,7 @@ ghost use Rattle.std.specs.Prelude.{◌≡◌, ◌↔◌, ◌≤◌, length, IfO
 ghost use Rattle.disk_model.specs.declared.fault.DiskFault.TheVariants.{OutOfMemory};
 ghost use Rattle.disk_model.specs.Faults.{CountsDiskAnswer};
 ghost use Rattle.disk_model.specs.Images.{file_of, InFile, HoldsPiece, Torn, IsDurable, NoNewImage, LeavesOnly, InFileOnly};
-ghost use Rattle.disk_model.specs.Told.{Tells, AfterLooks, AfterWriteSynced};
+ghost use Rattle.disk_model.specs.Told.{TellsThen, AfterLooks, AfterWriteSynced};
 
 use crate::disk::Disk;
 use crate::fault::{DiskFault, FileNo};
@@ -30,7 +30,7 @@ pub fn write_synced<D: Disk>(
     ensures no_new_image { IsErrOf result OutOfMemory → D.honest disk.old → NoNewImage (D.may_leave disk.old) (D.may_leave disk.new) }
     ensures honest { D.honest disk.new ↔ D.honest disk.old }
     ensures counts { CountsDiskAnswer (D.counts disk.old) (D.counts disk.new) result }
-    ensures told { Tells (AfterWriteSynced file at bytes.now result) (D.told disk.old) (D.told disk.new) }
+    ensures told { TellsThen (AfterWriteSynced file at bytes.now result) (D.told disk.old) (D.told disk.new) }
 {
     disk.write_at(file, at, bytes)?;
     disk.sync(file)
@@ -50,7 +50,7 @@ pub fn read_file<D: Disk>(alloc: Global, disk: &mut D, file: FileNo) -> Result<V
     ensures images { D.honest disk.old → LeavesOnly D.moment D.left_since disk.old disk.new (D.may_leave disk.old) }
     ensures honest { D.honest disk.new ↔ D.honest disk.old }
     ensures counts { CountsDiskAnswer (D.counts disk.old) (D.counts disk.new) result }
-    ensures told { Tells (AfterLooks result) (D.told disk.old) (D.told disk.new) }
+    ensures told { TellsThen (AfterLooks result) (D.told disk.old) (D.told disk.new) }
 {
     let size = disk.length(file)? as usize;
     let mut bytes = vec![in alloc; 0; size]?;

@@ -12,7 +12,7 @@ use Rattle.due_set.specs.Due.{IsRising}
 use Rattle.due_set.specs.Table.{Table, IsAfter, IsJobDue, IsJobDueList, IsNextDue}
 use Rattle.due_set.proofs.Rising.{Contains-none, IsRising-push}
 use Rattle.due_set.proofs.TableLemmas.{cases_ltℤ}
-use Rattle.due_list.specs.Parts.{instants_of}
+use Rattle.due_list.specs.Parts.{numbers_of_instants}
 
 -- the instant, where there is one, is in the window
 abbrev pub IsInside : Window → Option ℤ → Type 0
@@ -91,7 +91,7 @@ pub dues_all : (table : Table) (number : ℕ) (instants : List ℤ) (last : Opti
 dues_all table number instants last known none =
     record { rising = known.rising; sound = known.sound; complete = λ t due. known.complete t due (none t due) }
 
-pub instants_push : (minutes : List Minute) (minute : Minute) → instants_of (minutes ++ minute ∷ []) ≡ instants_of minutes ++ minute.0 ∷ []
+pub instants_push : (minutes : List Minute) (minute : Minute) → numbers_of_instants (minutes ++ minute ∷ []) ≡ numbers_of_instants minutes ++ minute.0 ∷ []
 instants_push [] minute = refl
 instants_push (first ∷ minutes) minute = ap (λ (l : List ℤ). first.0 ∷ l) (instants_push minutes minute)
 
@@ -129,9 +129,9 @@ fewer_left table number last t next = by_last last next.later
         abs_less (table.window.until.0 -ℤ t) (table.window.until.0 -ℤ b) (omega (arith, ints)) (omega (arith, ints))
 
 -- each of the minutes is a due instant
-pub each_due : (table : Table) (number : ℕ) (minutes : List Minute) → IsJobDueList table number (instants_of minutes) → All (λ minute. IsJobDue table number minute.0) minutes
+pub each_due : (table : Table) (number : ℕ) (minutes : List Minute) → IsJobDueList table number (numbers_of_instants minutes) → All (λ minute. IsJobDue table number minute.0) minutes
 each_due table number minutes list k d lt =
     let at_of : Minute → ℤ = λ minute. minute.0 in
-    let size : length (instants_of minutes) ≡ length minutes = length-map minutes at_of in
-    let among : Contains (instants_of minutes) (get_or (instants_of minutes) k d.0) = Contains-get_or (instants_of minutes) k d.0 (omega arith) in
-    list.sound (get_or minutes k d).0 (subst (Contains (instants_of minutes)) (get_or-map at_of minutes k d) among)
+    let size : length (numbers_of_instants minutes) ≡ length minutes = length-map minutes at_of in
+    let among : Contains (numbers_of_instants minutes) (get_or (numbers_of_instants minutes) k d.0) = Contains-get_or (numbers_of_instants minutes) k d.0 (omega arith) in
+    list.sound (get_or minutes k d).0 (subst (Contains (numbers_of_instants minutes)) (get_or-map at_of minutes k d) among)

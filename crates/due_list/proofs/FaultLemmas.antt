@@ -6,7 +6,7 @@ use Rattle.std.proofs.lemmas.List.{get_or_default}
 use Rattle.std.proofs.lemmas.List.Elements.{All-weaker}
 use Rattle.crontab_text.specs.Answers.{LineAnswer, IsAnswer}
 use Rattle.crontab_text.specs.Lines.{lines_of}
-use Rattle.crontab_text.specs.Reader.{ReadsLine, answer_of, number_of}
+use Rattle.crontab_text.specs.Reader.{ReadsLine, answer_to_line, number_of}
 use Rattle.crontab_text.specs.TableReader.{TableReader, table_reader, rest_of}
 use Rattle.crontab_text.specs.declared.answer.Line.{Line}
 use Rattle.crontab_text.specs.declared.answer.LineFault.{LineFault}
@@ -72,7 +72,7 @@ crontab_next style owner first line lines answer later is more = record {
 
 -- the fault of the line that was read
 crontab_here : (above passed : ℕ) (handed : Result Line LineFault) → number_of handed ≡ passed + 1
-    → crontab_fault ((above + passed) + 1) (answer_of handed) ≡ fault_behind above (result_err handed)
+    → crontab_fault ((above + passed) + 1) (answer_to_line handed) ≡ fault_behind above (result_err handed)
 crontab_here above passed (Ok line) number = refl
 crontab_here above passed (Err fault) number =
     let at : (above + passed) + 1 ≡ above + fault.line = omega (arith, number) in
@@ -108,8 +108,8 @@ crontab_more above Whole now next handed fault faults old new known reads fault_
         subst (λ (o : List ℕ). AreCrontabFaults now.style o ((above + next.passed) + 1) (lines_of (rest_of next)) later) owner_is styled in
         let numbered : AreCrontabFaults now.style now.owner (((above + now.passed) + 1) + 1) (lines_of (rest_of next)) later =
         subst (λ (n : ℕ). AreCrontabFaults now.style now.owner n (lines_of (rest_of next)) later) number_is owned in
-        let whole : AreCrontabFaults now.style now.owner ((above + now.passed) + 1) (reads.line ∷ lines_of (rest_of next)) (crontab_fault ((above + now.passed) + 1) (answer_of handed) ++ later) =
-        crontab_next now.style now.owner ((above + now.passed) + 1) reads.line (lines_of (rest_of next)) (answer_of handed) later reads.answer numbered in
+        let whole : AreCrontabFaults now.style now.owner ((above + now.passed) + 1) (reads.line ∷ lines_of (rest_of next)) (crontab_fault ((above + now.passed) + 1) (answer_to_line handed) ++ later) =
+        crontab_next now.style now.owner ((above + now.passed) + 1) reads.line (lines_of (rest_of next)) (answer_to_line handed) later reads.answer numbered in
         subst (λ (l : List (List ℕ)). AreCrontabFaults now.style now.owner ((above + now.passed) + 1) l (fault_behind above (result_err handed) ++ later)) (sym lines_are)
         (subst (λ (f : List TableFault). AreCrontabFaults now.style now.owner ((above + now.passed) + 1) (reads.line ∷ lines_of (rest_of next)) (f ++ later)) (crontab_here above now.passed handed reads.number) whole)
 

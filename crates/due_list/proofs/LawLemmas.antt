@@ -30,7 +30,7 @@ use Rattle.cron_io.specs.Lines.{text_of_lines}
 use Rattle.run_text.specs.Follow.{style_of}
 use Rattle.run_text.specs.Run.{Run, Section}
 use Rattle.due_list.specs.CheckText.{AreAnacrontabFaults, AreCrontabFaults, AreFaultsBy, AreFaultsOf, IsCheckText, anacrontab_fault, check_lines, crontab_fault, numbers_from}
-use Rattle.due_list.specs.DueText.{AreEntryLines, AreLinesBy, AreLinesOfJob, AreParts, HasLine, IsDueText, anacron_line, due_line, due_lines, job_line, local_text}
+use Rattle.due_list.specs.DueText.{AreEntryLines, AreLinesBy, AreLinesOfJob, AreLinesOfJobs, HasLine, IsDueText, anacron_line, due_line, due_lines, due_job_line, local_text}
 use Rattle.due_list.specs.declared.fault.TableFault.{TableFault}
 use Rattle.due_list.proofs.ListLemmas.{Contains-map, Contains-parts, cut_at, range_member, same_zip, some_zip, zip_member}
 
@@ -62,18 +62,18 @@ same_entry : (table : Table) (number : ℕ) (job : Job) (z w : TimeZone) (a b : 
 same_entry table number job z w a b same p q =
     let instants : p.instants ≡ q.instants = IsJobDueList-same table number p.instants q.instants p.are_due q.are_due in
     p.lines_are
-    ∙ ap (λ (l : List ℤ). job_line job.name (length l) ∷ map (due_line table number z) l) instants
-    ∙ ap (λ (l : List (List ℕ)). job_line job.name (length q.instants) ∷ l) (same_each table number z w same q.instants)
+    ∙ ap (λ (l : List ℤ). due_job_line job.name (length l) ∷ map (due_line table number z) l) instants
+    ∙ ap (λ (l : List (List ℕ)). due_job_line job.name (length q.instants) ∷ l) (same_each table number z w same q.instants)
     ∙ sym q.lines_are
 
 some_of_kind : (table : Table) (number : ℕ) (job : Job) (zone : TimeZone) → IsSound table → (kind : JobKind) → (lines : List (List ℕ)) × AreLinesBy kind table number job zone lines
 some_of_kind table number job zone sound (Anacron period first last) = (anacron_line job.name ∷ [], refl)
 some_of_kind table number job zone sound (Crontab fields) =
     let dues = due_list table sound number in
-    (job_line job.name (length dues.0) ∷ map (due_line table number zone) dues.0, record { instants = dues.0; are_due = dues.1; lines_are = refl })
+    (due_job_line job.name (length dues.0) ∷ map (due_line table number zone) dues.0, record { instants = dues.0; are_due = dues.1; lines_are = refl })
 some_of_kind table number job zone sound Never =
     let dues = due_list table sound number in
-    (job_line job.name (length dues.0) ∷ map (due_line table number zone) dues.0, record { instants = dues.0; are_due = dues.1; lines_are = refl })
+    (due_job_line job.name (length dues.0) ∷ map (due_line table number zone) dues.0, record { instants = dues.0; are_due = dues.1; lines_are = refl })
 
 some_lines : (table : Table) (number : ℕ) → IsSound table → number < length table.jobs → (lines : List (List ℕ)) × AreLinesOfJob table number lines
 some_lines table number sound below =
@@ -81,7 +81,7 @@ some_lines table number sound below =
     let lines = some_of_kind table number read.0 read.1 sound read.0.kind in
     (lines.0, record { job = read.0; zone = read.1; is_in = read.2; are = lines.1 })
 
-some_parts : (table : Table) → IsSound table → (first count : ℕ) → first + count ≡ length table.jobs → (parts : List (List (List ℕ))) × AreParts table (range_with_len first count) parts
+some_parts : (table : Table) → IsSound table → (first count : ℕ) → first + count ≡ length table.jobs → (parts : List (List (List ℕ))) × AreLinesOfJobs table (range_with_len first count) parts
 some_parts table sound first zero size = ([], tt)
 some_parts table sound first (suc count) size =
     let lines = some_lines table first sound (omega arith) in
@@ -116,7 +116,7 @@ among_kind : (table : Table) (number : ℕ) (at : ℤ) (job : Job) (zone : TimeZ
     → AreLinesBy kind table number job zone lines → Contains lines (due_line table number zone at)
 among_kind table number at job zone lines due (Crontab fields) is are =
     subst (λ l. Contains l (due_line table number zone at)) (sym are.lines_are)
-    (Contains-tail (job_line job.name (length are.instants)) (map (due_line table number zone) are.instants) (due_line table number zone at)
+    (Contains-tail (due_job_line job.name (length are.instants)) (map (due_line table number zone) are.instants) (due_line table number zone at)
     (Contains-map (due_line table number zone) are.instants at (are.are_due.complete at due)))
 among_kind table number at job zone lines due (Anacron period first last) is are = absurd (cc)
 among_kind table number at job zone lines due Never is are = absurd (cc)

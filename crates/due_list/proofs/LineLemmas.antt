@@ -16,8 +16,8 @@ use Rattle.cluster_sched.specs.Names.{IsNameIn, IsTimeNear, job_kind, kind_of}
 use Rattle.cluster_sched.specs.declared.row.Name.{Name}
 use Rattle.cron_io.specs.Lines.{text_of_lines}
 use Rattle.due_list.specs.CheckText.{check_lines, fault_line}
-use Rattle.due_list.specs.DueText.{AreEntryLines, AreLinesBy, AreLinesOfJob, IsDueText, anacron_line, due_line, job_line, local_text}
-use Rattle.due_list.specs.Parts.{AppendsJobs, AppendsLines, instants_of}
+use Rattle.due_list.specs.DueText.{AreEntryLines, AreLinesBy, AreLinesOfJob, IsDueText, anacron_line, due_line, due_job_line, local_text}
+use Rattle.due_list.specs.Parts.{AppendsJobs, AppendsLines, numbers_of_instants}
 use Rattle.due_list.specs.declared.fault.TableFault.{TableFault}
 use Rattle.due_list.proofs.ListLemmas.{parts_push, range_more, zip_push}
 use Rattle.cron_io.proofs.LineLemmas.{text_of_lines-append as text_append}
@@ -75,16 +75,16 @@ due_parts old a b c d e name local p q r s t =
     joined = simp append_assoc
 
 -- the lines of an entry
-pub entry_lines : (table : Table) (number : ℕ) (job : Job) (zone : TimeZone) (dues : List Minute) (old mid new name : List ℕ) (count : ℕ) → IsJobDueList table number (instants_of dues)
-    → count ≡ length dues → name ≡ job.name → mid ≡ old ++ (job_line name count ++ 10 ∷ []) → new ≡ mid ++ text_of_lines (map (λ at. due_line table number zone at.0) dues)
+pub entry_lines : (table : Table) (number : ℕ) (job : Job) (zone : TimeZone) (dues : List Minute) (old mid new name : List ℕ) (count : ℕ) → IsJobDueList table number (numbers_of_instants dues)
+    → count ≡ length dues → name ≡ job.name → mid ≡ old ++ (due_job_line name count ++ 10 ∷ []) → new ≡ mid ++ text_of_lines (map (λ at. due_line table number zone at.0) dues)
     → AppendsLines old new (AreEntryLines table number job zone)
 entry_lines table number job zone dues old mid new name count list count_is name_is mid_is new_is =
     let at_of : Minute → ℤ = λ minute. minute.0 in
-    let instants = instants_of dues in
-    let first = job_line job.name (length instants) in
+    let instants = numbers_of_instants dues in
+    let first = due_job_line job.name (length instants) in
     let rest = map (due_line table number zone) instants in
     let size : count ≡ length instants = count_is ∙ sym (length-map dues at_of) in
-    let head : job_line name count ≡ first = ap (λ (n : List ℕ). job_line n count) name_is ∙ ap (job_line job.name) size in
+    let head : due_job_line name count ≡ first = ap (λ (n : List ℕ). due_job_line n count) name_is ∙ ap (due_job_line job.name) size in
     record {
       lines = first ∷ rest;
       are = record { instants = instants; are_due = list; lines_are = refl };
@@ -94,7 +94,7 @@ entry_lines table number job zone dues old mid new name count list count_is name
           ∙ append_assoc old (first ++ 10 ∷ []) (text_of_lines rest);
     }
   where
-    through : (minutes : List Minute) → map (λ (at : Minute). due_line table number zone at.0) minutes ≡ map (due_line table number zone) (instants_of minutes)
+    through : (minutes : List Minute) → map (λ (at : Minute). due_line table number zone at.0) minutes ≡ map (due_line table number zone) (numbers_of_instants minutes)
     through [] = refl
     through (minute ∷ minutes) = ap (λ (l : List (List ℕ)). due_line table number zone minute.0 ∷ l) (through minutes)
 

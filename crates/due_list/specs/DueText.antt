@@ -11,8 +11,8 @@ use Rattle.cluster_sched.specs.Names.{name_text}
 use Rattle.cron_io.specs.Lines.{text_of_lines}
 
 -- job NAME version 0 count C
-abbrev pub job_line : List ℕ → ℕ → List ℕ
-job_line name count = codes "job " ++ name ++ codes " version 0 count " ++ decimal count
+abbrev pub due_job_line : List ℕ → ℕ → List ℕ
+due_job_line name count = codes "job " ++ name ++ codes " version 0 count " ++ decimal count
 
 -- anacron NAME version 0
 abbrev pub anacron_line : List ℕ → List ℕ
@@ -31,7 +31,7 @@ due_line table number zone instant =
 pub record AreEntryLines (table : Table) (number : ℕ) (job : Job) (zone : TimeZone) (lines : List (List ℕ)) : Type 0 where
   pub instants : List ℤ
   pub are_due : IsJobDueList table number instants
-  pub lines_are : lines ≡ job_line job.name (length instants) ∷ map (due_line table number zone) instants
+  pub lines_are : lines ≡ due_job_line job.name (length instants) ∷ map (due_line table number zone) instants
 
 -- the lines of the job, of a job that runs so
 abbrev pub AreLinesBy : JobKind → Table → ℕ → Job → TimeZone → List (List ℕ) → Type 0
@@ -46,8 +46,8 @@ pub record AreLinesOfJob (table : Table) (number : ℕ) (lines : List (List ℕ)
   pub are : AreLinesBy job.kind table number job zone lines
 
 -- the parts are the lines of the jobs of these numbers
-abbrev pub AreParts : Table → List ℕ → List (List (List ℕ)) → Type 0
-AreParts table numbers parts = AllZip (AreLinesOfJob table) numbers parts
+abbrev pub AreLinesOfJobs : Table → List ℕ → List (List (List ℕ)) → Type 0
+AreLinesOfJobs table numbers parts = AllZip (AreLinesOfJob table) numbers parts
 
 -- the lines of a due list, given those of each job
 abbrev pub due_lines : List (List (List ℕ)) → List (List ℕ)
@@ -56,7 +56,7 @@ due_lines parts = codes "cron due 1" ∷ (flat_map (λ part. part) parts ++ code
 -- the text is the due list of the table: the lines of each job, in the order of the jobs
 pub record IsDueText (table : Table) (text : List ℕ) : Type 0 where
   pub parts : List (List (List ℕ))
-  pub are : AreParts table (range_with_len 0 (length table.jobs)) parts
+  pub are : AreLinesOfJobs table (range_with_len 0 (length table.jobs)) parts
   pub text_is : text ≡ text_of_lines (due_lines parts)
 
 -- the line stands in the text

@@ -4,12 +4,12 @@ use Rattle.crontab_text.specs.declared.answer.LineFault.{LineFault}
 use Rattle.zone_minutes.specs.declared.minute.Minute.{Minute}
 use Rattle.due_set.specs.Table.{Table}
 use Rattle.cron_io.specs.Lines.{text_of_lines}
-use Rattle.due_list.specs.DueText.{AreParts}
+use Rattle.due_list.specs.DueText.{AreLinesOfJobs}
 use Rattle.due_list.specs.declared.fault.TableFault.{TableFault}
 
 -- the numbers of some instants
-abbrev pub instants_of : List Minute → List ℤ
-instants_of minutes = map (λ minute. minute.0) minutes
+abbrev pub numbers_of_instants : List Minute → List ℤ
+numbers_of_instants minutes = map (λ minute. minute.0) minutes
 
 -- lines of this kind were appended to a text
 pub record AppendsLines (old new : List ℕ) (Are : List (List ℕ) → Type 0) : Type 0 where
@@ -20,7 +20,7 @@ pub record AppendsLines (old new : List ℕ) (Are : List (List ℕ) → Type 0) 
 -- the lines of the jobs of these numbers were appended to a text
 pub record AppendsJobs (table : Table) (numbers : List ℕ) (old new : List ℕ) : Type 0 where
   pub parts : List (List (List ℕ))
-  pub are : AreParts table numbers parts
+  pub are : AreLinesOfJobs table numbers parts
   pub new_is : new ≡ old ++ text_of_lines (flat_map (λ part. part) parts)
 
 -- faults of this kind were added behind others

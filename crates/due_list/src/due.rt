@@ -5,7 +5,7 @@ ghost use Rattle.jiff.specs.Types.{TimeZone};
 ghost use Rattle.zone_minutes.specs.Civil.{IsCalendarMinute};
 ghost use Rattle.due_set.specs.Table.{Job, IsJobDue, IsJobIn};
 ghost use Rattle.cron_io.specs.Lines.{text_of_lines};
-ghost use Rattle.due_list.specs.DueText.{AreEntryLines, AreLinesOfJob, IsDueText, anacron_line, due_line, job_line, local_text};
+ghost use Rattle.due_list.specs.DueText.{AreEntryLines, AreLinesOfJob, IsDueText, anacron_line, due_line, due_job_line, local_text};
 ghost use Rattle.due_list.specs.Listing.{WritesListing};
 ghost use Rattle.due_list.specs.Parts.{AppendsJobs, AppendsLines};
 
@@ -64,7 +64,7 @@ fn put_dues(
 
 // Appends the line of a job that has so many due instants.
 fn put_count(into: &mut String, name: &str, count: usize) -> Result<(), OutOfMemory>
-    ensures { OnOk result (string_bytes into.new ≡ string_bytes into.old ++ (job_line name.now count ++ 10 ∷ [])) }
+    ensures { OnOk result (string_bytes into.new ≡ string_bytes into.old ++ (due_job_line name.now count ++ 10 ∷ [])) }
 {
     write!(into, "job {name} version 0 count {count}\n")?;
     Ok(())

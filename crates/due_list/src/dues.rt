@@ -1,6 +1,6 @@
 ghost use Rattle.std.specs.Prelude.{◌<◌, length, IfOk};
 ghost use Rattle.due_set.specs.Table.{IsJobDueList, IsSound};
-ghost use Rattle.due_list.specs.Parts.{instants_of};
+ghost use Rattle.due_list.specs.Parts.{numbers_of_instants};
 
 use cron_io::OutOfMemory;
 use due_set::JobTable;
@@ -10,7 +10,7 @@ use zone_minutes::Minute;
 /// The job's due instants, in order.
 pub fn dues_of(alloc: Global, table: &JobTable, job: u32) -> Result<Vec<Minute>, OutOfMemory>
     requires { job < length table.now.jobs }
-    ensures { IfOk result (λ dues. IsJobDueList table.now job (instants_of dues.items)) }
+    ensures { IfOk result (λ dues. IsJobDueList table.now job (numbers_of_instants dues.items)) }
 {
     let mut dues = Vec::new(alloc);
     let mut last = None;

@@ -3,26 +3,26 @@ use Rattle.std.proofs.Common.{◌≡◌, ℕ, ◌+◌, ◌*◌, ◌≤◌, List,
 use Rattle.disk_model.specs.declared.fault.FileNo.{FileNo}
 use Rattle.disk_model.specs.Images.{Image, HoldsPiece, Torn, LeavesOnly, InFileOnly}
 use Rattle.disk_model.proofs.CallerLemmas.{follows_on, leaves_weaker}
-use Rattle.gate_file.specs.Gates.{AreOpen, IsAtRest, HasBodyBehind, IsStaged}
+use Rattle.gate_file.specs.Gates.{AreOpen, HasRestingGate, HasBodyBehind, IsStaged}
 use Rattle.gate_file.proofs.GateLemmas.{torn_body, body_behind, open_with_body, rest_before_gate, rest_after_gate}
 use Rattle.disk_model.proofs.RunLemmas.{now_in_run, in_file_through, in_file_weaker}
 
-module _ (file body : List ℕ) (bodies : List (List ℕ)) (rest : IsAtRest file bodies) (long : length body ≡ 56) (mid : List ℕ) (holds : HoldsPiece (57 * length bodies + 1) (body ++ 0 ∷ []) file mid) where
+module _ (file body : List ℕ) (bodies : List (List ℕ)) (rest : HasRestingGate file bodies) (long : length body ≡ 56) (mid : List ℕ) (holds : HoldsPiece (57 * length bodies + 1) (body ++ 0 ∷ []) file mid) where
   pub mid_behind : HasBodyBehind mid (length bodies) body
   mid_behind = subst (λ l. HasBodyBehind l (length bodies) body) (sym holds) (body_behind file body bodies rest long)
 
   pub mid_open : AreOpen mid bodies
   mid_open = subst (λ l. AreOpen l bodies) (sym holds) (open_with_body file body bodies rest long)
 
-  pub mid_at_rest : IsAtRest mid bodies
-  mid_at_rest = subst (λ l. IsAtRest l bodies) (sym holds) (rest_before_gate file body bodies rest long)
+  pub mid_at_rest : HasRestingGate mid bodies
+  mid_at_rest = subst (λ l. HasRestingGate l bodies) (sym holds) (rest_before_gate file body bodies rest long)
 
-  pub new_at_rest : (new : List ℕ) → HoldsPiece (57 * length bodies) (1 ∷ []) mid new → IsAtRest new (bodies ++ body ∷ [])
+  pub new_at_rest : (new : List ℕ) → HoldsPiece (57 * length bodies) (1 ∷ []) mid new → HasRestingGate new (bodies ++ body ∷ [])
   new_at_rest new opened = rest_after_gate mid body new bodies mid_open mid_behind opened
 
 module _ {D : Type 0} (moment : D → ℕ) (left_since : D → ℕ → Image → Type 0) (may_leave : D → Image → Type 0) (file : FileNo) (body : List ℕ) (bodies : List (List ℕ)) where
   -- the first write
-  pub body_leaves : (old mid : D) (seen : List ℕ) (count : ℕ) → IsAtRest seen bodies → LeavesOnly moment left_since old mid (InFileOnly file (may_leave old) (Torn (57 * length bodies + 1) count seen))
+  pub body_leaves : (old mid : D) (seen : List ℕ) (count : ℕ) → HasRestingGate seen bodies → LeavesOnly moment left_since old mid (InFileOnly file (may_leave old) (Torn (57 * length bodies + 1) count seen))
       → LeavesOnly moment left_since old mid (InFileOnly file (may_leave old) (IsStaged bodies (Some body)))
   body_leaves old mid seen count rest run =
       leaves_weaker moment left_since old mid (InFileOnly file (may_leave old) (Torn (57 * length bodies + 1) count seen)) (InFileOnly file (may_leave old) (IsStaged bodies (Some body))) run

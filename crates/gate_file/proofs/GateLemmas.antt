@@ -7,7 +7,7 @@ use Rattle.std.proofs.lemmas.List.{get_or-append-add, drop-drop, get_or-take, ge
 use Rattle.std.proofs.Common.{append_assoc}
 use Rattle.disk_model.specs.Images.{Torn, HoldsPiece, written_over}
 use Rattle.disk_model.proofs.FileLemmas.{length-written_over}
-use Rattle.gate_file.specs.Gates.{gated, AreWhole, body_in, IsOpen, AreOpen, HasBodies, IsAtRest, HasBodyBehind, IsStaged, HasEither}
+use Rattle.gate_file.specs.Gates.{gated, AreWhole, body_in, IsOpen, AreOpen, HasBodies, HasRestingGate, HasBodyBehind, IsStaged, HasEither}
 
 -- ---- what two files share
 
@@ -44,13 +44,13 @@ open_front one other bodies front same le longer gates number lt =
 
 -- ---- a file at rest, staged, and one more body
 
-pub staged_at_rest : (file : List ℕ) (bodies : List (List ℕ)) (pending : Option (List ℕ)) → IsAtRest file bodies → IsStaged bodies pending file
+pub staged_at_rest : (file : List ℕ) (bodies : List (List ℕ)) (pending : Option (List ℕ)) → HasRestingGate file bodies → IsStaged bodies pending file
 staged_at_rest file bodies pending rest = record { gates_open = rest.gates_open; behind = inl rest.tail_closed }
 
 pub staged_empty : (pending : Option (List ℕ)) → IsStaged [] pending []
 staged_empty pending = record { gates_open = λ number lt. absurd (omega arith); behind = inl refl }
 
-pub has_at_rest : (file : List ℕ) (bodies : List (List ℕ)) → IsAtRest file bodies → HasBodies file bodies
+pub has_at_rest : (file : List ℕ) (bodies : List (List ℕ)) → HasRestingGate file bodies → HasBodies file bodies
 has_at_rest file bodies rest = record { gates_open = rest.gates_open; tail = λ is_open. absurd (omega (arith, is_open.byte, rest.tail_closed)) }
 
 pub length-push : (bodies : List (List ℕ)) (body : List ℕ) → length (bodies ++ body ∷ []) ≡ length bodies + 1
@@ -71,7 +71,7 @@ next_gate : (bodies : List (List ℕ)) (body : List ℕ) → 57 * length (bodies
 next_gate bodies body = omega (arith, length-push bodies body)
 
 -- a body stands behind an open gate, and a closed one after it
-pub rest_with_body : (file body : List ℕ) (bodies : List (List ℕ)) → AreOpen file bodies → HasBodyBehind file (length bodies) body → get_or file (57 * length bodies) 0 ≡ 1 → IsAtRest file (bodies ++ body ∷ [])
+pub rest_with_body : (file body : List ℕ) (bodies : List (List ℕ)) → AreOpen file bodies → HasBodyBehind file (length bodies) body → get_or file (57 * length bodies) 0 ≡ 1 → HasRestingGate file (bodies ++ body ∷ [])
 rest_with_body file body bodies gates behind is_open =
     record {
       gates_open = one_more file body bodies gates (record { within = behind.within; byte = is_open }) behind.is;
@@ -97,7 +97,7 @@ staged_has file bodies pending staged = elim (cases_eq (get_or file (57 * length
 
 -- ---- the write of a body
 
-module _ (file body : List ℕ) (bodies : List (List ℕ)) (rest : IsAtRest file bodies) where
+module _ (file body : List ℕ) (bodies : List (List ℕ)) (rest : HasRestingGate file bodies) where
   -- whatever the write leaves, the tail gate stays closed
   pub torn_body : (count : ℕ) (image : List ℕ) → Torn (57 * length bodies + 1) count file image → IsStaged bodies (Some body) image
   torn_body count image torn =
@@ -154,7 +154,7 @@ module _ (file body : List ℕ) (bodies : List (List ℕ)) (rest : IsAtRest file
     pub closed_with_body : get_or with_body (57 * length bodies) 0 ≡ 0
     closed_with_body = same_byte with_body file (57 * length bodies + 1) (57 * length bodies) front-same (omega arith) ∙ rest.tail_closed
 
-    pub rest_before_gate : IsAtRest with_body bodies
+    pub rest_before_gate : HasRestingGate with_body bodies
     rest_before_gate = record { gates_open = open_with_body; tail_within = omega (arith, length-with_body); tail_closed = closed_with_body }
 
 -- ---- the write of a gate
@@ -196,7 +196,7 @@ byte_written at byte old new le holds =
     ap (λ (l : List ℕ). get_or l at 0) holds ∙ get_or_at (take at old) byte _ 0 at (omega (arith, length-take at old))
 
 -- the gate was opened
-pub rest_after_gate : (file body new : List ℕ) (bodies : List (List ℕ)) → AreOpen file bodies → HasBodyBehind file (length bodies) body → HoldsPiece (57 * length bodies) (1 ∷ []) file new → IsAtRest new (bodies ++ body ∷ [])
+pub rest_after_gate : (file body new : List ℕ) (bodies : List (List ℕ)) → AreOpen file bodies → HasBodyBehind file (length bodies) body → HoldsPiece (57 * length bodies) (1 ∷ []) file new → HasRestingGate new (bodies ++ body ∷ [])
 rest_after_gate file body new bodies gates behind holds =
     let within : 57 * length bodies ≤ length file = omega (arith, behind.within) in
     let staged = torn_gate file body new bodies gates behind (holds_torn (57 * length bodies) (1 ∷ []) file new within holds) in
@@ -257,13 +257,13 @@ module _ (file image : List ℕ) (bodies found : List (List ℕ)) (pending : Opt
       staged.behind
 
   -- with the pending body, the file is at rest
-  at_rest_with : (body : List ℕ) → HasBodies file (bodies ++ body ∷ []) → IsSomeAnd pending (HasBodyBehind file (length bodies)) → IsSomeAnd pending (λ other. other ≡ body) → IsAtRest file (bodies ++ body ∷ [])
+  at_rest_with : (body : List ℕ) → HasBodies file (bodies ++ body ∷ []) → IsSomeAnd pending (HasBodyBehind file (length bodies)) → IsSomeAnd pending (λ other. other ≡ body) → HasRestingGate file (bodies ++ body ∷ [])
   at_rest_with body has behind same = with_pending pending behind same
     where
       last : IsOpen file (length bodies)
       last = (has.gates_open (length bodies) (omega (arith, length-push bodies body))).0
 
-      with_pending : (p : Option (List ℕ)) → IsSomeAnd p (HasBodyBehind file (length bodies)) → IsSomeAnd p (λ other. other ≡ body) → IsAtRest file (bodies ++ body ∷ [])
+      with_pending : (p : Option (List ℕ)) → IsSomeAnd p (HasBodyBehind file (length bodies)) → IsSomeAnd p (λ other. other ≡ body) → HasRestingGate file (bodies ++ body ∷ [])
       with_pending None behind same = absurd behind
       with_pending (Some other) behind same = rest_with_body file body bodies staged.gates_open (subst (HasBodyBehind file (length bodies)) same behind) last.byte
 
@@ -296,7 +296,7 @@ module _ (file image : List ℕ) (bodies found : List (List ℕ)) (pending : Opt
       none_with None keeps with_it = with_it
       none_with (Some body) keeps with_it = not_at_rest body (keeps body refl) (one_list file found (bodies ++ body ∷ []) has with_it) with_it
 
-pub rest_after_close : (file new : List ℕ) (bodies : List (List ℕ)) → HasBodies file bodies → 57 * length bodies ≤ length file → HoldsPiece (57 * length bodies) (0 ∷ []) file new → IsAtRest new bodies
+pub rest_after_close : (file new : List ℕ) (bodies : List (List ℕ)) → HasBodies file bodies → 57 * length bodies ≤ length file → HoldsPiece (57 * length bodies) (0 ∷ []) file new → HasRestingGate new bodies
 rest_after_close file new bodies has le holds =
     let torn = holds_torn (57 * length bodies) (0 ∷ []) file new le holds in
     let long : length new ≡ max (length file) (57 * length bodies + 1) = ap length holds ∙ length-written_over (57 * length bodies) (0 ∷ []) file le in
@@ -306,7 +306,7 @@ rest_after_close file new bodies has le holds =
       tail_closed = byte_written (57 * length bodies) 0 file new le holds;
     }
 
-pub rest_as_is : (file : List ℕ) (bodies : List (List ℕ)) → HasBodies file bodies → 57 * length bodies < length file → get_or file (57 * length bodies) 0 ≡ 0 → IsAtRest file bodies
+pub rest_as_is : (file : List ℕ) (bodies : List (List ℕ)) → HasBodies file bodies → 57 * length bodies < length file → get_or file (57 * length bodies) 0 ≡ 0 → HasRestingGate file bodies
 rest_as_is file bodies has within closed = record { gates_open = has.gates_open; tail_within = within; tail_closed = closed }
 
 -- ---- a file that was written whole
@@ -365,5 +365,5 @@ gated_tail (body ∷ bodies) long =
     ∙ get_or-append-add (1 ∷ body) (gated bodies) (57 * length bodies) 0
     ∙ gated_tail bodies (λ number lt. long (suc number) (omega arith))
 
-pub gated_rest : (bodies : List (List ℕ)) → AreWhole bodies → IsAtRest (gated bodies) bodies
+pub gated_rest : (bodies : List (List ℕ)) → AreWhole bodies → HasRestingGate (gated bodies) bodies
 gated_rest bodies long = record { gates_open = gated_open bodies long; tail_within = omega (arith, length-gated bodies long); tail_closed = gated_tail bodies long }

@@ -7,10 +7,10 @@ use Rattle.disk_model.specs.Faults.{Counts, CountsAnswer}
 use Rattle.gate_file.specs.declared.fault.GateFault.{GateFault}
 use Rattle.gate_file.specs.declared.fault.GateFault.TheVariants as Gate
 
-abbrev pub fault_of : DiskFault → GateFault
-fault_of Disk.Stopped = Gate.Stopped
-fault_of Disk.Failed = Gate.DiskFault
-fault_of Disk.OutOfMemory = Gate.OutOfMemory
+abbrev pub gate_fault_of : DiskFault → GateFault
+gate_fault_of Disk.Stopped = Gate.Stopped
+gate_fault_of Disk.Failed = Gate.DiskFault
+gate_fault_of Disk.OutOfMemory = Gate.OutOfMemory
 
 abbrev pub CountsGateAnswer : {T : Type 0} → Counts → Counts → Result T GateFault → Type 0
 CountsGateAnswer old new result = CountsAnswer Gate.Stopped Gate.DiskFault Gate.OutOfMemory old new result

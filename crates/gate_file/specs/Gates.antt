@@ -31,7 +31,7 @@ pub record HasBodies (file : List ℕ) (bodies : List (List ℕ)) : Type 0 where
   pub tail : IsOpen file (length bodies) → ⊥
 
 -- it has them, and the byte of the gate after them is there and is 0
-pub record IsAtRest (file : List ℕ) (bodies : List (List ℕ)) : Type 0 where
+pub record HasRestingGate (file : List ℕ) (bodies : List (List ℕ)) : Type 0 where
   pub gates_open : AreOpen file bodies
   pub tail_within : 57 * length bodies < length file
   pub tail_closed : get_or file (57 * length bodies) 0 ≡ 0

@@ -1,6 +1,6 @@
 ghost use Rattle.std.specs.Prelude.{◌≡◌};
 ghost use Rattle.gate_file.specs.declared.fault.GateFault.TheVariants.{OutOfMemory};
-ghost use Rattle.gate_file.specs.Faults.{fault_of};
+ghost use Rattle.gate_file.specs.Faults.{gate_fault_of};
 
 use disk_model::DiskFault;
 use std::alloc::{AllocError, AllocFailed};
@@ -17,7 +17,7 @@ pub enum GateFault {
 }
 
 impl From<DiskFault> for GateFault {
-    ghost from_gives = { λ fault e. e ≡ fault_of fault };
+    ghost from_gives = { λ fault e. e ≡ gate_fault_of fault };
 
     fn from(fault: DiskFault) -> Self {
         match fault {

@@ -2,8 +2,8 @@ ghost use Rattle.std.specs.Prelude.{◌≡◌, ◌↔◌, ⊤, ℕ, List, ◌++�
 ghost use Rattle.disk_model.specs.Images.{file_of, OthersStay, NoNewImage, LeavesOnly, InFileOnly, AllHave};
 ghost use Rattle.gate_file.specs.declared.fault.GateFault.TheVariants.{OutOfMemory};
 ghost use Rattle.disk_model.specs.Made.{MadeCalls};
-ghost use Rattle.disk_model.specs.Told.{Tells};
-ghost use Rattle.gate_file.specs.Faults.{HasGateAnswer, fault_of};
+ghost use Rattle.disk_model.specs.Told.{TellsThen};
+ghost use Rattle.gate_file.specs.Faults.{HasGateAnswer, gate_fault_of};
 ghost use Rattle.gate_file.specs.Made.{read_calls, close_calls, append_calls, rewrite_calls};
 ghost use Rattle.gate_file.specs.Gates.{HasBodies, IsStaged, gated};
 
@@ -64,7 +64,7 @@ impl GateFile {
         ensures memory_image { IsErrOf result OutOfMemory → D.honest disk.old → NoNewImage (D.may_leave disk.old) (D.may_leave disk.new) }
         ensures answer { HasGateAnswer D.honest D.counts disk.old disk.new result }
         ensures told { (bodies : List (List ℕ)) → HasBodies (file_of file (D.seen disk.old)) bodies
-            → Tells (MadeCalls fault_of (read_calls file ++ close_calls file (file_of file (D.seen disk.old)) (length bodies)) result)
+            → TellsThen (MadeCalls gate_fault_of (read_calls file ++ close_calls file (file_of file (D.seen disk.old)) (length bodies)) result)
             (D.told disk.old) (D.told disk.new) }
     {
         ReadGates::read(alloc, disk, file)?.close(disk)
@@ -91,7 +91,7 @@ impl GateFile {
             (InFileOnly file (D.may_leave disk.old) (λ bytes. ⊤)) }
         ensures memory_others { IsErrOf result OutOfMemory → OthersStay file (D.seen disk.old) (D.seen disk.new) }
         ensures answer { HasGateAnswer D.honest D.counts disk.old disk.new result }
-        ensures told { Tells (MadeCalls fault_of (rewrite_calls file bodies.items) result) (D.told disk.old) (D.told disk.new) }
+        ensures told { TellsThen (MadeCalls gate_fault_of (rewrite_calls file bodies.items) result) (D.told disk.old) (D.told disk.new) }
     {
         let bytes = gated(alloc, &bodies)?;
         disk.cut(file, 0)?;
@@ -121,7 +121,7 @@ impl GateFile {
         ensures memory { IsErrOf result OutOfMemory → IsFileSettled D.seen D.may_leave D.honest disk.new self.new }
         ensures memory_others { IsErrOf result OutOfMemory → OthersStay (file_no self.old) (D.seen disk.old) (D.seen disk.new) }
         ensures answer { HasGateAnswer D.honest D.counts disk.old disk.new result }
-        ensures told { Tells (MadeCalls fault_of (append_calls (file_no self.old) (length (bodies_of self.old)) body.now) result)
+        ensures told { TellsThen (MadeCalls gate_fault_of (append_calls (file_no self.old) (length (bodies_of self.old)) body.now) result)
             (D.told disk.old) (D.told disk.new) }
     {
         if self.bodies.len() >= MOST_BODIES {

@@ -1,5 +1,5 @@
 ghost use Rattle.std.specs.Prelude.{◌≡◌, ℕ, List, [], Option};
-ghost use Rattle.gate_file.specs.Gates.{HasBodies, HasEither, IsAtRest, IsStaged};
+ghost use Rattle.gate_file.specs.Gates.{HasBodies, HasEither, HasRestingGate, IsStaged};
 
 /// A law, with nothing to run: each file has one list of bodies.
 pub fn a_file_has_one_list_of_bodies()
@@ -10,7 +10,7 @@ pub fn a_file_has_one_list_of_bodies()
 /// A law, with nothing to run: a file that is at rest is staged, whatever body is pending or none, and so is an empty file
 /// with no bodies; a staged file has its bodies, with the pending one or without.
 pub fn a_staged_file_has_its_bodies()
-    ensures at_rest { (file : List ℕ) (bodies : List (List ℕ)) (pending : Option (List ℕ)) → IsAtRest file bodies → IsStaged bodies pending file }
+    ensures at_rest { (file : List ℕ) (bodies : List (List ℕ)) (pending : Option (List ℕ)) → HasRestingGate file bodies → IsStaged bodies pending file }
     ensures empty { (pending : Option (List ℕ)) → IsStaged [] pending [] }
     ensures either { (file : List ℕ) (bodies : List (List ℕ)) (pending : Option (List ℕ)) → IsStaged bodies pending file → HasEither bodies pending file }
 {}

@@ -1,9 +1,9 @@
 ghost use Rattle.std.specs.Prelude.{◌≡◌, ◌↔◌, ⊤, ℕ, List, length, Option, IfOk, OnOk, IsErrOf};
 ghost use Rattle.disk_model.specs.Images.{file_of, OthersStay, NoNewImage, LeavesOnly, InFileOnly, AllHave};
 ghost use Rattle.disk_model.specs.Made.{MadeCalls};
-ghost use Rattle.disk_model.specs.Told.{Tells};
+ghost use Rattle.disk_model.specs.Told.{TellsThen};
 ghost use Rattle.gate_file.specs.declared.fault.GateFault.TheVariants.{OutOfMemory};
-ghost use Rattle.gate_file.specs.Faults.{HasGateAnswer, fault_of};
+ghost use Rattle.gate_file.specs.Faults.{HasGateAnswer, gate_fault_of};
 ghost use Rattle.gate_file.specs.Made.{read_calls, close_calls};
 ghost use Rattle.gate_file.specs.Gates.{HasBodies, IsStaged};
 
@@ -48,7 +48,7 @@ impl ReadGates {
         ensures no_new_image { D.honest disk.old → NoNewImage (D.may_leave disk.old) (D.may_leave disk.new) }
         ensures images { D.honest disk.old → LeavesOnly D.moment D.left_since disk.old disk.new (D.may_leave disk.old) }
         ensures answer { HasGateAnswer D.honest D.counts disk.old disk.new result }
-        ensures told { Tells (MadeCalls fault_of (read_calls file) result) (D.told disk.old) (D.told disk.new) }
+        ensures told { TellsThen (MadeCalls gate_fault_of (read_calls file) result) (D.told disk.old) (D.told disk.new) }
     {
         disk.sync(file)?;
         let bytes = read_file(alloc, disk, file)?;
@@ -85,7 +85,7 @@ impl ReadGates {
             (InFileOnly (file_read self) (D.may_leave disk.old) (λ bytes. ⊤)) }
         ensures memory_image { IsErrOf result OutOfMemory → D.honest disk.old → NoNewImage (D.may_leave disk.old) (D.may_leave disk.new) }
         ensures answer { HasGateAnswer D.honest D.counts disk.old disk.new result }
-        ensures told { Tells (MadeCalls fault_of (close_calls (file_read self) (file_of (file_read self) (D.seen disk.old)) (length (bodies_read self))) result)
+        ensures told { TellsThen (MadeCalls gate_fault_of (close_calls (file_read self) (file_of (file_read self) (D.seen disk.old)) (length (bodies_read self))) result)
             (D.told disk.old) (D.told disk.new) }
     {
         let ReadGates {

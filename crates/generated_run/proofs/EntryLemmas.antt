@@ -7,7 +7,7 @@ use Rattle.std.proofs.lemmas.Fmt.{decimal_is_IsNumeral, length-decimal-le}
 use Rattle.cron_fields.specs.Atom.{HasNo, IsNumber}
 use Rattle.cron_fields.specs.Field.{IsField}
 use Rattle.cron_fields.specs.FieldSet.{least_of, greatest_of, value_of}
-use Rattle.cron_fields.specs.Item.{last_of, Steps, StepsTo, single, wide, star}
+use Rattle.cron_fields.specs.Item.{last_of, IsStepped, StepsTo, single, wide, star}
 use Rattle.cron_fields.specs.Seed.{Seed}
 use Rattle.cron_fields.specs.declared.field.FieldKind.{FieldKind}
 use Rattle.cron_fields.specs.declared.field.FieldKind.TheVariants.{Minute, Hour, MonthDay, Month, WeekDay}
@@ -17,7 +17,7 @@ use Rattle.cron_fields.proofs.BitLemmas.{IsBitSet-mask}
 use Rattle.cron_fields.proofs.Choice.{HasNo-nil, HasNo-cons}
 use Rattle.cron_fields.proofs.JoinLemmas.{one_bit}
 use Rattle.crontab_text.specs.Answers.{IsOther, IsLineOf}
-use Rattle.crontab_text.specs.Assignment.{IsAssignment, IsName, IsNameStart}
+use Rattle.crontab_text.specs.Assignment.{IsAssignment, IsVariableName, IsNameStart}
 use Rattle.crontab_text.specs.Blanks.{IsBlank, IsMark, LacksAny, MayBeginWith, IsFirstWord}
 use Rattle.crontab_text.specs.LineBody.{EntryBody}
 use Rattle.crontab_text.specs.Tail.{EndsWithCommand}
@@ -48,7 +48,7 @@ no_blank (c ∷ cs) digits = ((λ blank. is_no_blank c (digit_byte c digits.0) b
     is_no_blank c range (inr e) = let low = range.0 in omega arith
 
 -- the numbers from one to another, one by one
-abbrev run_of_numbers : ℕ → ℕ → Steps
+abbrev run_of_numbers : ℕ → ℕ → IsStepped
 run_of_numbers low high = record { low = low; high = high; step = 1 }
 
 single_steps : (kind : FieldKind) (v value : ℕ) → value_of kind v ≡ v → (StepsTo kind (run_of_numbers v v) value ⊎ ⊥) ↔ (value ≡ v)
@@ -167,7 +167,7 @@ digits_other (c ∷ cs) rest number is =
       no_assignment = none low high;
     }
   where
-    begins : (name behind : List ℕ) → c ∷ (cs ++ rest) ≡ name ++ behind → IsName name → IsNameStart c
+    begins : (name behind : List ℕ) → c ∷ (cs ++ rest) ≡ name ++ behind → IsVariableName name → IsNameStart c
     begins [] behind e named = absurd named
     begins (n ∷ ns) behind e named = subst IsNameStart (sym (cc)) named.0
 

@@ -18,7 +18,7 @@ use Rattle.due_set.specs.declared.job.JobKind.TheVariants.{Crontab}
 use Rattle.zone_minutes.proofs.ZoneLemmas.{IsReadable-fixed}
 use Rattle.job_table.specs.Collect.{Collected}
 use Rattle.job_table.specs.Jobs.{HasJob, named_job}
-use Rattle.job_table.specs.Marks.{Mark, MarksZone, MarksJob, job_name, marks_from}
+use Rattle.job_table.specs.Marks.{Mark, MarksZone, MarksJob, crontab_job_name, marks_from}
 use Rattle.job_table.specs.Table.{IsTableOf, jobs_of, table_of}
 use Rattle.job_table.proofs.DueCountLemmas.{due_count}
 use Rattle.job_table.proofs.JobLemmas.{distinct_push}
@@ -66,7 +66,7 @@ made_jobs : (line count : ℕ) (entries : List Entry) → AllByRecursion (λ ent
 made_jobs line count [] all = tt
 made_jobs line count (entry ∷ entries) all = (by all.0, made_jobs (line + 1) (count + 1) entries all.1)
   where
-    by : AreMadeFields entry.0 → IsMadeJob (record { name = job_name (codes "make") count; zone = 0; kind = Crontab entry.0 })
+    by : AreMadeFields entry.0 → IsMadeJob (record { name = crontab_job_name (codes "make") count; zone = 0; kind = Crontab entry.0 })
     by (hourly_so m is) = hourly m refl (ap Crontab is)
     by (daily_so m h is) = daily m h refl (ap Crontab is)
 
@@ -77,7 +77,7 @@ jobs_length line count (entry ∷ entries) = ap suc (jobs_length (line + 1) (cou
 jobs_most : (line count : ℕ) (entries : List Entry) → sum_by (λ (job : Job). most_due job.kind) (jobs_of (marks_of line count entries)) ≡ sum_by most_of entries
 jobs_most line count [] = refl
 jobs_most line count (entry ∷ entries) =
-    let job : Job = record { name = job_name (codes "make") count; zone = 0; kind = Crontab entry.0 } in
+    let job : Job = record { name = crontab_job_name (codes "make") count; zone = 0; kind = Crontab entry.0 } in
     sum_by-cons (λ (j : Job). most_due j.kind) job (jobs_of (marks_of (line + 1) (count + 1) entries)) ∙ ap (λ (n : ℕ). most_of entry + n) (jobs_most (line + 1) (count + 1) entries) ∙ sym (sum_by-cons most_of entry entries)
 
 -- jobs that were collected, under names with smaller numbers
@@ -85,10 +85,10 @@ record Collects (marks : List Mark) (count : ℕ) : Type 0 where
   jobs : List Job
   collected : Collected [] marks jobs
   distinct : AreNamesDistinct jobs
-  below : (name : List ℕ) → HasJob name jobs → (j : ℕ) × (j < count) × (name ≡ job_name (codes "make") j)
+  below : (name : List ℕ) → HasJob name jobs → (j : ℕ) × (j < count) × (name ≡ crontab_job_name (codes "make") j)
 
 -- names with different numbers differ
-same_number : (a b : ℕ) → a < 2 ^ 64 → b < 2 ^ 64 → job_name (codes "make") a ≡ job_name (codes "make") b → a ≡ b
+same_number : (a b : ℕ) → a < 2 ^ 64 → b < 2 ^ 64 → crontab_job_name (codes "make") a ≡ crontab_job_name (codes "make") b → a ≡ b
 same_number a b small also is = decimal_injective a b small also (ap (drop 5) is)
 
 collects : (before : List Mark) (line count : ℕ) (entries : List Entry) → Collects before count → count + length entries < 2 ^ 64 → Collects (before ++ marks_of line count entries) (count + length entries)
@@ -97,7 +97,7 @@ collects before line count [] known short = subst (λ n. Collects (before ++ [])
     no_more : (n : ℕ) → n ≡ n + 0
     no_more n = omega arith
 collects before line count (entry ∷ entries) known short =
-    let name = job_name (codes "make") count in
+    let name = crontab_job_name (codes "make") count in
     let job = named_job name 0 (Crontab entry.0) in
     let mark = MarksJob line name 0 (Crontab entry.0) in
     let none : HasJob name known.jobs → ⊥ = λ has. let (j, less, same) = known.below name has in let equal : count ≡ j = same_number count j (omega arith) (omega arith) same in omega arith in
@@ -114,8 +114,8 @@ collects before line count (entry ∷ entries) known short =
     one_more : (n m : ℕ) → n + 1 + m ≡ n + suc m
     one_more n m = omega arith
 
-    pushed : (jobs : List Job) (other : List ℕ) → HasJob other (jobs ++ named_job (job_name (codes "make") count) 0 (Crontab entry.0) ∷ [])
-        → ((name : List ℕ) → HasJob name jobs → (j : ℕ) × (j < count) × (name ≡ job_name (codes "make") j)) → (j : ℕ) × (j < count + 1) × (other ≡ job_name (codes "make") j)
+    pushed : (jobs : List Job) (other : List ℕ) → HasJob other (jobs ++ named_job (crontab_job_name (codes "make") count) 0 (Crontab entry.0) ∷ [])
+        → ((name : List ℕ) → HasJob name jobs → (j : ℕ) × (j < count) × (name ≡ crontab_job_name (codes "make") j)) → (j : ℕ) × (j < count + 1) × (other ≡ crontab_job_name (codes "make") j)
     pushed [] other (inl is) below = (count, omega arith, sym is)
     pushed [] other (inr none) below = absurd none
     pushed (job ∷ jobs) other (inl is) below = let (j, less, same) = below other (inl is) in (j, omega arith, same)

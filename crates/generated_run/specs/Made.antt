@@ -25,6 +25,7 @@ made_window = record { from = made_instant 0; until = made_instant 14_400 }
 abbrev pub hour_text : (minute number : ℕ) → List ℕ
 hour_text minute number = decimal minute ++ (codes " * * * * hourly " ++ decimal number)
 
+-- the line of a job that runs once a day
 abbrev pub day_text : (minute hour number : ℕ) → List ℕ
 day_text minute hour number = decimal minute ++ 32 ∷ (decimal hour ++ (codes " * * * daily " ++ decimal number))
 
@@ -40,6 +41,7 @@ daily_line seed number = day_text (draw seed (40 + 2 * number) 60) (draw seed (4
 unfoldable pub hourly_lines : (seed count : ℕ) → List (List ℕ)
 hourly_lines seed count = map (hourly_line seed) (range_with_len 0 count)
 
+-- the lines of the jobs that run once a day
 unfoldable pub daily_lines : (seed count : ℕ) → List (List ℕ)
 daily_lines seed count = map (daily_line seed) (range_with_len 0 count)
 

@@ -3,7 +3,7 @@ use Rattle.std.proofs.Common.{◌≡◌, ℕ, ◌<◌, ◌≤◌, Some, None, Li
 use Rattle.std.specs.List.{AllZip, Contains, flat_map}
 use Rattle.paxos_base.specs.Ballot.{member_of}
 use Rattle.paxos_base.specs.declared.entry.Vote.{Vote}
-use Rattle.paxos_letter.specs.Letters.{Spells, fault_of, sender_of}
+use Rattle.paxos_letter.specs.Letters.{Spells, letter_fault_of, sender_of}
 use Rattle.paxos_letter.proofs.LetterLemmas.{letter_again, letter_none}
 use Rattle.due_set.specs.Table.{Table}
 use Rattle.launch_machine.specs.Clerk.{first_rows}
@@ -88,7 +88,7 @@ letters_for_members n table book who cause event letters few legal takes spelled
 
 -- ---- letters that were posted
 
-pub posted_breaks_none : (n : ℕ) (table : Table) (book : List Row) (letter : PostedLetter) → IsLegal n table book → Contains (standing_after n (first_rows table) book).posted letter → fault_of n letter.bytes ≡ None
+pub posted_breaks_none : (n : ℕ) (table : Table) (book : List Row) (letter : PostedLetter) → IsLegal n table book → Contains (standing_after n (first_rows table) book).posted letter → letter_fault_of n letter.bytes ≡ None
 posted_breaks_none n table book letter legal posted =
     let spelled = (reaches n table book legal).matches.spelled letter posted in
     letter_none n letter.from (flat_map packets_of spelled.messages) letter.bytes spelled.spells

@@ -3,7 +3,7 @@ ghost use Rattle.std.specs.Prelude.{◌≡◌, ℕ, ◌*◌, ◌^◌, ◌<◌, �
 ghost use Rattle.std.specs.List.{AllZip};
 ghost use Rattle.paxos_base.specs.declared.durable.Durable.{Durable};
 ghost use Rattle.paxos_base.specs.declared.rows.JobRow.{JobRow};
-ghost use Rattle.paxos_letter.specs.Letters.{Spells, fault_of, sender_of};
+ghost use Rattle.paxos_letter.specs.Letters.{Spells, letter_fault_of, sender_of};
 ghost use Rattle.paxos_letter.specs.declared.packet.Packet.{Packet};
 ghost use Rattle.cluster_sched.specs.Fates.{Arrives, CallsByName, Holdings, call};
 ghost use Rattle.cluster_sched.specs.Held.{IsLookedUp};
@@ -68,7 +68,7 @@ pub fn letters_of_seven_are_letters_of_the_members()
 /// that posted it. It comes from one of the replicas and goes to one, and there are messages as which it is heard.
 pub fn a_posted_letter_is_a_letter_of_its_poster()
     ensures rules { (members : ℕ) (table : Table) (book : List Row) (letter : PostedLetter) → IsLegal members table book
-        → Contains (standing_after members (first_rows table) book).posted letter → fault_of members letter.bytes ≡ None }
+        → Contains (standing_after members (first_rows table) book).posted letter → letter_fault_of members letter.bytes ≡ None }
     ensures sender { (members : ℕ) (table : Table) (book : List Row) (letter : PostedLetter) → IsLegal members table book
         → Contains (standing_after members (first_rows table) book).posted letter → sender_of letter.bytes ≡ letter.from }
     ensures from { (members : ℕ) (table : Table) (book : List Row) (letter : PostedLetter) → members ≤ 7 → IsLegal members table book
@@ -127,7 +127,8 @@ pub fn a_step_keeps_the_launch_table()
         → IsLegal members table book → TakesTurn members table (standing_after members (first_rows table) book) who cause event
         → IsLaunchTable table ((standing_after members (first_rows table) book).replicas who) old
         → LeavesTable table old (acts_at members (standing_after members (first_rows table) book) who event) new
-        → IsLaunchTable table (after_acts (acts_at members (standing_after members (first_rows table) book) who event) ((standing_after members (first_rows table) book).replicas who)) new }
+        → IsLaunchTable table (after_acts (acts_at members (standing_after members (first_rows table) book) who event)
+        ((standing_after members (first_rows table) book).replicas who)) new }
     ensures some { (table : Table) (old : List JobRow) (acts : List Act) → IsSound table → (new : List JobRow) × LeavesTable table old acts new }
     ensures one { (table : Table) (old : List JobRow) (acts : List Act) (one other : List JobRow) → LeavesTable table old acts one
         → LeavesTable table old acts other → one ≡ other }
@@ -150,10 +151,12 @@ pub fn posted_letters_are_heard_whole()
 /// A step that a replica takes in a legal book, by what a program has of it, is a turn of the book: with letters that are spelled for
 /// seven replicas, its changes of what is kept, what it has learned, and its call, where it asks for one.
 pub fn a_step_goes_on_a_legal_book()
-    ensures { (members : ℕ) (table : Table) (book : List Row) (who : ℕ) (cause : Cause) (made : Option CallRow) (event : Event) (letters : List OutLetter) → members ≤ 7
+    ensures { (members : ℕ) (table : Table) (book : List Row) (who : ℕ) (cause : Cause) (made : Option CallRow) (event : Event)
+        (letters : List OutLetter) → members ≤ 7
         → IsLegal members table book → TakesTurn members table (standing_after members (first_rows table) book) who cause event
         → AllZip (IsSpelled 7 who) (letters_of (identity_of members who) (acts_at members (standing_after members (first_rows table) book) who event)) letters
         → IsMade (standing_after members (first_rows table) book).held (calls_of (acts_at members (standing_after members (first_rows table) book) who event)) made
-        → IsLegal members table (book ++ step_row who cause made event (deltas_of (acts_at members (standing_after members (first_rows table) book) who event)) letters
+        → IsLegal members table (book
+        ++ step_row who cause made event (deltas_of (acts_at members (standing_after members (first_rows table) book) who event)) letters
         (learnt_of (acts_at members (standing_after members (first_rows table) book) who event)) ∷ []) }
 {}

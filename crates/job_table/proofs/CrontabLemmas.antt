@@ -6,7 +6,7 @@ use Rattle.std.proofs.lemmas.List.{append-nil}
 use Rattle.crontab_text.specs.Answers.{IsLineOf, LineAnswer, Said, Broken, IsAnswer}
 use Rattle.crontab_text.specs.LineBody.{LineBody, BlankBody, CommentBody, AssignBody, EntryBody, NickBody, body_of}
 use Rattle.crontab_text.specs.Lines.{lines_of}
-use Rattle.crontab_text.specs.Reader.{ReadsLine, answer_of}
+use Rattle.crontab_text.specs.Reader.{ReadsLine, answer_to_line}
 use Rattle.crontab_text.specs.TableReader.{TableReader, table_reader, rest_of}
 use Rattle.crontab_text.specs.declared.answer.Line.{Line}
 use Rattle.crontab_text.specs.declared.answer.LineFault.{LineFault}
@@ -18,10 +18,10 @@ use Rattle.run_text.specs.Follow.{style_of}
 use Rattle.run_text.specs.Run.{NamedZone, Section}
 use Rattle.run_text.specs.Table.{Says}
 use Rattle.run_text.specs.declared.refusal.Refusal.{Refusal}
-use Rattle.job_table.specs.Collect.{AddsMarks, RefusesMarks, AddsSection, RefusesSection, IsBelow, line_marks, zone_below, is_entry, entries_of, entries_in}
+use Rattle.job_table.specs.Collect.{AddsMarks, RefusesMarks, AddsSection, RefusesSection, IsBelow, line_marks, zone_below, is_entry, entries_of, entry_lines_in}
 use Rattle.job_table.specs.declared.crontab.Above.{Above}
 use Rattle.job_table.specs.Zones.{NamesZone, zone_number}
-use Rattle.job_table.specs.Marks.{Mark, MarksZone, MarksJob, job_name, kind_of, marks_from, AreTableMarks, AreSectionMarks}
+use Rattle.job_table.specs.Marks.{Mark, MarksZone, MarksJob, crontab_job_name, kind_of, marks_from, AreTableMarks, AreSectionMarks}
 use Rattle.due_set.specs.declared.job.JobKind.TheVariants.{Crontab}
 use Rattle.job_table.specs.Table.{HasLineAtFault}
 use Rattle.job_table.proofs.MarkLemmas.{adds_zone, adds_both, regroup}
@@ -37,7 +37,7 @@ zone_push zones zone (b ∷ bodies) body = zone_push zones (zone_below zones zon
 
 -- the marks of some lines, and those of the lines behind them
 marks_append : (zones : List NamedZone) (label : List ℕ) (zone line count after later next : ℕ) (bodies more : List LineBody)
-    → after ≡ zone_after zones zone bodies → later ≡ line + length bodies → next ≡ count + entries_in bodies
+    → after ≡ zone_after zones zone bodies → later ≡ line + length bodies → next ≡ count + entry_lines_in bodies
     → marks_from zones label zone line count (bodies ++ more) ≡ marks_from zones label zone line count bodies ++ marks_from zones label after later next more
 marks_append zones label zone line count after later next [] more after_is later_is next_is =
     let l : later ≡ line = omega (arith, later_is) in
@@ -61,10 +61,10 @@ marks_append zones label zone line count after later next (AssignBody name value
     by true is named same = ap (λ l. MarksZone line value ∷ l) (named is)
     by false is named same = same is
 marks_append zones label zone line count after later next (EntryBody fields user command ∷ bodies) more after_is later_is next_is =
-    ap (λ l. MarksJob line (job_name label count) zone (Crontab fields) ∷ l)
+    ap (λ l. MarksJob line (crontab_job_name label count) zone (Crontab fields) ∷ l)
     (marks_append zones label zone (line + 1) (count + 1) after later next bodies more after_is (omega (arith, later_is)) (omega (arith, next_is)))
 marks_append zones label zone line count after later next (NickBody fields user command ∷ bodies) more after_is later_is next_is =
-    ap (λ l. MarksJob line (job_name label count) zone (kind_of fields) ∷ l)
+    ap (λ l. MarksJob line (crontab_job_name label count) zone (kind_of fields) ∷ l)
     (marks_append zones label zone (line + 1) (count + 1) after later next bodies more after_is (omega (arith, later_is)) (omega (arith, next_is)))
 
 -- the marks of a crontab whose lines say this
@@ -88,13 +88,13 @@ abbrev pub section_zone : List NamedZone → Section → List LineBody → ℕ
 section_zone zones section bodies = zone_after zones (zone_number section.zone zones) bodies
 
 section_append : (zones : List NamedZone) (section : Section) (bodies more : List LineBody) (after later next : ℕ) → after ≡ section_zone zones section bodies
-    → later ≡ section.line + 1 + length bodies → next ≡ 1 + entries_in bodies
+    → later ≡ section.line + 1 + length bodies → next ≡ 1 + entry_lines_in bodies
     → section_marks zones section (bodies ++ more) ≡ section_marks zones section bodies ++ marks_from zones section.label after later next more
 section_append zones section bodies more after later next after_is later_is next_is =
     ap (λ l. MarksZone section.line section.zone ∷ l)
     (marks_append zones section.label (zone_number section.zone zones) (section.line + 1) 1 after later next bodies more after_is later_is next_is)
 
-entries_within : (bodies : List LineBody) → entries_in bodies ≤ length bodies
+entries_within : (bodies : List LineBody) → entry_lines_in bodies ≤ length bodies
 entries_within [] = omega arith
 entries_within (BlankBody ∷ bodies) = omega (arith, entries_within bodies)
 entries_within (CommentBody ∷ bodies) = omega (arith, entries_within bodies)
@@ -102,10 +102,10 @@ entries_within (AssignBody name value ∷ bodies) = omega (arith, entries_within
 entries_within (EntryBody fields user command ∷ bodies) = omega (arith, entries_within bodies)
 entries_within (NickBody fields user command ∷ bodies) = omega (arith, entries_within bodies)
 
-entries_push : (bodies : List LineBody) (body : LineBody) (entries : ℕ) → entries ≡ entries_in bodies → entries + entries_of (is_entry body) ≡ entries_in (bodies ++ body ∷ [])
+entries_push : (bodies : List LineBody) (body : LineBody) (entries : ℕ) → entries ≡ entry_lines_in bodies → entries + entries_of (is_entry body) ≡ entry_lines_in (bodies ++ body ∷ [])
 entries_push [] body entries is = omega (arith, is)
 entries_push (b ∷ bodies) body entries is =
-    let rest = entries_push bodies body (entries_in bodies) refl in omega (arith, is, rest)
+    let rest = entries_push bodies body (entry_lines_in bodies) refl in omega (arith, is, rest)
 
 -- what some lines say, each of which says something
 pub what_is_said : (style : Style) (owner : List ℕ) (lines : List (List ℕ)) → AllByRecursion (Says style owner) lines → (bodies : List LineBody) × AllZip (IsLineOf style owner) lines bodies
@@ -143,7 +143,7 @@ pub record Walking (zones : List NamedZone) (section : Section) (style : Style) 
   pub passed : reader.passed ≡ length lines
   pub style_is : reader.style ≡ style
   pub owner : reader.owner ≡ section.label
-  pub entries_are : above.entries ≡ entries_in bodies
+  pub entries_are : above.entries ≡ entry_lines_in bodies
   pub zone_is : above.zone ≡ section_zone zones section bodies
   pub adds : AddsMarks zones old now (section_marks zones section bodies)
 
@@ -164,7 +164,7 @@ walking_first zones section style text reader above jobs named entries zone is =
 }
 
 -- the answer to a line that says something is no fault
-pub is_ok : (style : Style) (owner line : List ℕ) (read : Result Line LineFault) → Says style owner line → IsAnswer style owner line (answer_of read) → IsOk read
+pub is_ok : (style : Style) (owner line : List ℕ) (read : Result Line LineFault) → Says style owner line → IsAnswer style owner line (answer_to_line read) → IsOk read
 is_ok style owner line (Ok l) says answer = refl
 is_ok style owner line (Err fault) (body, says) answer =
     let same : ◌≡◌ {A = LineAnswer} (Said body) (Broken fault.cause fault.place) = same_answer style owner line (Said body) (Broken fault.cause fault.place) says answer in absurd cc
@@ -176,7 +176,7 @@ next_says zones section style text now new above old jobs read all walk reads =
     let here : lines_of text ≡ walk.lines ++ reads.line ∷ lines_of (rest_of new) =
     walk.lines_are ∙ ap (λ l. walk.lines ++ l) (lines_of-begins (rest_of now) reads.line (rest_of new) reads.goes_on.begins) in
     let says = all_at (Says style section.label) walk.lines (lines_of (rest_of new)) reads.line (subst (AllByRecursion (Says style section.label)) here all) in
-    let answer = subst (λ s. IsAnswer s section.label reads.line (answer_of read)) walk.style_is (subst (λ o. IsAnswer now.style o reads.line (answer_of read)) walk.owner reads.answer) in
+    let answer = subst (λ s. IsAnswer s section.label reads.line (answer_to_line read)) walk.style_is (subst (λ o. IsAnswer now.style o reads.line (answer_to_line read)) walk.owner reads.answer) in
     is_ok style section.label reads.line read says answer
 
 -- so many lines were read, and the next one is there
@@ -197,10 +197,10 @@ pub walking_next : (zones : List NamedZone) (section : Section) (style : Style) 
 walking_next zones section style text now new above below at old jobs next line walk reads at_is is_below adds =
     let body = body_of line.body in
     let same = zip_length (IsLineOf style section.label) walk.lines walk.bodies walk.said in
-    let answer = subst (λ s. IsAnswer s section.label reads.line (answer_of (Ok line))) walk.style_is (subst (λ o. IsAnswer now.style o reads.line (answer_of (Ok line))) walk.owner reads.answer) in
+    let answer = subst (λ s. IsAnswer s section.label reads.line (answer_to_line (Ok line))) walk.style_is (subst (λ o. IsAnswer now.style o reads.line (answer_to_line (Ok line))) walk.owner reads.answer) in
     let new_is = reads.goes_on.new_is in
     let place : at ≡ section.line + 1 + length walk.bodies = omega (arith, at_is, reads.number, walk.passed, same) in
-    let number : above.entries + 1 ≡ 1 + entries_in walk.bodies = omega (arith, walk.entries_are) in
+    let number : above.entries + 1 ≡ 1 + entry_lines_in walk.bodies = omega (arith, walk.entries_are) in
     record {
       lines = walk.lines ++ reads.line ∷ [];
       bodies = walk.bodies ++ body ∷ [];
@@ -242,10 +242,10 @@ line_refused zones section style text now new above at old jobs line refusal kin
     walk.lines_are ∙ ap (λ l. walk.lines ++ l) (lines_of-begins (rest_of now) reads.line (rest_of new) reads.goes_on.begins) in
     let left = all_behind P walk.lines (reads.line ∷ lines_of (rest_of new)) (subst (AllByRecursion P) here all) in
     let (others_say, others_said) = what_is_said style section.label (lines_of (rest_of new)) left.1 in
-    let answer = subst (λ s. IsAnswer s section.label reads.line (answer_of (Ok line))) walk.style_is (subst (λ o. IsAnswer now.style o reads.line (answer_of (Ok line))) walk.owner reads.answer) in
+    let answer = subst (λ s. IsAnswer s section.label reads.line (answer_to_line (Ok line))) walk.style_is (subst (λ o. IsAnswer now.style o reads.line (answer_to_line (Ok line))) walk.owner reads.answer) in
     let same = zip_length R walk.lines walk.bodies walk.said in
     let place : at ≡ section.line + 1 + length walk.bodies = omega (arith, at_is, reads.number, walk.passed, same) in
-    let number : above.entries + 1 ≡ 1 + entries_in walk.bodies = omega (arith, walk.entries_are) in
+    let number : above.entries + 1 ≡ 1 + entry_lines_in walk.bodies = omega (arith, walk.entries_are) in
     let first = section_marks zones section walk.bodies in
     let marked = line_marks zones section.label above.zone at (above.entries + 1) body in
     let more = marks_from zones section.label (zone_below zones above.zone body) (at + 1) (above.entries + 1 + entries_of (is_entry body)) others_say in

@@ -1,13 +1,13 @@
 mod AnacrontabLemmas
 mod CrontabLemmas
-pub mod DueCountLemmas
-pub mod JobLemmas
-pub mod MarkLemmas
 mod RunLemmas
 mod SectionLemmas
 mod SomeLemmas
 mod TableLemmas
-pub mod UniqueLemmas
-mod VariantLemmas
 mod VerdictLemmas
 mod ZoneLemmas
+pub mod DueCountLemmas
+pub mod JobLemmas
+pub mod MarkLemmas
+pub mod UniqueLemmas
+pub mod VariantLemmas

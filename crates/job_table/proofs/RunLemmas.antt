@@ -7,7 +7,7 @@ use Rattle.std.proofs.Math.ListN.{get_or-map}
 use Rattle.crontab_text.specs.Lines.{lines_of}
 use Rattle.crontab_text.proofs.LineLemmas.{lines_at_most}
 use Rattle.due_set.specs.Table.{Job}
-use Rattle.run_text.specs.Reading.{IsReadRun, ArePartsOf}
+use Rattle.run_text.specs.Reading.{IsReadRun, FitInFile}
 use Rattle.run_text.specs.Run.{NamedZone, Section, Run, section_of, zone_of, run_of}
 use Rattle.run_text.specs.Sound.{IsSoundSection}
 use Rattle.run_text.specs.declared.refusal.Refusal.{Refusal}
@@ -15,7 +15,7 @@ use Rattle.run_text.specs.declared.run.RunFile.{RunFile}
 use Rattle.run_text.specs.declared.run.Section.{Section as SectionText}
 use Rattle.run_text.specs.declared.run.ZoneLine.{ZoneLine}
 use Rattle.run_text.proofs.SoundLemmas.{sound_run}
-use Rattle.job_table.specs.Collect.{Collected, AddsSection, RefusesSection, HasMarks, HasFaultyMarks}
+use Rattle.job_table.specs.Collect.{Collected, AddsSection, RefusesSection, HasMarkedJobs, HasFaultyMarks}
 use Rattle.job_table.specs.Marks.{Mark, AreMarks, AreSectionMarks}
 use Rattle.job_table.proofs.SectionLemmas.{some_marks}
 
@@ -93,7 +93,7 @@ sound_text run items i d read same lt =
     let inside : i < length (map section_of items) = omega (arith, length-map items section_of) in
     let all = subst (λ l. AllByRecursion (IsSoundSection (1 + length (lines_of read.text))) (map section_of l)) (sym same) (sections_sound run read) in
     let sound = all_get (IsSoundSection (1 + length (lines_of read.text))) (map section_of items) i (section_of d) all inside in
-    let parts = subst (ArePartsOf (length read.text)) (sym same) read.parts in
+    let parts = subst (FitInFile (length read.text)) (sym same) read.parts in
     let short = All-get_or (λ (s : SectionText). length s.text.now ≤ length read.text) items i d lt parts in
     record {
       sound = at_most (1 + length (lines_of read.text)) (2 ^ 32) (section_of (get_or items i d)) (omega (arith, lines_at_most read.text, read.short))
@@ -141,7 +141,7 @@ section_refused_at run items named i d jobs read same zones_are lt so_far refusa
     section_refused run items i d jobs refusal read same lt so_far (subst (λ l. RefusesSection (map zone_of l) jobs (section_of (get_or items i d)) refusal) zones_are refuses)
 
 -- all sections
-pub all_marks : (run : RunFile) (i : ℕ) (jobs : List Job) → length run.sections.items ≤ i → SoFar (map zone_of run.zones.items) (take i (map section_of run.sections.items)) jobs → HasMarks (run_of run) jobs
+pub all_marks : (run : RunFile) (i : ℕ) (jobs : List Job) → length run.sections.items ≤ i → SoFar (map zone_of run.zones.items) (take i (map section_of run.sections.items)) jobs → HasMarkedJobs (run_of run) jobs
 all_marks run i jobs all so_far =
     let whole : take i (map section_of run.sections.items) ≡ map section_of run.sections.items = take_all i (map section_of run.sections.items) (omega (arith, length-map run.sections.items section_of)) in
     record { marks = so_far.marks; are = subst (λ l. AreMarks (map zone_of run.zones.items) l so_far.marks) whole so_far.are; collected = so_far.collected }

@@ -10,7 +10,7 @@ use Rattle.due_set.specs.Table.{Job, AreZonesBelow}
 use Rattle.due_set.specs.declared.job.JobKind.TheVariants.{Crontab}
 use Rattle.run_text.specs.Follow.{style_of}
 use Rattle.run_text.specs.Run.{NamedZone, Section}
-use Rattle.job_table.specs.Marks.{Mark, MarksZone, MarksJob, job_name, kind_of, marks_from, anacron_marks, AreTableMarks, AreMarks, IsMarkFault, AreSoundBehind, AreSound}
+use Rattle.job_table.specs.Marks.{Mark, MarksZone, MarksJob, crontab_job_name, kind_of, marks_from, anacron_marks, AreTableMarks, AreMarks, IsMarkFault, AreSoundBehind, AreSound}
 use Rattle.job_table.specs.Table.{jobs_of}
 use Rattle.job_table.specs.Zones.{zone_number}
 use Rattle.job_table.proofs.MarkLemmas.{jobs_of-append}
@@ -44,10 +44,10 @@ marks_below zones label before others zone line count (AssignBody name value ∷
     by false all named same = same all
 marks_below zones label before others zone line count (EntryBody fields user command ∷ bodies) is sound =
     All-cons (λ (job : Job). job.zone < 1 + length zones) _ (jobs_of (marks_from zones label zone (line + 1) (count + 1) bodies)) is
-    (marks_below zones label (before ++ MarksJob line (job_name label count) zone (Crontab fields) ∷ []) others zone (line + 1) (count + 1) bodies is sound.1)
+    (marks_below zones label (before ++ MarksJob line (crontab_job_name label count) zone (Crontab fields) ∷ []) others zone (line + 1) (count + 1) bodies is sound.1)
 marks_below zones label before others zone line count (NickBody fields user command ∷ bodies) is sound =
     All-cons (λ (job : Job). job.zone < 1 + length zones) _ (jobs_of (marks_from zones label zone (line + 1) (count + 1) bodies)) is
-    (marks_below zones label (before ++ MarksJob line (job_name label count) zone (kind_of fields) ∷ []) others zone (line + 1) (count + 1) bodies is sound.1)
+    (marks_below zones label (before ++ MarksJob line (crontab_job_name label count) zone (kind_of fields) ∷ []) others zone (line + 1) (count + 1) bodies is sound.1)
 
 sound_behind : (zones : List NamedZone) (before front back : List Mark) → AreSoundBehind zones before (front ++ back) → AreSoundBehind zones (before ++ front) back
 sound_behind zones before [] back sound = subst (λ b. AreSoundBehind zones b back) (sym (append-nil before)) sound

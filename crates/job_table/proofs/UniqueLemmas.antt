@@ -19,7 +19,7 @@ use Rattle.run_text.specs.declared.refusal.Refusal.{Refusal}
 use Rattle.job_table.specs.Marks.{Mark, MarksZone, MarksJob, marks_from, anacron_marks, AreTableMarks, AreSectionMarks, AreMarks, IsMarkFault, AreSoundBehind, AreSound, IsFirstMarkFault}
 use Rattle.job_table.specs.Table.{jobs_of, table_of, at_line, AreMarksRefused, HasBadZone, IsDueCount, IsTableOf, IsRefusedRun}
 use Rattle.job_table.specs.Zones.{AreReadable, zone_number}
-use Rattle.zone_minutes.specs.Zone.{IsReadable, IsRefused}
+use Rattle.zone_minutes.specs.Zone.{IsReadable, IsSourceRefused}
 use Rattle.zone_minutes.proofs.VerdictLemmas.{not_refused as not_read_and_refused}
 use Rattle.job_table.proofs.DueCountLemmas.{CountsFirst, counts_at_least}
 use Rattle.cron_fields.specs.declared.cause.Cause.TheVariants.{BadZone}
@@ -141,14 +141,14 @@ readable_at (z ∷ before) after zone readable = readable_at before after zone (
 
 -- the first zone that is refused is one
 first_refused : (before other after rest : List NamedZone) (x y : NamedZone) → before ++ x ∷ after ≡ other ++ y ∷ rest
-    → AreReadable before → AreReadable other → IsRefused x.source → IsRefused y.source → x ≡ y
+    → AreReadable before → AreReadable other → IsSourceRefused x.source → IsSourceRefused y.source → x ≡ y
 first_refused [] [] after rest x y is readable also refused too = cc
 first_refused [] (z ∷ other) after rest x y is readable also refused too =
     let same : x ≡ z = cc in
-    absurd (not_read_and_refused z.source (All-head (λ (zone : NamedZone). IsReadable zone.source) z other also) (subst (λ (w : NamedZone). IsRefused w.source) same refused))
+    absurd (not_read_and_refused z.source (All-head (λ (zone : NamedZone). IsReadable zone.source) z other also) (subst (λ (w : NamedZone). IsSourceRefused w.source) same refused))
 first_refused (z ∷ before) [] after rest x y is readable also refused too =
     let same : y ≡ z = cc in
-    absurd (not_read_and_refused z.source (All-head (λ (zone : NamedZone). IsReadable zone.source) z before readable) (subst (λ (w : NamedZone). IsRefused w.source) same too))
+    absurd (not_read_and_refused z.source (All-head (λ (zone : NamedZone). IsReadable zone.source) z before readable) (subst (λ (w : NamedZone). IsSourceRefused w.source) same too))
 first_refused (z ∷ before) (w ∷ other) after rest x y is readable also refused too =
     let tails : before ++ x ∷ after ≡ other ++ y ∷ rest = cc in
     first_refused before other after rest x y tails (All-tail (λ (zone : NamedZone). IsReadable zone.source) z before readable) (All-tail (λ (zone : NamedZone). IsReadable zone.source) w other also) refused too

@@ -15,18 +15,18 @@ use Rattle.run_text.specs.declared.refusal.Refusal.{Refusal}
 use Rattle.run_text.specs.declared.run.RunFile.{RunFile}
 use Rattle.run_text.specs.declared.run.ZoneLine.{ZoneLine}
 use Rattle.run_text.proofs.SoundLemmas.{sound_run}
-use Rattle.zone_minutes.specs.Zone.{Zone, Source, FixedOffset, zone_over, IsReadable, IsRefused}
+use Rattle.zone_minutes.specs.Zone.{Zone, Source, FixedOffset, zone_over, IsReadable, IsSourceRefused}
 use Rattle.zone_minutes.specs.declared.minute.Window.{Window}
 use Rattle.job_table.specs.Table.{at_line, HasBadZone}
-use Rattle.job_table.specs.Zones.{AreReadable, HasZone, NamesZone, place_of, zone_number, zones_over}
+use Rattle.job_table.specs.Zones.{AreReadable, HasZone, NamesZone, zone_place_of, zone_number, zones_over}
 use Rattle.cron_fields.specs.declared.cause.Cause.TheVariants.{BadZone}
 
-named_place : (name : List ℕ) (zones : List NamedZone) → (place_of name zones < length zones) ⊎ (HasZone name zones → ⊥)
+named_place : (name : List ℕ) (zones : List NamedZone) → (zone_place_of name zones < length zones) ⊎ (HasZone name zones → ⊥)
 named_place name [] = inr (λ none. none)
 named_place name (zone ∷ zones) = by (bytes_eq zone.name name) refl (named_place name zones)
   where
-    by : (b : Bool) → bytes_eq zone.name name ≡ b → (place_of name zones < length zones) ⊎ (HasZone name zones → ⊥)
-        → ((if b then 0 else 1 + place_of name zones) < suc (length zones)) ⊎ ((zone.name ≡ name) ⊎ HasZone name zones → ⊥)
+    by : (b : Bool) → bytes_eq zone.name name ≡ b → (zone_place_of name zones < length zones) ⊎ (HasZone name zones → ⊥)
+        → ((if b then 0 else 1 + zone_place_of name zones) < suc (length zones)) ⊎ ((zone.name ≡ name) ⊎ HasZone name zones → ⊥)
     by true e later = inl (omega arith)
     by false e (inl below) = inl (omega (arith, below))
     by false e (inr none) = inr (λ named. elim named [ inl same ↦ true≢false (sym ((bytes_eq-Decides zone.name name).1 same) ∙ e) | inr has ↦ none has ])
@@ -35,33 +35,33 @@ named_place name (zone ∷ zones) = by (bytes_eq zone.name name) refl (named_pla
 pub number_or_none : (name : List ℕ) (zones : List NamedZone) → (zone_number name zones < 1 + length zones) ⊎ (NamesZone name zones → ⊥)
 number_or_none name zones = by (bytes_eq name (codes "UTC")) refl (named_place name zones)
   where
-    by : (b : Bool) → bytes_eq name (codes "UTC") ≡ b → (place_of name zones < length zones) ⊎ (HasZone name zones → ⊥)
-        → ((if b then 0 else 1 + place_of name zones) < 1 + length zones) ⊎ (NamesZone name zones → ⊥)
+    by : (b : Bool) → bytes_eq name (codes "UTC") ≡ b → (zone_place_of name zones < length zones) ⊎ (HasZone name zones → ⊥)
+        → ((if b then 0 else 1 + zone_place_of name zones) < 1 + length zones) ⊎ (NamesZone name zones → ⊥)
     by true e place = inl (omega arith)
     by false e (inl below) = inl (omega (arith, below))
     by false e (inr none) = inr (λ named. elim named [ inl same ↦ true≢false (sym ((bytes_eq-Decides name (codes "UTC")).1 same) ∙ e) | inr has ↦ none has ])
 
-has_below : (name : List ℕ) (zones : List NamedZone) → place_of name zones < length zones → HasZone name zones
+has_below : (name : List ℕ) (zones : List NamedZone) → zone_place_of name zones < length zones → HasZone name zones
 has_below name [] below = absurd (omega arith)
 has_below name (zone ∷ zones) below = by (bytes_eq zone.name name) refl (has_below name zones) below
   where
-    by : (b : Bool) → bytes_eq zone.name name ≡ b → (place_of name zones < length zones → HasZone name zones) → (if b then 0 else 1 + place_of name zones) < suc (length zones) → (zone.name ≡ name) ⊎ HasZone name zones
+    by : (b : Bool) → bytes_eq zone.name name ≡ b → (zone_place_of name zones < length zones → HasZone name zones) → (if b then 0 else 1 + zone_place_of name zones) < suc (length zones) → (zone.name ≡ name) ⊎ HasZone name zones
     by true e later below = inl ((bytes_eq-Decides zone.name name).0 e)
     by false e later below = inr (later (omega arith))
 
-below_has : (name : List ℕ) (zones : List NamedZone) → HasZone name zones → place_of name zones < length zones
+below_has : (name : List ℕ) (zones : List NamedZone) → HasZone name zones → zone_place_of name zones < length zones
 below_has name zones has = elim (named_place name zones) [ inl below ↦ below | inr none ↦ absurd (none has) ]
 
-number_is : (name : List ℕ) (zones : List NamedZone) → bytes_eq name (codes "UTC") ≡ false → zone_number name zones ≡ 1 + place_of name zones
-number_is name zones is = ap (λ b. if b then 0 else 1 + place_of name zones) is
+number_is : (name : List ℕ) (zones : List NamedZone) → bytes_eq name (codes "UTC") ≡ false → zone_number name zones ≡ 1 + zone_place_of name zones
+number_is name zones is = ap (λ b. if b then 0 else 1 + zone_place_of name zones) is
 
 -- the place of a name among lines as they stand in a program
-same_place : (name : List ℕ) (lines : List ZoneLine) → position_or_len (λ (line : ZoneLine). bytes_eq line.name.now name) lines ≡ place_of name (map zone_of lines)
+same_place : (name : List ℕ) (lines : List ZoneLine) → position_or_len (λ (line : ZoneLine). bytes_eq line.name.now name) lines ≡ zone_place_of name (map zone_of lines)
 same_place name [] = refl
 same_place name (line ∷ lines) = by (bytes_eq line.name.now name) (same_place name lines)
   where
-    by : (b : Bool) → position_or_len (λ (l : ZoneLine). bytes_eq l.name.now name) lines ≡ place_of name (map zone_of lines)
-        → cond (not b) (1 + position_or_len (λ (l : ZoneLine). bytes_eq l.name.now name) lines) 0 ≡ (if b then 0 else 1 + place_of name (map zone_of lines))
+    by : (b : Bool) → position_or_len (λ (l : ZoneLine). bytes_eq l.name.now name) lines ≡ zone_place_of name (map zone_of lines)
+        → cond (not b) (1 + position_or_len (λ (l : ZoneLine). bytes_eq l.name.now name) lines) 0 ≡ (if b then 0 else 1 + zone_place_of name (map zone_of lines))
     by true later = refl
     by false later = ap (λ n. 1 + n) later
 
@@ -76,7 +76,7 @@ found_line name lines place utc is = by (nat_lt (position_or_len (λ (line : Zon
     by : (b : Bool) → nat_lt first (length lines) ≡ b → Some place ≡ cond b (Some first) None → (place + 1 ≡ zone_number name (map zone_of lines)) × NamesZone name (map zone_of lines)
     by true below found =
         let here : place ≡ first = cc in
-        let same : first ≡ place_of name (map zone_of lines) = same_place name lines in
+        let same : first ≡ zone_place_of name (map zone_of lines) = same_place name lines in
         let inside : first < length lines = grind (arith, nat_tests) in
         let number = number_is name (map zone_of lines) utc in
         let size = length-map lines zone_of in
@@ -94,7 +94,7 @@ no_line name lines utc is (inr has) = by (nat_lt (position_or_len (λ (line : Zo
     by : (b : Bool) → nat_lt first (length lines) ≡ b → None ≡ cond b (Some first) None → ⊥
     by true below found = cc
     by false past found =
-        let same : first ≡ place_of name (map zone_of lines) = same_place name lines in
+        let same : first ≡ zone_place_of name (map zone_of lines) = same_place name lines in
         let below = below_has name (map zone_of lines) has in
         let size = length-map lines zone_of in
         let inside : first < length lines = omega arith in
@@ -149,7 +149,7 @@ built_next window lines items i d before after more same lt so_far is readable a
 
 -- the next zone of a run is refused
 pub bad_zone : (window : Window) (lines items : List ZoneLine) (i : ℕ) (d : ZoneLine) (before : List Zone) → items ≡ lines → i < length items
-    → BuiltSoFar window (take i (map zone_of lines)) before → (refusal : Refusal) → IsRefused (zone_of (get_or items i d)).source × (refusal ≡ at_line (zone_of (get_or items i d)).line BadZone)
+    → BuiltSoFar window (take i (map zone_of lines)) before → (refusal : Refusal) → IsSourceRefused (zone_of (get_or items i d)).source × (refusal ≡ at_line (zone_of (get_or items i d)).line BadZone)
     → HasBadZone (map zone_of lines) refusal
 bad_zone window lines items i d before same lt so_far refusal (refused, is) =
     let here = subst (λ l. BuiltSoFar window (take i (map zone_of l)) before) (sym same) so_far in

@@ -71,12 +71,12 @@ pub record RefusesSection (zones : List NamedZone) (old : List Job) (section : S
   pub refuses : RefusesMarks zones old marks refusal
 
 -- how many of the lines are entries
-abbrev pub entries_in : List LineBody → ℕ
-entries_in [] = 0
-entries_in (body ∷ bodies) = entries_of (is_entry body) + entries_in bodies
+abbrev pub entry_lines_in : List LineBody → ℕ
+entry_lines_in [] = 0
+entry_lines_in (body ∷ bodies) = entries_of (is_entry body) + entry_lines_in bodies
 
 -- the run's marks have these jobs, and none of them is at fault
-pub record HasMarks (run : Run) (jobs : List Job) : Type 0 where
+pub record HasMarkedJobs (run : Run) (jobs : List Job) : Type 0 where
   pub marks : List Mark
   pub are : AreMarks run.zones run.sections marks
   pub collected : Collected run.zones marks jobs

@@ -3,7 +3,7 @@
 use Rattle.std.specs.Prelude.{◌≡◌, ◌⊎◌, ℕ, ◌+◌, ◌*◌, List, [], ◌∷◌, ◌++◌, Option, None, Some, if◌then◌else◌, codes, decimal, map, bytes_eq}
 use Rattle.std.specs.List.{AllZip}
 use Rattle.anacron_text.specs.Answers.{Said, AreAnswersBelow}
-use Rattle.anacron_text.specs.LineBody.{AnacronLineBody, BlankBody as AnaBlank, CommentBody as AnaComment, AssignBody as AnaAssign, JobBody, Job as AnaJob}
+use Rattle.anacron_text.specs.LineBody.{AnacronLineBody, BlankBody as AnaBlank, CommentBody as AnaComment, AssignBody as AnaAssign, JobBody, AnacronJob as AnaJob}
 use Rattle.anacron_text.specs.LogicalLines.{joined, line_count}
 use Rattle.anacron_text.specs.Settings.{no_settings}
 use Rattle.anacron_text.specs.declared.answer.PeriodWord.{PeriodWord}
@@ -28,8 +28,8 @@ pub data Mark : Type 0 where
   MarksJob : (line : ℕ) → (name : List ℕ) → (zone : ℕ) → (kind : JobKind) → Mark
 
 -- the name of a crontab's job: LABEL:k, with k from 1
-abbrev pub job_name : List ℕ → ℕ → List ℕ
-job_name label count = label ++ (58 ∷ decimal count)
+abbrev pub crontab_job_name : List ℕ → ℕ → List ℕ
+crontab_job_name label count = label ++ (58 ∷ decimal count)
 
 -- when an entry runs: at the instants of its fields, or at no time, as `@reboot` (crontab(5))
 abbrev pub kind_of : Option Fields → JobKind
@@ -47,9 +47,9 @@ marks_from zones label zone line count (AssignBody name value ∷ bodies) =
     if bytes_eq name (codes "CRON_TZ") then MarksZone line value ∷ marks_from zones label (zone_number value zones) (line + 1) count bodies
     else marks_from zones label zone (line + 1) count bodies
 marks_from zones label zone line count (EntryBody fields user command ∷ bodies) =
-    MarksJob line (job_name label count) zone (Crontab fields) ∷ marks_from zones label zone (line + 1) (count + 1) bodies
+    MarksJob line (crontab_job_name label count) zone (Crontab fields) ∷ marks_from zones label zone (line + 1) (count + 1) bodies
 marks_from zones label zone line count (NickBody fields user command ∷ bodies) =
-    MarksJob line (job_name label count) zone (kind_of fields) ∷ marks_from zones label zone (line + 1) (count + 1) bodies
+    MarksJob line (crontab_job_name label count) zone (kind_of fields) ∷ marks_from zones label zone (line + 1) (count + 1) bodies
 
 -- the name of an anacrontab's job: LABEL/IDENTIFIER
 abbrev pub anacron_name : List ℕ → List ℕ → List ℕ

@@ -4,7 +4,7 @@ use Rattle.std.specs.List.{AllByRecursion}
 use Rattle.due_set.specs.Table.{Job, Table, IsShare}
 use Rattle.run_text.specs.Run.{NamedZone, Run}
 use Rattle.run_text.specs.declared.refusal.Refusal.{Refusal}
-use Rattle.zone_minutes.specs.Zone.{IsReadable, IsRefused}
+use Rattle.zone_minutes.specs.Zone.{IsReadable, IsSourceRefused}
 use Rattle.job_table.specs.Marks.{Mark, MarksZone, MarksJob, AreMarks, AreSound, IsFirstMarkFault}
 use Rattle.job_table.specs.Zones.{AreReadable, zones_over}
 use Rattle.cron_fields.specs.Cause.{cause_number}
@@ -61,7 +61,7 @@ pub record HasBadZone (zones : List NamedZone) (refusal : Refusal) : Type 0 wher
   pub after : List NamedZone
   pub parts : zones ≡ before ++ zone ∷ after
   pub readable : AreReadable before
-  pub refused : IsRefused zone.source
+  pub refused : IsSourceRefused zone.source
   pub is : refusal ≡ at_line zone.line BadZone
 
 -- the first line at fault, by its number
@@ -102,4 +102,4 @@ IsRefusedRun run refusal = HasBadZone run.zones refusal ⊎ HasBadTables run ref
 
 -- `jiff` reads or refuses each of the zones
 abbrev pub AreDecided : List NamedZone → Type 0
-AreDecided zones = AllByRecursion (λ zone. IsReadable zone.source ⊎ IsRefused zone.source) zones
+AreDecided zones = AllByRecursion (λ zone. IsReadable zone.source ⊎ IsSourceRefused zone.source) zones

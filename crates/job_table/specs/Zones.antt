@@ -15,13 +15,13 @@ abbrev pub NamesZone : List ℕ → List NamedZone → Type 0
 NamesZone name zones = (name ≡ codes "UTC") ⊎ HasZone name zones
 
 -- the place of the first zone of the name, from 0; behind the last one, where none has the name
-abbrev pub place_of : List ℕ → List NamedZone → ℕ
-place_of name [] = 0
-place_of name (zone ∷ zones) = if bytes_eq zone.name name then 0 else 1 + place_of name zones
+abbrev pub zone_place_of : List ℕ → List NamedZone → ℕ
+zone_place_of name [] = 0
+zone_place_of name (zone ∷ zones) = if bytes_eq zone.name name then 0 else 1 + zone_place_of name zones
 
 -- the number of the zone of the name: UTC's is 0, and the zones that the run names have 1, 2 and so on, in their order
 abbrev pub zone_number : List ℕ → List NamedZone → ℕ
-zone_number name zones = if bytes_eq name (codes "UTC") then 0 else 1 + place_of name zones
+zone_number name zones = if bytes_eq name (codes "UTC") then 0 else 1 + zone_place_of name zones
 
 -- the zones of the run's table by their numbers, each over the window
 abbrev pub zones_over : Window → List NamedZone → List Zone

@@ -6,7 +6,7 @@ ghost use Rattle.run_text.specs.Reading.{IsReadRun};
 ghost use Rattle.run_text.specs.Run.{section_of, run_of, zone_of};
 ghost use Rattle.run_text.specs.Steps.{IfRefused};
 ghost use Rattle.run_text.specs.Table.{AreSaid};
-ghost use Rattle.job_table.specs.Collect.{AddsSection, RefusesSection, HasMarks, HasFaultyMarks};
+ghost use Rattle.job_table.specs.Collect.{AddsSection, RefusesSection, HasMarkedJobs, HasFaultyMarks};
 
 use crate::anacrontab::add_anacrontab;
 use crate::crontab::add_crontab;
@@ -47,7 +47,7 @@ pub fn add_section(
 /// The first line that names no zone of the run, or brings a job whose name is there; or want of memory.
 pub fn collect(alloc: Global, run: &RunFile<'_>) -> Result<Jobs, RunFault>
     requires { IsReadRun run.now }
-    ensures jobs { IfOk result (HasMarks (run_of run.now)) }
+    ensures jobs { IfOk result (HasMarkedJobs (run_of run.now)) }
     ensures refused { IfErr result (λ fault. IfRefused fault (HasFaultyMarks (run_of run.now))) }
 {
     let mut jobs = Jobs::new(alloc);

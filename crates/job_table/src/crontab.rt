@@ -10,7 +10,7 @@ ghost use Rattle.run_text.specs.Steps.{IfRefused};
 ghost use Rattle.run_text.specs.Table.{Says};
 ghost use Rattle.job_table.specs.Collect.{AddsMarks, RefusesMarks, AddsSection, RefusesSection, IsBelow, line_marks, zone_below};
 ghost use Rattle.job_table.specs.Jobs.{named_job, HasJob};
-ghost use Rattle.job_table.specs.Marks.{kind_of, job_name};
+ghost use Rattle.job_table.specs.Marks.{kind_of, crontab_job_name};
 ghost use Rattle.job_table.specs.Table.{at_line};
 ghost use Rattle.job_table.specs.Zones.{NamesZone, zone_number};
 
@@ -73,10 +73,10 @@ fn add_entry(
 ) -> Result<Above, RunFault>
     requires { above.entries + 1 < 2 ^ 32 }
     ensures below { IfOk result (λ below. (below.entries ≡ above.entries + 1) × (below.zone ≡ above.zone)) }
-    ensures added { OnOk result (jobs.new ≡ jobs.old ++ named_job (job_name label.now (above.entries + 1)) above.zone kind ∷ []) }
-    ensures new { OnOk result (HasJob (job_name label.now (above.entries + 1)) jobs.old → ⊥) }
+    ensures added { OnOk result (jobs.new ≡ jobs.old ++ named_job (crontab_job_name label.now (above.entries + 1)) above.zone kind ∷ []) }
+    ensures new { OnOk result (HasJob (crontab_job_name label.now (above.entries + 1)) jobs.old → ⊥) }
     ensures refused { IfErr result (λ fault. IfRefused fault (λ refusal.
-        HasJob (job_name label.now (above.entries + 1)) jobs.old × (refusal ≡ at_line line Cause.DuplicateJob))) }
+        HasJob (crontab_job_name label.now (above.entries + 1)) jobs.old × (refusal ≡ at_line line Cause.DuplicateJob))) }
 {
     let entries = above.entries + 1;
     let zone = above.zone;
@@ -98,8 +98,10 @@ fn add_line(
     requires zones { length zones.now ≤ 32 }
     requires entries { above.entries + 1 < 2 ^ 32 }
     ensures below { IfOk result (IsBelow (map zone_of zones.now) above (body_of body.entry)) }
-    ensures added { OnOk result (AddsMarks (map zone_of zones.now) jobs.old jobs.new (line_marks (map zone_of zones.now) label.now above.zone at (above.entries + 1) (body_of body.entry))) }
-    ensures refused { IfErr result (λ fault. IfRefused fault (RefusesMarks (map zone_of zones.now) jobs.old (line_marks (map zone_of zones.now) label.now above.zone at (above.entries + 1) (body_of body.entry)))) }
+    ensures added { OnOk result (AddsMarks (map zone_of zones.now) jobs.old jobs.new
+        (line_marks (map zone_of zones.now) label.now above.zone at (above.entries + 1) (body_of body.entry))) }
+    ensures refused { IfErr result (λ fault. IfRefused fault (RefusesMarks (map zone_of zones.now) jobs.old
+        (line_marks (map zone_of zones.now) label.now above.zone at (above.entries + 1) (body_of body.entry)))) }
 {
     match body {
         Body::Blank | Body::Comment => Ok(above),

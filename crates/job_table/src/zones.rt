@@ -3,11 +3,11 @@ ghost use Rattle.std.specs.Prelude.{◌≡◌, ◌<◌, ◌≤◌, All, map, len
 ghost use Rattle.due_set.specs.Table.{IsBuiltFor};
 ghost use Rattle.hex.specs.Hex.{decode_of};
 ghost use Rattle.run_text.specs.Reading.{IsReadRun, HasDigits};
-ghost use Rattle.run_text.specs.Run.{zone_of, run_of, source_of};
+ghost use Rattle.run_text.specs.Run.{zone_of, run_of, source_of_zone};
 ghost use Rattle.run_text.specs.Sound.{IsSoundSource};
 ghost use Rattle.run_text.specs.Steps.{IfRefused};
 ghost use Rattle.zone_minutes.specs.Window.{IsWithinLimits};
-ghost use Rattle.zone_minutes.specs.Zone.{zone_over, IsReadable, IsRefused, IsOffsetInRange, source_of as zone_source};
+ghost use Rattle.zone_minutes.specs.Zone.{zone_over, IsReadable, IsSourceRefused, IsOffsetInRange, source_of as zone_source};
 ghost use Rattle.job_table.specs.Collect.{NamesNoZone};
 ghost use Rattle.job_table.specs.Table.{at_line, HasBadZone};
 ghost use Rattle.job_table.specs.Zones.{AreReadable, NamesZone, zone_number, zones_over};
@@ -72,7 +72,7 @@ fn build_source(
     ensures zone { IfOk result (λ zone. zone ≡ zone_over (zone_source source.now) window) }
     ensures readable { OnOk result (IsReadable (zone_source source.now)) }
     ensures refused { IfErr result (λ fault. IfRefused fault (λ refusal.
-        IsRefused (zone_source source.now) × (refusal ≡ at_line line Cause.BadZone))) }
+        IsSourceRefused (zone_source source.now) × (refusal ≡ at_line line Cause.BadZone))) }
 {
     match ZoneRuns::build(alloc, source, window) {
         Ok(zone) => Ok(zone),
@@ -96,12 +96,12 @@ fn bytes_of(alloc: Global, digits: &str) -> Result<Vec<u8>, OutOfMemory>
 // The zone of a line, over the window.
 fn build_zone(alloc: Global, zone: &ZoneLine<'_>, window: Window) -> Result<ZoneRuns, RunFault>
     requires limits { IsWithinLimits window }
-    requires offset { IsSoundSource (source_of zone.now.source) }
+    requires offset { IsSoundSource (source_of_zone zone.now.source) }
     requires digits { HasDigits zone.now }
-    ensures zone { IfOk result (λ runs. runs ≡ zone_over (source_of zone.now.source) window) }
-    ensures readable { OnOk result (IsReadable (source_of zone.now.source)) }
+    ensures zone { IfOk result (λ runs. runs ≡ zone_over (source_of_zone zone.now.source) window) }
+    ensures readable { OnOk result (IsReadable (source_of_zone zone.now.source)) }
     ensures refused { IfErr result (λ fault. IfRefused fault (λ refusal.
-        IsRefused (source_of zone.now.source) × (refusal ≡ at_line zone.now.line Cause.BadZone))) }
+        IsSourceRefused (source_of_zone zone.now.source) × (refusal ≡ at_line zone.now.line Cause.BadZone))) }
 {
     match zone.source {
         ZoneText::Fixed { minutes } => {

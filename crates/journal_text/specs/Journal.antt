@@ -26,11 +26,11 @@ cause_words (Hear letter) = codes "hear " ++ decimal letter
 cause_words Answer = codes "answer"
 
 -- the fate of a call, as scripts have it
-abbrev pub fate_word : Fate → List ℕ
-fate_word Done = codes "done"
-fate_word LostBefore = codes "lost-before"
-fate_word LostAfter = codes "lost-after"
-fate_word Late = codes "late"
+abbrev pub word_of_fate : Fate → List ℕ
+word_of_fate Done = codes "done"
+word_of_fate LostBefore = codes "lost-before"
+word_of_fate LostAfter = codes "lost-after"
+word_of_fate Late = codes "late"
 
 -- how a launch ended, behind its name
 abbrev pub end_word : Kind → List ℕ
@@ -45,7 +45,7 @@ answer_words table (Some row) = 32 ∷ (name_text table row.name ++ end_word row
 -- FATE and the answer, behind a blank, where a call was made
 abbrev pub call_words : Table → Option CallRow → List ℕ
 call_words table None = []
-call_words table (Some made) = 32 ∷ (fate_word made.fate ++ answer_words table made.answer)
+call_words table (Some made) = 32 ∷ (word_of_fate made.fate ++ answer_words table made.answer)
 
 -- whether the disk has what the turn was saving
 abbrev pub kept_word : Bool → List ℕ

@@ -1,7 +1,7 @@
 //! The line of the journal that tells a turn.
 ghost use Rattle.std.specs.Prelude.{◌≡◌, ◌++◌, ◌∷◌, [], string_bytes, IfSome, OnOk};
 ghost use Rattle.cluster_sched.specs.Names.{IsNameIn};
-ghost use Rattle.journal_text.specs.Journal.{answer_words, call_words, cause_words, end_word, fate_word, stop_words, turn_line, turn_words};
+ghost use Rattle.journal_text.specs.Journal.{answer_words, call_words, cause_words, end_word, word_of_fate, stop_words, turn_line, turn_words};
 ghost use Rattle.journal_text.specs.Told.{CanBeTold, HasStamp, IsAnsweredBy};
 
 use cluster_sched::{Fate, SchedRow, write_name};
@@ -30,7 +30,7 @@ fn push_cause(line: &mut String, cause: Cause) -> Result<(), OutOfMemory>
 }
 
 fn fate_str(fate: Fate) -> &'static str
-    ensures { result.now ≡ fate_word fate }
+    ensures { result.now ≡ word_of_fate fate }
 {
     match fate {
         Fate::Done => "done",

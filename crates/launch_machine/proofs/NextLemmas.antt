@@ -9,7 +9,7 @@ use Rattle.due_set.specs.Table.{Table}
 use Rattle.min_tree.specs.Least.{HasNone, HasNoneAtMost, IsAtMost, IsFirstAtMost, IsLeast}
 use Rattle.launch_machine.specs.Clerk.{TakesStart}
 use Rattle.launch_machine.specs.Intent.{MayCall}
-use Rattle.launch_machine.specs.Machine.{AreCalls, AreStarts, IsCallBeside, IsFirstStartOf, IsFirstToStart, IsStartBeside}
+use Rattle.launch_machine.specs.Machine.{AreCalls, AreNextStarts, IsCallBeside, IsFirstStartOf, IsFirstToStart, IsStartBeside}
 use Rattle.launch_machine.specs.Next.{IsNextStart, StartsNoMore}
 use Rattle.launch_machine.proofs.MachineLemmas.{beside_row, is_some_below}
 use Rattle.zone_minutes.specs.Window.{IsInWindow}
@@ -21,7 +21,7 @@ pub record StartStands (table : Table) (starts : List (Option ℤ)) (job : ℕ) 
   pub is_first : IsFirstToStart table job row first
   pub come : first ≤ℤ now
 
-pub start_stands : (table : Table) (rows : List JobRow) (starts : List (Option ℤ)) (job : ℕ) (at now : ℤ) → AreStarts table rows starts
+pub start_stands : (table : Table) (rows : List JobRow) (starts : List (Option ℤ)) (job : ℕ) (at now : ℤ) → AreNextStarts table rows starts
     → (takes : TakesStart table rows job at now) → StartStands table starts job takes.row now
 start_stands table rows starts job at now known takes =
     let found = beside_row (IsStartBeside table) rows starts job takes.row known takes.is_row in
@@ -36,7 +36,7 @@ pub record StartsAt (table : Table) (job : ℕ) (row : JobRow) (first : ℤ) : T
   pub idle : row.open_now ≡ None
   pub is_first : IsFirstToStart table job row first
 
-pub idle_first : (table : Table) (rows : List JobRow) (starts : List (Option ℤ)) (job : ℕ) (row : JobRow) (first : ℤ) → AreStarts table rows starts
+pub idle_first : (table : Table) (rows : List JobRow) (starts : List (Option ℤ)) (job : ℕ) (row : JobRow) (first : ℤ) → AreNextStarts table rows starts
     → slice_get rows job ≡ Some row → slice_get starts job ≡ Some (Some first) → StartsAt table job row first
 idle_first table rows starts job row first known is_row here = by row.open_now refl
   where
@@ -48,7 +48,7 @@ idle_first table rows starts job row first known is_row here = by row.open_now r
     by (Some since) is_open = absurd (cc (beside.opened since is_open))
 
 -- before it no start takes effect
-pub no_start_before : (table : Table) (rows : List JobRow) (starts : List (Option ℤ)) (job : ℕ) (at now first : ℤ) → AreStarts table rows starts
+pub no_start_before : (table : Table) (rows : List JobRow) (starts : List (Option ℤ)) (job : ℕ) (at now first : ℤ) → AreNextStarts table rows starts
     → slice_get starts job ≡ Some (Some first) → (first ≤ℤ now → ⊥) → TakesStart table rows job at now → ⊥
 no_start_before table rows starts job at now first known here late takes =
     let stands = start_stands table rows starts job at now known takes in
@@ -56,13 +56,13 @@ no_start_before table rows starts job at now first known here late takes =
     late (subst (λ (t : ℤ). t ≤ℤ now) same stands.come)
 
 -- and where none stands none does
-pub start_none : (table : Table) (rows : List JobRow) (starts : List (Option ℤ)) (job : ℕ) (at now : ℤ) → AreStarts table rows starts
+pub start_none : (table : Table) (rows : List JobRow) (starts : List (Option ℤ)) (job : ℕ) (at now : ℤ) → AreNextStarts table rows starts
     → slice_get starts job ≡ Some None → TakesStart table rows job at now → ⊥
 start_none table rows starts job at now known here takes =
     let stands = start_stands table rows starts job at now known takes in
     absurd (cc (stands.here, here))
 
-pub next_start_found : (table : Table) (rows : List JobRow) (starts : List (Option ℤ)) (first : ℤ) → AreStarts table rows starts → IsLeast starts first
+pub next_start_found : (table : Table) (rows : List JobRow) (starts : List (Option ℤ)) (first : ℤ) → AreNextStarts table rows starts → IsLeast starts first
     → IsNextStart table rows first
 next_start_found table rows starts first known least =
     let lt : least.place < length rows = subst (λ (n : ℕ). least.place < n) known.count (slice_get_within starts least.place (Some first) least.here) in
@@ -79,13 +79,13 @@ next_start_found table rows starts first known least =
           omega (arith, ints);
     }
 
-pub starts_no_more : (table : Table) (rows : List JobRow) (starts : List (Option ℤ)) → AreStarts table rows starts → HasNone starts → StartsNoMore table rows
+pub starts_no_more : (table : Table) (rows : List JobRow) (starts : List (Option ℤ)) → AreNextStarts table rows starts → HasNone starts → StartsNoMore table rows
 starts_no_more table rows starts known none job at now takes =
     let stands = start_stands table rows starts job at now known takes in
     none job stands.first stands.here
 
 -- no start takes effect where nothing that stands beside a row has come
-pub no_start_between : (table : Table) (rows : List JobRow) (starts : List (Option ℤ)) (now : ℤ) (from job : ℕ) → AreStarts table rows starts
+pub no_start_between : (table : Table) (rows : List JobRow) (starts : List (Option ℤ)) (now : ℤ) (from job : ℕ) → AreNextStarts table rows starts
     → ((before : ℕ) (other : ℤ) → before < from → TakesStart table rows before other now → ⊥)
     → ((before : ℕ) (value : Option ℤ) → from ≤ before → before < job → slice_get starts before ≡ Some value → IsAtMost now value → ⊥)
     → (before : ℕ) (other : ℤ) → before < job → TakesStart table rows before other now → ⊥
@@ -97,7 +97,7 @@ no_start_between table rows starts now from job known none between before other 
       | inr is ↦ none before other is.1 takes
     ]
 
-pub no_start_after : (table : Table) (rows : List JobRow) (starts : List (Option ℤ)) (now : ℤ) (from : ℕ) → AreStarts table rows starts
+pub no_start_after : (table : Table) (rows : List JobRow) (starts : List (Option ℤ)) (now : ℤ) (from : ℕ) → AreNextStarts table rows starts
     → ((before : ℕ) (other : ℤ) → before < from → TakesStart table rows before other now → ⊥) → HasNoneAtMost starts from now
     → (job : ℕ) (at : ℤ) → TakesStart table rows job at now → ⊥
 no_start_after table rows starts now from known none rest job at takes =

@@ -40,8 +40,8 @@ pub record AreBeside (holds : ℕ → JobRow → Option ℤ → Type 0) (rows : 
   pub each : (job : ℕ) (row : JobRow) (value : Option ℤ) → slice_get rows job ≡ Some row → slice_get values job ≡ Some value → holds job row value
 
 -- beside each row stands when its job may be started
-abbrev pub AreStarts : Table → List JobRow → List (Option ℤ) → Type 0
-AreStarts table rows starts = AreBeside (IsStartBeside table) rows starts
+abbrev pub AreNextStarts : Table → List JobRow → List (Option ℤ) → Type 0
+AreNextStarts table rows starts = AreBeside (IsStartBeside table) rows starts
 
 -- at an instant of the window at which the row's launch may be called, the one that stands beside it has come
 abbrev pub IsCallBeside : Table → ℕ → JobRow → Option ℤ → Type 0
@@ -56,18 +56,18 @@ AreCalls table rows calls = AreBeside (IsCallBeside table) rows calls
 -- the machine is one of this table
 pub record StandsFor (table : Table) (machine : Launches) : Type 0 where
   pub rows : RowsStand machine.rows (length table.jobs)
-  pub starts : AreStarts table machine.rows machine.starts
+  pub starts : AreNextStarts table machine.rows machine.starts
   pub calls : AreCalls table machine.rows machine.calls
 
 -- the row's counts can rise
-abbrev pub HasRoom : List JobRow → ℕ → Type 0
-HasRoom rows job = IfSome (slice_get rows job) (λ row. (row.launched + 1 < 2 ^ 32) × (row.voided + 1 < 2 ^ 32))
+abbrev pub CanRise : List JobRow → ℕ → Type 0
+CanRise rows job = IfSome (slice_get rows job) (λ row. (row.launched + 1 < 2 ^ 32) × (row.voided + 1 < 2 ^ 32))
 
 -- the entry's count can rise
 abbrev pub CanCount : List JobRow → Entry → Type 0
 CanCount rows Noop = ⊤
 CanCount rows (Start job at now) = ⊤
-CanCount rows (End job at kind) = HasRoom rows job
+CanCount rows (End job at kind) = CanRise rows job
 
 -- each count of the rows is below this
 abbrev pub CountsBelow : ℕ → List JobRow → Type 0

@@ -3,7 +3,7 @@ ghost use Rattle.std.specs.Prelude.{◌≡◌, ◌<◌, ℤ, length, IfSome, IfN
 ghost use Rattle.zone_minutes.specs.Window.{IsInWindow};
 ghost use Rattle.launch_machine.specs.Answers.{IsCallKind};
 ghost use Rattle.launch_machine.specs.Intent.{MayCall, NoCall, NoStart, IsFirstCall, IsFirstStart};
-ghost use Rattle.launch_machine.specs.Machine.{AreCalls, AreStarts};
+ghost use Rattle.launch_machine.specs.Machine.{AreCalls, AreNextStarts};
 
 use crate::next::start_at;
 use due_set::{JobTable, Kind2};
@@ -63,7 +63,7 @@ pub fn first_start(
     now: Minute,
 ) -> Option<(u32, i64)>
     requires count { length rows.now ≡ length table.now.jobs }
-    requires starts { AreStarts table.now rows.now starts.now }
+    requires starts { AreNextStarts table.now rows.now starts.now }
     ensures found { IfSome result (λ first. IsFirstStart table.now rows.now now.0 first.0 first.1) }
     ensures none { IfNone result (NoStart table.now rows.now now.0) }
 {

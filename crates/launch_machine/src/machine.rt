@@ -4,7 +4,7 @@ ghost use Rattle.paxos_base.specs.Rows.{RowsStand, OpenHasCursor};
 ghost use Rattle.due_set.specs.Table.{Table, IsSound};
 ghost use Rattle.launch_machine.specs.Answers.{IsEffect, IsIntent};
 ghost use Rattle.launch_machine.specs.Clerk.{Applies, first_rows};
-ghost use Rattle.launch_machine.specs.Machine.{CanCount, HasRoom, StandsFor};
+ghost use Rattle.launch_machine.specs.Machine.{CanCount, CanRise, StandsFor};
 ghost use Rattle.launch_machine.specs.Next.{IsNextStart, StartsNoMore};
 
 use crate::choice::{call_kind, first_call, first_start};
@@ -175,7 +175,7 @@ impl Machine {
     // Applies an end.
     fn end(&mut self, table: &JobTable, job: u32, at: i64, kind: Kind) -> Effect
         requires stands { StandsFor table.now self.old }
-        requires room { HasRoom self.old.rows job }
+        requires room { CanRise self.old.rows job }
         ensures applies { Applies table.now self.old.rows (Entry.End job at kind) self.new.rows }
         ensures stands { StandsFor table.now self.new }
         ensures effect { IsEffect table.now self.old.rows (Entry.End job at kind) result }

@@ -3,7 +3,7 @@ ghost use Rattle.std.specs.Prelude.{◌≡◌, ◌↔◌, ◌<◌, ℤ, ◌≤�
 ghost use Rattle.due_set.specs.Anacron.{IsFirstOpening, IsJobOpen};
 ghost use Rattle.due_set.specs.Table.{IsAfter, IsJobDue, IsNextDue};
 ghost use Rattle.launch_machine.specs.Clerk.{MayStart, TakesStart};
-ghost use Rattle.launch_machine.specs.Machine.{AreCalls, AreStarts, IsStartBeside, IsCallBeside, IsFirstStartOf, IsFirstToStart};
+ghost use Rattle.launch_machine.specs.Machine.{AreCalls, AreNextStarts, IsStartBeside, IsCallBeside, IsFirstStartOf, IsFirstToStart};
 
 use cron_io::OutOfMemory;
 use due_set::JobTable;
@@ -77,7 +77,7 @@ pub fn call_beside(table: &JobTable, job: u32, row: JobRow) -> Option<i64>
 /// What stands beside each row of the starts.
 pub fn starts_of(alloc: Global, table: &JobTable, rows: &[JobRow]) -> Result<LeastTree, OutOfMemory>
     requires { length rows.now ≡ length table.now.jobs }
-    ensures { IfOk result (λ starts. AreStarts table.now rows.now starts) }
+    ensures { IfOk result (λ starts. AreNextStarts table.now rows.now starts) }
 {
     let mut starts = Vec::new(alloc);
     for job in 0..table.jobs() {
@@ -107,7 +107,7 @@ pub fn start_at(
     now: i64,
 ) -> Option<i64>
     requires count { length rows.now ≡ length table.now.jobs }
-    requires starts { AreStarts table.now rows.now starts.now }
+    requires starts { AreNextStarts table.now rows.now starts.now }
     ensures found { IfSome result (λ at. TakesStart table.now rows.now job at now) }
     ensures none { IfNone result ((at : ℤ) → TakesStart table.now rows.now job at now → ⊥) }
 {
@@ -131,7 +131,7 @@ pub fn takes_start(
     now: i64,
 ) -> bool
     requires count { length rows.now ≡ length table.now.jobs }
-    requires starts { AreStarts table.now rows.now starts.now }
+    requires starts { AreNextStarts table.now rows.now starts.now }
     ensures { IsTrue result ↔ TakesStart table.now rows.now job at now }
 {
     match start_at(rows, starts, table, job, now) {

@@ -9,15 +9,15 @@ pub record LearnerState : Type 0 where
   pub spare : ℕ
 
 -- the first slot whose entry has not been learned
-abbrev pub prefix_of : LearnerState → ℕ
-prefix_of learner = learner.base + length learner.entries
+abbrev pub learned_prefix : LearnerState → ℕ
+learned_prefix learner = learner.base + length learner.entries
 
 -- the entry at a slot, where the learner has it
 abbrev pub entry_at : ℕ → LearnerState → Option Entry
 entry_at slot learner = if nat_le learner.base slot then slice_get learner.entries (slot - learner.base) else None
 
 -- a learner has learned one more entry
-pub record HasLearned (old new : LearnerState) (entry : Entry) : Type 0 where
+pub record HasLearnedOne (old new : LearnerState) (entry : Entry) : Type 0 where
   pub base : new.base ≡ old.base
   pub entries : new.entries ≡ old.entries ++ entry ∷ []
 
@@ -27,6 +27,6 @@ pub record IsRebased (old new : LearnerState) (base : ℕ) : Type 0 where
   pub entries : new.entries ≡ drop (base - old.base) old.entries
 
 -- one learner is as another, but for the room that it has
-pub record IsAlike (one other : LearnerState) : Type 0 where
+pub record IsSameLearner (one other : LearnerState) : Type 0 where
   pub base : one.base ≡ other.base
   pub entries : one.entries ≡ other.entries

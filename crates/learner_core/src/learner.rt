@@ -1,5 +1,5 @@
 ghost use Rattle.std.specs.Prelude.{◌≡◌, ℕ, ◌+◌, ◌<◌, ◌≤◌, ◌^◌, ◌↔◌, ◌≢◌, ◌-◌, [], max, drop, Ok, IfOk, IsOk, IsSome, OnOk, OnErr};
-ghost use Rattle.learner_core.specs.Learner.{prefix_of, entry_at, HasLearned, IsRebased, IsAlike};
+ghost use Rattle.learner_core.specs.Learner.{learned_prefix, entry_at, HasLearnedOne, IsRebased, IsSameLearner};
 
 use cron_io::OutOfMemory;
 use paxos_base::Entry;
@@ -49,7 +49,7 @@ impl Learner {
 
     /// Makes room for that many more entries at least. After want of memory all is as before.
     pub fn reserve(&mut self, more: usize) -> Result<(), OutOfMemory>
-        ensures alike { IsAlike self.new self.old }
+        ensures alike { IsSameLearner self.new self.old }
         ensures room { OnOk result (more ≤ self.new.spare) }
         ensures had_room { more ≤ self.old.spare → IsOk result }
         ensures err { OnErr result (self.new ≡ self.old) }
@@ -60,7 +60,7 @@ impl Learner {
 
     /// The first slot whose entry has not been learned.
     pub fn prefix(&self) -> u64
-        ensures { result ≡ prefix_of self.now }
+        ensures { result ≡ learned_prefix self.now }
     {
         self.base + self.entries.len() as u64
     }
@@ -75,7 +75,7 @@ impl Learner {
     /// The entry at a slot, which the learner has exactly from its base on and before its prefix.
     pub fn entry_at(&self, slot: u64) -> Option<Entry>
         ensures entry { result ≡ entry_at slot self.now }
-        ensures known { IsSome result ↔ ((self.now.base ≤ slot) × (slot < prefix_of self.now)) }
+        ensures known { IsSome result ↔ ((self.now.base ≤ slot) × (slot < learned_prefix self.now)) }
     {
         if slot < self.prefix() && self.base <= slot {
             Some(self.entries[(slot - self.base) as usize])
@@ -99,14 +99,14 @@ impl Learner {
     ///
     /// Want of memory, where the entry is the next one and there is no room for it. What was learned stays.
     pub fn learn(&mut self, slot: u64, entry: Entry) -> Result<Learnt, OutOfMemory>
-        requires { prefix_of self.old < 2 ^ 63 }
-        ensures old { (result ≡ Ok Learnt.Old) ↔ (slot < prefix_of self.old) }
-        ensures gap { (result ≡ Ok Learnt.Gap) ↔ (prefix_of self.old < slot) }
-        ensures new { IfOk result (λ learnt. (learnt ≡ Learnt.New) ↔ (slot ≡ prefix_of self.old)) }
-        ensures learned { result ≡ Ok Learnt.New → HasLearned self.old self.new entry }
+        requires { learned_prefix self.old < 2 ^ 63 }
+        ensures old { (result ≡ Ok Learnt.Old) ↔ (slot < learned_prefix self.old) }
+        ensures gap { (result ≡ Ok Learnt.Gap) ↔ (learned_prefix self.old < slot) }
+        ensures new { IfOk result (λ learnt. (learnt ≡ Learnt.New) ↔ (slot ≡ learned_prefix self.old)) }
+        ensures learned { result ≡ Ok Learnt.New → HasLearnedOne self.old self.new entry }
         ensures room { 1 ≤ self.old.spare → IsOk result }
         ensures spare { self.old.spare ≤ self.new.spare + 1 }
-        ensures kept { result ≢ Ok Learnt.New → IsAlike self.new self.old }
+        ensures kept { result ≢ Ok Learnt.New → IsSameLearner self.new self.old }
     {
         let prefix = self.prefix();
         if slot < prefix {
@@ -123,7 +123,7 @@ impl Learner {
     pub fn rebase(&mut self, base: u64)
         requires { self.old.base < base }
         ensures rebased { IsRebased self.old self.new base }
-        ensures prefix { prefix_of self.new ≡ max (prefix_of self.old) base }
+        ensures prefix { learned_prefix self.new ≡ max (learned_prefix self.old) base }
         ensures entries { (slot : ℕ) → base ≤ slot → entry_at slot self.new ≡ entry_at slot self.old }
         ensures spare { self.old.spare ≤ self.new.spare }
     {
@@ -134,7 +134,7 @@ impl Learner {
 
     /// An equal learner, but for the room for entries.
     pub fn copy(&self) -> Result<Learner, OutOfMemory>
-        ensures { IfOk result (λ copy. IsAlike copy self.now) }
+        ensures { IfOk result (λ copy. IsSameLearner copy self.now) }
     {
         Ok(Learner {
             base: self.base,

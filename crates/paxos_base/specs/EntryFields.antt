@@ -13,6 +13,7 @@ pub record EntryNumbers : Type 0 where
   pub at : ℤ
   pub now : ℤ
 
+-- the numbers of an entry, by the order of its fields
 abbrev pub entry_numbers : ℕ → ℕ → ℤ → ℤ → EntryNumbers
 entry_numbers tag job at now = record { tag = tag; job = job; at = at; now = now }
 

@@ -2,6 +2,7 @@
 use Rattle.std.specs.Prelude.{ℕ, ◌+◌, ℤ, List, [], ◌∷◌, ◌++◌, length, take, drop}
 use Rattle.std.specs.Int.{w64, to_be_bytes, cast_unsigned}
 
+-- the fields of a packet
 pub data Field : Type 0 where
   KindField : Field
   FromField : Field

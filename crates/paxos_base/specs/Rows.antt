@@ -7,6 +7,7 @@ use Rattle.paxos_base.specs.declared.rows.JobRow.{JobRow}
 abbrev pub OpenHasCursor : JobRow → Type 0
 OpenHasCursor row = IsSome row.open_now → IsSome row.cursor
 
+-- each open row has a cursor
 abbrev pub OpenHaveCursors : List JobRow → Type 0
 OpenHaveCursors rows = All OpenHasCursor rows
 

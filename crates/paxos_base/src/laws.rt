@@ -28,7 +28,8 @@ pub fn slots_have_one_vote()
 /// A law, with nothing to run: a vote that is put into a list is the one at its slot, each other slot keeps its vote, and
 /// slots that rise still do.
 pub fn a_vote_takes_its_slot()
-    ensures at { (slot : ℕ) (vote : Vote) (votes : List Vote) → vote_at slot (put_vote vote votes) ≡ (if vote.slot == slot then Some vote else vote_at slot votes) }
+    ensures at { (slot : ℕ) (vote : Vote) (votes : List Vote)
+        → vote_at slot (put_vote vote votes) ≡ (if vote.slot == slot then Some vote else vote_at slot votes) }
     ensures rise { (vote : Vote) (votes : List Vote) → SlotsRise votes → SlotsRise (put_vote vote votes) }
 {}
 
@@ -50,8 +51,11 @@ pub fn a_change_brings_what_it_names()
     ensures base { (slot : ℕ) (rows : List JobRow) (kept : Durable) → (after_delta (Base slot rows) kept).base ≡ slot }
     ensures rows { (slot : ℕ) (rows : List JobRow) (kept : Durable) → (after_delta (Base slot rows) kept).rows ≡ rows }
     ensures votes_from_the_base { (slot : ℕ) (rows : List JobRow) (kept : Durable) → (after_delta (Base slot rows) kept).votes ≡ votes_from slot kept.votes }
-    ensures all_else_after_a_round { (ballot : ℕ) (kept : Durable) → record (after_delta (Tried ballot) kept) { tried = kept.tried; promised = kept.promised } ≡ kept }
+    ensures all_else_after_a_round { (ballot : ℕ) (kept : Durable)
+        → record (after_delta (Tried ballot) kept) { tried = kept.tried; promised = kept.promised } ≡ kept }
     ensures all_else_after_a_promise { (ballot : ℕ) (kept : Durable) → record (after_delta (Promised ballot) kept) { promised = kept.promised } ≡ kept }
-    ensures all_else_after_a_vote { (vote : Vote) (kept : Durable) → record (after_delta (Voted vote) kept) { promised = kept.promised; votes = kept.votes } ≡ kept }
-    ensures all_else_after_a_base { (slot : ℕ) (rows : List JobRow) (kept : Durable) → record (after_delta (Base slot rows) kept) { votes = kept.votes; base = kept.base; rows = kept.rows } ≡ kept }
+    ensures all_else_after_a_vote { (vote : Vote) (kept : Durable)
+        → record (after_delta (Voted vote) kept) { promised = kept.promised; votes = kept.votes } ≡ kept }
+    ensures all_else_after_a_base { (slot : ℕ) (rows : List JobRow) (kept : Durable)
+        → record (after_delta (Base slot rows) kept) { votes = kept.votes; base = kept.base; rows = kept.rows } ≡ kept }
 {}

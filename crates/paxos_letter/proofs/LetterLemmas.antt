@@ -18,7 +18,7 @@ use Rattle.paxos_letter.specs.Decoding.{LetterContents, packets_in}
 use Rattle.paxos_letter.specs.Spelling.{fields_of, packet_bytes, spelling, AllFit}
 use Rattle.paxos_letter.specs.Rules.{keeps_kind, keeps_zeros, keeps_members}
 use Rattle.paxos_letter.specs.Groups.{no_group, is_filled, keeps_group, after, keep_groups}
-use Rattle.paxos_letter.specs.Letters.{IsLetter, Spells, LettersHavePackets, LettersBreakNoRule, fault_at, or_later, fault_from, has_bad_length, sender_of, fault_of}
+use Rattle.paxos_letter.specs.Letters.{IsLetter, Spells, LettersHavePackets, LettersBreakNoRule, fault_at, or_later, fault_from, has_bad_length, sender_of, letter_fault_of}
 use Rattle.paxos_letter.proofs.FieldLemmas.{AreBytes, spelled_so, all_fit, read_again}
 use Rattle.paxos_letter.proofs.PacketBack.{same_packets, fields_of-zeros}
 use Rattle.paxos_letter.proofs.ReadLemmas.{fault_at-none, later_none, fields_of-packets}
@@ -130,7 +130,7 @@ none_some fault e = absurd cc
 pub record Again (members from : ℕ) (packets : List Packet) (bytes : List ℕ) : Type 0 where
   pub sender : sender_of bytes ≡ from
   pub fields : all_in bytes ≡ all_fields_of from packets
-  pub fault : fault_of members bytes ≡ fault_from members from no_group 0 (all_fields_of from packets)
+  pub fault : letter_fault_of members bytes ≡ fault_from members from no_group 0 (all_fields_of from packets)
 
 pub fields_of-from : (from : ℕ) (packet : Packet) → (fields_of from packet).from ≡ from
 fields_of-from from (Prepare ballot slot) = refl
@@ -187,7 +187,7 @@ letter_again members from packets bytes spells =
     spelled_again members from packets bytes spells.letter.some spells.fits spells.spelled
 
 -- a letter has no fault
-pub letter_none : (members from : ℕ) (packets : List Packet) (bytes : List ℕ) → Spells members from packets bytes → fault_of members bytes ≡ None
+pub letter_none : (members from : ℕ) (packets : List Packet) (bytes : List ℕ) → Spells members from packets bytes → letter_fault_of members bytes ≡ None
 letter_none members from packets bytes spells =
     let letter = spells.letter in
     let sound : Sound members from no_group packets = record { kinds = letter.kinds; members_keep = letter.members_keep; groups = letter.groups } in
@@ -195,7 +195,7 @@ letter_none members from packets bytes spells =
 
 -- a letter isn't read where there is a fault
 pub no_fault_of_letter : (members from : ℕ) (packets : List Packet) (bytes : List ℕ) (fault : LetterFault) {X : Type 0} → Spells members from packets bytes
-    → fault_of members bytes ≡ Some fault → X
+    → letter_fault_of members bytes ≡ Some fault → X
 no_fault_of_letter members from packets bytes fault spells is =
     absurd (none_some fault (sym (letter_none members from packets bytes spells) ∙ is))
 
@@ -244,9 +244,9 @@ same_contents a b = cc
 -- ---- laws
 
 -- what breaks no rule is some packets, and they are a letter
-none_letter : (members from : ℕ) (packets : List Packet) → AllFit from packets → fault_of members (spelling from packets) ≡ None → IsLetter members from packets
+none_letter : (members from : ℕ) (packets : List Packet) → AllFit from packets → letter_fault_of members (spelling from packets) ≡ None → IsLetter members from packets
 none_letter members from packets fits none =
-    let some : packets ≢ [] = λ empty. none_some (BadLength 0) (sym none ∙ ap (λ (ps : List Packet). fault_of members (spelling from ps)) empty) in
+    let some : packets ≢ [] = λ empty. none_some (BadLength 0) (sym none ∙ ap (λ (ps : List Packet). letter_fault_of members (spelling from ps)) empty) in
     let again = spelled_again members from packets (spelling from packets) some fits refl in
     let sound = none-Sound members from no_group 0 packets (sym again.fault ∙ none) in
     record { some = some; kinds = sound.kinds; members_keep = sound.members_keep; groups = sound.groups }

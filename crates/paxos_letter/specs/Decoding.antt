@@ -10,7 +10,7 @@ use Rattle.paxos_letter.specs.declared.fields.Fields.{Fields}
 use Rattle.paxos_letter.specs.declared.packet.Packet.{Packet}
 use Rattle.paxos_letter.specs.declared.packet.Packet.TheVariants.{Prepare, Promise, OldVote, Accept, Accepted, Nack, Known, AskFrom, Snap, SnapRow, Lead}
 use Rattle.paxos_letter.specs.Fields.{fields_in}
-use Rattle.paxos_letter.specs.Kinds.{prepare, promise, old_vote, accept, accepted, nack, known, ask_from, snap, snap_row}
+use Rattle.paxos_letter.specs.Kinds.{prepare, promise, old_vote_kind, accept, accepted, nack, known, ask_from, snap, snap_row}
 use Rattle.paxos_letter.specs.Rules.{has_cursor, is_open, has_last, KeepsRules}
 
 -- the replica that a letter is from, and its packets
@@ -43,7 +43,7 @@ unfoldable pub packet_of : Fields → Packet
 packet_of fields =
     if fields.kind == prepare then Prepare fields.ballot fields.slot
     else if fields.kind == promise then Promise fields.ballot fields.slot fields.old
-    else if fields.kind == old_vote then OldVote fields.ballot fields.slot fields.old (entry_of fields)
+    else if fields.kind == old_vote_kind then OldVote fields.ballot fields.slot fields.old (entry_of fields)
     else if fields.kind == accept then Accept fields.ballot fields.slot (entry_of fields)
     else if fields.kind == accepted then Accepted fields.ballot fields.slot
     else if fields.kind == nack then Nack fields.ballot fields.old

@@ -2,7 +2,7 @@
 use Rattle.std.specs.Prelude.{◌+◌, ◌-◌, Bool, false, not, ◌&&◌, ◌||◌, ◌==◌, nat_lt, if◌then◌else◌, List, [], ◌∷◌}
 use Rattle.paxos_letter.specs.declared.fields.Fields.{Fields}
 use Rattle.paxos_letter.specs.declared.group.Group.{Group}
-use Rattle.paxos_letter.specs.Kinds.{prepare, promise, old_vote, accept, snap, snap_row}
+use Rattle.paxos_letter.specs.Kinds.{prepare, promise, old_vote_kind, accept, snap, snap_row}
 
 -- before the first packet: nothing is owed, and nothing was asked
 abbrev pub no_group : Group
@@ -20,14 +20,14 @@ asks fields = (fields.kind == prepare) || ((fields.kind == accept) || (fields.ki
 -- none is owed.
 abbrev pub keeps_group : Group → Fields → Bool
 keeps_group group fields =
-    if fields.kind == old_vote then nat_lt 0 group.votes
+    if fields.kind == old_vote_kind then nat_lt 0 group.votes
     else if fields.kind == snap_row then nat_lt 0 group.rows && (fields.job == group.job)
     else is_filled group && not (group.asked && asks fields)
 
 -- what is owed after the packet
 abbrev pub after : Group → Fields → Group
 after group fields =
-    if fields.kind == old_vote then record group { votes = group.votes - 1 }
+    if fields.kind == old_vote_kind then record group { votes = group.votes - 1 }
     else if fields.kind == snap_row then record group { rows = group.rows - 1; job = group.job + 1 }
     else record {
       votes = if fields.kind == promise then fields.old else 0;

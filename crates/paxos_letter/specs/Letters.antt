@@ -63,8 +63,8 @@ abbrev pub sender_of : List ℕ → ℕ
 sender_of bytes = slice_index bytes (offset_of FromField)
 
 -- The first rule that bytes break: the length first, and then the packets in their order.
-abbrev pub fault_of : ℕ → List ℕ → Option LetterFault
-fault_of members bytes =
+abbrev pub letter_fault_of : ℕ → List ℕ → Option LetterFault
+letter_fault_of members bytes =
     if has_bad_length bytes then Some (BadLength 0) else fault_from members (sender_of bytes) no_group 0 (all_in bytes)
 
 -- bytes spell no two letters
@@ -83,4 +83,4 @@ LettersHavePackets =
 abbrev pub LettersBreakNoRule : Type 0
 LettersBreakNoRule =
     (members from : ℕ) (packets : List Packet) → AllFit from packets
-    → IsLetter members from packets ↔ (fault_of members (spelling from packets) ≡ None)
+    → IsLetter members from packets ↔ (letter_fault_of members (spelling from packets) ≡ None)

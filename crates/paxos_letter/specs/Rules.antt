@@ -6,11 +6,11 @@ use Rattle.std.specs.Ordering.{int_eq}
 use Rattle.paxos_base.specs.Ballot.{is_ballot_of}
 use Rattle.paxos_base.specs.Packet.{Field, KindField, FromField, TagField, ZeroField, JobField, BallotField, SlotField, OldField, AtField, NowField, LastField, all_fields}
 use Rattle.paxos_letter.specs.declared.fields.Fields.{Fields}
-use Rattle.paxos_letter.specs.Kinds.{promise, old_vote, accept, nack, known, ask_from, snap, snap_row}
+use Rattle.paxos_letter.specs.Kinds.{promise, old_vote_kind, accept, nack, known, ask_from, snap, snap_row}
 
 -- a packet of its kind has an entry
 abbrev pub has_entry : Fields → Bool
-has_entry fields = (fields.kind == old_vote) || ((fields.kind == accept) || (fields.kind == known))
+has_entry fields = (fields.kind == old_vote_kind) || ((fields.kind == accept) || (fields.kind == known))
 
 -- a packet of its kind has a row
 abbrev pub has_row : Fields → Bool
@@ -52,7 +52,7 @@ uses fields JobField = (has_entry fields && not (fields.tag == 0)) || has_row fi
 uses fields BallotField = not ((fields.kind == known) || ((fields.kind == ask_from) || (fields.kind == snap)))
 uses fields SlotField = not (fields.kind == nack)
 uses fields OldField =
-    (fields.kind == promise) || ((fields.kind == old_vote) || ((fields.kind == nack) || ((fields.kind == snap) || (fields.kind == snap_row))))
+    (fields.kind == promise) || ((fields.kind == old_vote_kind) || ((fields.kind == nack) || ((fields.kind == snap) || (fields.kind == snap_row))))
 uses fields AtField = (has_entry fields && not (fields.tag == 0)) || (has_row fields && has_cursor fields)
 uses fields NowField = (has_entry fields && (fields.tag == 1)) || (has_row fields && is_open fields)
 uses fields LastField = has_row fields && has_last fields
@@ -95,12 +95,13 @@ has_ballot fields = uses fields BallotField && not (has_row fields)
 
 -- the field old has one
 abbrev pub has_old_ballot : Fields → Bool
-has_old_ballot fields = (fields.kind == old_vote) || (fields.kind == nack)
+has_old_ballot fields = (fields.kind == old_vote_kind) || (fields.kind == nack)
 
 -- the letter's sender is one of that many replicas, and the packet is of that sender
 abbrev pub keeps_members : ℕ → ℕ → Fields → Bool
 keeps_members members sender fields =
-    (nat_lt fields.from members && (fields.from == sender)) && ((not (has_ballot fields) || is_ballot_of members fields.ballot) && (not (has_old_ballot fields) || is_ballot_of members fields.old))
+    (nat_lt fields.from members && (fields.from == sender))
+    && ((not (has_ballot fields) || is_ballot_of members fields.ballot) && (not (has_old_ballot fields) || is_ballot_of members fields.old))
 
 -- the fields break no rule that a packet of the sender keeps by itself
 pub record KeepsRules (members sender : ℕ) (fields : Fields) : Type 0 where

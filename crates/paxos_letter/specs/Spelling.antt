@@ -6,7 +6,7 @@ use Rattle.paxos_base.specs.EntryFields.{EntryNumbers, numbers_of}
 use Rattle.paxos_letter.specs.declared.fields.Fields.{Fields}
 use Rattle.paxos_letter.specs.declared.packet.Packet.{Packet}
 use Rattle.paxos_letter.specs.declared.packet.Packet.TheVariants.{Prepare, Promise, OldVote, Accept, Accepted, Nack, Known, AskFrom, Snap, SnapRow, Lead}
-use Rattle.paxos_letter.specs.Kinds.{prepare, promise, old_vote, accept, accepted, nack, known, ask_from, snap, snap_row, lead}
+use Rattle.paxos_letter.specs.Kinds.{prepare, promise, old_vote_kind, accept, accepted, nack, known, ask_from, snap, snap_row, lead}
 use Rattle.paxos_letter.specs.Fields.{blank, bytes_of, FitPacketFields}
 
 -- the fields of a packet that has nothing but a kind, a sender and an entry
@@ -28,7 +28,7 @@ abbrev pub fields_of : ℕ → Packet → Fields
 fields_of from (Prepare ballot slot) = record (blank prepare from) { ballot = ballot; slot = slot }
 fields_of from (Promise ballot slot count) = record (blank promise from) { ballot = ballot; slot = slot; old = count }
 fields_of from (OldVote ballot slot cast entry) =
-    record (with_entry old_vote from (numbers_of entry)) { ballot = ballot; slot = slot; old = cast }
+    record (with_entry old_vote_kind from (numbers_of entry)) { ballot = ballot; slot = slot; old = cast }
 fields_of from (Accept ballot slot entry) =
     record (with_entry accept from (numbers_of entry)) { ballot = ballot; slot = slot }
 fields_of from (Accepted ballot slot) = record (blank accepted from) { ballot = ballot; slot = slot }

@@ -4,7 +4,7 @@ ghost use Rattle.std.specs.Prelude.{◌≡◌, ◌≤◌, ◌↔◌, ℕ, List, 
 ghost use Rattle.std.specs.Iterator.{YieldsFirst, item_count};
 ghost use Rattle.paxos_letter.specs.declared.fault.LetterFault.{LetterFault};
 ghost use Rattle.paxos_letter.specs.declared.packet.Packet.{Packet};
-ghost use Rattle.paxos_letter.specs.Letters.{Spells, fault_of};
+ghost use Rattle.paxos_letter.specs.Letters.{Spells, letter_fault_of};
 
 use crate::checking::first_fault;
 use crate::decoding::packet_of;
@@ -49,7 +49,7 @@ impl<'a> Letter<'a> {
             → Spells members from packets bytes.now → result ≡ Ok (record { from = from; packets = packets }) }
 
         // A fault is answered exactly where there is one, and is the first.
-        ensures fault { (fault : LetterFault) → (result ≡ Err fault) ↔ (fault_of members bytes.now ≡ Some fault) }
+        ensures fault { (fault : LetterFault) → (result ≡ Err fault) ↔ (letter_fault_of members bytes.now ≡ Some fault) }
     {
         if bytes.is_empty() || bytes.len() % PACKET_BYTES != 0 {
             return Err(LetterFault::BadLength { packet: 0 });

@@ -1,7 +1,7 @@
 //! The letters between replicas. A list of packets has one spelling, which `write_letter` appends (`spelling`).
 //! `Letter::read` takes exactly the bytes that are the spelling of a letter, with that letter's sender and packets
 //! (clauses `found`, `only`); otherwise it names the first rule that is broken, and the packet that breaks it
-//! (clause `fault`, `fault_of`). `Letter::packets` gives the packets in their order, each decoded in place as it is
+//! (clause `fault`, `letter_fault_of`). `Letter::packets` gives the packets in their order, each decoded in place as it is
 //! asked for (`Packets`, `next_gives`), and `copy` looks ahead of them. None of these calls takes memory. Letters
 //! differ in their bytes (`letters_differ_in_their_bytes`), a letter has a packet or more of 56 bytes each
 //! (`letters_have_packets`), and packets are a letter exactly if their spelling breaks no rule

@@ -23,9 +23,9 @@ use Rattle.step_spec.specs.State.{Identity, State, prefix_of}
 use Rattle.step_spec.specs.Step.{asks_change}
 use Rattle.replica_draft.specs.Draft.{Desk, Goes, begins_copy, done, drafted, has_copied, said_by, said_in, said_of}
 use Rattle.replica_draft.specs.declared.draft.Sent.{Sent}
-use Rattle.replica_core.specs.Lines.{Does, IsFixed}
+use Rattle.replica_core.specs.Lines.{GoesOnByActs, IsFixed}
 use Rattle.replica_core.specs.Heard.{BringsRows, BringsRowsIn, HearsBy, ballot_named, changes_asked, hear_in, line_in, message_in, once_in, shows_gap_in}
-use Rattle.replica_core.specs.Replica.{DoesAsTerm, IsSteady, Makes, changes_in, idle_desk, identity_of, fixed_of, next_slot, state_of}
+use Rattle.replica_core.specs.Replica.{DoesAsTerm, IsDraftSteady, Makes, changes_of_draft, idle_desk, own_identity, fixed_of, next_slot, state_of}
 use Rattle.replica_draft.specs.declared.draft.Draft.{Draft}
 use Rattle.replica_core.specs.declared.parts.Core.{Core}
 use Rattle.replica_draft.proofs.DraftLemmas.{done-append, done-nil}
@@ -37,7 +37,7 @@ core-kept core base = record { acceptor = record { promised = refl; votes = refl
 
 -- what a line of the table does, it does for the replica
 pub of_state : {X E : Type 0} (result : Result X E) (core : Core) (old new : Draft) (acts : State → List Act) → core.learner.base ≡ core.acceptor.base
-    → OnOk result (Does core old new acts) → OnOk result (HearsBy core old new acts)
+    → OnOk result (GoesOnByActs core old new acts) → OnOk result (HearsBy core old new acts)
 of_state (Ok value) core old new acts base does = does (fixed_of core) (core-kept core base)
 of_state (Err fault) core old new acts base does = tt
 
@@ -216,22 +216,22 @@ copied-none core draft idle =
 -- what holds while some packets of a letter are left to hear: what they ask for leads to what the whole letter does, with few changes
 -- and entries, and they bring rows of the table
 pub record Hearing (table : Table) (core : Core) (from : ℕ) (packets left : List Packet) (asked : Bool) (draft : Draft) : Type 0 where
-  pub acts : done (hear_all (identity_of core) from (messages_of left) (once_in asked draft) (drafted (fixed_of core) draft).state) (drafted (fixed_of core) draft) ≡ done (hear_all (identity_of core) from (messages_of packets) not_yet (state_of core)) (idle_desk core)
-  pub steady : IsSteady table core draft
-  pub once : changes_in draft.change + count_by asks_change (messages_of left) ≤ 1
+  pub acts : done (hear_all (own_identity core) from (messages_of left) (once_in asked draft) (drafted (fixed_of core) draft).state) (drafted (fixed_of core) draft) ≡ done (hear_all (own_identity core) from (messages_of packets) not_yet (state_of core)) (idle_desk core)
+  pub steady : IsDraftSteady table core draft
+  pub once : changes_of_draft draft.change + count_by asks_change (messages_of left) ≤ 1
   pub few : length draft.learnt.items + length left ≤ length packets
   pub rows : AllByRecursion (BringsRows (length table.jobs)) (messages_of left)
   pub small : are_small (length table.jobs) left ≡ true
 
 -- before the first packet
-pub hearing-none : (table : Table) (core : Core) (from : ℕ) (packets : List Packet) (draft : Draft) → drafted (fixed_of core) draft ≡ idle_desk core → IsSteady table core draft → draft.change ≡ None
+pub hearing-none : (table : Table) (core : Core) (from : ℕ) (packets : List Packet) (draft : Draft) → drafted (fixed_of core) draft ≡ idle_desk core → IsDraftSteady table core draft → draft.change ≡ None
     → draft.learnt.items ≡ [] → count_by asks_change (messages_of packets) ≤ 1 → AllByRecursion (BringsRows (length table.jobs)) (messages_of packets) → are_small (length table.jobs) packets ≡ true
     → Hearing table core from packets packets false draft
 hearing-none table core from packets draft idle steady none nothing once rows small =
     let quiet = copied-none core draft idle in
     record {
-      acts = ap (λ (desk : Desk). done (hear_all (identity_of core) from (messages_of packets) (once_in false draft) desk.state) desk) idle
-          ∙ ap (λ (copied : Bool). done (hear_all (identity_of core) from (messages_of packets) (record { asked = false; copied = copied }) (state_of core)) (idle_desk core)) quiet;
+      acts = ap (λ (desk : Desk). done (hear_all (own_identity core) from (messages_of packets) (once_in false draft) desk.state) desk) idle
+          ∙ ap (λ (copied : Bool). done (hear_all (own_identity core) from (messages_of packets) (record { asked = false; copied = copied }) (state_of core)) (idle_desk core)) quiet;
       steady = steady;
       once = rw none (omega (arith, once));
       few = rw nothing (omega arith);
@@ -260,11 +260,11 @@ first-rows jobs (packet.Lead ballot slot) rest rows = rows
 
 -- one packet more was heard
 pub hearing-next : (table : Table) (core : Core) (from : ℕ) (packets rest : List Packet) (packet : Packet) (asked now_asked : Bool) (old new : Draft) → Hearing table core from packets (packet ∷ rest) asked old
-    → now_asked ≡ (asked || shows_gap_in packet (drafted (fixed_of core) old).state) → HearsBy core old new (hear_in (identity_of core) from (message_in packet rest) (once_in asked old)) → IsSteady table core new
-    → changes_in new.change ≤ changes_in old.change + changes_asked packet → length new.learnt.items ≤ length old.learnt.items + 1
+    → now_asked ≡ (asked || shows_gap_in packet (drafted (fixed_of core) old).state) → HearsBy core old new (hear_in (own_identity core) from (message_in packet rest) (once_in asked old)) → IsDraftSteady table core new
+    → changes_of_draft new.change ≤ changes_of_draft old.change + changes_asked packet → length new.learnt.items ≤ length old.learnt.items + 1
     → Hearing table core from packets rest now_asked new
 hearing-next table core from packets rest packet asked now_asked old new hearing shows heard steady once few =
-    let self = identity_of core in
+    let self = own_identity core in
     let desk = drafted (fixed_of core) old in
     let now = hear_in self from (message_in packet rest) (once_in asked old) desk.state in
     let after = once_next packet desk.state now (once_in asked old) in
@@ -290,7 +290,7 @@ hearing-next table core from packets rest packet asked now_asked old new hearing
 
 -- once all packets were heard, the draft makes just what the letter asks for
 pub hearing-all : (table : Table) (core : Core) (from : ℕ) (packets : List Packet) (asked : Bool) (draft : Draft) → Hearing table core from packets [] asked draft
-    → Makes core (hear_all (identity_of core) from (messages_of packets) not_yet (state_of core)) draft
+    → Makes core (hear_all (own_identity core) from (messages_of packets) not_yet (state_of core)) draft
 unfolding hear_all messages_of
 hearing-all table core from packets asked draft hearing = sym (done-nil (drafted (fixed_of core) draft)) ∙ hearing.acts
 

@@ -28,8 +28,8 @@ use Rattle.step_spec.specs.Message.{Accept, Known, Others, Outside, Prepare}
 use Rattle.step_spec.specs.Propose.{answer, campaign, end_if, is_long, is_open, lead_if, lead_on, next_ballot, propose, tick, vote_of, wait}
 use Rattle.step_spec.specs.State.{Identity, State, prefix_of}
 use Rattle.replica_draft.specs.Draft.{Chooses, Goes, FixedParts, TakesTable, done, drafted, said_by, with_best}
-use Rattle.replica_core.specs.Lines.{Does, IsFixed}
-use Rattle.replica_core.specs.Replica.{FliesAt, IsReadyAnyhow, IsWhole, Makes, identity_of, idle_desk, fixed_of, next_slot, state_of}
+use Rattle.replica_core.specs.Lines.{GoesOnByActs, IsFixed}
+use Rattle.replica_core.specs.Replica.{FliesAt, IsReadyAnyhow, IsWhole, Makes, own_identity, idle_desk, fixed_of, next_slot, state_of}
 use Rattle.replica_core.specs.declared.parts.Core.{Core}
 use Rattle.replica_draft.specs.declared.change.Change.TheVariants.{Tried}
 use Rattle.replica_draft.specs.declared.draft.Draft.{Draft}
@@ -89,7 +89,7 @@ makes core old new acts idle goes = goes (fixed_of core) ∙ ap (done acts) idle
 pub makes_nothing : (core : Core) (old : Draft) → drafted (fixed_of core) old ≡ idle_desk core → Makes core [] old
 makes_nothing core old idle = idle ∙ sym (done-nil (idle_desk core))
 
-pub nothing-learned : (learner : LearnerState) (draft : Draft) (slot : ℕ) → draft.change ≡ None → draft.learnt.items ≡ [] → slot ≡ learned.prefix_of learner → slot ≡ next_slot learner draft
+pub nothing-learned : (learner : LearnerState) (draft : Draft) (slot : ℕ) → draft.change ≡ None → draft.learnt.items ≡ [] → slot ≡ learned.learned_prefix learner → slot ≡ next_slot learner draft
 nothing-learned learner draft slot plain none at = rw (plain, none, at) (omega arith)
 
 -- a flight stands at a slot, whatever the votes
@@ -99,10 +99,10 @@ flies-outline prefix best (Candidate ballot first heard votes) flies = flies
 flies-outline prefix best (Leader ballot votes None) flies = flies
 flies-outline prefix best (Leader ballot votes (Some flight)) flies = flies
 
-pub begun-flies : (core : Core) (draft : Draft) → IsWhole core → with_best (best_votes core.term) draft.term ≡ core.term → FliesAt (learned.prefix_of core.learner) draft.term
+pub begun-flies : (core : Core) (draft : Draft) → IsWhole core → with_best (best_votes core.term) draft.term ≡ core.term → FliesAt (learned.learned_prefix core.learner) draft.term
 begun-flies core draft whole outline =
-    let flies : FliesAt (learned.prefix_of core.learner) (with_best (best_votes core.term) draft.term) = rw outline whole.flies in
-    flies-outline (learned.prefix_of core.learner) (best_votes core.term) draft.term flies
+    let flies : FliesAt (learned.learned_prefix core.learner) (with_best (best_votes core.term) draft.term) = rw outline whole.flies in
+    flies-outline (learned.learned_prefix core.learner) (best_votes core.term) draft.term flies
 
 pub begun-ready : (core : Core) (draft : Draft) → IsWhole core → with_best (best_votes core.term) draft.term ≡ core.term → draft.change ≡ None → draft.learnt.items ≡ [] → IsReadyAnyhow core draft
 begun-ready core draft whole outline plain none = ready-quiet core draft (rw plain tt) none (begun-flies core draft whole outline)
@@ -121,7 +121,7 @@ own_kept core whole = record {
   rows = refl;
 }
 
-pub own-prefix : (core : Core) → IsWhole core → learned.prefix_of core.learner ≡ prefix_of (state_of core)
+pub own-prefix : (core : Core) → IsWhole core → learned.learned_prefix core.learner ≡ prefix_of (state_of core)
 own-prefix core whole = ap (λ base. base + length core.learner.entries) whole.base
 
 -- ---- Propose
@@ -143,14 +143,14 @@ proposed-prefix kept old middle me vote goes = ap (λ desk. prefix_of desk.state
 
 pub proposes : (core : Core) (old middle new : Draft) (self : Identity) (vote : Vote) → has_majority self.members (only_member self.me) ≡ false
     → Goes old middle (Propose self.me vote ∷ []) → Goes middle new (Send Others (Accept vote) ∷ [])
-    → Does core old new (λ state. propose self vote)
+    → GoesOnByActs core old new (λ state. propose self vote)
 unfolding propose
 proposes core old middle new self vote waits first second kept is =
     rw waits (goes-on old middle new (Propose self.me vote ∷ []) (Send Others (Accept vote) ∷ []) first second kept)
 
 pub proposes-alone : (core : Core) (old middle sent new : Draft) (self : Identity) (vote : Vote) → has_majority self.members (only_member self.me) ≡ true
     → vote.slot ≡ next_slot core.learner old → Goes old middle (Propose self.me vote ∷ []) → Goes middle sent (Send Others (Accept vote) ∷ [])
-    → Chooses sent new vote.slot vote.entry → Does core old new (λ state. propose self vote)
+    → Chooses sent new vote.slot vote.entry → GoesOnByActs core old new (λ state. propose self vote)
 unfolding propose
 proposes-alone core old middle sent new self vote alone at first second chooses kept is =
     let goes : Goes old sent (proposed self.me vote) = goes-on old middle sent (Propose self.me vote ∷ []) (Send Others (Accept vote) ∷ []) first second in
@@ -162,8 +162,8 @@ proposes-alone core old middle sent new self vote alone at first second chooses 
     ∙ sym (done-append (proposed self.me vote) (Learn vote.slot vote.entry ∷ Send Others (Known vote.slot vote.entry) ∷ []) (drafted kept old)))
 
 pub makes_proposal : (core : Core) (old new : Draft) (vote : Vote) → IsWhole core → drafted (fixed_of core) old ≡ idle_desk core
-    → Does core old new (λ state. propose (identity_of core) vote) → Makes core (propose (identity_of core) vote) new
-makes_proposal core old new vote whole idle does = does (fixed_of core) (own_kept core whole) ∙ ap (done (propose (identity_of core) vote)) idle
+    → GoesOnByActs core old new (λ state. propose (own_identity core) vote) → Makes core (propose (own_identity core) vote) new
+makes_proposal core old new vote whole idle does = does (fixed_of core) (own_kept core whole) ∙ ap (done (propose (own_identity core) vote)) idle
 
 -- of what holds of a value that a call gave, what follows holds of it too
 pub if_ok : {X E : Type 0} (result : Result X E) (P Q : X → Type 0) → ((x : X) → P x → Q x) → IfOk result P → IfOk result Q
@@ -201,7 +201,7 @@ turned core ballot first =
 
 pub campaigns : (core : Core) (old new : Draft) (ballot first : ℕ) (own : List Vote) (term : Term) → drafted (fixed_of core) old ≡ idle_desk core → old.learnt.items ≡ [] → old.call ≡ None
     → first ≡ prefix_of (state_of core) → own ≡ votes_from first core.acceptor.votes → term ≡ candidacy core.members ballot first (only_member core.me) [] → ballot ≡ next_ballot core.me (state_of core)
-    → Goes (record old { best = Some own; change = Some (Tried ballot); term = term }) new (Send Others (Prepare ballot first) ∷ []) → Makes core (campaign (identity_of core) (state_of core)) new
+    → Goes (record old { best = Some own; change = Some (Tried ballot); term = term }) new (Send Others (Prepare ballot first) ∷ []) → Makes core (campaign (own_identity core) (state_of core)) new
 unfolding campaign
 campaigns core old new ballot first own term idle none no_call at votes begins next goes =
     rw (← next, ← at)

@@ -5,7 +5,7 @@ use Rattle.due_set.specs.Table.{Table}
 use Rattle.launch_machine.specs.Clerk.{Applies, AppliesAll}
 use Rattle.launch_machine.specs.Machine.{Launches, StandsFor, CountsBelow}
 use Rattle.launch_machine.proofs.ClerkLemmas.{AppliesAll-push}
-use Rattle.learner_core.specs.Learner.{LearnerState, HasLearned}
+use Rattle.learner_core.specs.Learner.{LearnerState, HasLearnedOne}
 use Rattle.paxos_base.specs.declared.entry.Entry.{Entry}
 use Rattle.step_spec.specs.declared.out.LearntRow.{LearntRow}
 use Rattle.replica_draft.specs.Draft.{entries_in}
@@ -32,7 +32,7 @@ Learning-none table first start entries room stands counts =
 
 -- one entry more
 pub Learning-next : (table : Table) (first learner later : LearnerState) (start machine next : Launches) (entries : List Entry) (n ended raised : ℕ) (none entry : Entry) → n < length entries
-    → get_or entries n none ≡ entry → Learning table first learner start machine entries n ended → HasLearned learner later entry → learner.spare ≤ later.spare + 1
+    → get_or entries n none ≡ entry → Learning table first learner start machine entries n ended → HasLearnedOne learner later entry → learner.spare ≤ later.spare + 1
     → Applies table machine.rows entry next.rows → StandsFor table next
     → raised ≡ max ended (count_ended next.rows entry) → Learning table first later start next entries (n + 1) raised
 Learning-next table first learner later start machine next entries n ended raised none entry within is known learned spare applies stands raised_is =

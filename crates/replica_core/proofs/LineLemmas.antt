@@ -22,7 +22,7 @@ use Rattle.step_spec.specs.Message.{AskFrom, Known, Nack, Only, Others, Promise}
 use Rattle.step_spec.specs.State.{State, prefix_of, promised_in}
 use Rattle.step_spec.specs.declared.out.LearntRow.{LearntRow}
 use Rattle.replica_draft.specs.Draft.{Chooses, Desk, Goes, FixedParts, LearnsNext, done, drafted, durable_of, entries_in, has_copied, learned_with, said_by, with_best}
-use Rattle.replica_core.specs.Lines.{Does, IsFixed, cast_vote, tell_vote}
+use Rattle.replica_core.specs.Lines.{GoesOnByActs, IsFixed, cast_vote, tell_vote}
 use Rattle.replica_core.specs.Replica.{DoesAsTerm, FliesAt, base_of, best_in, next_of, next_slot, rows_of}
 use Rattle.replica_core.specs.declared.parts.Core.{Core}
 use Rattle.replica_draft.specs.declared.change.Change.{Change}
@@ -36,12 +36,12 @@ done_as desk acts these same = ap (λ list. done list desk) (sym same)
 
 -- a draft that goes on by acts does what comes to these acts
 pub does_as : (core : Core) (old new : Draft) (acts : State → List Act) (these : List Act) → Goes old new these
-    → ((kept : FixedParts) → IsFixed core kept → acts (drafted kept old).state ≡ these) → Does core old new acts
+    → ((kept : FixedParts) → IsFixed core kept → acts (drafted kept old).state ≡ these) → GoesOnByActs core old new acts
 does_as core old new acts these goes same kept is = goes kept ∙ done_as (drafted kept old) (acts (drafted kept old).state) these (same kept is)
 
 -- nothing is done
 pub does_nothing : (core : Core) (old : Draft) (acts : State → List Act)
-    → ((kept : FixedParts) → IsFixed core kept → acts (drafted kept old).state ≡ []) → Does core old old acts
+    → ((kept : FixedParts) → IsFixed core kept → acts (drafted kept old).state ≡ []) → GoesOnByActs core old old acts
 does_nothing core old acts same = does_as core old old acts [] (λ kept. sym (done-nil (drafted kept old))) same
 
 -- the base and the rows there, with what a draft has taken
@@ -92,7 +92,7 @@ drafted-promised core draft kept none is = rw (none, is.acceptor.promised) refl
 
 pub prepare-refused : (core : Core) (old new : Draft) (from ballot slot promised : ℕ) → old.change ≡ None
     → (core.acceptor.promised ≡ Some promised) × (ballot ≤ promised) → Goes old new (Send (Only from) (Nack ballot promised) ∷ [])
-    → Does core old new (on_prepare from ballot slot (has_copied old))
+    → GoesOnByActs core old new (on_prepare from ballot slot (has_copied old))
 unfolding on_prepare
 prepare-refused core old new from ballot slot promised none refused goes =
     does_as core old new (on_prepare from ballot slot (has_copied old)) (Send (Only from) (Nack ballot promised) ∷ []) goes
@@ -106,7 +106,7 @@ above ballot None positive is = lt-leb ballot 0 positive
 above ballot (Some promised) positive is = lt-leb ballot promised is
 
 pub prepare-behind : (core : Core) (old new : Draft) (from ballot slot : ℕ) → old.change ≡ None → 0 < ballot → IsAbove ballot core.acceptor.promised → slot < core.acceptor.base
-    → Does core old new (snapshot from (has_copied old)) → Does core old new (on_prepare from ballot slot (has_copied old))
+    → GoesOnByActs core old new (snapshot from (has_copied old)) → GoesOnByActs core old new (on_prepare from ballot slot (has_copied old))
 unfolding on_prepare
 prepare-behind core old new from ballot slot none positive is_above behind sends kept is =
     sends kept is ∙ done_as (drafted kept old) (on_prepare from ballot slot (has_copied old) (drafted kept old).state) (snapshot from (has_copied old) (drafted kept old).state)
@@ -114,7 +114,7 @@ prepare-behind core old new from ballot slot none positive is_above behind sends
 
 pub prepare-promised : (core : Core) (old middle new : Draft) (from ballot slot : ℕ) → old.change ≡ None → 0 < ballot
     → IsAbove ballot core.acceptor.promised → core.acceptor.base ≤ slot → Goes old middle (Pledge ballot ∷ []) → Goes middle new (Send (Only from) (Promise ballot slot (votes_from slot core.acceptor.votes)) ∷ [])
-    → Does core old new (on_prepare from ballot slot (has_copied old))
+    → GoesOnByActs core old new (on_prepare from ballot slot (has_copied old))
 unfolding on_prepare
 prepare-promised core old middle new from ballot slot none positive is_above reaches pledged sent =
     does_as core old new (on_prepare from ballot slot (has_copied old)) (Pledge ballot ∷ Send (Only from) (Promise ballot slot (votes_from slot core.acceptor.votes)) ∷ [])
@@ -125,12 +125,12 @@ prepare-promised core old middle new from ballot slot none positive is_above rea
 -- ---- Accept
 
 pub asks : (core : Core) (old new : Draft) (from slot : ℕ) → next_slot core.learner old < slot
-    → Goes old new (Send (Only from) (AskFrom (next_slot core.learner old)) ∷ []) → Does core old new (ask_below from slot)
+    → Goes old new (Send (Only from) (AskFrom (next_slot core.learner old)) ∷ []) → GoesOnByActs core old new (ask_below from slot)
 asks core old new from slot below goes =
     does_as core old new (ask_below from slot) (Send (Only from) (AskFrom (next_slot core.learner old)) ∷ []) goes
     (λ kept is. rw (drafted-prefix core old kept is, lt-ltb (next_slot core.learner old) slot below) refl)
 
-pub asks_not : (core : Core) (old : Draft) (from slot : ℕ) → slot ≤ next_slot core.learner old → Does core old old (ask_below from slot)
+pub asks_not : (core : Core) (old : Draft) (from slot : ℕ) → slot ≤ next_slot core.learner old → GoesOnByActs core old old (ask_below from slot)
 asks_not core old from slot reached =
     does_nothing core old (ask_below from slot)
     (λ kept is. rw (drafted-prefix core old kept is, le-ltb (next_slot core.learner old) slot reached) refl)
@@ -141,7 +141,7 @@ unfolding after_act after_delta
 cast-prefix kept old middle vote goes = ap (λ desk. prefix_of desk.state) (goes kept)
 
 pub casts : (core : Core) (old middle new : Draft) (from : ℕ) (vote : Vote) → Goes old middle (Cast vote ∷ [])
-    → Does core middle new (tell_vote from vote) → Does core old new (cast_vote from vote)
+    → GoesOnByActs core middle new (tell_vote from vote) → GoesOnByActs core old new (cast_vote from vote)
 casts core old middle new from vote cast told kept is =
     told kept is
     ∙ rw (cast-prefix kept old middle vote cast) (ap (done (tell_vote from vote (drafted kept old).state)) (cast kept))
@@ -149,7 +149,7 @@ casts core old middle new from vote cast told kept is =
 
 pub accept-refused : (core : Core) (old new : Draft) (from promised : ℕ) (vote : Vote) → old.change ≡ None
     → (core.acceptor.promised ≡ Some promised) × (vote.ballot < promised) → Goes old new (Send (Only from) (Nack vote.ballot promised) ∷ [])
-    → Does core old new (on_accept from vote (has_copied old))
+    → GoesOnByActs core old new (on_accept from vote (has_copied old))
 unfolding on_accept
 accept-refused core old new from promised vote none refused goes =
     does_as core old new (on_accept from vote (has_copied old)) (Send (Only from) (Nack vote.ballot promised) ∷ []) goes
@@ -163,7 +163,7 @@ at_least ballot None is = le-ltb ballot 0 (omega arith)
 at_least ballot (Some promised) is = le-ltb ballot promised is
 
 pub accept-behind : (core : Core) (old new : Draft) (from : ℕ) (vote : Vote) → old.change ≡ None
-    → IsAtLeast vote.ballot core.acceptor.promised → vote.slot < core.acceptor.base → Does core old new (snapshot from (has_copied old)) → Does core old new (on_accept from vote (has_copied old))
+    → IsAtLeast vote.ballot core.acceptor.promised → vote.slot < core.acceptor.base → GoesOnByActs core old new (snapshot from (has_copied old)) → GoesOnByActs core old new (on_accept from vote (has_copied old))
 unfolding on_accept
 accept-behind core old new from vote none reaches behind sends kept is =
     sends kept is ∙ done_as (drafted kept old) (on_accept from vote (has_copied old) (drafted kept old).state) (snapshot from (has_copied old) (drafted kept old).state)
@@ -179,8 +179,8 @@ not_voted ballot None none = refl
 not_voted ballot (Some vote) none = ne_eqb vote.ballot ballot none
 
 pub accept-again : (core : Core) (old new : Draft) (from : ℕ) (vote : Vote) → old.change ≡ None
-    → IsAtLeast vote.ballot core.acceptor.promised → core.acceptor.base ≤ vote.slot → HasVoted core.acceptor vote.slot vote.ballot → Does core old new (tell_vote from vote)
-    → Does core old new (on_accept from vote (has_copied old))
+    → IsAtLeast vote.ballot core.acceptor.promised → core.acceptor.base ≤ vote.slot → HasVoted core.acceptor vote.slot vote.ballot → GoesOnByActs core old new (tell_vote from vote)
+    → GoesOnByActs core old new (on_accept from vote (has_copied old))
 unfolding on_accept
 accept-again core old new from vote none reaches above_base has told kept is =
     told kept is ∙ done_as (drafted kept old) (on_accept from vote (has_copied old) (drafted kept old).state) (tell_vote from vote (drafted kept old).state)
@@ -188,8 +188,8 @@ accept-again core old new from vote none reaches above_base has told kept is =
     (rw (none, sym is.acceptor.votes, voted vote.ballot (vote_at vote.slot core.acceptor.votes) has) refl))
 
 pub accept-cast : (core : Core) (old new : Draft) (from : ℕ) (vote : Vote) → old.change ≡ None
-    → IsAtLeast vote.ballot core.acceptor.promised → core.acceptor.base ≤ vote.slot → (HasVoted core.acceptor vote.slot vote.ballot → ⊥) → Does core old new (cast_vote from vote)
-    → Does core old new (on_accept from vote (has_copied old))
+    → IsAtLeast vote.ballot core.acceptor.promised → core.acceptor.base ≤ vote.slot → (HasVoted core.acceptor vote.slot vote.ballot → ⊥) → GoesOnByActs core old new (cast_vote from vote)
+    → GoesOnByActs core old new (on_accept from vote (has_copied old))
 unfolding on_accept
 accept-cast core old new from vote none reaches above_base has_not cast kept is =
     cast kept is ∙ done_as (drafted kept old) (on_accept from vote (has_copied old) (drafted kept old).state) (cast_vote from vote (drafted kept old).state)
@@ -199,7 +199,7 @@ accept-cast core old new from vote none reaches above_base has_not cast kept is 
 -- ---- Known
 
 pub known-next : (core : Core) (old new : Draft) (from slot : ℕ) (entry : Entry) (asked : Bool) → slot ≡ next_slot core.learner old
-    → LearnsNext old new slot entry → Does core old new (on_known from slot entry asked)
+    → LearnsNext old new slot entry → GoesOnByActs core old new (on_known from slot entry asked)
 unfolding on_known
 known-next core old new from slot entry asked at learns kept is =
     let next : slot ≡ prefix_of (drafted kept old).state = at ∙ sym (drafted-prefix core old kept is) in
@@ -207,14 +207,14 @@ known-next core old new from slot entry asked at learns kept is =
     (rw (eq-eqb slot (prefix_of (drafted kept old).state) next) refl)
 
 pub known-later : (core : Core) (old new : Draft) (from slot : ℕ) (entry : Entry) → (slot ≡ next_slot core.learner old → ⊥)
-    → Does core old new (ask_below from slot) → Does core old new (on_known from slot entry false)
+    → GoesOnByActs core old new (ask_below from slot) → GoesOnByActs core old new (on_known from slot entry false)
 unfolding on_known
 known-later core old new from slot entry other asks kept is =
     let differs : eqb slot (prefix_of (drafted kept old).state) ≡ false = ne_eqb slot (prefix_of (drafted kept old).state) (λ same. other (same ∙ drafted-prefix core old kept is)) in
     asks kept is ∙ done_as (drafted kept old) (on_known from slot entry false (drafted kept old).state) (ask_below from slot (drafted kept old).state) (rw differs refl)
 
 pub known-asked : (core : Core) (old : Draft) (from slot : ℕ) (entry : Entry) → (slot ≡ next_slot core.learner old → ⊥)
-    → Does core old old (on_known from slot entry true)
+    → GoesOnByActs core old old (on_known from slot entry true)
 unfolding on_known
 known-asked core old from slot entry other =
     does_nothing core old (on_known from slot entry true)

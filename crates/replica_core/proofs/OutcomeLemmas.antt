@@ -20,7 +20,7 @@ use Rattle.step_spec.specs.Step as told
 use Rattle.replica_draft.proofs.OneLemmas.{same-letters}
 use Rattle.replica_core.specs.Outcome.{IsSameOutcome}
 use Rattle.replica_core.specs.Replica.{ReplicaState}
-use Rattle.replica_core.specs.Step.{IsAlike, IsAskedFor, IsEventOf, Steps, Takes}
+use Rattle.replica_core.specs.Step.{IsSameReplica, IsAskedFor, IsEventOf, Steps, Takes}
 use Rattle.replica_core.specs.declared.input.Input.{Input}
 use Rattle.replica_core.specs.declared.input.Input.TheVariants as input
 use Rattle.replica_core.specs.declared.out.StepOut.{StepOut}
@@ -91,7 +91,7 @@ from_one table given old one other first second a b =
 
 -- ---- Replicas that are alike
 
-event_alike : (table : Table) (old other : ReplicaState) (given : Input) (event : Event) → IsAlike old other → IsEventOf table other given event → IsEventOf table old given event
+event_alike : (table : Table) (old other : ReplicaState) (given : Input) (event : Event) → IsSameReplica old other → IsEventOf table other given event → IsEventOf table old given event
 event_alike table old other input.Campaign event alike is = is
 event_alike table old other (input.Tick now) event alike (plan, asked, is) =
     (plan, record { rows = asked.rows ∙ sym (ap (λ (machine : Launches). machine.rows) alike.machine); intent = asked.intent }, is)
@@ -101,7 +101,7 @@ event_alike table old other (input.Hear bytes) event alike (from, messages, hear
 event_alike table old other (input.Answer job at kind) event alike is =
     is ∙ ap (told.Answer job at kind) (sym (ap (λ (machine : Launches). machine.rows) alike.machine))
 
-took_alike : (table : Table) (old other new : ReplicaState) (event : Event) (out : StepOut) → IsAlike old other → Takes table other new (step other.identity event other.state) out
+took_alike : (table : Table) (old other new : ReplicaState) (event : Event) (out : StepOut) → IsSameReplica old other → Takes table other new (step other.identity event other.state) out
     → Takes table old new (step old.identity event old.state) out
 took_alike table old other new event out alike took =
     record {
@@ -114,7 +114,7 @@ took_alike table old other new event out alike took =
       call = rw (alike.identity, alike.state) took.call;
     }
 
-pub one_outcome : (table : Table) (given : Input) (old other one two : ReplicaState) (first second : StepOut) → IsAlike old other → Steps table given old one first
+pub one_outcome : (table : Table) (given : Input) (old other one two : ReplicaState) (first second : StepOut) → IsSameReplica old other → Steps table given old one first
     → Steps table given other two second → IsSameOutcome one two first second
 one_outcome table given old other one two first second alike a b =
     from_one table given old one two first second a

@@ -18,8 +18,8 @@ use Rattle.launch_machine.specs.Answers.{IsIntent}
 use Rattle.launch_machine.specs.declared.machine.Intent.{Intent}
 use Rattle.replica_core.specs.declared.input.Input.TheVariants as input
 use Rattle.replica_draft.specs.Draft.{drafted, said_in, said_of}
-use Rattle.replica_core.specs.Replica.{Makes, identity_of, idle_desk, fixed_of, replica_of, state_of}
-use Rattle.replica_core.specs.Step.{Hears, IsEventOf, IsOfTable, MakesStep}
+use Rattle.replica_core.specs.Replica.{Makes, own_identity, idle_desk, fixed_of, replica_of_core, state_of}
+use Rattle.replica_core.specs.Step.{HearsLetter, IsEventOf, IsOfTable, MakesStep}
 use Rattle.replica_core.specs.declared.input.Input.{Input}
 use Rattle.replica_core.proofs.TableLemmas.{all-rows-heard, all-rows-sent, copyable, stand-before}
 use Rattle.replica_draft.specs.Letters.{BringsCopyable, IsCopyable}
@@ -40,13 +40,13 @@ read-from members from (packet ∷ packets) bytes spells =
 
 -- a letter beyond the bounds is heard as one without messages
 pub hears-nothing : (jobs from : ℕ) (packets : List Packet) (core : Core) (draft : Draft) → is_small_letter jobs packets ≡ false → drafted (fixed_of core) draft ≡ idle_desk core
-    → Makes core (hear_all (identity_of core) from (heard_in jobs packets) not_yet (state_of core)) draft
+    → Makes core (hear_all (own_identity core) from (heard_in jobs packets) not_yet (state_of core)) draft
 unfolding hear_all
 hears-nothing jobs from packets core draft large idle = rw large (idle ∙ sym (done-nil (idle_desk core)))
 
 -- a letter that was read is heard
 pub hears-letter : (table : Table) (jobs from : ℕ) (packets : List Packet) (bytes : List ℕ) (core : Core) (draft : Draft) → Spells core.members from packets bytes
-    → jobs ≡ length table.jobs → Makes core (hear_all (identity_of core) from (heard_in jobs packets) not_yet (state_of core)) draft → Hears table bytes core draft
+    → jobs ≡ length table.jobs → Makes core (hear_all (own_identity core) from (heard_in jobs packets) not_yet (state_of core)) draft → HearsLetter table bytes core draft
 hears-letter table jobs from packets bytes core draft spells jobs_are makes =
     record {
       from = from;
@@ -56,37 +56,37 @@ hears-letter table jobs from packets bytes core draft spells jobs_are makes =
     }
 
 -- what is said in a draft that makes acts is what they say
-pub said-made : (core : Core) (event : Event) (draft : Draft) → Makes core (step (identity_of core) event (state_of core)) draft
-    → map said_in draft.sends.items ≡ said_of (step (identity_of core) event (state_of core))
+pub said-made : (core : Core) (event : Event) (draft : Draft) → Makes core (step (own_identity core) event (state_of core)) draft
+    → map said_in draft.sends.items ≡ said_of (step (own_identity core) event (state_of core))
 said-made core event draft makes = ap (λ desk. desk.said) makes
 
 -- what each input has the replica do is a step
 
-pub campaign-step : (table : Table) (core : Core) (draft : Draft) → Makes core (campaign (identity_of core) (state_of core)) draft → MakesStep table input.Campaign core draft
+pub campaign-step : (table : Table) (core : Core) (draft : Draft) → Makes core (campaign (own_identity core) (state_of core)) draft → MakesStep table input.Campaign core draft
 unfolding step
 campaign-step table core draft makes = record { event = told.Campaign; event_is = refl; makes = makes }
 
 pub tick-step : (table : Table) (now : Minute) (core : Core) (draft : Draft) (intent : Intent) → IsIntent table core.machine.rows now.0 intent
-    → Makes core (tick (identity_of core) now.0 core.machine.rows intent (state_of core)) draft → MakesStep table (input.Tick now) core draft
+    → Makes core (tick (own_identity core) now.0 core.machine.rows intent (state_of core)) draft → MakesStep table (input.Tick now) core draft
 unfolding step
 tick-step table now core draft intent is_intent makes =
     let plan : Plan = record { rows = core.machine.rows; intent = intent } in
     record { event = told.Tick now.0 plan; event_is = (plan, record { rows = refl; intent = is_intent }, refl); makes = makes }
 
-pub hear-step : (table : Table) (bytes : Bor (List ℕ)) (core : Core) (draft : Draft) → Hears table bytes.now core draft → MakesStep table (input.Hear bytes) core draft
+pub hear-step : (table : Table) (bytes : Bor (List ℕ)) (core : Core) (draft : Draft) → HearsLetter table bytes.now core draft → MakesStep table (input.Hear bytes) core draft
 unfolding step
 hear-step table bytes core draft hears =
     record { event = told.Hear hears.from hears.messages; event_is = (hears.from, hears.messages, hears.heard, refl); makes = hears.makes }
 
 pub answer-step : (table : Table) (job : ℕ) (at : ℤ) (kind : Kind) (core : Core) (draft : Draft)
-    → Makes core (answer (identity_of core) job at kind core.machine.rows (state_of core)) draft → MakesStep table (input.Answer job at kind) core draft
+    → Makes core (answer (own_identity core) job at kind core.machine.rows (state_of core)) draft → MakesStep table (input.Answer job at kind) core draft
 unfolding step
 answer-step table job at kind core draft makes = record { event = told.Answer job at kind core.machine.rows; event_is = refl; makes = makes }
 
 -- ---- The rows that are sent
 
 -- the rows of an event of the replica can be sent
-event-copyable : (table : Table) (core : Core) (given : Input) (event : Event) → IsCopyable core.machine.rows → IsEventOf table (replica_of core) given event → BringsCopyable event
+event-copyable : (table : Table) (core : Core) (given : Input) (event : Event) → IsCopyable core.machine.rows → IsEventOf table (replica_of_core core) given event → BringsCopyable event
 event-copyable table core input.Campaign event rows is = rw is tt
 event-copyable table core (input.Tick now) event rows (plan, asked, is) = rw (is, asked.rows) rows
 event-copyable table core (input.Hear bytes) event rows (from, messages, heard, is) =
@@ -94,14 +94,14 @@ event-copyable table core (input.Hear bytes) event rows (from, messages, heard, 
 event-copyable table core (input.Answer job at kind) event rows is = rw is tt
 
 -- so what a step says can be sent
-pub made-letters : (table : Table) (given : Input) (core : Core) (draft : Draft) → IsOfTable table (replica_of core) → MakesStep table given core draft → OpenHaveCursors core.rows → OpenHaveCursors core.machine.rows
-    → (event : Event) → Makes core (step (identity_of core) event (state_of core)) draft → BringsCopyable event
-    → CanBeSent (identity_of core) (step (identity_of core) event (state_of core)) (map said_in draft.sends.items)
+pub made-letters : (table : Table) (given : Input) (core : Core) (draft : Draft) → IsOfTable table (replica_of_core core) → MakesStep table given core draft → OpenHaveCursors core.rows → OpenHaveCursors core.machine.rows
+    → (event : Event) → Makes core (step (own_identity core) event (state_of core)) draft → BringsCopyable event
+    → CanBeSent (own_identity core) (step (own_identity core) event (state_of core)) (map said_in draft.sends.items)
 made-letters table given core draft of_table made here there event makes brings =
     let stand = stand-before table core.rows core.learner.entries core.machine.rows (length table.jobs) of_table.rows of_table.stands.rows in
-    step-letters (identity_of core) event (state_of core) (map said_in draft.sends.items) (copyable core.rows (length table.jobs) stand here) brings (said-made core event draft makes)
+    step-letters (own_identity core) event (state_of core) (map said_in draft.sends.items) (copyable core.rows (length table.jobs) stand here) brings (said-made core event draft makes)
 
-pub made-copyable : (table : Table) (given : Input) (core : Core) (draft : Draft) → IsOfTable table (replica_of core) → (made : MakesStep table given core draft) → OpenHaveCursors core.machine.rows → BringsCopyable made.event
+pub made-copyable : (table : Table) (given : Input) (core : Core) (draft : Draft) → IsOfTable table (replica_of_core core) → (made : MakesStep table given core draft) → OpenHaveCursors core.machine.rows → BringsCopyable made.event
 made-copyable table given core draft of_table made there =
     event-copyable table core given made.event (copyable core.machine.rows (length table.jobs) of_table.stands.rows there) made.event_is
 

@@ -16,14 +16,14 @@ use Rattle.step_spec.specs.Heard.{row_in, vote_in}
 use Rattle.step_spec.specs.Hear.{known_from, on_ask, on_snap, send_all, snapshot}
 use Rattle.step_spec.specs.Message.{Known, Only, Snap}
 use Rattle.step_spec.specs.declared.out.LearntRow.{LearntRow}
-use Rattle.replica_draft.specs.Draft.{Says, SendsOnly, TakesTable, drafted, entries_in, has_copied, learned_with}
+use Rattle.replica_draft.specs.Draft.{HasSent, SendsOnly, TakesTable, drafted, entries_in, has_copied, learned_with}
 use Rattle.replica_draft.specs.declared.change.Change.{Change}
 use Rattle.replica_draft.specs.declared.change.Change.TheVariants as change
 use Rattle.replica_draft.specs.declared.change.Rebased.{Rebased}
 use Rattle.replica_draft.specs.declared.draft.Draft.{Draft}
 use Rattle.replica_draft.specs.declared.draft.Sent.{Sent}
 use Rattle.replica_draft.proofs.DraftLemmas.{all-sends, drafted-rebase, goes-by, says-on, sends-twice}
-use Rattle.replica_core.specs.Lines.{Does}
+use Rattle.replica_core.specs.Lines.{GoesOnByActs}
 use Rattle.replica_core.specs.Replica.{base_of, next_slot, rebased_of, rows_of}
 use Rattle.replica_core.specs.declared.parts.Core.{Core}
 use Rattle.replica_core.proofs.LineLemmas.{base-drafted, does_as, does_nothing, done_as, drafted-prefix, rows-drafted}
@@ -114,10 +114,10 @@ base-rebased made rebased base is = rw (is-rebased made rebased is) refl
 
 -- the first slot that is told of those that the draft has learned, and how many of them are passed over
 abbrev pub fresh_slot : LearnerState → ℕ → ℕ
-fresh_slot learner slot = max (learned.prefix_of learner) slot
+fresh_slot learner slot = max (learned.learned_prefix learner) slot
 
 abbrev pub passed : LearnerState → ℕ → ℕ
-passed learner slot = fresh_slot learner slot - learned.prefix_of learner
+passed learner slot = fresh_slot learner slot - learned.learned_prefix learner
 
 -- what is told are the learner's entries from the slot on, and then those that the draft has learned
 pub told-parts : (learner : LearnerState) (rows : List LearntRow) (from slot : ℕ) → learner.base ≤ slot
@@ -137,39 +137,39 @@ told-parts learner rows from slot above_base =
 
 -- so it is told in two parts
 pub tells-both : (learner : LearnerState) (rows : List LearntRow) (one two three : List Sent) (from slot : ℕ) → learner.base ≤ slot
-    → Says one two (send_all from (known_from slot (drop (slot - learner.base) learner.entries)))
-    → Says two three (send_all from (known_from (fresh_slot learner slot) (drop (passed learner slot) (entries_in rows))))
-    → Says one three (send_all from (known_from slot (drop (slot - learner.base) (learner.entries ++ entries_in rows))))
+    → HasSent one two (send_all from (known_from slot (drop (slot - learner.base) learner.entries)))
+    → HasSent two three (send_all from (known_from (fresh_slot learner slot) (drop (passed learner slot) (entries_in rows))))
+    → HasSent one three (send_all from (known_from slot (drop (slot - learner.base) (learner.entries ++ entries_in rows))))
 tells-both learner rows one two three from slot above_base first second =
     rw (told-parts learner rows from slot above_base)
     (says-on one two three (send_all from (known_from slot (drop (slot - learner.base) learner.entries))) (send_all from (known_from (fresh_slot learner slot) (drop (passed learner slot) (entries_in rows)))) first second)
 
 -- the second part, as the rows behind those that are passed over
-pub told-last : (learner : LearnerState) (rows tail : List LearntRow) (one two : List Sent) (from slot fresh skip : ℕ) → fresh ≡ fresh_slot learner slot → skip ≡ min (fresh - learned.prefix_of learner) (length rows)
-    → tail ≡ drop skip rows → Says one two (send_all from (known_from fresh (entries_in tail)))
-    → Says one two (send_all from (known_from (fresh_slot learner slot) (drop (passed learner slot) (entries_in rows))))
+pub told-last : (learner : LearnerState) (rows tail : List LearntRow) (one two : List Sent) (from slot fresh skip : ℕ) → fresh ≡ fresh_slot learner slot → skip ≡ min (fresh - learned.learned_prefix learner) (length rows)
+    → tail ≡ drop skip rows → HasSent one two (send_all from (known_from fresh (entries_in tail)))
+    → HasSent one two (send_all from (known_from (fresh_slot learner slot) (drop (passed learner slot) (entries_in rows))))
 told-last learner rows tail one two from slot fresh skip first least behind says =
     let same : tail ≡ drop (passed learner slot) rows = rw (behind, least, first, drop-min (passed learner slot) rows) refl in
     rw (drop-map (λ (row : LearntRow). row.entry) (passed learner slot) rows, sym same, sym first) says
 
 -- where there is no new base, what is told is that of the learner and the draft
 pub tells-plain : (learner : LearnerState) (made : Option Change) (rows : List LearntRow) (one two : List Sent) (from slot : ℕ) → rebased_of made ≡ None
-    → Says one two (send_all from (known_from slot (drop (slot - learner.base) (learner.entries ++ entries_in rows))))
-    → Says one two (send_all from (known_from slot (drop (slot - base_of made learner.base) (learned_with made learner.entries rows))))
+    → HasSent one two (send_all from (known_from slot (drop (slot - learner.base) (learner.entries ++ entries_in rows))))
+    → HasSent one two (send_all from (known_from slot (drop (slot - base_of made learner.base) (learned_with made learner.entries rows))))
 tells-plain learner made rows one two from slot none says =
     let plain = not-rebased made none in
     rw (base-plain made learner.base plain, learned-plain made learner.entries rows plain) says
 
 -- behind a new base, what is told is what was learned since
 pub tells-since : (learner : LearnerState) (made : Option Change) (rebased : Rebased) (rows : List LearntRow) (one two : List Sent) (from slot : ℕ) → rebased_of made ≡ Some rebased
-    → Says one two (send_all from (known_from slot (drop (slot - rebased.slot) rebased.since)))
-    → Says one two (send_all from (known_from slot (drop (slot - base_of made learner.base) (learned_with made learner.entries rows))))
+    → HasSent one two (send_all from (known_from slot (drop (slot - rebased.slot) rebased.since)))
+    → HasSent one two (send_all from (known_from slot (drop (slot - base_of made learner.base) (learned_with made learner.entries rows))))
 tells-since learner made rebased rows one two from slot some says = rw (is-rebased made rebased some) says
 
 -- ---- AskFrom
 
-pub ask-below_base : (core : Core) (old new : Draft) (from slot : ℕ) → slot < base_of old.change core.learner.base → Does core old new (snapshot from (has_copied old))
-    → Does core old new (on_ask from slot (has_copied old))
+pub ask-below_base : (core : Core) (old new : Draft) (from slot : ℕ) → slot < base_of old.change core.learner.base → GoesOnByActs core old new (snapshot from (has_copied old))
+    → GoesOnByActs core old new (on_ask from slot (has_copied old))
 unfolding on_ask
 ask-below_base core old new from slot below sends kept is =
     sends kept is ∙ done_as (drafted kept old) (on_ask from slot (has_copied old) (drafted kept old).state) (snapshot from (has_copied old) (drafted kept old).state)
@@ -180,8 +180,8 @@ abbrev pub told_from : Core → Draft → ℕ → ℕ → List Act
 told_from core draft from slot =
     send_all from (known_from slot (drop (slot - base_of draft.change core.learner.base) (learned_with draft.change core.learner.entries draft.learnt.items)))
 
-pub ask-kept : (core : Core) (old new : Draft) (from slot : ℕ) → base_of old.change core.learner.base ≤ slot → SendsOnly old new → Says old.sends.items new.sends.items (told_from core old from slot)
-    → Does core old new (on_ask from slot (has_copied old))
+pub ask-kept : (core : Core) (old new : Draft) (from slot : ℕ) → base_of old.change core.learner.base ≤ slot → SendsOnly old new → HasSent old.sends.items new.sends.items (told_from core old from slot)
+    → GoesOnByActs core old new (on_ask from slot (has_copied old))
 unfolding on_ask
 ask-kept core old new from slot above_base only says =
     does_as core old new (on_ask from slot (has_copied old)) (told_from core old from slot) (goes-by old new (told_from core old from slot) only (all-sends from _) says)
@@ -189,7 +189,7 @@ ask-kept core old new from slot above_base only says =
 
 -- ---- a snapshot
 
-pub snapshot-again : (core : Core) (old : Draft) (from : ℕ) → has_copied old ≡ true → Does core old old (snapshot from (has_copied old))
+pub snapshot-again : (core : Core) (old : Draft) (from : ℕ) → has_copied old ≡ true → GoesOnByActs core old old (snapshot from (has_copied old))
 snapshot-again core old from copied = does_nothing core old (snapshot from (has_copied old)) (λ kept is. rw copied refl)
 
 -- the launch table at the base, as it is sent
@@ -197,14 +197,14 @@ abbrev pub table_sent : Core → Draft → ℕ → Act
 table_sent core draft from = Send (Only from) (Snap (base_of draft.change core.learner.base) (rows_of draft.change core.rows))
 
 pub snapshot-sent : (core : Core) (old middle new : Draft) (from : ℕ) → has_copied old ≡ false → SendsOnly old middle → SendsOnly middle new
-    → Says old.sends.items middle.sends.items (table_sent core old from ∷ [])
-    → Says middle.sends.items new.sends.items (told_from core middle from (base_of middle.change core.learner.base))
-    → Does core old new (snapshot from (has_copied old))
+    → HasSent old.sends.items middle.sends.items (table_sent core old from ∷ [])
+    → HasSent middle.sends.items new.sends.items (told_from core middle from (base_of middle.change core.learner.base))
+    → GoesOnByActs core old new (snapshot from (has_copied old))
 snapshot-sent core old middle new from quiet first second table told =
     let base = base_of old.change core.learner.base in
     let entries = learned_with old.change core.learner.entries old.learnt.items in
     let none : base - base ≡ 0 = omega arith in
-    let rest : Says middle.sends.items new.sends.items (send_all from (known_from base entries)) = rw (first.change, first.learnt, none) at told in
+    let rest : HasSent middle.sends.items new.sends.items (send_all from (known_from base entries)) = rw (first.change, first.learnt, none) at told in
     let acts = table_sent core old from ∷ send_all from (known_from base entries) in
     does_as core old new (snapshot from (has_copied old)) acts
     (goes-by old new acts (sends-twice old middle new first second) (tt, all-sends from (known_from base entries))
@@ -213,13 +213,13 @@ snapshot-sent core old middle new from quiet first second table told =
 
 -- ---- Snap
 
-pub snap-old : (core : Core) (old : Draft) (slot : ℕ) (rows : List JobRow) → slot ≤ next_slot core.learner old → Does core old old (on_snap slot rows)
+pub snap-old : (core : Core) (old : Draft) (slot : ℕ) (rows : List JobRow) → slot ≤ next_slot core.learner old → GoesOnByActs core old old (on_snap slot rows)
 unfolding on_snap
 snap-old core old slot rows reached =
     does_nothing core old (on_snap slot rows) (λ kept is. rw (drafted-prefix core old kept is, le-ltb (next_slot core.learner old) slot reached) refl)
 
 pub snap-taken : (core : Core) (old new : Draft) (slot : ℕ) (rows : List JobRow) (machine : Option Launches) → old.change ≡ None → next_slot core.learner old < slot
-    → TakesTable old new slot rows machine → Does core old new (on_snap slot rows)
+    → TakesTable old new slot rows machine → GoesOnByActs core old new (on_snap slot rows)
 unfolding on_snap
 snap-taken core old new slot rows machine none behind takes kept is =
     let prefix = drafted-prefix core old kept is in

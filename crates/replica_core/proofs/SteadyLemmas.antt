@@ -18,7 +18,7 @@ use Rattle.replica_draft.specs.Draft.{Chooses, LearnsNext, SendsOnly, TakesTable
 use Rattle.replica_draft.specs.declared.change.Change.{Change}
 use Rattle.replica_draft.specs.declared.change.Change.TheVariants as change
 use Rattle.replica_draft.specs.declared.draft.Draft.{Draft}
-use Rattle.replica_core.specs.Replica.{FliesAt, IsReadyAnyhow, IsSteady, IsSupplied, KeepsChange, StaysSteady, base_of, changes_in, next_of, next_slot, since_of}
+use Rattle.replica_core.specs.Replica.{FliesAt, IsReadyAnyhow, IsDraftSteady, IsSupplied, KeepsItsChange, StaysSteady, base_of, changes_of_draft, next_of, next_slot, since_of}
 use Rattle.replica_core.specs.declared.parts.Core.{Core}
 
 -- ---- one more entry
@@ -54,7 +54,7 @@ supplied-learned table machine base prefix entry (Some (change.Voted vote)) supp
 supplied-learned table machine base prefix entry (Some (change.Rebased rebased)) supplied =
     record { stands = supplied.stands; rows = supplied.rows; counts = supplied.counts; cursors = supplied.cursors; past = supplied.past; up = supplied.up }
 
-once-learned : (entry : Entry) (made : Option Change) → changes_in (with_learned entry made) ≡ changes_in made
+once-learned : (entry : Entry) (made : Option Change) → changes_of_draft (with_learned entry made) ≡ changes_of_draft made
 once-learned entry None = refl
 once-learned entry (Some (change.Tried ballot)) = refl
 once-learned entry (Some (change.Promised ballot)) = refl
@@ -72,18 +72,18 @@ flies-advanced slot (Leader ballot best (Some flight)) flies =
 pub steady-learned : (core : Core) (old new : Draft) (slot : ℕ) (entry : Entry) → LearnsNext old new slot entry → slot ≡ next_slot core.learner old → StaysSteady core old new
 steady-learned core old new slot entry learns at table steady =
     let count : length new.learnt.items ≡ length old.learnt.items + 1 = ap length learns.learnt ∙ length-append old.learnt.items _ in
-    let more : learned.prefix_of core.learner + length new.learnt.items ≡ learned.prefix_of core.learner + length old.learnt.items + 1 = omega (arith, count) in
+    let more : learned.learned_prefix core.learner + length new.learnt.items ≡ learned.learned_prefix core.learner + length old.learnt.items + 1 = omega (arith, count) in
     let next : next_slot core.learner new ≡ slot + 1 =
-    rw (learns.change, more) (next-learned entry old.change (learned.prefix_of core.learner + length old.learnt.items) ∙ ap (λ n. n + 1) (sym at)) in
+    rw (learns.change, more) (next-learned entry old.change (learned.learned_prefix core.learner + length old.learnt.items) ∙ ap (λ n. n + 1) (sym at)) in
     let flies : FliesAt slot old.term = rw at steady.flies in
     record {
       flies = rw (next, learns.term) (flies-advanced slot old.term flies);
       low = rw (learns.change, low-learned entry old.change) steady.low;
       since = rw learns.change (omega (arith, since-learned entry old.change, steady.since, count));
-      supplied = rw learns.change (supplied-learned table core.machine core.learner.base (learned.prefix_of core.learner) entry old.change steady.supplied);
+      supplied = rw learns.change (supplied-learned table core.machine core.learner.base (learned.learned_prefix core.learner) entry old.change steady.supplied);
     }
 
-pub keeps-learned : (core : Core) (old new : Draft) (slot : ℕ) (entry : Entry) → LearnsNext old new slot entry → slot ≡ next_slot core.learner old → KeepsChange core old new
+pub keeps-learned : (core : Core) (old new : Draft) (slot : ℕ) (entry : Entry) → LearnsNext old new slot entry → slot ≡ next_slot core.learner old → KeepsItsChange core old new
 keeps-learned core old new slot entry learns at =
     record { steady = steady-learned core old new slot entry learns at; once = rw learns.change (once-learned entry old.change) }
 
@@ -98,17 +98,17 @@ steady-sends core old new only table steady =
       supplied = rw only.change steady.supplied;
     }
 
-pub keeps-sends : (core : Core) (old new : Draft) → SendsOnly old new → KeepsChange core old new
+pub keeps-sends : (core : Core) (old new : Draft) → SendsOnly old new → KeepsItsChange core old new
 keeps-sends core old new only = record { steady = steady-sends core old new only; once = rw only.change refl }
 
-pub keeps-itself : (core : Core) (old : Draft) → KeepsChange core old old
+pub keeps-itself : (core : Core) (old : Draft) → KeepsItsChange core old old
 keeps-itself core old = record { steady = λ table steady. steady; once = refl }
 
 pub stays-on : (core : Core) (old middle new : Draft) → StaysSteady core old middle → StaysSteady core middle new → StaysSteady core old new
 stays-on core old middle new first second table steady = second table (first table steady)
 
 -- an entry that was chosen is learned and told
-pub keeps-chosen : (core : Core) (old new : Draft) (slot : ℕ) (entry : Entry) → Chooses old new slot entry → slot ≡ next_slot core.learner old → KeepsChange core old new
+pub keeps-chosen : (core : Core) (old new : Draft) (slot : ℕ) (entry : Entry) → Chooses old new slot entry → slot ≡ next_slot core.learner old → KeepsItsChange core old new
 keeps-chosen core old new slot entry chooses at =
     let first = keeps-learned core old chooses.middle slot entry chooses.learns at in
     record {
@@ -152,19 +152,19 @@ supplied-plain table machine base prefix (Some (change.Voted vote)) plain = tt
 supplied-plain table machine base prefix (Some (change.Rebased rebased)) plain = absurd plain
 
 -- where no new base is, all but the flight is so
-pub steady-plain : (table : Table) (core : Core) (draft : Draft) → IsPlain draft.change → FliesAt (learned.prefix_of core.learner + length draft.learnt.items) draft.term → IsSteady table core draft
+pub steady-plain : (table : Table) (core : Core) (draft : Draft) → IsPlain draft.change → FliesAt (learned.learned_prefix core.learner + length draft.learnt.items) draft.term → IsDraftSteady table core draft
 steady-plain table core draft plain flies =
     record {
-      flies = rw (next-plain draft.change (learned.prefix_of core.learner + length draft.learnt.items) plain) flies;
+      flies = rw (next-plain draft.change (learned.learned_prefix core.learner + length draft.learnt.items) plain) flies;
       low = low-plain draft.change plain;
       since = since-plain draft.change (length draft.learnt.items) plain;
-      supplied = supplied-plain table core.machine core.learner.base (learned.prefix_of core.learner) draft.change plain;
+      supplied = supplied-plain table core.machine core.learner.base (learned.learned_prefix core.learner) draft.change plain;
     }
 
 -- a draft without a change gains one that is no new base
 pub steady-changed : (core : Core) (old new : Draft) → old.change ≡ None → IsPlain new.change → new.term ≡ old.term → new.learnt.items ≡ old.learnt.items → StaysSteady core old new
 steady-changed core old new none plain term learnt table steady =
-    let flies : FliesAt (learned.prefix_of core.learner + length old.learnt.items) old.term = rw none at steady.flies in
+    let flies : FliesAt (learned.learned_prefix core.learner + length old.learnt.items) old.term = rw none at steady.flies in
     steady-plain table core new plain (rw (learnt, term) flies)
 
 -- ---- a new base
@@ -181,9 +181,9 @@ flies-taken slot next (Leader ballot best (Some flight)) up flies = elim (cases_
 
 pub steady-taken : (table : Table) (core : Core) (old new : Draft) (slot : ℕ) (rows : List JobRow) (machine : Option Launches) → TakesTable old new slot rows machine → old.change ≡ None → slot < 2 ^ 62
     → StandsFor table (unwrap_or machine core.machine) → (unwrap_or machine core.machine).rows ≡ rows → CountsBelow (2 ^ 31) rows → OpenHaveCursors rows → core.learner.base < slot → next_slot core.learner old ≤ slot
-    → FliesAt (next_slot core.learner old) old.term → IsSteady table core new
+    → FliesAt (next_slot core.learner old) old.term → IsDraftSteady table core new
 steady-taken table core old new slot rows machine takes none low stands rows_are counts cursors past up flies =
-    let first : next_slot core.learner old ≡ learned.prefix_of core.learner + length old.learnt.items = rw none refl in
+    let first : next_slot core.learner old ≡ learned.learned_prefix core.learner + length old.learnt.items = rw none refl in
     let at : slot + 0 ≡ slot = omega arith in
     record {
       flies = rw (takes.change, takes.term, at) (flies-taken slot (next_slot core.learner old) old.term up flies);
@@ -244,13 +244,13 @@ steady-term core old new same learnt flies table steady =
 
 -- ---- a draft that can be taken
 
-pub ready-by : (core : Core) (draft : Draft) → IsPlain draft.change → FliesAt (learned.prefix_of core.learner + length draft.learnt.items) draft.term → length draft.learnt.items < 2 ^ 31 → IsReadyAnyhow core draft
+pub ready-by : (core : Core) (draft : Draft) → IsPlain draft.change → FliesAt (learned.learned_prefix core.learner + length draft.learnt.items) draft.term → length draft.learnt.items < 2 ^ 31 → IsReadyAnyhow core draft
 ready-by core draft plain flies few table = record { steady = steady-plain table core draft plain flies; few = few }
 
 -- where nothing was learned
-pub ready-quiet : (core : Core) (draft : Draft) → IsPlain draft.change → draft.learnt.items ≡ [] → FliesAt (learned.prefix_of core.learner) draft.term → IsReadyAnyhow core draft
+pub ready-quiet : (core : Core) (draft : Draft) → IsPlain draft.change → draft.learnt.items ≡ [] → FliesAt (learned.learned_prefix core.learner) draft.term → IsReadyAnyhow core draft
 ready-quiet core draft plain nothing flies =
-    let at : learned.prefix_of core.learner + 0 ≡ learned.prefix_of core.learner = omega arith in
+    let at : learned.learned_prefix core.learner + 0 ≡ learned.learned_prefix core.learner = omega arith in
     ready-by core draft plain (rw (nothing, at) flies) (rw nothing (omega arith))
 
 -- ---- of a call that succeeded

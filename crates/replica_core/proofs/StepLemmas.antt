@@ -13,7 +13,7 @@ use Rattle.replica_draft.specs.Draft.{Desk, FixedParts, calls_in, delta_of, delt
 use Rattle.replica_draft.specs.declared.change.Change.{Change}
 use Rattle.replica_draft.specs.declared.draft.Draft.{Draft}
 use Rattle.replica_core.specs.Commit.{entries_with, launches_of}
-use Rattle.replica_core.specs.Replica.{IsAlikeCore, IsSteady, IsWhole, fixed_of, identity_of, idle_in, replica_of, state_of}
+use Rattle.replica_core.specs.Replica.{IsAlikeCore, IsDraftSteady, IsWhole, fixed_of, own_identity, idle_in, replica_of_core, state_of}
 use Rattle.replica_core.specs.Step.{CanTake, IsOfTable, PlansStep, Steps}
 use Rattle.replica_core.specs.declared.input.Input.{Input}
 use Rattle.replica_core.specs.declared.out.Effects.{Effects}
@@ -30,18 +30,18 @@ call_told None = refl
 call_told (Some row) = refl
 
 -- what comes of a step that is planned and taken at once
-pub stepped : (table : Table) (input : Input) (old core new : Core) (draft : Draft) (effects : Effects) (out : StepOut) → IsAlikeCore core old → IsWhole old → IsOfTable table (replica_of old)
-    → PlansStep table input (replica_of old) (record { draft = draft; effects = effects }) → CanTake table (replica_of core) (record { draft = draft; effects = effects })
-    → state_of new ≡ (drafted (fixed_of core) draft).state → identity_of new ≡ identity_of core → StandsFor table new.machine
+pub stepped : (table : Table) (input : Input) (old core new : Core) (draft : Draft) (effects : Effects) (out : StepOut) → IsAlikeCore core old → IsWhole old → IsOfTable table (replica_of_core old)
+    → PlansStep table input (replica_of_core old) (record { draft = draft; effects = effects }) → CanTake table (replica_of_core core) (record { draft = draft; effects = effects })
+    → state_of new ≡ (drafted (fixed_of core) draft).state → own_identity new ≡ own_identity core → StandsFor table new.machine
     → AppliesAll table (launches_of draft.change core.machine).rows (entries_with draft.change (entries_in draft.learnt.items)) new.machine.rows
     → out.delta ≡ effects.delta → out.letters ≡ effects.letters → out.learnt ≡ draft.learnt.items → out.call ≡ draft.call
-    → Steps table input (replica_of old) (replica_of new) out
+    → Steps table input (replica_of_core old) (replica_of_core new) out
 stepped table input old core new draft effects out alike whole of_table planned can after identity stands applied delta letters learnt call =
     let state : state_of core ≡ state_of old = state-alike core old alike in
     let fixed : fixed_of core ≡ fixed_of old = ap (λ (state : State). record { durable = state.kept; learned = state.learned; best = best_votes state.term }) state in
-    let desk : drafted (fixed_of core) draft ≡ done (step (identity_of old) planned.event (state_of old)) (idle_in (replica_of old)) =
+    let desk : drafted (fixed_of core) draft ≡ done (step (own_identity old) planned.event (state_of old)) (idle_in (replica_of_core old)) =
     ap (λ (fixed : FixedParts). drafted fixed draft) fixed ∙ planned.plans.makes in
-    let steady : IsSteady table core draft = steady_of table core draft (whole-alike core old alike whole) can.steady in
+    let steady : IsDraftSteady table core draft = steady_of table core draft (whole-alike core old alike whole) can.steady in
     let before : IsLaunchTable table (state_of core) core.machine.rows =
     subst (λ (state : State). IsLaunchTable table state core.machine.rows) (sym state) (subst (λ (machine : Launches). IsLaunchTable table (state_of old) machine.rows) (sym alike.machine) of_table.rows) in
     record {

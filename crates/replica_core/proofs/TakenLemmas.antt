@@ -13,7 +13,7 @@ use Rattle.replica_draft.specs.declared.change.Change.TheVariants as change
 use Rattle.replica_draft.specs.declared.change.Rebased.{Rebased}
 use Rattle.replica_core.specs.Commit.{HasLearnedAll, LearnsAll, entries_with, launches_of}
 use Rattle.replica_core.specs.Counts.{highest_count}
-use Rattle.replica_core.specs.Replica.{HasTable}
+use Rattle.replica_core.specs.Replica.{BringsTable}
 use Rattle.replica_core.specs.declared.parts.Core.{Core}
 use Rattle.replica_core.proofs.SnapLemmas.{base-plain, learned-plain, rows-plain}
 
@@ -50,7 +50,7 @@ learned-rows table made rows old new ended plain all is =
 
 -- behind a new base is what was learned since, and nothing else
 pub learned-since : (table : Table) (rebased : Rebased) (rows : List LearntRow) (old new : Core) (middle : LearnerState) (high ended : ℕ)
-    → HasTable table old.machine old.learner.base (learned.prefix_of old.learner) rebased → IsRebased old.learner middle rebased.slot
+    → BringsTable table old.machine old.learner.base (learned.learned_prefix old.learner) rebased → IsRebased old.learner middle rebased.slot
     → LearnsAll table middle new.learner (unwrap_or rebased.machine old.machine) new.machine rebased.since ended
     → (old.high_count ≡ highest_count old.machine.rows → high ≡ highest_count (unwrap_or rebased.machine old.machine).rows)
     → new ≡ record old { learner = new.learner; rows = rebased.rows; machine = new.machine; high_count = max high ended }

@@ -19,7 +19,7 @@ use Rattle.replica_draft.specs.declared.change.Change.{Change}
 use Rattle.replica_draft.specs.declared.change.Change.TheVariants as change
 use Rattle.replica_core.specs.Counts.{highest_count}
 use Rattle.replica_core.specs.Commit.{entries_with, launches_of}
-use Rattle.replica_core.specs.Replica.{FliesAt, IsAlikeCore, IsSteady, IsSteadyAt, IsSupplied, IsWhole, base_of, identity_of, fixed_of, next_of, rows_of, state_of}
+use Rattle.replica_core.specs.Replica.{FliesAt, IsAlikeCore, IsDraftSteady, IsSteadyAt, IsSupplied, IsWhole, base_of, own_identity, fixed_of, next_of, rows_of, state_of}
 use Rattle.replica_draft.specs.declared.draft.Draft.{Draft}
 use Rattle.replica_core.specs.declared.parts.Core.{Core}
 use Rattle.replica_core.proofs.LineLemmas.{base-drafted, next-learned, rows-drafted}
@@ -48,9 +48,9 @@ cursors_of table (Some (change.Promised ballot)) machine base prefix rows suppli
 cursors_of table (Some (change.Voted vote)) machine base prefix rows supplied cursors = cursors
 cursors_of table (Some (change.Rebased rebased)) machine base prefix rows supplied cursors = supplied.cursors
 
-pub whole_after : (table : Table) (old new : Core) (draft : Draft) → IsWhole old → state_of new ≡ (drafted (fixed_of old) draft).state → identity_of new ≡ identity_of old
+pub whole_after : (table : Table) (old new : Core) (draft : Draft) → IsWhole old → state_of new ≡ (drafted (fixed_of old) draft).state → own_identity new ≡ own_identity old
     → new.learner.base ≡ new.acceptor.base → FliesAt (next_of draft.change (prefix_of (state_of old) + length draft.learnt.items)) draft.term
-    → new.high_count ≡ highest_count new.machine.rows → IsSteady table old draft
+    → new.high_count ≡ highest_count new.machine.rows → IsDraftSteady table old draft
     → AppliesAll table (launches_of draft.change old.machine).rows (entries_with draft.change (entries_in draft.learnt.items)) new.machine.rows → IsWhole new
 whole_after table old new draft whole state identity base flies counts steady applied =
     let me : new.me ≡ old.me = ap (λ identity. identity.me) identity in
@@ -58,7 +58,7 @@ whole_after table old new draft whole state identity base flies counts steady ap
     let entries : new.learner.entries ≡ learned_with draft.change old.learner.entries draft.learnt.items = ap (λ state. state.learned) state in
     let base_is : new.acceptor.base ≡ base_of draft.change old.acceptor.base = ap (λ state. state.kept.base) state ∙ base-drafted draft.change (fixed_of old).durable in
     let term : new.term ≡ with_best (unwrap_or draft.best (best_votes old.term)) draft.term = ap (λ state. state.term) state in
-    let next : learner.prefix_of new.learner ≡ next_of draft.change (prefix_of (state_of old) + length draft.learnt.items) =
+    let next : learner.learned_prefix new.learner ≡ next_of draft.change (prefix_of (state_of old) + length draft.learnt.items) =
     rw (base, base_is, entries) (next-learned draft.change old.acceptor.base old.learner.entries draft.learnt.items) in
     record {
       me = rw (me, members) whole.me;
@@ -72,10 +72,10 @@ whole_after table old new draft whole state identity base flies counts steady ap
     }
 
 -- what holds between two packets, by the parts of a replica
-pub steady_of : (table : Table) (core : Core) (draft : Draft) → IsWhole core → IsSteadyAt table core.machine core.acceptor.base (prefix_of (state_of core)) draft → IsSteady table core draft
+pub steady_of : (table : Table) (core : Core) (draft : Draft) → IsWhole core → IsSteadyAt table core.machine core.acceptor.base (prefix_of (state_of core)) draft → IsDraftSteady table core draft
 steady_of table core draft whole steady = rw whole.base steady
 
-pub steady_in : (table : Table) (core : Core) (draft : Draft) → IsWhole core → IsSteady table core draft → IsSteadyAt table core.machine core.acceptor.base (prefix_of (state_of core)) draft
+pub steady_in : (table : Table) (core : Core) (draft : Draft) → IsWhole core → IsDraftSteady table core draft → IsSteadyAt table core.machine core.acceptor.base (prefix_of (state_of core)) draft
 steady_in table core draft whole steady = rw (← whole.base) steady
 
 -- ---- The launch table
@@ -92,7 +92,7 @@ launches_by table (Some (change.Rebased rebased)) machine base prefix rows last 
     subst (λ (first : List JobRow). AppliesAll table first rebased.since last) supplied.rows applied
 
 -- the launch table is still that of the state, as what is learned is applied
-pub launches_after : (table : Table) (old new : Core) (draft : Draft) → IsSteady table old draft → state_of new ≡ (drafted (fixed_of old) draft).state → IsLaunchTable table (state_of old) old.machine.rows
+pub launches_after : (table : Table) (old new : Core) (draft : Draft) → IsDraftSteady table old draft → state_of new ≡ (drafted (fixed_of old) draft).state → IsLaunchTable table (state_of old) old.machine.rows
     → AppliesAll table (launches_of draft.change old.machine).rows (entries_with draft.change (entries_in draft.learnt.items)) new.machine.rows → IsLaunchTable table (state_of new) new.machine.rows
 launches_after table old new draft steady state before applied =
     let rows : new.rows ≡ rows_of draft.change old.rows = ap (λ state. state.kept.rows) state ∙ rows-drafted draft.change (fixed_of old).durable in
@@ -106,7 +106,7 @@ pub state-alike : (new old : Core) → IsAlikeCore new old → state_of new ≡ 
 state-alike new old alike =
     rw (alike.tried, alike.acceptor.promised, alike.acceptor.votes, alike.acceptor.base, alike.rows, alike.learner.entries, alike.term, alike.seen) refl
 
-pub identity-alike : (new old : Core) → IsAlikeCore new old → identity_of new ≡ identity_of old
+pub identity-alike : (new old : Core) → IsAlikeCore new old → own_identity new ≡ own_identity old
 identity-alike new old alike = rw (alike.me, alike.members) refl
 
 -- and what holds of each replica holds of it

@@ -14,7 +14,7 @@ use Rattle.step_spec.specs.Letters.{is_small}
 use Rattle.step_spec.specs.Message.{Message, Prepare, Promise, Accept, Accepted, Nack, Known, AskFrom, Snap, Lead, Mention}
 use Rattle.step_spec.specs.State.{State, Identity, prefix_of}
 use Rattle.replica_draft.specs.Draft.{done, drafted, has_copied}
-use Rattle.replica_core.specs.Replica.{IsSteady, IsWhole, changes_in, fixed_of}
+use Rattle.replica_core.specs.Replica.{IsDraftSteady, IsWhole, changes_of_draft, fixed_of}
 use Rattle.launch_machine.specs.Machine.{CountsBelow}
 use Rattle.replica_draft.specs.declared.draft.Draft.{Draft}
 use Rattle.replica_core.specs.declared.parts.Core.{Core}
@@ -79,10 +79,12 @@ pub record AreRowsOf (jobs : ℕ) (rows : List JobRow) : Type 0 where
   pub cursors : OpenHaveCursors rows
   pub counts : CountsBelow (2 ^ 31) rows
 
+-- a message that brings a launch table has a row for each job
 abbrev pub BringsRows : ℕ → Message → Type 0
 BringsRows jobs (Snap slot rows) = AreRowsOf jobs rows
 BringsRows jobs message = ⊤
 
+-- the same of a message, if there is one
 abbrev pub BringsRowsIn : ℕ → Option Message → Type 0
 BringsRowsIn jobs None = ⊤
 BringsRowsIn jobs (Some message) = BringsRows jobs message
@@ -91,12 +93,12 @@ BringsRowsIn jobs (Some message) = BringsRows jobs message
 -- those of the table of jobs, and the draft has no change of what is on the disk yet where the packet asks for one
 pub record CanHear (table : Table) (core : Core) (draft : Draft) (from : ℕ) (packet : Packet) (rest : List Packet) : Type 0 where
   pub whole : IsWhole core
-  pub prefix : learned.prefix_of core.learner < 2 ^ 62
+  pub prefix : learned.learned_prefix core.learner < 2 ^ 62
   pub member : from < core.members
   pub small : is_small (length table.jobs) packet ≡ true
   pub rows : BringsRowsIn (length table.jobs) (message_in packet rest)
-  pub once : changes_in draft.change + changes_asked packet ≤ 1
-  pub steady : IsSteady table core draft
+  pub once : changes_of_draft draft.change + changes_asked packet ≤ 1
+  pub steady : IsDraftSteady table core draft
   pub short : length draft.learnt.items < 2 ^ 31
 
 -- a draft of a replica goes on by the acts that its state asks for

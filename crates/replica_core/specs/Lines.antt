@@ -18,8 +18,8 @@ pub record IsFixed (core : Core) (kept : FixedParts) : Type 0 where
   pub rows : core.rows ≡ kept.durable.rows
 
 -- a draft goes on by the acts that its state asks for
-abbrev pub Does : Core → Draft → Draft → (State → List Act) → Type 0
-Does core old new acts =
+abbrev pub GoesOnByActs : Core → Draft → Draft → (State → List Act) → Type 0
+GoesOnByActs core old new acts =
     (kept : FixedParts) → IsFixed core kept → drafted kept new ≡ done (acts (drafted kept old).state) (drafted kept old)
 
 -- a vote is told, and what lies below it is asked for

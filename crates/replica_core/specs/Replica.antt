@@ -6,7 +6,7 @@ use Rattle.paxos_base.specs.Vote.{SlotsRise}
 use Rattle.paxos_base.specs.declared.durable.Durable.{Durable}
 use Rattle.paxos_base.specs.declared.entry.Vote.{Vote}
 use Rattle.paxos_base.specs.declared.rows.JobRow.{JobRow}
-use Rattle.acceptor_core.specs.Acceptor.{votes_in}
+use Rattle.acceptor_core.specs.Acceptor.{new_votes_in}
 use Rattle.acceptor_core.specs.Acceptor as acceptor
 use Rattle.learner_core.specs.Learner.{LearnerState}
 use Rattle.learner_core.specs.Learner as learner
@@ -42,8 +42,8 @@ abbrev pub state_of : Core → State
 state_of core = record { kept = durable_in core; learned = core.learner.entries; term = core.term; seen = core.seen }
 
 -- which replica it is
-abbrev pub identity_of : Core → Identity
-identity_of core = record { me = core.me; members = core.members }
+abbrev pub own_identity : Core → Identity
+own_identity core = record { me = core.me; members = core.members }
 
 -- a replica: which one it is, what it knows, its launch table, and for how many votes and entries more it has room
 pub record ReplicaState : Type 0 where
@@ -54,10 +54,10 @@ pub record ReplicaState : Type 0 where
   pub entries_room : ℕ
 
 -- a replica as its callers see it
-abbrev pub replica_of : Core → ReplicaState
-replica_of core =
+abbrev pub replica_of_core : Core → ReplicaState
+replica_of_core core =
     record {
-      identity = identity_of core;
+      identity = own_identity core;
       state = state_of core;
       machine = core.machine;
       votes_room = core.acceptor.spare;
@@ -74,15 +74,15 @@ idle_in replica = record { state = replica.state; deltas = []; learnt = []; said
 
 -- what a draft of a replica doesn't change
 abbrev pub fixed_of : Core → FixedParts
-fixed_of core = fixed_in (replica_of core)
+fixed_of core = fixed_in (replica_of_core core)
 
 -- one replica is as another, but for the room that it has
 pub record IsAlikeCore (one other : Core) : Type 0 where
   pub me : one.me ≡ other.me
   pub members : one.members ≡ other.members
   pub tried : one.tried ≡ other.tried
-  pub acceptor : acceptor.IsAlike one.acceptor other.acceptor
-  pub learner : learner.IsAlike one.learner other.learner
+  pub acceptor : acceptor.IsSameAcceptor one.acceptor other.acceptor
+  pub learner : learner.IsSameLearner one.learner other.learner
   pub rows : one.rows ≡ other.rows
   pub machine : one.machine ≡ other.machine
   pub term : one.term ≡ other.term
@@ -90,13 +90,13 @@ pub record IsAlikeCore (one other : Core) : Type 0 where
   pub high_count : one.high_count ≡ other.high_count
 
 -- for how many votes a change needs room
-abbrev pub votes_of : Option Change → ℕ
-votes_of None = 0
-votes_of (Some change) = votes_in (delta_of change)
+abbrev pub new_votes_of : Option Change → ℕ
+new_votes_of None = 0
+new_votes_of (Some change) = new_votes_in (delta_of change)
 
 -- the replica has room for what a draft brings
 pub record HasRoomFor (core : Core) (draft : Draft) : Type 0 where
-  pub votes : votes_of draft.change ≤ core.acceptor.spare
+  pub votes : new_votes_of draft.change ≤ core.acceptor.spare
   pub entries : length draft.learnt.items ≤ core.learner.spare
 
 -- the launch table that a change brings, where it brings one
@@ -141,7 +141,7 @@ rows_of None rows = rows
 
 -- The launch table that a change brings is one of this table of jobs, and it has a machine: its own, or else this one. Its slot isn't
 -- one of those that are learned, and its counts are within the bounds.
-pub record HasTable (table : Table) (machine : Launches) (base prefix : ℕ) (rebased : Rebased) : Type 0 where
+pub record BringsTable (table : Table) (machine : Launches) (base prefix : ℕ) (rebased : Rebased) : Type 0 where
   pub stands : StandsFor table (unwrap_or rebased.machine machine)
   pub rows : (unwrap_or rebased.machine machine).rows ≡ rebased.rows
   pub counts : CountsBelow (2 ^ 31) rebased.rows
@@ -149,8 +149,9 @@ pub record HasTable (table : Table) (machine : Launches) (base prefix : ℕ) (re
   pub past : base < rebased.slot
   pub up : prefix ≤ rebased.slot
 
+-- a change that brings a launch table brings one that can be taken
 abbrev pub IsSupplied : Table → Launches → (base prefix : ℕ) → Option Change → Type 0
-IsSupplied table machine base prefix (Some (change.Rebased rebased)) = HasTable table machine base prefix rebased
+IsSupplied table machine base prefix (Some (change.Rebased rebased)) = BringsTable table machine base prefix rebased
 IsSupplied table machine base prefix (Some (change.Tried ballot)) = ⊤
 IsSupplied table machine base prefix (Some (change.Promised ballot)) = ⊤
 IsSupplied table machine base prefix (Some (change.Voted vote)) = ⊤
@@ -163,7 +164,7 @@ FliesAt prefix term = ⊤
 
 -- the first slot that isn't learned, with what a draft has learned
 abbrev pub next_slot : LearnerState → Draft → ℕ
-next_slot learns draft = next_of draft.change (learner.prefix_of learns + length draft.learnt.items)
+next_slot learns draft = next_of draft.change (learner.learned_prefix learns + length draft.learnt.items)
 
 -- What holds of a draft between two packets, of a replica with this launch table, base and first slot that isn't learned: its flight,
 -- where it has one, stands at the first slot that isn't learned; of a new base, the slot is within the bounds, no more was learned
@@ -174,22 +175,23 @@ pub record IsSteadyAt (table : Table) (machine : Launches) (base prefix : ℕ) (
   pub since : since_of draft.change ≤ length draft.learnt.items
   pub supplied : IsSupplied table machine base prefix draft.change
 
-abbrev pub IsSteady : Table → Core → Draft → Type 0
-IsSteady table core draft = IsSteadyAt table core.machine core.learner.base (learner.prefix_of core.learner) draft
+-- a draft is steady beside the replica that it is of
+abbrev pub IsDraftSteady : Table → Core → Draft → Type 0
+IsDraftSteady table core draft = IsSteadyAt table core.machine core.learner.base (learner.learned_prefix core.learner) draft
 
 -- it holds still
 abbrev pub StaysSteady : Core → Draft → Draft → Type 0
-StaysSteady core old new = (table : Table) → IsSteady table core old → IsSteady table core new
+StaysSteady core old new = (table : Table) → IsDraftSteady table core old → IsDraftSteady table core new
 
 -- how many changes a draft has
-abbrev pub changes_in : Option Change → ℕ
-changes_in None = 0
-changes_in (Some made) = 1
+abbrev pub changes_of_draft : Option Change → ℕ
+changes_of_draft None = 0
+changes_of_draft (Some made) = 1
 
 -- so it does, and there are as many changes as before
-pub record KeepsChange (core : Core) (old new : Draft) : Type 0 where
+pub record KeepsItsChange (core : Core) (old new : Draft) : Type 0 where
   pub steady : StaysSteady core old new
-  pub once : changes_in new.change ≡ changes_in old.change
+  pub once : changes_of_draft new.change ≡ changes_of_draft old.change
 
 -- the votes that bind the draft's term
 abbrev pub best_in : Core → Draft → List Vote
@@ -202,10 +204,10 @@ DoesAsTerm core old new acts =
 
 -- a step of a replica in which nothing was done yet
 abbrev pub idle_desk : Core → Desk
-idle_desk core = idle_in (replica_of core)
+idle_desk core = idle_in (replica_of_core core)
 
 -- a draft of the replica in which nothing was done yet
-pub record IsIdle (core : Core) (draft : Draft) : Type 0 where
+pub record IsUntouched (core : Core) (draft : Draft) : Type 0 where
   pub stands : drafted (fixed_of core) draft ≡ idle_desk core
   pub best : draft.best ≡ None
   pub change : draft.change ≡ None
@@ -231,23 +233,23 @@ pub record IsWhole (core : Core) : Type 0 where
   pub me : core.me < core.members
   pub few : core.members ≤ 7
   pub base : core.learner.base ≡ core.acceptor.base
-  pub flies : FliesAt (learner.prefix_of core.learner) core.term
+  pub flies : FliesAt (learner.learned_prefix core.learner) core.term
   pub counts : core.high_count ≡ highest_count core.machine.rows
   pub cursors : OpenHaveCursors core.machine.rows
   pub base_cursors : OpenHaveCursors core.rows
 
 -- a draft can be taken: it is steady, and has learned few entries
-pub record IsReady (table : Table) (core : Core) (draft : Draft) : Type 0 where
-  pub steady : IsSteady table core draft
+pub record IsDraftReady (table : Table) (core : Core) (draft : Draft) : Type 0 where
+  pub steady : IsDraftSteady table core draft
   pub few : length draft.learnt.items < 2 ^ 31
 
 -- so it can for each table of jobs, since it has no new base
 abbrev pub IsReadyAnyhow : Core → Draft → Type 0
-IsReadyAnyhow core draft = (table : Table) → IsReady table core draft
+IsReadyAnyhow core draft = (table : Table) → IsDraftReady table core draft
 
 -- A leader without a flight, by the votes that bind it, before it has done anything in a step.
 pub record IsFreeToPropose (core : Core) (draft : Draft) (ballot : ℕ) (best : List Vote) : Type 0 where
-  pub idle : IsIdle core draft
+  pub idle : IsUntouched core draft
   pub whole : IsWhole core
   pub small : IsSmall (state_of core) core.machine.rows
   pub leads : core.term ≡ Leader ballot best None

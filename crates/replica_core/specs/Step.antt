@@ -1,7 +1,7 @@
 -- A step of a replica: what it is told, and what comes of it.
 use Rattle.std.specs.Prelude.{◌≡◌, ℕ, ◌<◌, ◌≤◌, ◌^◌, List, length, Option, None, Some, Result, Ok, Err, ⊤, ℤ}
 use Rattle.std.specs.Option.{option_map, option_to_list}
-use Rattle.paxos_letter.specs.Letters.{fault_of}
+use Rattle.paxos_letter.specs.Letters.{letter_fault_of}
 use Rattle.paxos_letter.specs.declared.fault.LetterFault.{LetterFault}
 use Rattle.zone_minutes.specs.Window.{IsInWindow}
 use Rattle.due_set.specs.Table.{Table}
@@ -17,7 +17,7 @@ use Rattle.step_spec.specs.Step.{Event, IsLaunchTable, Plan, step}
 use Rattle.step_spec.specs.Step as told
 use Rattle.replica_draft.specs.Draft.{delta_of, done, drafted}
 use Rattle.replica_draft.specs.Letters.{AreLettersFrom}
-use Rattle.replica_core.specs.Replica.{IsSteadyAt, Makes, ReplicaState, identity_of, idle_in, fixed_in, replica_of, state_of, votes_of}
+use Rattle.replica_core.specs.Replica.{IsSteadyAt, Makes, ReplicaState, own_identity, idle_in, fixed_in, replica_of_core, state_of, new_votes_of}
 use Rattle.replica_draft.specs.declared.draft.Draft.{Draft}
 use Rattle.replica_core.specs.declared.input.Input.{Input}
 use Rattle.replica_core.specs.declared.input.Input.TheVariants.{Campaign, Tick, Hear, Answer}
@@ -28,7 +28,7 @@ use Rattle.replica_core.specs.declared.parts.Core.{Core}
 use Rattle.replica_core.specs.declared.replica.Planned.{Planned}
 
 -- one replica is as another, but for the room that it has
-pub record IsAlike (one other : ReplicaState) : Type 0 where
+pub record IsSameReplica (one other : ReplicaState) : Type 0 where
   pub identity : one.identity ≡ other.identity
   pub state : one.state ≡ other.state
   pub machine : one.machine ≡ other.machine
@@ -75,15 +75,15 @@ pub record Steps (table : Table) (input : Input) (old new : ReplicaState) (out :
 -- a draft does just what the replica does at an input
 pub record MakesStep (table : Table) (input : Input) (core : Core) (draft : Draft) : Type 0 where
   pub event : Event
-  pub event_is : IsEventOf table (replica_of core) input event
-  pub makes : Makes core (step (identity_of core) event (state_of core)) draft
+  pub event_is : IsEventOf table (replica_of_core core) input event
+  pub makes : Makes core (step (own_identity core) event (state_of core)) draft
 
 -- a draft does just what the replica does at a letter
-pub record Hears (table : Table) (bytes : List ℕ) (core : Core) (draft : Draft) : Type 0 where
+pub record HearsLetter (table : Table) (bytes : List ℕ) (core : Core) (draft : Draft) : Type 0 where
   pub from : ℕ
   pub messages : List Message
   pub heard : IsHeardAs core.members (length table.jobs) bytes from messages
-  pub makes : Makes core (hear_all (identity_of core) from messages not_yet (state_of core)) draft
+  pub makes : Makes core (hear_all (own_identity core) from messages not_yet (state_of core)) draft
 
 -- a step is planned that does these acts
 pub record Plans (replica : ReplicaState) (acts : List Act) (planned : Planned) : Type 0 where
@@ -99,7 +99,7 @@ pub record PlansStep (table : Table) (input : Input) (replica : ReplicaState) (p
 
 -- a planned step can be taken by a replica that is as this one, but for its room: there is room for it, and what it brings is fit
 pub record CanTake (table : Table) (replica : ReplicaState) (planned : Planned) : Type 0 where
-  pub votes : votes_of planned.draft.change ≤ replica.votes_room
+  pub votes : new_votes_of planned.draft.change ≤ replica.votes_room
   pub entries : length planned.draft.learnt.items ≤ replica.entries_room
   pub delta : planned.effects.delta ≡ option_map delta_of planned.draft.change
   pub steady : IsSteadyAt table replica.machine replica.state.kept.base (prefix_of replica.state) planned.draft
@@ -107,7 +107,7 @@ pub record CanTake (table : Table) (replica : ReplicaState) (planned : Planned) 
 
 -- the first rule that the bytes of a letter break
 abbrev pub fault_in : ℕ → Input → Option LetterFault
-fault_in members (Hear bytes) = fault_of members bytes.now
+fault_in members (Hear bytes) = letter_fault_of members bytes.now
 fault_in members input = None
 
 -- the rule that an answer says a letter breaks, where it says so

@@ -2,7 +2,7 @@
 ghost use Rattle.std.specs.Prelude.{◌≡◌};
 ghost use Rattle.term_core.specs.Term.{best_votes};
 ghost use Rattle.replica_draft.specs.Draft.{with_best};
-ghost use Rattle.replica_core.specs.Replica.{IsIdle};
+ghost use Rattle.replica_core.specs.Replica.{IsUntouched};
 
 use crate::parts::Core;
 use paxos_base::VoteList;
@@ -41,7 +41,7 @@ fn outline(alloc: Global, term: &Term) -> Term
 impl Core {
     /// A step in which nothing was done yet.
     pub fn begin(&self) -> Draft
-        ensures { IsIdle self.now result }
+        ensures { IsUntouched self.now result }
     {
         Draft {
             seen: self.seen,

@@ -1,10 +1,10 @@
 //! How a planned step is taken: memory is wanted before it, and never in it.
 ghost use Rattle.std.specs.Prelude.{◌≡◌, max, ◌+◌, ◌<◌, ◌≤◌, ◌^◌, length, List, Some, unwrap_or, IfOk, IfSome, OnOk};
 ghost use Rattle.std.specs.Option.{option_map};
-ghost use Rattle.acceptor_core.specs.Acceptor.{votes_in};
+ghost use Rattle.acceptor_core.specs.Acceptor.{new_votes_in};
 ghost use Rattle.launch_machine.specs.Clerk.{Applies, AppliesAll};
 ghost use Rattle.launch_machine.specs.Machine.{CanCount, StandsFor, CountsBelow};
-ghost use Rattle.learner_core.specs.Learner.{HasLearned};
+ghost use Rattle.learner_core.specs.Learner.{HasLearnedOne};
 ghost use Rattle.learner_core.specs.Learner as learned;
 ghost use Rattle.paxos_base.specs.Ballot.{ballot_number};
 ghost use Rattle.paxos_base.specs.Durable.{after_delta};
@@ -17,7 +17,7 @@ ghost use Rattle.replica_draft.specs.Draft.{delta_of, drafted, entries_in, with_
 ghost use Rattle.replica_draft.specs.declared.change.Change.TheVariants as change;
 ghost use Rattle.replica_core.specs.Commit.{HasLearnedAll, HasStored, LearnsAll, entries_with, launches_of};
 ghost use Rattle.replica_core.specs.Counts.{count_ended, count_of, highest_count};
-ghost use Rattle.replica_core.specs.Replica.{HasRoomFor, HasTable, IsAlikeCore, IsSteady, IsSupplied, base_of, identity_of, fixed_of, since_of, state_of};
+ghost use Rattle.replica_core.specs.Replica.{HasRoomFor, BringsTable, IsAlikeCore, IsDraftSteady, IsSupplied, base_of, own_identity, fixed_of, since_of, state_of};
 
 use crate::out::{Effects, LearntList, StepOut};
 use crate::parts::Core;
@@ -110,14 +110,15 @@ impl Core {
         requires delta { effects.delta ≡ option_map delta_of draft.change }
         requires stands { StandsFor table.now self.old.machine }
         requires counts { CountsBelow (2 ^ 31) self.old.machine.rows }
-        requires steady { IsSteady table.now self.old draft }
+        requires steady { IsDraftSteady table.now self.old draft }
         requires few { length draft.learnt.items < 2 ^ 31 }
         requires prefix { prefix_of (state_of self.old) < 2 ^ 62 }
         requires base { self.old.learner.base ≡ self.old.acceptor.base }
         ensures state { state_of self.new ≡ (drafted (fixed_of self.old) draft).state }
-        ensures machine { AppliesAll table.now (launches_of draft.change self.old.machine).rows (entries_with draft.change (entries_in draft.learnt.items)) self.new.machine.rows }
+        ensures machine { AppliesAll table.now (launches_of draft.change self.old.machine).rows
+            (entries_with draft.change (entries_in draft.learnt.items)) self.new.machine.rows }
         ensures stands { StandsFor table.now self.new.machine }
-        ensures identity { identity_of self.new ≡ identity_of self.old }
+        ensures identity { own_identity self.new ≡ own_identity self.old }
         ensures base { self.new.learner.base ≡ self.new.acceptor.base }
         ensures counts { self.old.high_count ≡ highest_count self.old.machine.rows → self.new.high_count ≡ highest_count self.new.machine.rows }
         ensures delta { result.delta ≡ effects.delta }
@@ -143,7 +144,7 @@ impl Core {
 
     // Takes over a change of what is on the disk, where there is one.
     fn store(&mut self, delta: &Option<Delta>)
-        requires { IfSome delta.now (λ delta. votes_in delta ≤ self.old.acceptor.spare) }
+        requires { IfSome delta.now (λ delta. new_votes_in delta ≤ self.old.acceptor.spare) }
         ensures { HasStored delta.now self.old self.new }
     {
         if let Some(delta) = delta {
@@ -157,12 +158,12 @@ impl Core {
     fn learn(&mut self, table: &JobTable, change: Option<Change>, rows: &[LearntRow])
         requires room { length rows.now ≤ self.old.learner.spare }
         requires few { length rows.now < 2 ^ 31 }
-        requires prefix { learned.prefix_of self.old.learner < 2 ^ 62 }
+        requires prefix { learned.learned_prefix self.old.learner < 2 ^ 62 }
         requires low { base_of change 0 < 2 ^ 62 }
         requires since { since_of change ≤ length rows.now }
         requires stands { StandsFor table.now self.old.machine }
         requires counts { CountsBelow (2 ^ 31) self.old.machine.rows }
-        requires supplied { IsSupplied table.now self.old.machine self.old.learner.base (learned.prefix_of self.old.learner) change }
+        requires supplied { IsSupplied table.now self.old.machine self.old.learner.base (learned.learned_prefix self.old.learner) change }
         ensures { HasLearnedAll table.now change rows.now self.old self.new }
     {
         if let Some(Change::Rebased(rebased)) = change {
@@ -178,7 +179,7 @@ impl Core {
         requires room { length rebased.since ≤ self.old.learner.spare }
         requires few { length rebased.since < 2 ^ 31 }
         requires low { rebased.slot < 2 ^ 62 }
-        requires has { HasTable table.now self.old.machine self.old.learner.base (learned.prefix_of self.old.learner) rebased }
+        requires has { BringsTable table.now self.old.machine self.old.learner.base (learned.learned_prefix self.old.learner) rebased }
         ensures { (rows : List LearntRow) → HasLearnedAll table.now (Some (change.Rebased rebased)) rows self.old self.new }
     {
         self.rows = rebased.rows;
@@ -223,7 +224,7 @@ fn learn_rows(
 ) -> u32
     requires room { length rows.now ≤ learner.old.spare }
     requires few { length rows.now < 2 ^ 31 }
-    requires prefix { learned.prefix_of learner.old < 2 ^ 62 }
+    requires prefix { learned.learned_prefix learner.old < 2 ^ 62 }
     requires stands { StandsFor table.now machine.old }
     requires counts { CountsBelow (2 ^ 31) machine.old.rows }
     ensures { LearnsAll table.now learner.old learner.new machine.old machine.new (entries_in rows.now) result }
@@ -244,7 +245,7 @@ fn learn_entries(
 ) -> u32
     requires room { length entries.now ≤ learner.old.spare }
     requires few { length entries.now < 2 ^ 31 }
-    requires prefix { learned.prefix_of learner.old < 2 ^ 62 }
+    requires prefix { learned.learned_prefix learner.old < 2 ^ 62 }
     requires stands { StandsFor table.now machine.old }
     requires counts { CountsBelow (2 ^ 31) machine.old.rows }
     ensures { LearnsAll table.now learner.old learner.new machine.old machine.new entries.now result }
@@ -259,10 +260,10 @@ fn learn_entries(
 // Learns the next entry, for which there is room, and applies it. Answers the count of the job that it ends, or 0.
 fn learn_next(learner: &mut Learner, machine: &mut Machine, table: &JobTable, entry: Entry) -> u32
     requires room { 1 ≤ learner.old.spare }
-    requires prefix { learned.prefix_of learner.old < 2 ^ 63 }
+    requires prefix { learned.learned_prefix learner.old < 2 ^ 63 }
     requires stands { StandsFor table.now machine.old }
     requires counts { CanCount machine.old.rows entry }
-    ensures learned { HasLearned learner.old learner.new entry }
+    ensures learned { HasLearnedOne learner.old learner.new entry }
     ensures spare { learner.old.spare ≤ learner.new.spare + 1 }
     ensures applies { Applies table.now machine.old.rows entry machine.new.rows }
     ensures stands { StandsFor table.now machine.new }

@@ -1,6 +1,6 @@
 //! How a replica hears a letter: its packets one after another, each by its line of the table.
 ghost use Rattle.std.specs.Prelude.{◌≡◌, ℕ, ◌+◌, ◌^◌, ◌<◌, ◌≤◌, Bool, true, OnOk, List, [], ◌∷◌, length, unwrap_or};
-ghost use Rattle.learner_core.specs.Learner.{prefix_of};
+ghost use Rattle.learner_core.specs.Learner.{learned_prefix};
 ghost use Rattle.paxos_letter.specs.Letters.{Spells};
 ghost use Rattle.term_core.specs.Term.{after_ballot};
 ghost use Rattle.step_spec.specs.Act.{Observe};
@@ -9,7 +9,7 @@ ghost use Rattle.step_spec.specs.Heard.{messages_of};
 ghost use Rattle.step_spec.specs.Letters.{is_small_letter};
 ghost use Rattle.replica_draft.specs.Draft.{Goes, drafted};
 ghost use Rattle.replica_core.specs.Heard.{CanHear, HearsBy, ballot_named, changes_asked, hear_in, line_in, message_in, once_in, shows_gap_in};
-ghost use Rattle.replica_core.specs.Replica.{IsIdle, IsReady, IsSmall, IsSteady, IsWhole, Makes, base_of, changes_in, identity_of, fixed_of, state_of};
+ghost use Rattle.replica_core.specs.Replica.{IsUntouched, IsDraftReady, IsSmall, IsDraftSteady, IsWhole, Makes, base_of, changes_of_draft, own_identity, fixed_of, state_of};
 
 use crate::parts::Core;
 use cron_io::OutOfMemory;
@@ -59,13 +59,14 @@ impl Core {
         draft: &mut Draft,
         letter: &Letter<'_>,
     ) -> Result<(), OutOfMemory>
-        requires idle { IsIdle self.now draft.old }
+        requires idle { IsUntouched self.now draft.old }
         requires whole { IsWhole self.now }
         requires small { IsSmall (state_of self.now) self.now.machine.rows }
         requires letter { (bytes : List ℕ) × Spells self.now.members letter.now.from letter.now.packets bytes }
         requires bounds { is_small_letter (length table.now.jobs) letter.now.packets ≡ true }
-        ensures makes { OnOk result (Makes self.now (hear_all (identity_of self.now) letter.now.from (messages_of letter.now.packets) not_yet (state_of self.now)) draft.new) }
-        ensures ready { OnOk result (IsReady table.now self.now draft.new) }
+        ensures makes { OnOk result (Makes self.now
+            (hear_all (own_identity self.now) letter.now.from (messages_of letter.now.packets) not_yet (state_of self.now)) draft.new) }
+        ensures ready { OnOk result (IsDraftReady table.now self.now draft.new) }
     {
         let from = letter.from();
         let mut asked = false;
@@ -80,7 +81,7 @@ impl Core {
 
     // Whether a packet tells an entry behind the next one.
     fn shows_gap(&self, draft: &Draft, packet: &Packet) -> bool
-        requires prefix { prefix_of self.now.learner < 2 ^ 62 }
+        requires prefix { learned_prefix self.now.learner < 2 ^ 62 }
         requires low { base_of draft.now.change 0 < 2 ^ 62 }
         requires base { self.now.learner.base ≡ self.now.acceptor.base }
         ensures { result ≡ shows_gap_in packet.now (drafted (fixed_of self.now) draft.now).state }
@@ -102,9 +103,10 @@ impl Core {
         asked: bool,
     ) -> Result<(), OutOfMemory>
         requires { CanHear table.now self.now draft.old from packet.now rest.now }
-        ensures does { OnOk result (HearsBy self.now draft.old draft.new (hear_in (identity_of self.now) from (message_in packet.now rest.now) (once_in asked draft.old))) }
-        ensures steady { OnOk result (IsSteady table.now self.now draft.new) }
-        ensures once { OnOk result (changes_in draft.new.change ≤ changes_in draft.old.change + changes_asked packet.now) }
+        ensures does { OnOk result (HearsBy self.now draft.old draft.new (hear_in (own_identity self.now) from (message_in packet.now rest.now)
+            (once_in asked draft.old))) }
+        ensures steady { OnOk result (IsDraftSteady table.now self.now draft.new) }
+        ensures once { OnOk result (changes_of_draft draft.new.change ≤ changes_of_draft draft.old.change + changes_asked packet.now) }
         ensures few { OnOk result (length draft.new.learnt.items ≤ length draft.old.learnt.items + 1) }
     {
         observe_in(draft, packet);
@@ -123,9 +125,10 @@ impl Core {
         asked: bool,
     ) -> Result<(), OutOfMemory>
         requires { CanHear table.now self.now draft.old from packet.now rest.now }
-        ensures does { OnOk result (HearsBy self.now draft.old draft.new (line_in (identity_of self.now) from (message_in packet.now rest.now) (once_in asked draft.old))) }
-        ensures steady { OnOk result (IsSteady table.now self.now draft.new) }
-        ensures once { OnOk result (changes_in draft.new.change ≤ changes_in draft.old.change + changes_asked packet.now) }
+        ensures does { OnOk result (HearsBy self.now draft.old draft.new (line_in (own_identity self.now) from (message_in packet.now rest.now)
+            (once_in asked draft.old))) }
+        ensures steady { OnOk result (IsDraftSteady table.now self.now draft.new) }
+        ensures once { OnOk result (changes_of_draft draft.new.change ≤ changes_of_draft draft.old.change + changes_asked packet.now) }
         ensures few { OnOk result (length draft.new.learnt.items ≤ length draft.old.learnt.items + 1) }
     {
         match packet {

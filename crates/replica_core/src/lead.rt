@@ -14,8 +14,8 @@ ghost use Rattle.step_spec.specs.Act.{Call, Rebase, Send};
 ghost use Rattle.step_spec.specs.Message.{Lead, Others};
 ghost use Rattle.step_spec.specs.Propose.{answer, bound_by, campaign, end_if, follow_intent, is_long, is_open, lead_on, proposal, propose, tick, wait};
 ghost use Rattle.step_spec.specs.State.{prefix_of};
-ghost use Rattle.replica_core.specs.Lines.{Does};
-ghost use Rattle.replica_core.specs.Replica.{FliesAt, IsFreeToPropose, IsIdle, IsReady, IsReadyAnyhow, IsSmall, IsWhole, Makes, identity_of, state_of};
+ghost use Rattle.replica_core.specs.Lines.{GoesOnByActs};
+ghost use Rattle.replica_core.specs.Replica.{FliesAt, IsFreeToPropose, IsUntouched, IsDraftReady, IsReadyAnyhow, IsSmall, IsWhole, Makes, own_identity, state_of};
 
 use crate::parts::Core;
 use cluster_sched::{Name, SchedRow};
@@ -63,10 +63,10 @@ fn bound_by(best: &[Vote], slot: u64, entry: Entry) -> Entry
 impl Core {
     /// Stands for leader in its next ballot, and asks all for promises and for their votes.
     pub fn campaign(&self, draft: &mut Draft) -> Result<(), OutOfMemory>
-        requires idle { IsIdle self.now draft.old }
+        requires idle { IsUntouched self.now draft.old }
         requires whole { IsWhole self.now }
         requires small { IsSmall (state_of self.now) self.now.machine.rows }
-        ensures makes { OnOk result (Makes self.now (campaign (identity_of self.now) (state_of self.now)) draft.new) }
+        ensures makes { OnOk result (Makes self.now (campaign (own_identity self.now) (state_of self.now)) draft.new) }
         ensures ready { OnOk result (IsReadyAnyhow self.now draft.new) }
     {
         let first = self.learner.prefix();
@@ -84,14 +84,14 @@ impl Core {
 
     /// A leader waits for the votes of its flight, proposes what votes bind it to, or does what its launch table asks for.
     pub fn tick(&self, table: &JobTable, draft: &mut Draft, now: Minute) -> Result<(), OutOfMemory>
-        requires idle { IsIdle self.now draft.old }
+        requires idle { IsUntouched self.now draft.old }
         requires whole { IsWhole self.now }
         requires small { IsSmall (state_of self.now) self.now.machine.rows }
         requires stands { StandsFor table.now self.now.machine }
         requires inside { IsInWindow table.now.window now.0 }
         ensures makes { OnOk result ((intent : Intent) × IsIntent table.now self.now.machine.rows now.0 intent
-            × Makes self.now (tick (identity_of self.now) now.0 self.now.machine.rows intent (state_of self.now)) draft.new) }
-        ensures ready { OnOk result (IsReady table.now self.now draft.new) }
+            × Makes self.now (tick (own_identity self.now) now.0 self.now.machine.rows intent (state_of self.now)) draft.new) }
+        ensures ready { OnOk result (IsDraftReady table.now self.now draft.new) }
     {
         let intent = self.machine.choose(table, now);
         if self.is_long() {
@@ -121,12 +121,12 @@ impl Core {
 
     // Takes its launch table in the place of the entries that it has learned.
     fn compact(&self, draft: &mut Draft) -> Result<(), OutOfMemory>
-        requires idle { IsIdle self.now draft.old }
+        requires idle { IsUntouched self.now draft.old }
         requires whole { IsWhole self.now }
         requires small { IsSmall (state_of self.now) self.now.machine.rows }
         requires long { is_long (state_of self.now) ≡ true }
         ensures makes { OnOk result (Makes self.now (Rebase (prefix_of (state_of self.now)) self.now.machine.rows ∷ []) draft.new) }
-        ensures ready { OnOk result ((jobs : Table) → StandsFor jobs self.now.machine → IsReady jobs self.now draft.new) }
+        ensures ready { OnOk result ((jobs : Table) → StandsFor jobs self.now.machine → IsDraftReady jobs self.now draft.new) }
     {
         let rows = self.machine.copy_rows(self.alloc)?;
         draft.rebase(self.alloc, self.learner.prefix(), rows, None)
@@ -134,7 +134,7 @@ impl Core {
 
     // Waits for the votes of a flight. At each fourth tick those that have not voted are asked again.
     fn wait(&self, draft: &mut Draft, ballot: Ballot, flight: &Flight) -> Result<(), OutOfMemory>
-        requires idle { IsIdle self.now draft.old }
+        requires idle { IsUntouched self.now draft.old }
         requires whole { IsWhole self.now }
         requires waits { self.now.term ≡ Leader ballot (best_votes self.now.term) (Some flight.now) }
         ensures makes { OnOk result (Makes self.now (wait ballot flight.now) draft.new) }
@@ -161,7 +161,7 @@ impl Core {
         now: Minute,
     ) -> Result<(), OutOfMemory>
         requires { IsFreeToPropose self.now draft.old ballot best.now }
-        ensures makes { OnOk result (Makes self.now (lead_on (identity_of self.now) now.0 intent ballot best.now (state_of self.now)
+        ensures makes { OnOk result (Makes self.now (lead_on (own_identity self.now) now.0 intent ballot best.now (state_of self.now)
             (votes_from (prefix_of (state_of self.now)) best.now)) draft.new) }
         ensures ready { OnOk result (IsReadyAnyhow self.now draft.new) }
     {
@@ -182,7 +182,7 @@ impl Core {
         now: Minute,
     ) -> Result<(), OutOfMemory>
         requires { IsFreeToPropose self.now draft.old ballot best.now }
-        ensures makes { OnOk result (Makes self.now (follow_intent (identity_of self.now) now.0 intent ballot best.now (state_of self.now)) draft.new) }
+        ensures makes { OnOk result (Makes self.now (follow_intent (own_identity self.now) now.0 intent ballot best.now (state_of self.now)) draft.new) }
         ensures ready { OnOk result (IsReadyAnyhow self.now draft.new) }
     {
         match intent {
@@ -204,7 +204,7 @@ impl Core {
 
     // Calls the scheduler.
     fn call(&self, draft: &mut Draft, job: u32, at: i64, kind: Kind, now: Minute)
-        requires idle { IsIdle self.now draft.old }
+        requires idle { IsUntouched self.now draft.old }
         requires whole { IsWhole self.now }
         ensures makes { Makes self.now (Call (record { name = record { job = job; at = at }; kind = kind; now = now; by = self.now.me }) ∷ []) draft.new }
         ensures ready { IsReadyAnyhow self.now draft.new }
@@ -219,7 +219,7 @@ impl Core {
 
     // Says to all that it leads.
     fn say_lead(&self, draft: &mut Draft, ballot: Ballot) -> Result<(), OutOfMemory>
-        requires idle { IsIdle self.now draft.old }
+        requires idle { IsUntouched self.now draft.old }
         requires whole { IsWhole self.now }
         ensures makes { OnOk result (Makes self.now (Send Others (Lead ballot (prefix_of (state_of self.now))) ∷ []) draft.new) }
         ensures ready { OnOk result (IsReadyAnyhow self.now draft.new) }
@@ -236,7 +236,7 @@ impl Core {
         entry: Entry,
     ) -> Result<(), OutOfMemory>
         requires { IsFreeToPropose self.now draft.old ballot best.now }
-        ensures makes { OnOk result (Makes self.now (propose (identity_of self.now)
+        ensures makes { OnOk result (Makes self.now (propose (own_identity self.now)
             (proposal ballot best.now (prefix_of (state_of self.now)) entry)) draft.new) }
         ensures ready { OnOk result (IsReadyAnyhow self.now draft.new) }
     {
@@ -255,11 +255,11 @@ impl Core {
         requires few { self.now.members ≤ 7 }
         requires change { draft.old.change ≡ None }
         requires learnt { draft.old.learnt.items ≡ [] }
-        requires slot { vote.slot ≡ learned.prefix_of self.now.learner }
+        requires slot { vote.slot ≡ learned.learned_prefix self.now.learner }
         requires bound { vote.slot < 2 ^ 62 }
-        requires flies { FliesAt (learned.prefix_of self.now.learner) draft.old.term }
+        requires flies { FliesAt (learned.learned_prefix self.now.learner) draft.old.term }
         requires leads { answer_to_proposal draft.old.term ≡ Ok vote.ballot }
-        ensures does { OnOk result (Does self.now draft.old draft.new (λ state. propose (identity_of self.now) vote)) }
+        ensures does { OnOk result (GoesOnByActs self.now draft.old draft.new (λ state. propose (own_identity self.now) vote)) }
         ensures ready { OnOk result (IsReadyAnyhow self.now draft.new) }
     {
         draft.propose(self.me, vote);
@@ -290,11 +290,11 @@ impl Core {
         at: i64,
         kind: Kind,
     ) -> Result<(), OutOfMemory>
-        requires idle { IsIdle self.now draft.old }
+        requires idle { IsUntouched self.now draft.old }
         requires whole { IsWhole self.now }
         requires small { IsSmall (state_of self.now) self.now.machine.rows }
         requires stands { StandsFor table.now self.now.machine }
-        ensures makes { OnOk result (Makes self.now (answer (identity_of self.now) job at kind self.now.machine.rows (state_of self.now)) draft.new) }
+        ensures makes { OnOk result (Makes self.now (answer (own_identity self.now) job at kind self.now.machine.rows (state_of self.now)) draft.new) }
         ensures ready { OnOk result (IsReadyAnyhow self.now draft.new) }
     {
         match &self.term {
@@ -329,7 +329,7 @@ impl Core {
         is_open: bool,
     ) -> Result<(), OutOfMemory>
         requires { IsFreeToPropose self.now draft.old ballot best.now }
-        ensures makes { OnOk result (Makes self.now (end_if (identity_of self.now) ballot best.now (state_of self.now) entry is_open
+        ensures makes { OnOk result (Makes self.now (end_if (own_identity self.now) ballot best.now (state_of self.now) entry is_open
             (votes_from (prefix_of (state_of self.now)) best.now)) draft.new) }
         ensures ready { OnOk result (IsReadyAnyhow self.now draft.new) }
     {

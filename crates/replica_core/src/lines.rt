@@ -5,15 +5,15 @@ ghost use Rattle.std.specs.Option.{option_copied};
 ghost use Rattle.paxos_base.specs.Rows.{OpenHaveCursors};
 ghost use Rattle.paxos_base.specs.Vote.{SlotsRise};
 ghost use Rattle.term_core.specs.Best.{best_of};
-ghost use Rattle.learner_core.specs.Learner.{prefix_of};
+ghost use Rattle.learner_core.specs.Learner.{learned_prefix};
 ghost use Rattle.step_spec.specs.Act.{Send};
 ghost use Rattle.step_spec.specs.Heard.{row_in, vote_in};
 ghost use Rattle.step_spec.specs.Hear.{ask_below, known_from, on_accept, on_accepted, on_ask, on_known, on_prepare, on_promise, on_snap, send_all, snapshot};
 ghost use Rattle.step_spec.specs.Message.{Only, Snap};
-ghost use Rattle.replica_draft.specs.Draft.{Says, SendsOnly, entries_in, has_copied, learned_with};
+ghost use Rattle.replica_draft.specs.Draft.{HasSent, SendsOnly, entries_in, has_copied, learned_with};
 ghost use Rattle.replica_core.specs.Heard.{AreRowsOf};
-ghost use Rattle.replica_core.specs.Lines.{Does, cast_vote, tell_vote};
-ghost use Rattle.replica_core.specs.Replica.{DoesAsTerm, FliesAt, IsSteady, KeepsChange, StaysSteady, base_of, best_in, next_slot, rebased_of, rows_of};
+ghost use Rattle.replica_core.specs.Lines.{GoesOnByActs, cast_vote, tell_vote};
+ghost use Rattle.replica_core.specs.Replica.{DoesAsTerm, FliesAt, IsDraftSteady, KeepsItsChange, StaysSteady, base_of, best_in, next_slot, rebased_of, rows_of};
 
 use crate::commit::machine_of;
 use crate::parts::Core;
@@ -82,7 +82,7 @@ fn rebased_in(change: &Option<Change>) -> Option<&Rebased>
 impl Core {
     /// The first slot that isn't learned, with what the draft has learned.
     pub fn next_slot(&self, draft: &Draft) -> u64
-        requires prefix { prefix_of self.now.learner < 2 ^ 62 }
+        requires prefix { learned_prefix self.now.learner < 2 ^ 62 }
         requires low { base_of draft.now.change 0 < 2 ^ 62 }
         ensures value { result ≡ next_slot self.now.learner draft.now }
         ensures bound { result < 2 ^ 63 + 2 ^ 62 }
@@ -128,8 +128,8 @@ impl Core {
         slot: u64,
     ) -> Result<(), OutOfMemory>
         requires change { draft.old.change ≡ None }
-        requires prefix { prefix_of self.now.learner < 2 ^ 62 }
-        ensures does { OnOk result (Does self.now draft.old draft.new (on_prepare from ballot slot (has_copied draft.old))) }
+        requires prefix { learned_prefix self.now.learner < 2 ^ 62 }
+        ensures does { OnOk result (GoesOnByActs self.now draft.old draft.new (on_prepare from ballot slot (has_copied draft.old))) }
         ensures steady { OnOk result (StaysSteady self.now draft.old draft.new) }
         ensures learnt { OnOk result (draft.new.learnt.items ≡ draft.old.learnt.items) }
     {
@@ -156,8 +156,9 @@ impl Core {
         requires some { 1 ≤ self.now.members }
         requires few { self.now.members ≤ 7 }
         requires from { from < self.now.members }
-        ensures does { OnOk result (DoesAsTerm self.now draft.old draft.new (on_promise self.now.members from ballot slot (flat_map vote_in (take count rest.now)))) }
-        ensures keeps { OnOk result (KeepsChange self.now draft.old draft.new) }
+        ensures does { OnOk result (DoesAsTerm self.now draft.old draft.new
+            (on_promise self.now.members from ballot slot (flat_map vote_in (take count rest.now)))) }
+        ensures keeps { OnOk result (KeepsItsChange self.now draft.old draft.new) }
         ensures learnt { OnOk result (draft.new.learnt.items ≡ draft.old.learnt.items) }
     {
         if !draft.term.has_asked(ballot, slot) {
@@ -186,8 +187,8 @@ impl Core {
     /// A ballot below the promised one is refused. Else the vote is cast, unless it was cast before, and told.
     pub fn on_accept(&self, draft: &mut Draft, from: u8, vote: &Vote) -> Result<(), OutOfMemory>
         requires change { draft.old.change ≡ None }
-        requires prefix { prefix_of self.now.learner < 2 ^ 62 }
-        ensures does { OnOk result (Does self.now draft.old draft.new (on_accept from vote.now (has_copied draft.old))) }
+        requires prefix { learned_prefix self.now.learner < 2 ^ 62 }
+        ensures does { OnOk result (GoesOnByActs self.now draft.old draft.new (on_accept from vote.now (has_copied draft.old))) }
         ensures steady { OnOk result (StaysSteady self.now draft.old draft.new) }
         ensures learnt { OnOk result (draft.new.learnt.items ≡ draft.old.learnt.items) }
     {
@@ -202,8 +203,8 @@ impl Core {
     // Casts a vote, and tells it.
     fn cast_vote(&self, draft: &mut Draft, from: u8, vote: &Vote) -> Result<(), OutOfMemory>
         requires change { draft.old.change ≡ None }
-        requires prefix { prefix_of self.now.learner < 2 ^ 62 }
-        ensures does { OnOk result (Does self.now draft.old draft.new (cast_vote from vote.now)) }
+        requires prefix { learned_prefix self.now.learner < 2 ^ 62 }
+        ensures does { OnOk result (GoesOnByActs self.now draft.old draft.new (cast_vote from vote.now)) }
         ensures steady { OnOk result (StaysSteady self.now draft.old draft.new) }
         ensures learnt { OnOk result (draft.new.learnt.items ≡ draft.old.learnt.items) }
     {
@@ -213,9 +214,9 @@ impl Core {
 
     // Tells a vote, and asks for what is missing below it.
     fn tell_vote(&self, draft: &mut Draft, from: u8, vote: &Vote) -> Result<(), OutOfMemory>
-        requires prefix { prefix_of self.now.learner < 2 ^ 62 }
+        requires prefix { learned_prefix self.now.learner < 2 ^ 62 }
         requires low { base_of draft.old.change 0 < 2 ^ 62 }
-        ensures does { OnOk result (Does self.now draft.old draft.new (tell_vote from vote.now)) }
+        ensures does { OnOk result (GoesOnByActs self.now draft.old draft.new (tell_vote from vote.now)) }
         ensures sends { OnOk result (SendsOnly draft.old draft.new) }
     {
         draft.send_accepted(from, vote.ballot, vote.slot)?;
@@ -224,9 +225,9 @@ impl Core {
 
     /// Asks for the entries that are missing below a slot, where some are.
     pub fn ask_below(&self, draft: &mut Draft, from: u8, slot: u64) -> Result<(), OutOfMemory>
-        requires prefix { prefix_of self.now.learner < 2 ^ 62 }
+        requires prefix { learned_prefix self.now.learner < 2 ^ 62 }
         requires low { base_of draft.old.change 0 < 2 ^ 62 }
-        ensures does { OnOk result (Does self.now draft.old draft.new (ask_below from slot)) }
+        ensures does { OnOk result (GoesOnByActs self.now draft.old draft.new (ask_below from slot)) }
         ensures sends { OnOk result (SendsOnly draft.old draft.new) }
     {
         let prefix = self.next_slot(draft);
@@ -249,11 +250,11 @@ impl Core {
         requires some { 1 ≤ self.now.members }
         requires few { self.now.members ≤ 7 }
         requires from { from < self.now.members }
-        requires prefix { prefix_of self.now.learner < 2 ^ 62 }
+        requires prefix { learned_prefix self.now.learner < 2 ^ 62 }
         requires flies { FliesAt (next_slot self.now.learner draft.old) draft.old.term }
         requires bound { next_slot self.now.learner draft.old < 2 ^ 63 }
         ensures does { OnOk result (DoesAsTerm self.now draft.old draft.new (on_accepted self.now.members from ballot slot)) }
-        ensures keeps { OnOk result (KeepsChange self.now draft.old draft.new) }
+        ensures keeps { OnOk result (KeepsItsChange self.now draft.old draft.new) }
         ensures few { OnOk result (length draft.new.learnt.items ≤ length draft.old.learnt.items + 1) }
     {
         match draft.term.on_accepted(from, ballot, slot, self.members) {
@@ -271,11 +272,11 @@ impl Core {
         entry: Entry,
         asked: bool,
     ) -> Result<(), OutOfMemory>
-        requires prefix { prefix_of self.now.learner < 2 ^ 62 }
+        requires prefix { learned_prefix self.now.learner < 2 ^ 62 }
         requires low { base_of draft.old.change 0 < 2 ^ 62 }
         requires slot { slot < 2 ^ 62 }
-        ensures does { OnOk result (Does self.now draft.old draft.new (on_known from slot entry asked)) }
-        ensures keeps { OnOk result (KeepsChange self.now draft.old draft.new) }
+        ensures does { OnOk result (GoesOnByActs self.now draft.old draft.new (on_known from slot entry asked)) }
+        ensures keeps { OnOk result (KeepsItsChange self.now draft.old draft.new) }
         ensures few { OnOk result (length draft.new.learnt.items ≤ length draft.old.learnt.items + 1) }
     {
         if slot == self.next_slot(draft) {
@@ -289,10 +290,10 @@ impl Core {
 
     /// What was learned from the slot on is told; a snapshot is sent where the slot lies below the base.
     pub fn on_ask(&self, draft: &mut Draft, from: u8, slot: u64) -> Result<(), OutOfMemory>
-        requires prefix { prefix_of self.now.learner < 2 ^ 62 }
+        requires prefix { learned_prefix self.now.learner < 2 ^ 62 }
         requires low { base_of draft.old.change 0 < 2 ^ 62 }
         requires slot { slot < 2 ^ 62 }
-        ensures does { OnOk result (Does self.now draft.old draft.new (on_ask from slot (has_copied draft.old))) }
+        ensures does { OnOk result (GoesOnByActs self.now draft.old draft.new (on_ask from slot (has_copied draft.old))) }
         ensures sends { OnOk result (SendsOnly draft.old draft.new) }
     {
         if slot < self.base(draft) {
@@ -304,9 +305,9 @@ impl Core {
 
     // Sends a snapshot, unless the step has sent it: the launch table at the base, and what was learned from there on.
     fn send_snapshot(&self, draft: &mut Draft, from: u8) -> Result<(), OutOfMemory>
-        requires prefix { prefix_of self.now.learner < 2 ^ 62 }
+        requires prefix { learned_prefix self.now.learner < 2 ^ 62 }
         requires low { base_of draft.old.change 0 < 2 ^ 62 }
-        ensures does { OnOk result (Does self.now draft.old draft.new (snapshot from (has_copied draft.old))) }
+        ensures does { OnOk result (GoesOnByActs self.now draft.old draft.new (snapshot from (has_copied draft.old))) }
         ensures sends { OnOk result (SendsOnly draft.old draft.new) }
     {
         if draft.has_copied() {
@@ -318,7 +319,7 @@ impl Core {
 
     // Sends the launch table at the base.
     fn send_table(&self, draft: &mut Draft, from: u8) -> Result<(), OutOfMemory>
-        ensures says { OnOk result (Says draft.old.sends.items draft.new.sends.items (Send (Only from) (Snap (base_of draft.old.change self.now.learner.base)
+        ensures says { OnOk result (HasSent draft.old.sends.items draft.new.sends.items (Send (Only from) (Snap (base_of draft.old.change self.now.learner.base)
             (rows_of draft.old.change self.now.rows)) ∷ [])) }
         ensures sends { OnOk result (SendsOnly draft.old draft.new) }
     {
@@ -340,10 +341,10 @@ impl Core {
 
     // Tells what was learned from a slot on, which isn't below the base.
     fn tell_from(&self, draft: &mut Draft, from: u8, slot: u64) -> Result<(), OutOfMemory>
-        requires prefix { prefix_of self.now.learner < 2 ^ 62 }
+        requires prefix { learned_prefix self.now.learner < 2 ^ 62 }
         requires slot { slot < 2 ^ 62 }
         requires kept { base_of draft.old.change self.now.learner.base ≤ slot }
-        ensures says { OnOk result (Says draft.old.sends.items draft.new.sends.items (send_all from (known_from slot
+        ensures says { OnOk result (HasSent draft.old.sends.items draft.new.sends.items (send_all from (known_from slot
             (drop (slot - base_of draft.old.change self.now.learner.base) (learned_with draft.old.change self.now.learner.entries draft.old.learnt.items))))) }
         ensures sends { OnOk result (SendsOnly draft.old draft.new) }
     {
@@ -357,10 +358,10 @@ impl Core {
 
     // The same, where there is no new base: what the replica has learned, and behind it what the draft has.
     fn tell_learned(&self, draft: &mut Draft, from: u8, slot: u64) -> Result<(), OutOfMemory>
-        requires prefix { prefix_of self.now.learner < 2 ^ 62 }
+        requires prefix { learned_prefix self.now.learner < 2 ^ 62 }
         requires slot { slot < 2 ^ 62 }
         requires kept { self.now.learner.base ≤ slot }
-        ensures says { OnOk result (Says draft.old.sends.items draft.new.sends.items (send_all from (known_from slot
+        ensures says { OnOk result (HasSent draft.old.sends.items draft.new.sends.items (send_all from (known_from slot
             (drop (slot - self.now.learner.base) (self.now.learner.entries ++ entries_in draft.old.learnt.items))))) }
         ensures sends { OnOk result (SendsOnly draft.old draft.new) }
     {
@@ -382,11 +383,11 @@ impl Core {
         rest: &Packets<'_>,
     ) -> Result<(), OutOfMemory>
         requires change { draft.old.change ≡ None }
-        requires prefix { prefix_of self.now.learner < 2 ^ 62 }
+        requires prefix { learned_prefix self.now.learner < 2 ^ 62 }
         requires slot { slot < 2 ^ 62 }
         requires rows { AreRowsOf (length table.now.jobs) (flat_map row_in (take count rest.now)) }
-        ensures does { OnOk result (Does self.now draft.old draft.new (on_snap slot (flat_map row_in (take count rest.now)))) }
-        ensures steady { OnOk result (IsSteady table.now self.now draft.old → IsSteady table.now self.now draft.new) }
+        ensures does { OnOk result (GoesOnByActs self.now draft.old draft.new (on_snap slot (flat_map row_in (take count rest.now)))) }
+        ensures steady { OnOk result (IsDraftSteady table.now self.now draft.old → IsDraftSteady table.now self.now draft.new) }
         ensures learnt { OnOk result (draft.new.learnt.items ≡ draft.old.learnt.items) }
     {
         if slot <= self.next_slot(draft) {

@@ -1,14 +1,14 @@
 //! What is done at an input.
 ghost use Rattle.std.specs.Prelude.{◌≡◌, IfOk, OnOk};
 ghost use Rattle.std.specs.Option.{option_map};
-ghost use Rattle.paxos_letter.specs.Letters.{fault_of};
+ghost use Rattle.paxos_letter.specs.Letters.{letter_fault_of};
 ghost use Rattle.due_set.specs.Table.{Table};
 ghost use Rattle.launch_machine.specs.Machine.{StandsFor};
 ghost use Rattle.step_spec.specs.Step.{Event, step};
 ghost use Rattle.replica_draft.specs.Draft.{delta_of};
 ghost use Rattle.replica_draft.specs.Letters.{AreLettersFrom};
-ghost use Rattle.replica_core.specs.Replica.{IsAlikeCore, IsIdle, IsReady, IsSmall, IsWhole, identity_of, replica_of, state_of};
-ghost use Rattle.replica_core.specs.Step.{CanTake, Hears, IsInputInside, IsOfTable, MakesStep, PlansStep, fault_in, fault_told};
+ghost use Rattle.replica_core.specs.Replica.{IsAlikeCore, IsUntouched, IsDraftReady, IsSmall, IsWhole, own_identity, replica_of_core, state_of};
+ghost use Rattle.replica_core.specs.Step.{CanTake, HearsLetter, IsInputInside, IsOfTable, MakesStep, PlansStep, fault_in, fault_told};
 ghost use Rattle.replica_core.specs.declared.input.Input.{Input};
 
 use crate::bounds::is_small_letter;
@@ -34,13 +34,13 @@ fn delta_of(draft: &Draft) -> Result<Option<Delta>, OutOfMemory>
 impl Core {
     // Does what an input asks for, in a draft in which nothing was done yet.
     fn draft(&self, table: &JobTable, draft: &mut Draft, input: Input<'_>) -> Result<(), StepFault>
-        requires idle { IsIdle self.now draft.old }
+        requires idle { IsUntouched self.now draft.old }
         requires whole { IsWhole self.now }
         requires small { IsSmall (state_of self.now) self.now.machine.rows }
         requires stands { StandsFor table.now self.now.machine }
         requires inside { IsInputInside table.now input }
         ensures makes { OnOk result (MakesStep table.now input.entry self.now draft.new) }
-        ensures ready { OnOk result (IsReady table.now self.now draft.new) }
+        ensures ready { OnOk result (IsDraftReady table.now self.now draft.new) }
         ensures fault { fault_told result ≡ fault_in self.now.members input.entry }
     {
         match input {
@@ -58,12 +58,12 @@ impl Core {
         draft: &mut Draft,
         bytes: &[u8],
     ) -> Result<(), StepFault>
-        requires idle { IsIdle self.now draft.old }
+        requires idle { IsUntouched self.now draft.old }
         requires whole { IsWhole self.now }
         requires small { IsSmall (state_of self.now) self.now.machine.rows }
-        ensures makes { OnOk result (Hears table.now bytes.now self.now draft.new) }
-        ensures ready { OnOk result (IsReady table.now self.now draft.new) }
-        ensures fault { fault_told result ≡ fault_of self.now.members bytes.now }
+        ensures makes { OnOk result (HearsLetter table.now bytes.now self.now draft.new) }
+        ensures ready { OnOk result (IsDraftReady table.now self.now draft.new) }
+        ensures fault { fault_told result ≡ letter_fault_of self.now.members bytes.now }
     {
         let letter = Letter::read(bytes, self.members)?;
         if is_small_letter(table.jobs(), &letter) {
@@ -79,14 +79,14 @@ impl Core {
         draft: &mut Draft,
         input: Input<'_>,
     ) -> Result<Effects, StepFault>
-        requires idle { IsIdle self.old draft.old }
+        requires idle { IsUntouched self.old draft.old }
         requires whole { IsWhole self.old }
         requires small { IsSmall (state_of self.old) self.old.machine.rows }
-        requires of_table { IsOfTable table.now (replica_of self.old) }
+        requires of_table { IsOfTable table.now (replica_of_core self.old) }
         requires inside { IsInputInside table.now input }
         ensures alike { IsAlikeCore self.new self.old }
-        ensures planned { IfOk result (λ effects. PlansStep table.now input.entry (replica_of self.old) (record { draft = draft.new; effects = effects })) }
-        ensures can { IfOk result (λ effects. CanTake table.now (replica_of self.new) (record { draft = draft.new; effects = effects })) }
+        ensures planned { IfOk result (λ effects. PlansStep table.now input.entry (replica_of_core self.old) (record { draft = draft.new; effects = effects })) }
+        ensures can { IfOk result (λ effects. CanTake table.now (replica_of_core self.new) (record { draft = draft.new; effects = effects })) }
         ensures fault { fault_told result ≡ fault_in self.old.members input.entry }
     {
         self.draft(table, draft, input)?;
@@ -99,9 +99,10 @@ impl Core {
     // The letters of a draft.
     fn letters(&self, draft: &Draft) -> Result<LetterList, OutOfMemory>
         requires whole { IsWhole self.now }
-        requires made { (table : Table) × (input : Input) × IsOfTable table (replica_of self.now) × MakesStep table input self.now draft.now }
-        ensures letters { IfOk result (λ letters. (table : Table) (input : Input) → IsOfTable table (replica_of self.now) → (made : MakesStep table input self.now draft.now)
-            → AreLettersFrom (identity_of self.now) (step (identity_of self.now) made.event (state_of self.now)) letters) }
+        requires made { (table : Table) × (input : Input) × IsOfTable table (replica_of_core self.now) × MakesStep table input self.now draft.now }
+        ensures letters { IfOk result (λ letters. (table : Table) (input : Input) → IsOfTable table (replica_of_core self.now)
+            → (made : MakesStep table input self.now draft.now)
+            → AreLettersFrom (own_identity self.now) (step (own_identity self.now) made.event (state_of self.now)) letters) }
     {
         write_letters(self.alloc, self.me, self.members, draft.sends.as_slice())
     }

@@ -5,7 +5,7 @@ ghost use Rattle.step_spec.specs.Act.{Act};
 ghost use Rattle.step_spec.specs.Folds.{deltas_of};
 ghost use Rattle.step_spec.specs.State.{prefix_of, started};
 ghost use Rattle.replica_core.specs.Replica.{IsSmall, ReplicaState};
-ghost use Rattle.replica_core.specs.Step.{CanTake, IsAlike, IsInputInside, IsOfTable, Plans, PlansStep, Steps, Takes, fault_in, fault_told};
+ghost use Rattle.replica_core.specs.Step.{CanTake, IsSameReplica, IsInputInside, IsOfTable, Plans, PlansStep, Steps, Takes, fault_in, fault_told};
 
 use crate::input::{Input, StepFault};
 use crate::out::{Effects, StepOut};
@@ -25,11 +25,11 @@ pub struct Replica {
 }
 
 impl Model for Replica {
-    ghost use Rattle.replica_core.specs.Replica.{IsWhole, ReplicaState, replica_of};
+    ghost use Rattle.replica_core.specs.Replica.{IsWhole, ReplicaState, replica_of_core};
 
     ghost Value = { ReplicaState };
 
-    ghost view = { λ replica. replica_of replica.core };
+    ghost view = { λ replica. replica_of_core replica.core };
 
     ghost invariant = { λ replica. IsWhole replica.core };
 }
@@ -74,7 +74,7 @@ impl Replica {
 
     /// An equal replica, but for the room that it has.
     pub fn copy(&self) -> Result<Replica, OutOfMemory>
-        ensures { IfOk result (λ copy. IsAlike copy self.now) }
+        ensures { IfOk result (λ copy. IsSameReplica copy self.now) }
     {
         Ok(Replica {
             core: self.core.copy()?,
@@ -119,7 +119,7 @@ impl Replica {
         requires of_table { IsOfTable table.now self.old }
         requires small { IsSmall self.old.state self.old.machine.rows }
         requires inside { IsInputInside table.now input }
-        ensures alike { IsAlike self.new self.old }
+        ensures alike { IsSameReplica self.new self.old }
         ensures planned { IfOk result (λ planned. PlansStep table.now input.entry self.old planned) }
         ensures can { IfOk result (λ planned. CanTake table.now self.new planned) }
         // The bytes of a letter are refused exactly where they break a rule, for the first that they break.
@@ -151,7 +151,7 @@ impl Replica {
         requires small { IsSmall self.old.state self.old.machine.rows }
         requires inside { IsInputInside table.now input }
         ensures steps { IfOk result (λ out. Steps table.now input.entry self.old self.new out) }
-        ensures err { OnErr result (IsAlike self.new self.old) }
+        ensures err { OnErr result (IsSameReplica self.new self.old) }
         // The bytes of a letter are refused exactly where they break a rule, for the first that they break.
         ensures fault { fault_told result ≡ fault_in self.old.identity.members input.entry }
     {

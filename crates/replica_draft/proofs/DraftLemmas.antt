@@ -23,7 +23,7 @@ use Rattle.step_spec.proofs.VoteLemmas.{known-push}
 use Rattle.step_spec.specs.Message.{Message, Whom, Only, Known, Promise, Snap}
 use Rattle.step_spec.specs.State.{State, prefix_of}
 use Rattle.step_spec.specs.declared.out.LearntRow.{LearntRow}
-use Rattle.replica_draft.specs.Draft.{Desk, Goes, FixedParts, LearnsNext, Says, SendsOnly, TakesTable, calls_in, deltas_in, done, drafted, durable_of, entries_in, learned_with, said_by, said_in, said_of, with_best, with_learned}
+use Rattle.replica_draft.specs.Draft.{Desk, Goes, FixedParts, LearnsNext, HasSent, SendsOnly, TakesTable, calls_in, deltas_in, done, drafted, durable_of, entries_in, learned_with, said_by, said_in, said_of, with_best, with_learned}
 use Rattle.replica_draft.specs.declared.draft.Sent.{Sent}
 use Rattle.replica_draft.specs.declared.change.Change.{Change}
 use Rattle.replica_draft.specs.declared.change.Change.TheVariants as change
@@ -247,7 +247,7 @@ all-sends to [] = tt
 all-sends to (message ∷ messages) = (tt, all-sends to messages)
 
 -- a draft that only sends goes on by what it sends
-pub goes-by : (old new : Draft) (acts : List Act) → SendsOnly old new → AllByRecursion IsSend acts → Says old.sends.items new.sends.items acts → Goes old new acts
+pub goes-by : (old new : Draft) (acts : List Act) → SendsOnly old new → AllByRecursion IsSend acts → HasSent old.sends.items new.sends.items acts → Goes old new acts
 goes-by old new acts only sends says kept =
     rw (
       only.seen,
@@ -266,17 +266,17 @@ goes-by old new acts only sends says kept =
       append-nil (drafted kept old).calls,
     ) refl
 
-pub says-nothing : (sends : List Sent) → Says sends sends []
+pub says-nothing : (sends : List Sent) → HasSent sends sends []
 says-nothing sends = sym (append-nil (map said_in sends))
 
 -- what is sent, and what is sent behind it
-pub says-on : (one two three : List Sent) (xs ys : List Act) → Says one two xs → Says two three ys → Says one three (xs ++ ys)
+pub says-on : (one two three : List Sent) (xs ys : List Act) → HasSent one two xs → HasSent two three ys → HasSent one three (xs ++ ys)
 says-on one two three xs ys first second =
     second ∙ rw (first, flat_map-append said_by xs ys) (append_assoc (map said_in one) (said_of xs) (said_of ys))
 
 -- entries are told, and one more
-says-more : (one two three : List Sent) (to first : ℕ) (entries : List Entry) (entry : Entry) → Says one two (send_all to (known_from first entries))
-    → map said_in three ≡ map said_in two ++ (Only to, packet.Known (first + length entries) entry) ∷ [] → Says one three (send_all to (known_from first (entries ++ entry ∷ [])))
+says-more : (one two three : List Sent) (to first : ℕ) (entries : List Entry) (entry : Entry) → HasSent one two (send_all to (known_from first entries))
+    → map said_in three ≡ map said_in two ++ (Only to, packet.Known (first + length entries) entry) ∷ [] → HasSent one three (send_all to (known_from first (entries ++ entry ∷ [])))
 unfolding said_by packets_of
 says-more one two three to first entries entry before now =
     rw (known-push first entries entry, map-append (Send (Only to)) (known_from first entries) (Known (first + length entries) entry ∷ []))
@@ -284,8 +284,8 @@ says-more one two three to first entries entry before now =
 
 -- entries are told, one after another, each at the place that it has among them
 pub says-next : (one two three : List Sent) (to first place : ℕ) (entries : List Entry) (none entry : Entry) → place < length entries → get_or entries place none ≡ entry
-    → Says one two (send_all to (known_from first (take place entries))) → map said_in three ≡ map said_in two ++ (Only to, packet.Known (first + place) entry) ∷ []
-    → Says one three (send_all to (known_from first (take (place + 1) entries)))
+    → HasSent one two (send_all to (known_from first (take place entries))) → map said_in three ≡ map said_in two ++ (Only to, packet.Known (first + place) entry) ∷ []
+    → HasSent one three (send_all to (known_from first (take (place + 1) entries)))
 says-next one two three to first place entries none entry in_range is before now =
     let count : length (take place entries) ≡ place = length-take-le place entries (omega (arith, in_range)) in
     rw (take_more entries place none in_range, is)
@@ -294,7 +294,7 @@ says-next one two three to first place entries none entry in_range is before now
 -- a launch table is sent, and then its rows
 pub says-rows : (one two : List Sent) (to slot : ℕ) (rows : List JobRow)
     → map said_in two ≡ (map said_in one ++ (Only to, packet.Snap slot (length rows)) ∷ []) ++ map (λ (row : JobRow). (Only to, packet.SnapRow slot row)) rows
-    → Says one two (Send (Only to) (Snap slot rows) ∷ [])
+    → HasSent one two (Send (Only to) (Snap slot rows) ∷ [])
 unfolding said_by packets_of
 says-rows one two to slot rows is =
     is

@@ -16,7 +16,7 @@ use Rattle.step_spec.specs.Message.{Message, Prepare, Promise, Accept, Accepted,
 use Rattle.step_spec.specs.State.{State, Identity}
 use Rattle.step_spec.specs.Step.{Event, step}
 use Rattle.replica_draft.specs.Draft.{said_by, said_of}
-use Rattle.replica_draft.specs.Letters.{packets_to, BringsCopyable, IsCopyable, KeepGroups, HaveCursors, IsTold, IsSpoken, AreSpoken}
+use Rattle.replica_draft.specs.Letters.{packets_to, BringsCopyable, IsCopyable, KeepGroups, HaveCursors, IsInPackets, IsSpoken, AreSpoken}
 use Rattle.replica_draft.proofs.AskLemmas.{IsFree, IsAsk, SendsFree, SendsAsk, AreFree, AskOnce, step-once}
 use Rattle.replica_draft.proofs.GroupLemmas.{told_to, acts_once}
 
@@ -51,11 +51,11 @@ packets_to-said_of me member (act ∷ acts) = packets_to-said_of me member acts
 
 -- ---- every step
 
-free_told : (message : Message) → IsFree message → IsTold message
+free_told : (message : Message) → IsFree message → IsInPackets message
 free_told (Mention ballot) free = absurd free
 free_told message free = tt
 
-ask_told : (message : Message) → IsAsk message → IsTold message
+ask_told : (message : Message) → IsAsk message → IsInPackets message
 ask_told (Mention ballot) asks = absurd asks
 ask_told message asks = tt
 

@@ -20,7 +20,7 @@ use Rattle.step_spec.specs.Message.{Message, Prepare, Promise, Accept, Accepted,
 use Rattle.step_spec.specs.declared.out.OutLetter.{OutLetter}
 use Rattle.replica_draft.specs.Draft.{said_in, said_of, meant}
 use Rattle.replica_draft.specs.declared.draft.Sent.{Sent}
-use Rattle.replica_draft.specs.Letters.{packets_to, AllKeep, Carry, KeepGroups, HasCursor, HaveCursors, IsTold, AreSpoken}
+use Rattle.replica_draft.specs.Letters.{packets_to, AllKeep, Carry, KeepGroups, HasCursor, HaveCursors, IsInPackets, AreSpoken}
 use Rattle.replica_draft.proofs.GroupLemmas.{told_to}
 use Rattle.replica_draft.proofs.LetterLemmas.{packets_to-said_of}
 
@@ -180,7 +180,7 @@ one_letter : (me to : ℕ) (messages : List Message) (letter : OutLetter) → fl
 one_letter me to [] letter some is spells = absurd (some refl)
 one_letter me to (message ∷ messages) letter some is spells = (record { to = is; spells = spells }, tt)
 
-some_packet : (message : Message) (rest : List Packet) → IsTold message → packets_of message ++ rest ≢ []
+some_packet : (message : Message) (rest : List Packet) → IsInPackets message → packets_of message ++ rest ≢ []
 unfolding packets_of
 some_packet (Prepare ballot slot) rest told none = absurd cc
 some_packet (Promise ballot slot votes) rest told none = absurd cc
@@ -193,11 +193,11 @@ some_packet (Snap slot rows) rest told none = absurd cc
 some_packet (Lead ballot slot) rest told none = absurd cc
 some_packet (Mention ballot) rest told none = absurd told
 
-no_letter : (me to : ℕ) (messages : List Message) → AllByRecursion IsTold messages → flat_map packets_of messages ≡ [] → AllZip (IsSpelled 7 me) (letter_of to messages) []
+no_letter : (me to : ℕ) (messages : List Message) → AllByRecursion IsInPackets messages → flat_map packets_of messages ≡ [] → AllZip (IsSpelled 7 me) (letter_of to messages) []
 no_letter me to [] told none = tt
 no_letter me to (message ∷ messages) told none = absurd (some_packet message (flat_map packets_of messages) told.0 none)
 
-all_told : (me member : ℕ) (acts : List Act) → AreSpoken acts → AllByRecursion IsTold (sent_to me member acts)
+all_told : (me member : ℕ) (acts : List Act) → AreSpoken acts → AllByRecursion IsInPackets (sent_to me member acts)
 unfolding sent_by
 all_told me member [] spoken = tt
 all_told me member (Send whom message ∷ acts) spoken =

@@ -180,8 +180,8 @@ pub record TakesTable (old new : Draft) (slot : ℕ) (rows : List JobRow) (machi
   pub call : new.call ≡ old.call
 
 -- what some acts send was put behind what was there
-abbrev pub Says : List Sent → List Sent → List Act → Type 0
-Says old new acts = map said_in new ≡ map said_in old ++ said_of acts
+abbrev pub HasSent : List Sent → List Sent → List Act → Type 0
+HasSent old new acts = map said_in new ≡ map said_in old ++ said_of acts
 
 -- a draft has learned an entry, and told all
 pub record Chooses (old new : Draft) (slot : ℕ) (entry : Entry) : Type 0 where

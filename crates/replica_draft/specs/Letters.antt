@@ -57,13 +57,13 @@ BringsCopyable (told.Hear from messages) = AllByRecursion IsCopyableIn messages
 BringsCopyable event = ⊤
 
 -- a message is told in packets, as each is but a mention
-abbrev pub IsTold : Message → Type 0
-IsTold (Mention ballot) = ⊥
-IsTold message = ⊤
+abbrev pub IsInPackets : Message → Type 0
+IsInPackets (Mention ballot) = ⊥
+IsInPackets message = ⊤
 
 -- an act sends no mention
 abbrev pub IsSpoken : Act → Type 0
-IsSpoken (Send whom message) = IsTold message
+IsSpoken (Send whom message) = IsInPackets message
 IsSpoken act = ⊤
 
 -- none of some acts sends a mention

@@ -7,5 +7,6 @@ ghost use Rattle.replica_draft.specs.Letters.{AreLettersFrom};
 
 /// What a replica does settles its letters, byte for byte.
 pub fn acts_have_one_list_of_letters()
-    ensures { (self : Identity) (acts : List Act) (letters others : List OutLetter) → AreLettersFrom self acts letters → AreLettersFrom self acts others → letters ≡ others }
+    ensures { (self : Identity) (acts : List Act) (letters others : List OutLetter) → AreLettersFrom self acts letters
+        → AreLettersFrom self acts others → letters ≡ others }
 {}

@@ -3,7 +3,7 @@ ghost use Rattle.std.specs.Prelude.{◌≡◌, ◌+◌, ◌^◌, ◌<◌, [], �
 ghost use Rattle.step_spec.specs.Act.{Send};
 ghost use Rattle.step_spec.specs.Hear.{known_from, send_all};
 ghost use Rattle.step_spec.specs.Message.{Only, Snap};
-ghost use Rattle.replica_draft.specs.Draft.{Says, entries_in};
+ghost use Rattle.replica_draft.specs.Draft.{HasSent, entries_in};
 
 use crate::draft::{SendList, Sent, Target};
 use cron_io::OutOfMemory;
@@ -19,7 +19,7 @@ pub fn tell_entries(
     entries: &[Entry],
 ) -> Result<(), OutOfMemory>
     requires { first + length entries.now < 2 ^ 64 }
-    ensures { OnOk result (Says sends.old.items sends.new.items (send_all to (known_from first entries.now))) }
+    ensures { OnOk result (HasSent sends.old.items sends.new.items (send_all to (known_from first entries.now))) }
 {
     let mut slot = first;
     for entry in entries {
@@ -44,7 +44,7 @@ pub fn tell_learnt(
     rows: &[LearntRow],
 ) -> Result<(), OutOfMemory>
     requires { first + length rows.now < 2 ^ 64 }
-    ensures { OnOk result (Says sends.old.items sends.new.items (send_all to (known_from first (entries_in rows.now)))) }
+    ensures { OnOk result (HasSent sends.old.items sends.new.items (send_all to (known_from first (entries_in rows.now)))) }
 {
     let mut slot = first;
     for row in rows {
@@ -68,7 +68,7 @@ pub fn tell_rows(
     slot: u64,
     rows: &[JobRow],
 ) -> Result<(), OutOfMemory>
-    ensures { OnOk result (Says sends.old.items sends.new.items (Send (Only to) (Snap slot rows.now) ∷ [])) }
+    ensures { OnOk result (HasSent sends.old.items sends.new.items (Send (Only to) (Snap slot rows.now) ∷ [])) }
 {
     let count = rows.len() as u64;
     sends.push(Sent {

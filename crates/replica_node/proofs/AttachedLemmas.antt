@@ -17,7 +17,7 @@ use Rattle.step_spec.specs.State.{promised_in}
 use Rattle.store_format.specs.declared.body.Record.{Record}
 use Rattle.store_format.specs.declared.body.Record.TheVariants.{Tried, Promised, Voted, Base, Row}
 use Rattle.store_format.specs.Area.{Stands, StandFor, fresh_kept}
-use Rattle.store_format.specs.Order.{IsChangeLog, IsKeptSound, IsPromised, delta_record, own_round}
+use Rattle.store_format.specs.Order.{IsChangeLog, IsKeptSound, IsWithinPromise, delta_record, own_round}
 use Rattle.store_format.specs.Records.{AreRecords, tried_in}
 use Rattle.store_format.proofs.LogLemmas.{IsChangeLog-empty, IsChangeLog-uncons}
 use Rattle.store_format.proofs.SoundLemmas.{StandFor-sound}
@@ -59,13 +59,13 @@ round_fits (Some ballot) fits = omega (arith, fits)
 
 -- ---- the promise
 
-votes_up : (promised : Option ℕ) (kept : Durable) → kept.promised ≡ promised → (vote : Vote) → IsPromised promised vote.ballot → vote.ballot ≤ promised_in kept
+votes_up : (promised : Option ℕ) (kept : Durable) → kept.promised ≡ promised → (vote : Vote) → IsWithinPromise promised vote.ballot → vote.ballot ≤ promised_in kept
 votes_up None kept is vote promised = absurd promised
 votes_up (Some ballot) kept is vote promised = rw is promised
 
 pub votes_up_to : (kept : Durable) (own : Option ℕ) → IsKeptSound kept own → AreUpTo (promised_in kept) kept.votes
 votes_up_to kept own sound =
-    All-weaker (λ (vote : Vote). IsPromised kept.promised vote.ballot) (λ (vote : Vote). vote.ballot ≤ promised_in kept) (votes_up kept.promised kept refl) kept.votes sound.votes_promised
+    All-weaker (λ (vote : Vote). IsWithinPromise kept.promised vote.ballot) (λ (vote : Vote). vote.ballot ≤ promised_in kept) (votes_up kept.promised kept refl) kept.votes sound.votes_promised
 
 -- ---- all of it
 

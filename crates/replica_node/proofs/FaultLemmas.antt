@@ -9,7 +9,7 @@ use Rattle.replica_store.specs.Faults.{HasStoreAnswer}
 use Rattle.replica_store.specs.Faults as stored
 use Rattle.replica_store.specs.declared.fault.StoreFault.{StoreFault}
 use Rattle.replica_store.specs.declared.fault.StoreFault.TheVariants as Store
-use Rattle.replica_node.specs.Faults.{HasNodeAnswer, IsRefused, of_disk, of_store}
+use Rattle.replica_node.specs.Faults.{HasNodeAnswer, IsStepRefused, of_disk_answer, of_store}
 use Rattle.replica_node.specs.declared.fault.NodeFault.{NodeFault}
 use Rattle.replica_node.specs.declared.fault.NodeFault.TheVariants as Node
 
@@ -44,7 +44,7 @@ no_letter_of Store.OutOfMemory letter is = absurd (cc is)
 no_letter_of (Store.Damaged other) letter is = absurd (cc is)
 
 -- a fault of the disk by that which the store made of it
-pub stored_of : (fault : StoreFault) (of : DiskFault) → of_store fault ≡ of_disk of → fault ≡ stored.of_disk of
+pub stored_of : (fault : StoreFault) (of : DiskFault) → of_store fault ≡ of_disk_answer of → fault ≡ stored.of_disk of
 stored_of fault Disk.Stopped is = stopped_of fault is
 stored_of fault Disk.Failed is = failed_of fault is
 stored_of fault Disk.OutOfMemory is = memory_of fault is
@@ -91,7 +91,7 @@ answer_on honest counts old new fault below result was gives answer =
 
 -- ---- the faults of a node's own call, handed on
 
-refused_by : (U : Type 0) (fault : NodeFault) → IsRefused {T = U} (Err fault) → (fault ≡ Node.OutOfMemory) ⊎ ((letter : LetterFault) × (fault ≡ Node.Letter letter))
+refused_by : (U : Type 0) (fault : NodeFault) → IsStepRefused {T = U} (Err fault) → (fault ≡ Node.OutOfMemory) ⊎ ((letter : LetterFault) × (fault ≡ Node.Letter letter))
 refused_by U Node.Stopped refused = absurd refused
 refused_by U Node.DiskFault refused = absurd refused
 refused_by U Node.OutOfMemory refused = inl refl
@@ -100,11 +100,11 @@ refused_by U (Node.Letter letter) refused = inr (letter, refl)
 
 -- where a step is refused after its letter was read, memory ran out
 pub memory_below : {T U : Type 0} (fault : NodeFault) (below : Result T NodeFault) (result : Result U NodeFault) → below ≡ Err fault → IsErrAnd result (λ e. e ≡ fault)
-    → ((letter : LetterFault) → below ≡ Err (Node.Letter letter) → ⊥) → IsRefused result → below ≡ Err Node.OutOfMemory
+    → ((letter : LetterFault) → below ≡ Err (Node.Letter letter) → ⊥) → IsStepRefused result → below ≡ Err Node.OutOfMemory
 memory_below {T} {U} fault below result was gives no_letter refused =
     let found = err_from_is_err_and result gives in
     let same : result ≡ Err fault = found.1 ∙ ap Err found.2 in
-    elim (refused_by U fault (subst (λ (r : Result U NodeFault). IsRefused r) same refused)) [
+    elim (refused_by U fault (subst (λ (r : Result U NodeFault). IsStepRefused r) same refused)) [
       | inl memory ↦ was ∙ ap Err memory
       | inr letter ↦ absurd (no_letter letter.0 (was ∙ ap Err letter.1))
     ]

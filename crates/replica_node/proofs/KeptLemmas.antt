@@ -9,7 +9,7 @@ use Rattle.disk_model.specs.declared.fault.FileNo.{FileNo}
 use Rattle.disk_model.specs.declared.fault.FileNo.TheVariants.{AreaA, AreaB, Chooser}
 use Rattle.disk_model.specs.Images.{Image}
 use Rattle.disk_model.specs.Made.{AllDone, DiskCall, MadeCalls}
-use Rattle.disk_model.specs.Told.{Tells, Told, after_arm, after_disarm, image_left}
+use Rattle.disk_model.specs.Told.{TellsThen, Told, after_arm, after_disarm, image_left}
 use Rattle.disk_model.proofs.StopLemmas.{all_pass, all_run, stops_at}
 use Rattle.paxos_base.specs.Durable.{after_delta}
 use Rattle.paxos_base.specs.declared.durable.Delta.{Delta}
@@ -25,16 +25,16 @@ use Rattle.replica_store.specs.Faults as stored
 use Rattle.replica_store.specs.Files.{other_area, selected, selected_by}
 use Rattle.replica_store.specs.Kept.{IsReady, Shows, StopsInSave}
 use Rattle.replica_store.specs.Made.{area_after, attach_calls, save_calls}
-use Rattle.replica_store.specs.Store.{IsStoreSettled, area_of, jobs_of, records_of}
+use Rattle.replica_store.specs.Store.{IsStoreSettled, area_of, jobs_of_store, records_of}
 use Rattle.replica_store.specs.declared.fault.StoreFault.{StoreFault}
 use Rattle.replica_store.specs.declared.fault.StoreFault.TheVariants as Store
 use Rattle.replica_store.specs.declared.store.Store.{Store as AStore}
 use Rattle.replica_store.proofs.BaseLemmas.{base_early, base_kept, base_lost}
 use Rattle.replica_store.proofs.CleanLemmas.{armed_clean, attached_clean, disarmed_clean, ready_clean, settled_ready}
 use Rattle.replica_store.proofs.KeptLemmas.{StandsIn, record_early, record_kept, record_lost}
-use Rattle.replica_node.specs.Faults.{of_disk}
-use Rattle.replica_node.specs.Kept.{IsKeptByArm, IsSynced, KeepsChange, LeavesByArm, calls_of}
-use Rattle.replica_node.specs.Node.{calls_for}
+use Rattle.replica_node.specs.Faults.{of_disk_answer}
+use Rattle.replica_node.specs.Kept.{IsKeptByArm, IsAreaSynced, KeepsChange, LeavesByArm, calls_of_change}
+use Rattle.replica_node.specs.Node.{disk_calls_for}
 use Rattle.replica_node.specs.declared.fault.NodeFault.TheVariants as Node
 use Rattle.replica_node.specs.declared.node.Node.{Node as ANode}
 
@@ -88,22 +88,22 @@ module _ {D : Type 0} (seen : D → Image) (may_leave : D → Image → Type 0) 
   abbrev calls : List DiskCall
   calls = save_calls (area_of store) (length (records_of store)) kept own change
 
-  ready : (old : Told) → old.done ≡ seen disk → IsSynced (area_of store) old → IsReady (area_of store) (records_of store) old
+  ready : (old : Told) → old.done ≡ seen disk → IsAreaSynced (area_of store) old → IsReady (area_of store) (records_of store) old
   ready old done synced = settled_ready seen may_leave honest disk store old settled done synced.runs synced.chooser synced.area_clean
 
-  saved_synced : (old new : Told) → old.done ≡ seen disk → IsSynced (area_of store) old → AllDone calls old new → IsSynced (area_after change (area_of store)) new
+  saved_synced : (old new : Told) → old.done ≡ seen disk → IsAreaSynced (area_of store) old → AllDone calls old new → IsAreaSynced (area_after change (area_of store)) new
   saved_synced old new done synced made =
       let clean = ready_clean (area_of store) (records_of store) kept own change old new (ready old done synced) made in
       record { runs = all_run calls old new synced.runs made; chooser = clean.0; area_clean = clean.1 }
 
-  pub tells_saved : (after : AStore) (old new : Option Told) → ((now : Told) → old ≡ Some now → now.done ≡ seen disk) → IsSomeAnd old (IsSynced (area_of store)) → area_of after ≡ area_after change (area_of store)
-      → Tells (MadeCalls {T = Unit} stored.of_disk calls (Ok tt)) old new → IsSomeAnd new (IsSynced (area_of after))
+  pub tells_saved : (after : AStore) (old new : Option Told) → ((now : Told) → old ≡ Some now → now.done ≡ seen disk) → IsSomeAnd old (IsAreaSynced (area_of store)) → area_of after ≡ area_after change (area_of store)
+      → TellsThen (MadeCalls {T = Unit} stored.of_disk calls (Ok tt)) old new → IsSomeAnd new (IsAreaSynced (area_of after))
   tells_saved after None new done clean area tells = absurd clean
   tells_saved after (Some old) None done clean area tells = absurd tells
-  tells_saved after (Some old) (Some new) done clean area tells = subst (λ (file : FileNo). IsSynced file new) (sym area) (saved_synced old new (done old refl) clean tells.all)
+  tells_saved after (Some old) (Some new) done clean area tells = subst (λ (file : FileNo). IsAreaSynced file new) (sym area) (saved_synced old new (done old refl) clean tells.all)
 
-  stops_in_save : (arm : Arm) (old new : Told) → old.done ≡ seen disk → IsSynced (area_of store) old → old.arm ≡ Some arm → StandFor (jobs_of store) (records_of store) kept own → ChangeMayFollow (jobs_of store) kept change
-      → MadeCalls {T = Unit} stored.of_disk calls (Err Store.Stopped) old new → StopsInSave (jobs_of store) (area_of store) kept own change arm old new
+  stops_in_save : (arm : Arm) (old new : Told) → old.done ≡ seen disk → IsAreaSynced (area_of store) old → old.arm ≡ Some arm → StandFor (jobs_of_store store) (records_of store) kept own → ChangeMayFollow (jobs_of_store store) kept change
+      → MadeCalls {T = Unit} stored.of_disk calls (Err Store.Stopped) old new → StopsInSave (jobs_of_store store) (area_of store) kept own change arm old new
   stops_in_save arm old new done synced armed stand follows made =
       record {
         records = records_of store;
@@ -114,33 +114,33 @@ module _ {D : Type 0} (seen : D → Image) (may_leave : D → Image → Type 0) 
         stops = made.broken Disk.Stopped refl;
       }
 
-  pub tells_by_arm : (arm : Arm) (old new : Option Told) → ((now : Told) → old ≡ Some now → now.done ≡ seen disk) → IsSomeAnd old (IsSynced (area_of store)) → IsSomeAnd old (λ now. now.arm ≡ Some arm)
-      → StandFor (jobs_of store) (records_of store) kept own → ChangeMayFollow (jobs_of store) kept change → (fault : StoreFault) → fault ≡ Store.Stopped → Tells (MadeCalls {T = Unit} stored.of_disk calls (Err fault)) old new
+  pub tells_by_arm : (arm : Arm) (old new : Option Told) → ((now : Told) → old ≡ Some now → now.done ≡ seen disk) → IsSomeAnd old (IsAreaSynced (area_of store)) → IsSomeAnd old (λ now. now.arm ≡ Some arm)
+      → StandFor (jobs_of_store store) (records_of store) kept own → ChangeMayFollow (jobs_of_store store) kept change → (fault : StoreFault) → fault ≡ Store.Stopped → TellsThen (MadeCalls {T = Unit} stored.of_disk calls (Err fault)) old new
       → ((item : Record) → delta_record change ≡ Some item → IsRecord (record_bytes item) item)
       → ((slot : ℕ) (rows : List JobRow) → change ≡ Base slot rows → AreRecords (map record_bytes (base_records kept own slot rows)) (base_records kept own slot rows))
-      → LeavesByArm (jobs_of store) (area_of store) kept change arm new
+      → LeavesByArm (jobs_of_store store) (area_of store) kept change arm new
   tells_by_arm arm None new done clean armed stand follows fault is tells spelled base = absurd clean
   tells_by_arm arm (Some old) None done clean armed stand follows fault is tells spelled base = absurd tells
   tells_by_arm arm (Some old) (Some new) done clean armed stand follows fault is tells spelled base =
       let made : MadeCalls {T = Unit} stored.of_disk calls (Err Store.Stopped) old new = subst (λ (f : StoreFault). MadeCalls {T = Unit} stored.of_disk calls (Err f) old new) is tells in
-      kept_by_arm (jobs_of store) (area_of store) kept own arm old new change (stops_in_save arm old new (done old refl) clean armed stand follows made) spelled base
+      kept_by_arm (jobs_of_store store) (area_of store) kept own arm old new change (stops_in_save arm old new (done old refl) clean armed stand follows made) spelled base
 
 -- ---- an attach
 
-attached_synced : (image : Image) (count : ℕ) (old new : Told) → AllDone (attach_calls image count) old new → IsSynced (selected image) new
+attached_synced : (image : Image) (count : ℕ) (old new : Told) → AllDone (attach_calls image count) old new → IsAreaSynced (selected image) new
 attached_synced image count old new made =
     let clean = attached_clean image count old new made in
     record { runs = all_run (attach_calls image count) old new made.1.0 made; chooser = clean.0; area_clean = clean.1 }
 
-pub tells_attached : {T : Type 0} (image : Image) (count : ℕ) (area : FileNo) (value : T) (old new : Option Told) → IsSome old → area ≡ selected image → Tells (MadeCalls stored.of_disk (attach_calls image count) (Ok value)) old new
-    → IsSomeAnd new (IsSynced area)
+pub tells_attached : {T : Type 0} (image : Image) (count : ℕ) (area : FileNo) (value : T) (old new : Option Told) → IsSome old → area ≡ selected image → TellsThen (MadeCalls stored.of_disk (attach_calls image count) (Ok value)) old new
+    → IsSomeAnd new (IsAreaSynced area)
 tells_attached image count area value None new some is tells = absurd (cc some)
 tells_attached image count area value (Some old) None some is tells = absurd tells
-tells_attached image count area value (Some old) (Some new) some is tells = subst (λ (file : FileNo). IsSynced file new) (sym is) (attached_synced image count old new tells.all)
+tells_attached image count area value (Some old) (Some new) some is tells = subst (λ (file : FileNo). IsAreaSynced file new) (sym is) (attached_synced image count old new tells.all)
 
 -- ---- an arm, and its end
 
-arm_synced : (pass image : ℕ) (area : FileNo) (told : Told) → IsSynced area told → IsSynced area (after_arm pass image told) × ((after_arm pass image told).arm ≡ Some (record { left = pass; image = image }))
+arm_synced : (pass image : ℕ) (area : FileNo) (told : Told) → IsAreaSynced area told → IsAreaSynced area (after_arm pass image told) × ((after_arm pass image told).arm ≡ Some (record { left = pass; image = image }))
 arm_synced pass image area told synced = (
   record {
     runs = rw synced.runs refl;
@@ -150,14 +150,14 @@ arm_synced pass image area told synced = (
   rw synced.runs refl,
 )
 
-pub tells_armed : (pass image : ℕ) (area : FileNo) (old new : Option Told) → IsSomeAnd old (IsSynced area) → Tells (λ one two. two ≡ after_arm pass image one) old new
-    → IsSomeAnd new (IsSynced area) × IsSomeAnd new (λ now. now.arm ≡ Some (record { left = pass; image = image }))
+pub tells_armed : (pass image : ℕ) (area : FileNo) (old new : Option Told) → IsSomeAnd old (IsAreaSynced area) → TellsThen (λ one two. two ≡ after_arm pass image one) old new
+    → IsSomeAnd new (IsAreaSynced area) × IsSomeAnd new (λ now. now.arm ≡ Some (record { left = pass; image = image }))
 tells_armed pass image area None new synced tells = absurd synced
 tells_armed pass image area (Some old) None synced tells = absurd tells
 tells_armed pass image area (Some old) (Some new) synced tells =
-    subst (λ (t : Told). IsSynced area t × (t.arm ≡ Some (record { left = pass; image = image }))) (sym tells) (arm_synced pass image area old synced)
+    subst (λ (t : Told). IsAreaSynced area t × (t.arm ≡ Some (record { left = pass; image = image }))) (sym tells) (arm_synced pass image area old synced)
 
-disarm_synced : (area : FileNo) (told : Told) → IsSynced area told → IsSynced area (after_disarm told)
+disarm_synced : (area : FileNo) (told : Told) → IsAreaSynced area told → IsAreaSynced area (after_disarm told)
 disarm_synced area told synced =
     record {
       runs = rw synced.runs refl;
@@ -165,10 +165,10 @@ disarm_synced area told synced =
       area_clean = disarmed_clean area told synced.area_clean;
     }
 
-pub tells_disarmed : (area : FileNo) (old new : Option Told) → IsSomeAnd old (IsSynced area) → Tells (λ one two. two ≡ after_disarm one) old new → IsSomeAnd new (IsSynced area)
+pub tells_disarmed : (area : FileNo) (old new : Option Told) → IsSomeAnd old (IsAreaSynced area) → TellsThen (λ one two. two ≡ after_disarm one) old new → IsSomeAnd new (IsAreaSynced area)
 tells_disarmed area None new synced tells = absurd synced
 tells_disarmed area (Some old) None synced tells = absurd tells
-tells_disarmed area (Some old) (Some new) synced tells = subst (IsSynced area) (sym tells) (disarm_synced area old synced)
+tells_disarmed area (Some old) (Some new) synced tells = subst (IsAreaSynced area) (sym tells) (disarm_synced area old synced)
 
 -- ---- the byte of a chooser
 
@@ -206,22 +206,22 @@ bit_of_second byte is =
 
 -- ---- how many calls of an arm a step takes
 
-pub count_calls : {D : Type 0} (node : ANode D) (own : Option ℕ) (change : Option Delta) → length (calls_for node own change) ≡ calls_of change
+pub count_calls : {D : Type 0} (node : ANode D) (own : Option ℕ) (change : Option Delta) → length (disk_calls_for node own change) ≡ calls_of_change change
 count_calls node own None = refl
 count_calls node own (Some (Tried ballot)) = refl
 count_calls node own (Some (Promised ballot)) = refl
 count_calls node own (Some (Voted vote)) = refl
 count_calls node own (Some (Base slot rows)) = refl
 
-pub tells_counted : {T : Type 0} (list : List DiskCall) (count : ℕ) (value : T) (arm : Arm) (old new : Option Told) → length list ≡ count → IsSomeAnd old (λ now. now.arm ≡ Some arm) → Tells (MadeCalls of_disk list (Ok value)) old new
+pub tells_counted : {T : Type 0} (list : List DiskCall) (count : ℕ) (value : T) (arm : Arm) (old new : Option Told) → length list ≡ count → IsSomeAnd old (λ now. now.arm ≡ Some arm) → TellsThen (MadeCalls of_disk_answer list (Ok value)) old new
     → (count ≤ arm.left) × IsSomeAnd new (λ now. now.arm ≡ Some (record arm { left = arm.left - count }))
 tells_counted list count value arm None new long armed tells = absurd armed
 tells_counted list count value arm (Some old) None long armed tells = absurd tells
 tells_counted list count value arm (Some old) (Some new) long armed tells =
     subst (λ (n : ℕ). (n ≤ arm.left) × (new.arm ≡ Some (record arm { left = arm.left - n }))) long (all_pass list arm old new armed tells.all)
 
-pub tells_too_few : (T : Type 0) (area : FileNo) (list : List DiskCall) (count : ℕ) (arm : Arm) (old new : Option Told) → length list ≡ count → IsSomeAnd old (IsSynced area) → IsSomeAnd old (λ now. now.arm ≡ Some arm)
-    → Tells (MadeCalls {T = T} of_disk list (Err Node.Stopped)) old new → arm.left < count
+pub tells_too_few : (T : Type 0) (area : FileNo) (list : List DiskCall) (count : ℕ) (arm : Arm) (old new : Option Told) → length list ≡ count → IsSomeAnd old (IsAreaSynced area) → IsSomeAnd old (λ now. now.arm ≡ Some arm)
+    → TellsThen (MadeCalls {T = T} of_disk_answer list (Err Node.Stopped)) old new → arm.left < count
 tells_too_few T area list count arm None new long clean armed tells = absurd clean
 tells_too_few T area list count arm (Some old) None long clean armed tells = absurd tells
 tells_too_few T area list count arm (Some old) (Some new) long clean armed tells =

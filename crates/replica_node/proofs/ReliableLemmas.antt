@@ -4,8 +4,8 @@ use Rattle.std.specs.Prelude.{IsSome}
 use Rattle.std.proofs.lemmas.Result.{err_from_is_err_and}
 use Rattle.disk_model.specs.declared.fault.DiskFault.{DiskFault}
 use Rattle.disk_model.specs.declared.fault.DiskFault.TheVariants as Disk
-use Rattle.disk_model.specs.Made.{AllDone, BreaksOff, CutTo, DiskCall, EndsAt, IsAnswered, MadeCalls, SyncOf, WriteAt}
-use Rattle.disk_model.specs.Told.{HasStopped, Tells, Told, after_arm, after_disarm, after_revive}
+use Rattle.disk_model.specs.Made.{AllDone, BreaksOff, CutTo, DiskCall, StopsCalls, GaveAnswer, MadeCalls, SyncOf, WriteAt}
+use Rattle.disk_model.specs.Told.{TellsStop, TellsThen, Told, after_arm, after_disarm, after_revive}
 use Rattle.disk_model.proofs.StopLemmas.{all_run, all_unarmed, never_stops}
 use Rattle.due_set.specs.Table.{Table}
 use Rattle.paxos_letter.specs.declared.fault.LetterFault.{LetterFault}
@@ -23,13 +23,13 @@ use Rattle.replica_store.specs.declared.fault.StoreFault.TheVariants as Store
 use Rattle.replica_node.specs.Faults.{EndsRun, of_step, of_store}
 use Rattle.replica_node.specs.Kept.{EndsByArm}
 use Rattle.replica_node.specs.Reliable.{CantFail, IsReliable, IsUnarmed, IsUnfailing, IsUnfailingAfter, RunsOn, RunsUnfailing}
-use Rattle.replica_node.specs.Stopped.{IsQuiet}
+use Rattle.replica_node.specs.Stopped.{IsDiskUnarmed}
 use Rattle.replica_node.specs.declared.fault.NodeFault.{NodeFault}
 use Rattle.replica_node.specs.declared.fault.NodeFault.TheVariants as Node
 
 -- ---- calls that are done
 
-one_fails : (call : DiskCall) (old new : Told) → IsAnswered call (Ok tt) old new → new.fails ≡ old.fails
+one_fails : (call : DiskCall) (old new : Told) → GaveAnswer call (Ok tt) old new → new.fails ≡ old.fails
 one_fails (WriteAt file at piece) old new passed = ap (λ (told : Told). told.fails) passed.2
 one_fails (CutTo file size) old new passed = ap (λ (told : Told). told.fails) passed.2
 one_fails (SyncOf file) old new passed = ap (λ (told : Told). told.fails) passed.2
@@ -62,12 +62,12 @@ no_disk_fault calls below old new sure made (inr is) = never_fails calls old new
 
 -- ---- by what is told
 
-pub reliable_done : {T : Type 0} (calls : List DiskCall) (value : T) (old new : Option Told) → IsReliable old → Tells (MadeCalls stored.of_disk calls (Ok value)) old new → IsReliable new
+pub reliable_done : {T : Type 0} (calls : List DiskCall) (value : T) (old new : Option Told) → IsReliable old → TellsThen (MadeCalls stored.of_disk calls (Ok value)) old new → IsReliable new
 reliable_done calls value None new sure tells = absurd sure
 reliable_done calls value (Some old) None sure tells = absurd tells
 reliable_done calls value (Some old) (Some new) sure tells = runs_on calls old new sure tells.all
 
-pub reliable_never : {T : Type 0} (calls : List DiskCall) (below : Result T StoreFault) (old new : Option Told) → IsReliable old → Tells (MadeCalls stored.of_disk calls below) old new
+pub reliable_never : {T : Type 0} (calls : List DiskCall) (below : Result T StoreFault) (old new : Option Told) → IsReliable old → TellsThen (MadeCalls stored.of_disk calls below) old new
     → (below ≡ Err Store.Stopped) ⊎ (below ≡ Err Store.DiskFault) → ⊥
 reliable_never calls below None new sure tells = absurd sure
 reliable_never calls below (Some old) None sure tells = absurd tells
@@ -93,13 +93,13 @@ ends_below {T} {U} fault below result was gives ends =
 
 -- ---- a disk that may be armed
 
-one_stop_fails : (call : DiskCall) (old new : Told) → IsAnswered call (Err Disk.Stopped) old new → new.fails ≡ old.fails
+one_stop_fails : (call : DiskCall) (old new : Told) → GaveAnswer call (Err Disk.Stopped) old new → new.fails ≡ old.fails
 one_stop_fails call old new (inl before) = ap (λ (told : Told). told.fails) before.1
 one_stop_fails (WriteAt file at piece) old new (inr now) = ap (λ (told : Told). told.fails) now.2
 one_stop_fails (CutTo file size) old new (inr now) = ap (λ (told : Told). told.fails) now.2
 one_stop_fails (SyncOf file) old new (inr now) = ap (λ (told : Told). told.fails) now.2
 
-ends_fails : (fault : DiskFault) (rest : List DiskCall) (old new : Told) → EndsAt fault rest old new → new.fails ≡ old.fails
+ends_fails : (fault : DiskFault) (rest : List DiskCall) (old new : Told) → StopsCalls fault rest old new → new.fails ≡ old.fails
 ends_fails Disk.Stopped [] old new ends = absurd ends
 ends_fails Disk.Stopped (call ∷ rest) old new ends = one_stop_fails call old new ends
 ends_fails Disk.Failed rest old new ends = ap (λ (told : Told). told.fails) ends.1
@@ -123,31 +123,31 @@ made_unfailing T U calls looks (Store.Damaged gate) old new sure made looked = d
 
 -- ---- by what is told
 
-pub unfailing_done : {T : Type 0} (calls : List DiskCall) (value : T) (old new : Option Told) → IsUnfailing old → Tells (MadeCalls stored.of_disk calls (Ok value)) old new → IsUnfailing new
+pub unfailing_done : {T : Type 0} (calls : List DiskCall) (value : T) (old new : Option Told) → IsUnfailing old → TellsThen (MadeCalls stored.of_disk calls (Ok value)) old new → IsUnfailing new
 unfailing_done calls value None new sure tells = absurd sure
 unfailing_done calls value (Some old) None sure tells = absurd tells
 unfailing_done calls value (Some old) (Some new) sure tells = done_unfailing calls old new sure tells.all
 
-unfailing_told : (T U : Type 0) (calls looks : List DiskCall) (fault : StoreFault) (old new : Option Told) → IsUnfailing old → Tells (MadeCalls {T = T} stored.of_disk calls (Err fault)) old new
-    → ((gate : ℕ) → fault ≡ Store.Damaged gate → Tells (AllDone looks) old new) → IsUnfailingAfter {T = U} (Err (of_store fault)) new
+unfailing_told : (T U : Type 0) (calls looks : List DiskCall) (fault : StoreFault) (old new : Option Told) → IsUnfailing old → TellsThen (MadeCalls {T = T} stored.of_disk calls (Err fault)) old new
+    → ((gate : ℕ) → fault ≡ Store.Damaged gate → TellsThen (AllDone looks) old new) → IsUnfailingAfter {T = U} (Err (of_store fault)) new
 unfailing_told T U calls looks fault None new sure tells looked = absurd sure
 unfailing_told T U calls looks fault (Some old) None sure tells looked = absurd tells
 unfailing_told T U calls looks fault (Some old) (Some new) sure tells looked = made_unfailing T U calls looks fault old new sure tells looked
 
 -- a save's fault, which tells of no damage
-pub unfailing_saved : (calls : List DiskCall) (found fault : StoreFault) (old new : Option Told) → found ≡ fault → ((gate : ℕ) → fault ≡ Store.Damaged gate → ⊥) → IsUnfailing old → Tells (MadeCalls {T = Unit} stored.of_disk calls (Err found)) old new
+pub unfailing_saved : (calls : List DiskCall) (found fault : StoreFault) (old new : Option Told) → found ≡ fault → ((gate : ℕ) → fault ≡ Store.Damaged gate → ⊥) → IsUnfailing old → TellsThen (MadeCalls {T = Unit} stored.of_disk calls (Err found)) old new
     → IsUnfailingAfter {T = Unit} (Err (of_store fault)) new
 unfailing_saved calls found fault old new is undamaged sure tells =
-    unfailing_told Unit Unit calls [] fault old new sure (subst (λ (f : StoreFault). Tells (MadeCalls {T = Unit} stored.of_disk calls (Err f)) old new) is tells) (λ gate damaged. absurd (undamaged gate damaged))
+    unfailing_told Unit Unit calls [] fault old new sure (subst (λ (f : StoreFault). TellsThen (MadeCalls {T = Unit} stored.of_disk calls (Err f)) old new) is tells) (λ gate damaged. absurd (undamaged gate damaged))
 
 -- an attach's fault, handed on
 pub unfailing_below : {T U : Type 0} (calls looks : List DiskCall) (fault : StoreFault) (below : Result T StoreFault) (result : Result U NodeFault) (old new : Option Told) → below ≡ Err fault → IsErrAnd result (λ e. e ≡ of_store fault) → IsUnfailing old
-    → Tells (MadeCalls stored.of_disk calls below) old new → ((gate : ℕ) → below ≡ Err (Store.Damaged gate) → Tells (AllDone looks) old new) → IsUnfailingAfter result new
+    → TellsThen (MadeCalls stored.of_disk calls below) old new → ((gate : ℕ) → below ≡ Err (Store.Damaged gate) → TellsThen (AllDone looks) old new) → IsUnfailingAfter result new
 unfailing_below {T} {U} calls looks fault below result old new was gives sure tells looked =
     let found = err_from_is_err_and result gives in
     let same : result ≡ Err (of_store fault) = found.1 ∙ ap Err found.2 in
     subst (λ (r : Result U NodeFault). IsUnfailingAfter r new) (sym same)
-    (unfailing_told T U calls looks fault old new sure (subst (λ (r : Result T StoreFault). Tells (MadeCalls stored.of_disk calls r) old new) was tells) (λ gate is. looked gate (was ∙ ap Err is)))
+    (unfailing_told T U calls looks fault old new sure (subst (λ (r : Result T StoreFault). TellsThen (MadeCalls stored.of_disk calls r) old new) was tells) (λ gate is. looked gate (was ∙ ap Err is)))
 
 -- the fault of one call, handed on by another
 pub unfailing_handed : {T : Type 0} (U : Type 0) (fault : NodeFault) (below : Result T NodeFault) (told : Option Told) → below ≡ Err fault → IsUnfailingAfter below told → IsUnfailingAfter {T = U} (Err fault) told
@@ -213,7 +213,7 @@ unfailing_cant_fail (Some now) sure = sure.unfailing
 revived_unfailing : (told : Told) → told.stopped ≡ true → told.fails ≡ false → RunsOn (after_revive told)
 revived_unfailing told stopped unfailing = rw stopped (record { runs = refl; unarmed = refl; unfailing = unfailing })
 
-pub revived_reliable : (old new : Option Told) → HasStopped old → CantFail old → Tells (λ one two. two ≡ after_revive one) old new → IsReliable new
+pub revived_reliable : (old new : Option Told) → TellsStop old → CantFail old → TellsThen (λ one two. two ≡ after_revive one) old new → IsReliable new
 revived_reliable None new stopped sure tells = absurd stopped
 revived_reliable (Some old) None stopped sure tells = absurd tells
 revived_reliable (Some old) (Some new) stopped sure tells = subst RunsOn (sym tells) (revived_unfailing old stopped sure)
@@ -223,7 +223,7 @@ revived_reliable (Some old) (Some new) stopped sure tells = subst RunsOn (sym te
 armed_unfailing : (pass image : ℕ) (told : Told) → RunsUnfailing told → RunsUnfailing (after_arm pass image told)
 armed_unfailing pass image told sure = record { runs = rw sure.runs refl; unfailing = rw sure.runs sure.unfailing }
 
-pub tells_armed_unfailing : (pass image : ℕ) (old new : Option Told) → IsUnfailing old → Tells (λ one two. two ≡ after_arm pass image one) old new → IsUnfailing new
+pub tells_armed_unfailing : (pass image : ℕ) (old new : Option Told) → IsUnfailing old → TellsThen (λ one two. two ≡ after_arm pass image one) old new → IsUnfailing new
 tells_armed_unfailing pass image None new sure tells = absurd sure
 tells_armed_unfailing pass image (Some old) None sure tells = absurd tells
 tells_armed_unfailing pass image (Some old) (Some new) sure tells = subst RunsUnfailing (sym tells) (armed_unfailing pass image old sure)
@@ -231,7 +231,7 @@ tells_armed_unfailing pass image (Some old) (Some new) sure tells = subst RunsUn
 disarmed_reliable : (told : Told) → RunsUnfailing told → RunsOn (after_disarm told)
 disarmed_reliable told sure = record { runs = rw sure.runs refl; unarmed = rw sure.runs refl; unfailing = rw sure.runs sure.unfailing }
 
-pub tells_disarmed_reliable : (old new : Option Told) → IsUnfailing old → Tells (λ one two. two ≡ after_disarm one) old new → IsReliable new
+pub tells_disarmed_reliable : (old new : Option Told) → IsUnfailing old → TellsThen (λ one two. two ≡ after_disarm one) old new → IsReliable new
 tells_disarmed_reliable None new sure tells = absurd sure
 tells_disarmed_reliable (Some old) None sure tells = absurd tells
 tells_disarmed_reliable (Some old) (Some new) sure tells = subst RunsOn (sym tells) (disarmed_reliable old sure)
@@ -239,7 +239,7 @@ tells_disarmed_reliable (Some old) (Some new) sure tells = subst RunsOn (sym tel
 -- ---- an attach
 
 -- it leaves the disk reliable, whatever it answers
-pub quiet_reliable : (told : Option Told) → IsSome told → CantFail told → IsQuiet told → IsReliable told
+pub quiet_reliable : (told : Option Told) → IsSome told → CantFail told → IsDiskUnarmed told → IsReliable told
 quiet_reliable None some sure quiet = absurd sure
 quiet_reliable (Some now) some sure quiet = record { runs = quiet.0; unarmed = quiet.1; unfailing = sure }
 

@@ -19,7 +19,7 @@ use Rattle.replica_core.specs.Replica.{ReplicaState}
 use Rattle.replica_core.specs.declared.replica.Planned.{Planned}
 use Rattle.replica_store.specs.Files.{FilesStand, IsRecoverable, selected}
 use Rattle.replica_store.specs.Made.{area_after}
-use Rattle.replica_store.specs.Store.{IsStoreSettled, StoreKeeps, jobs_of}
+use Rattle.replica_store.specs.Store.{IsStoreSettled, StoreKeeps, jobs_of_store}
 use Rattle.replica_store.specs.declared.store.Store.{Store}
 use Rattle.replica_store.proofs.FileLemmas.{files_stand_for_one, recoverable_stands}
 use Rattle.replica_store.proofs.SaveLemmas.{settled_recoverable}
@@ -53,7 +53,7 @@ reopens jobs before found now change answer store keeps follows either decided k
 
 -- a replica can go on from the disk with what its replica keeps
 pub found_recoverable : {D : Type 0} (seen : D → Image) (may_leave : D → Image → Type 0) (honest : D → Type 0) (disk : D) (store : Store) (jobs : ℕ) (found now : Durable) → IsStoreSettled seen may_leave honest disk store → StoreKeeps store found
-    → jobs_of store ≡ jobs → now ≡ found → honest disk → IsRecoverable jobs now now (may_leave disk)
+    → jobs_of_store store ≡ jobs → now ≡ found → honest disk → IsRecoverable jobs now now (may_leave disk)
 found_recoverable seen may_leave honest disk store jobs found now settled keeps count same is =
     subst (λ (k : Durable). IsRecoverable jobs k k (may_leave disk)) (sym same)
     (subst (λ (n : ℕ). IsRecoverable n found found (may_leave disk)) count (settled_recoverable seen may_leave honest disk store settled found keeps is))

@@ -13,13 +13,13 @@ use Rattle.step_spec.specs.Step.{Event, step}
 use Rattle.step_spec.proofs.Said.{stays_coherent}
 use Rattle.replica_core.specs.Commit.{kept_after}
 use Rattle.replica_core.specs.Replica.{ReplicaState}
-use Rattle.replica_core.specs.Step.{IsAlike, IsEventOf, IsOfTable, PlansStep, Takes}
+use Rattle.replica_core.specs.Step.{IsSameReplica, IsEventOf, IsOfTable, PlansStep, Takes}
 use Rattle.replica_core.specs.declared.input.Input.{Input}
 use Rattle.replica_core.proofs.OutcomeLemmas.{one_event}
 use Rattle.replica_core.specs.declared.out.StepOut.{StepOut}
 use Rattle.replica_core.specs.declared.replica.Planned.{Planned}
 use Rattle.replica_store.specs.Files.{FilesStand, FilesStandForEither, IsRecoverable}
-use Rattle.replica_store.specs.Store.{IsStoreSettled, StoreKeeps, jobs_of}
+use Rattle.replica_store.specs.Store.{IsStoreSettled, StoreKeeps, jobs_of_store}
 use Rattle.replica_store.proofs.FileLemmas.{recoverable_stands}
 use Rattle.replica_store.proofs.SaveLemmas.{settled_recoverable}
 use Rattle.replica_node.specs.Node.{FilesStandAround, IsNodeAtRest, IsRecoverableAround, LeadsTo, disk_of, replica_of, runs_in, store_of}
@@ -45,7 +45,7 @@ stands_at_rest seen may_leave honest table node rest is image left =
     let kept = (replica_of node).state.kept in
     elim (recoverable_stands (length table.jobs) kept kept (may_leave (disk_of node)) (recoverable_at_rest seen may_leave honest table node rest is) image left) [ inl before ↦ before | inr after ↦ after ]
 
-pub of_table_alike : (table : Table) (old now : ReplicaState) → IsAlike now old → IsOfTable table old → IsOfTable table now
+pub of_table_alike : (table : Table) (old now : ReplicaState) → IsSameReplica now old → IsOfTable table old → IsOfTable table now
 of_table_alike table old now alike of_table =
     record {
       stands = subst (λ (machine : Launches). StandsFor table machine) (sym alike.machine) of_table.stands;
@@ -53,8 +53,8 @@ of_table_alike table old now alike of_table =
     }
 
 -- a node whose replica is alike, and whose store keeps the same, is at rest as it was
-pub at_rest_still : {D : Type 0} (seen : D → Image) (may_leave : D → Image → Type 0) (honest : D → Type 0) (table : Table) (old new : Node D) → IsNodeAtRest seen may_leave honest table old → IsAlike (replica_of new) (replica_of old)
-    → runs_in new ≡ runs_in old → jobs_of (store_of new) ≡ jobs_of (store_of old) → IsStoreSettled seen may_leave honest (disk_of new) (store_of new) → StoreKeeps (store_of new) (replica_of new).state.kept
+pub at_rest_still : {D : Type 0} (seen : D → Image) (may_leave : D → Image → Type 0) (honest : D → Type 0) (table : Table) (old new : Node D) → IsNodeAtRest seen may_leave honest table old → IsSameReplica (replica_of new) (replica_of old)
+    → runs_in new ≡ runs_in old → jobs_of_store (store_of new) ≡ jobs_of_store (store_of old) → IsStoreSettled seen may_leave honest (disk_of new) (store_of new) → StoreKeeps (store_of new) (replica_of new).state.kept
     → IsNodeAtRest seen may_leave honest table new
 at_rest_still seen may_leave honest table old new rest alike runs jobs settled keeps =
     record {
@@ -76,8 +76,8 @@ step_coherent table input old new event few coherent of_table is identity state 
 
 -- a node that has saved a change and taken its step is at rest
 pub at_rest_after : {D : Type 0} (seen : D → Image) (may_leave : D → Image → Type 0) (honest : D → Type 0) (table : Table) (input : Input) (old new : Node D) (now : ReplicaState) (planned : Planned) (delta : Option Delta) (out : StepOut)
-    → IsNodeAtRest seen may_leave honest table old → IsAlike now (replica_of old) → (plans : PlansStep table input (replica_of old) planned) → Takes table now (replica_of new) (step (replica_of old).identity plans.event (replica_of old).state) out
-    → deltas_of (step (replica_of old).identity plans.event (replica_of old).state) ≡ option_to_list delta → runs_in new ≡ runs_in old → jobs_of (store_of new) ≡ jobs_of (store_of old)
+    → IsNodeAtRest seen may_leave honest table old → IsSameReplica now (replica_of old) → (plans : PlansStep table input (replica_of old) planned) → Takes table now (replica_of new) (step (replica_of old).identity plans.event (replica_of old).state) out
+    → deltas_of (step (replica_of old).identity plans.event (replica_of old).state) ≡ option_to_list delta → runs_in new ≡ runs_in old → jobs_of_store (store_of new) ≡ jobs_of_store (store_of old)
     → IsStoreSettled seen may_leave honest (disk_of new) (store_of new) → StoreKeeps (store_of new) (kept_after delta now.state.kept) → IsNodeAtRest seen may_leave honest table new
 at_rest_after seen may_leave honest table input old new now planned delta out rest alike plans takes told runs jobs settled keeps =
     let acts = step (replica_of old).identity plans.event (replica_of old).state in
@@ -107,7 +107,7 @@ leaves_weaker moment left_since old new P Q weaker leaves =
     }
 
 -- the state before a change or after it is that before the step or after it
-pub either_around : (table : Table) (input : Input) (old now : ReplicaState) (jobs : ℕ) (delta : Option Delta) (plans_event : Event) → IsEventOf table old input plans_event → IsAlike now old → jobs ≡ length table.jobs
+pub either_around : (table : Table) (input : Input) (old now : ReplicaState) (jobs : ℕ) (delta : Option Delta) (plans_event : Event) → IsEventOf table old input plans_event → IsSameReplica now old → jobs ≡ length table.jobs
     → deltas_of (step old.identity plans_event old.state) ≡ option_to_list delta → (image : Image) → FilesStandForEither jobs now.state.kept (kept_after delta now.state.kept) image → FilesStandAround table input old image
 either_around table input old now jobs delta event is alike same told image (inl before) =
     inl (subst (λ (state : State). FilesStand (length table.jobs) state.kept image) alike.state (subst (λ (n : ℕ). FilesStand n now.state.kept image) same before))
@@ -116,7 +116,7 @@ either_around table input old now jobs delta event is alike same told image (inr
     let kept : kept_after delta now.state.kept ≡ (after_acts acts old.state).kept = ap (λ (state : State). kept_after delta state.kept) alike.state ∙ sym (kept_by_change acts old.state delta told) in
     inr (after_acts acts old.state, record { event = event; event_is = is; after_is = refl }, subst (λ (k : Durable). FilesStand (length table.jobs) k image) kept (subst (λ (n : ℕ). FilesStand n (kept_after delta now.state.kept) image) same after))
 
-pub recoverable_around : (table : Table) (input : Input) (old now : ReplicaState) (jobs : ℕ) (delta : Option Delta) (event : Event) (may_leave : Image → Type 0) → IsEventOf table old input event → IsAlike now old → jobs ≡ length table.jobs
+pub recoverable_around : (table : Table) (input : Input) (old now : ReplicaState) (jobs : ℕ) (delta : Option Delta) (event : Event) (may_leave : Image → Type 0) → IsEventOf table old input event → IsSameReplica now old → jobs ≡ length table.jobs
     → deltas_of (step old.identity event old.state) ≡ option_to_list delta → IsRecoverable jobs now.state.kept (kept_after delta now.state.kept) may_leave → IsRecoverableAround table input old may_leave
 recoverable_around table input old now jobs delta event may_leave is alike same told recoverable =
     let acts = step old.identity event old.state in

@@ -24,7 +24,7 @@ use Rattle.replica_draft.specs.declared.change.Change.{Change}
 use Rattle.replica_draft.specs.declared.change.Change.TheVariants as change
 use Rattle.replica_core.specs.Commit.{kept_after}
 use Rattle.replica_core.specs.Replica.{IsSupplied, ReplicaState}
-use Rattle.replica_core.specs.Step.{CanTake, IsAlike, IsEventOf, IsOfTable, Plans, PlansStep}
+use Rattle.replica_core.specs.Step.{CanTake, IsSameReplica, IsEventOf, IsOfTable, Plans, PlansStep}
 use Rattle.replica_core.specs.declared.input.Input.{Input}
 use Rattle.replica_core.specs.declared.input.Input.TheVariants.{Campaign, Tick, Hear, Answer}
 use Rattle.replica_core.specs.declared.replica.Planned.{Planned}
@@ -70,7 +70,7 @@ base_of_made table machine base prefix kept (Some made) delta is supplied some =
     subst (BaseMayFollow (length table.jobs) kept) (first_is (delta_of made) delta some) (base_of_change table machine base prefix kept made is supplied)
 
 -- a step's plan, where it is a replica's, is also that of one alike
-pub plans_alike : (old now : ReplicaState) (acts : List Act) (planned : Planned) → IsAlike now old → Plans old acts planned → Plans now acts planned
+pub plans_alike : (old now : ReplicaState) (acts : List Act) (planned : Planned) → IsSameReplica now old → Plans old acts planned → Plans now acts planned
 plans_alike old now acts planned alike plans =
     record {
       makes = rw alike.state plans.makes;
@@ -84,7 +84,7 @@ drafted_deltas replica acts planned plans = ap (λ (desk : Desk). desk.deltas) p
 
 -- the change of a planned step may follow what the replica keeps
 pub change_follows : (table : Table) (input : Input) (old now : ReplicaState) (planned : Planned) (delta : Option Delta) (change : Delta) → old.identity.me < 8 → IsCoherent old.identity old.state → IsOfTable table old
-    → IsAlike now old → (plans : PlansStep table input old planned) → CanTake table now planned → deltas_of (step old.identity plans.event old.state) ≡ option_to_list delta → delta ≡ Some change
+    → IsSameReplica now old → (plans : PlansStep table input old planned) → CanTake table now planned → deltas_of (step old.identity plans.event old.state) ≡ option_to_list delta → delta ≡ Some change
     → ChangeMayFollow (length table.jobs) now.state.kept change
 change_follows table input old now planned delta change few coherent of_table alike plans can told is =
     let acts = step old.identity plans.event old.state in
@@ -98,7 +98,7 @@ change_follows table input old now planned delta change few coherent of_table al
     (subst (λ (state : State). BaseMayFollow (length table.jobs) state.kept change) alike.state may))
 
 -- it alters what the replica keeps, where the replica proposes anew
-pub planned_alters : (old now : ReplicaState) (event : Event) (delta : Option Delta) (change : Delta) → old.identity.me < 8 → IsAlike now old → deltas_of (step old.identity event old.state) ≡ option_to_list delta → delta ≡ Some change
+pub planned_alters : (old now : ReplicaState) (event : Event) (delta : Option Delta) (change : Delta) → old.identity.me < 8 → IsSameReplica now old → deltas_of (step old.identity event old.state) ≡ option_to_list delta → delta ≡ Some change
     → ProposesAnew now.state → Alters now.state.kept change
 planned_alters old now event delta change few alike told is =
     let one : deltas_of (step old.identity event old.state) ≡ change ∷ [] = told ∙ ap (λ (d : Option Delta). option_to_list d) is in

@@ -4,8 +4,8 @@ use Rattle.std.specs.Option.{option_to_list}
 use Rattle.std.specs.Prelude.{IsErrOf, IsSome, false}
 use Rattle.disk_model.specs.declared.fault.DiskFault.TheVariants as Disk
 use Rattle.disk_model.specs.Images.{Image}
-use Rattle.disk_model.specs.Made.{DiskCall, EndsAt, MadeCalls}
-use Rattle.disk_model.specs.Told.{HasStopped, Tells, Told}
+use Rattle.disk_model.specs.Made.{DiskCall, StopsCalls, MadeCalls}
+use Rattle.disk_model.specs.Told.{TellsStop, TellsThen, Told}
 use Rattle.due_set.specs.Table.{Table}
 use Rattle.paxos_base.specs.declared.durable.Delta.{Delta}
 use Rattle.store_format.specs.Order.{ChangeMayFollow}
@@ -15,11 +15,11 @@ use Rattle.step_spec.specs.Folds.{deltas_of}
 use Rattle.step_spec.specs.Step.{step}
 use Rattle.replica_core.specs.Commit.{kept_after}
 use Rattle.replica_core.specs.Replica.{IsSmall, ReplicaState}
-use Rattle.replica_core.specs.Step.{CanTake, IsAlike, IsOfTable, PlansStep}
+use Rattle.replica_core.specs.Step.{CanTake, IsSameReplica, IsOfTable, PlansStep}
 use Rattle.replica_core.specs.declared.input.Input.{Input}
 use Rattle.replica_core.specs.declared.replica.Planned.{Planned}
 use Rattle.replica_store.specs.Files.{IsRecoverable}
-use Rattle.replica_node.specs.Faults.{of_disk}
+use Rattle.replica_node.specs.Faults.{of_disk_answer}
 use Rattle.replica_node.specs.Node.{disk_of, replica_of, runs_in}
 use Rattle.replica_node.specs.Stopped.{IsStoppedWithin, cut_short}
 use Rattle.replica_node.specs.declared.fault.NodeFault.{NodeFault}
@@ -30,12 +30,12 @@ use Rattle.replica_node.proofs.StepLemmas.{plans_alike}
 
 -- ---- the disk tells that it has stopped
 
-stops_there : (rest : List DiskCall) (mid new : Told) → EndsAt Disk.Stopped rest mid new → new.stopped ≡ true
+stops_there : (rest : List DiskCall) (mid new : Told) → StopsCalls Disk.Stopped rest mid new → new.stopped ≡ true
 stops_there [] mid new ends = absurd ends
 stops_there (call ∷ rest) mid new (inl was) = ap (λ (t : Told). t.stopped) was.1 ∙ was.0
 stops_there (call ∷ rest) mid new (inr now) = ap (λ (t : Told). t.stopped) now.2
 
-pub tells_stopped : {T : Type 0} (calls : List DiskCall) (result : Result T NodeFault) (old new : Option Told) → IsSome old → IsErrOf result Node.Stopped → Tells (MadeCalls of_disk calls result) old new → HasStopped new
+pub tells_stopped : {T : Type 0} (calls : List DiskCall) (result : Result T NodeFault) (old new : Option Told) → IsSome old → IsErrOf result Node.Stopped → TellsThen (MadeCalls of_disk_answer calls result) old new → TellsStop new
 tells_stopped calls result None new some is tells = absurd (cc some)
 tells_stopped calls result (Some old) None some is tells = absurd tells
 tells_stopped calls result (Some old) (Some new) some is tells =
@@ -45,10 +45,10 @@ tells_stopped calls result (Some old) (Some new) some is tells =
 -- ---- all of it
 
 pub stopped_within : {D : Type 0} (may_leave : D → Image → Type 0) (honest : D → Type 0) (told : D → Option Told) (table : Table) (input : Input) (old : ReplicaState) (node : ANode D) (planned : Planned) (delta : Option Delta)
-    → runs_in node ≡ false → cut_short node ≡ Some planned → IsAlike (replica_of node) old → IsOfTable table old → IsSmall old.state old.machine.rows → CanTake table (replica_of node) planned
+    → runs_in node ≡ false → cut_short node ≡ Some planned → IsSameReplica (replica_of node) old → IsOfTable table old → IsSmall old.state old.machine.rows → CanTake table (replica_of node) planned
     → (plans : PlansStep table input old planned) → deltas_of (step old.identity plans.event old.state) ≡ option_to_list delta → IsSome delta
     → ((change : Delta) → delta ≡ Some change → ChangeMayFollow (length table.jobs) (replica_of node).state.kept change)
-    → ((change : Delta) → delta ≡ Some change → ProposesAnew (replica_of node).state → Alters (replica_of node).state.kept change) → HasStopped (told (disk_of node))
+    → ((change : Delta) → delta ≡ Some change → ProposesAnew (replica_of node).state → Alters (replica_of node).state.kept change) → TellsStop (told (disk_of node))
     → (honest (disk_of node) → IsRecoverable (length table.jobs) (replica_of node).state.kept (kept_after delta (replica_of node).state.kept) (may_leave (disk_of node)))
     → IsStoppedWithin may_leave honest told table input old node
 stopped_within may_leave honest told table input old node planned None ended cut alike of_table small can plans changes some follows alters stopped recoverable = absurd (cc some)

@@ -17,8 +17,8 @@ of_store Store.DiskFault = DiskFault
 of_store Store.OutOfMemory = OutOfMemory
 of_store (Store.Damaged gate) = Damaged gate
 
-abbrev pub of_disk : DiskAnswer → NodeFault
-of_disk fault = of_store (stored.of_disk fault)
+abbrev pub of_disk_answer : DiskAnswer → NodeFault
+of_disk_answer fault = of_store (stored.of_disk fault)
 
 abbrev pub of_step : StepFault → NodeFault
 of_step (Step.Letter letter) = Letter letter
@@ -43,13 +43,13 @@ EndsRun (Err (Damaged gate)) = ⊥
 EndsRun (Err (Letter letter)) = ⊥
 
 -- the step was refused: memory ran out, or the bytes are no letter
-abbrev pub IsRefused : {T : Type 0} → Result T NodeFault → Type 0
-IsRefused (Ok answer) = ⊥
-IsRefused (Err Stopped) = ⊥
-IsRefused (Err DiskFault) = ⊥
-IsRefused (Err OutOfMemory) = ⊤
-IsRefused (Err (Damaged gate)) = ⊥
-IsRefused (Err (Letter letter)) = ⊤
+abbrev pub IsStepRefused : {T : Type 0} → Result T NodeFault → Type 0
+IsStepRefused (Ok answer) = ⊥
+IsStepRefused (Err Stopped) = ⊥
+IsStepRefused (Err DiskFault) = ⊥
+IsStepRefused (Err OutOfMemory) = ⊤
+IsStepRefused (Err (Damaged gate)) = ⊥
+IsStepRefused (Err (Letter letter)) = ⊤
 
 -- What each call of a node says of its disk whatever it answers: it is as honest as it was, and its counts rose where the
 -- answer tells of it, and nowhere else.

@@ -23,14 +23,14 @@ use Rattle.replica_node.specs.declared.node.Node.{Node}
 -- ---- the disk of a node between two calls
 
 -- a disk tells that it runs, and that nothing of the chooser and of an area was written since its last sync
-pub record IsSynced (area : FileNo) (now : Told) : Type 0 where
+pub record IsAreaSynced (area : FileNo) (now : Told) : Type 0 where
   pub runs : now.stopped ≡ false
   pub chooser : IsClean Chooser now
   pub area_clean : IsClean area now
 
 -- a node's disk tells so, of the area of the node's store
 abbrev pub IsNodeClean : {D : Type 0} → (D → Option Told) → Node D → Type 0
-IsNodeClean told node = IsSomeAnd (told (disk_of node)) (IsSynced (area_of (store_of node)))
+IsNodeClean told node = IsSomeAnd (told (disk_of node)) (IsAreaSynced (area_of (store_of node)))
 
 -- it tells that it is armed so
 abbrev pub IsNodeArmed : {D : Type 0} → (D → Option Told) → Node D → Arm → Type 0
@@ -48,9 +48,9 @@ area_by bases = selected_by bases
 -- ---- by the numbers of its arm
 
 -- How many calls of the disk save the change of a step, where it has one.
-abbrev pub calls_of : Option Delta → ℕ
-calls_of None = 0
-calls_of (Some change) = save.calls_of change
+abbrev pub calls_of_change : Option Delta → ℕ
+calls_of_change None = 0
+calls_of_change (Some change) = save.calls_of_delta change
 
 -- What comes of a step whose change takes so many calls, on a disk that can't fail and is armed to stop after so many: it is done
 -- where they are enough, and stopped where they are not. Memory may run out.

@@ -15,7 +15,7 @@ use Rattle.replica_core.specs.Step.{IsEventOf, IsOfTable}
 use Rattle.replica_core.specs.declared.input.Input.{Input}
 use Rattle.replica_store.specs.Files.{FilesStand, IsRecoverable}
 use Rattle.replica_store.specs.Made.{save_calls}
-use Rattle.replica_store.specs.Store.{area_of, jobs_of, records_of, StoreKeeps, IsStoreSettled}
+use Rattle.replica_store.specs.Store.{area_of, jobs_of_store, records_of, StoreKeeps, IsStoreSettled}
 use Rattle.replica_store.specs.declared.store.Store.{Store}
 use Rattle.replica_node.specs.declared.fault.NodeFault.{NodeFault}
 use Rattle.replica_node.specs.declared.node.Node.{Node}
@@ -53,7 +53,7 @@ pub record IsNodeAtRest {D : Type 0} (seen : D → Image) (may_leave : D → Ima
   pub of_table : IsOfTable table (replica_of node)
   pub coherent : IsCoherent (replica_of node).identity (replica_of node).state
   pub settled : IsStoreSettled seen may_leave honest (disk_of node) (store_of node)
-  pub jobs : jobs_of (store_of node) ≡ length table.jobs
+  pub jobs : jobs_of_store (store_of node) ≡ length table.jobs
   pub keeps : StoreKeeps (store_of node) (replica_of node).state.kept
 
 -- the replica's step at an input leads to this state
@@ -70,12 +70,12 @@ pub record IsChangeOf (table : Table) (input : Input) (replica : ReplicaState) (
 
 -- the node's records stand for what its replica keeps, with this ballot as the replica's own
 abbrev pub RecordsStand : {D : Type 0} → Node D → Option ℕ → Type 0
-RecordsStand node own = StandFor (jobs_of (store_of node)) (records_of (store_of node)) (replica_of node).state.kept own
+RecordsStand node own = StandFor (jobs_of_store (store_of node)) (records_of (store_of node)) (replica_of node).state.kept own
 
 -- the calls of its disk that save a change, where there is one
-abbrev pub calls_for : {D : Type 0} → Node D → Option ℕ → Option Delta → List DiskCall
-calls_for node own None = []
-calls_for node own (Some change) = save_calls (area_of (store_of node)) (length (records_of (store_of node))) (replica_of node).state.kept own change
+abbrev pub disk_calls_for : {D : Type 0} → Node D → Option ℕ → Option Delta → List DiskCall
+disk_calls_for node own None = []
+disk_calls_for node own (Some change) = save_calls (area_of (store_of node)) (length (records_of (store_of node))) (replica_of node).state.kept own change
 
 -- the files stand for what the replica keeps before its step at an input, or for what it keeps after it
 abbrev pub FilesStandAround : Table → Input → ReplicaState → Image → Type 0

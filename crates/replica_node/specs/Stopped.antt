@@ -1,7 +1,7 @@
 -- A node that was stopped within the save of a step's change, and what a node that is reopened says of it.
 use Rattle.std.specs.Prelude.{◌≡◌, ◌≢◌, false, Option, None, Some, Result, Ok, Err, List, [], ◌∷◌, length, IfSome}
 use Rattle.disk_model.specs.Images.{Image}
-use Rattle.disk_model.specs.Told.{Told, HasStopped}
+use Rattle.disk_model.specs.Told.{Told, TellsStop}
 use Rattle.due_set.specs.Table.{Table}
 use Rattle.paxos_base.specs.Durable.{after_delta}
 use Rattle.paxos_base.specs.declared.durable.Delta.{Delta}
@@ -42,7 +42,7 @@ pub record IsStopped {D : Type 0} (may_leave : D → Image → Type 0) (honest :
   pub planned : Planned
   pub is_cut_short : cut_short node ≡ Some planned
   pub has_planned : HasPlanned table (replica_of node) planned change
-  pub stopped : HasStopped (told (disk_of node))
+  pub stopped : TellsStop (told (disk_of node))
   pub recoverable : honest (disk_of node)
       → IsRecoverable (length table.jobs) (replica_of node).state.kept (after_delta change (replica_of node).state.kept) (may_leave (disk_of node))
 
@@ -52,8 +52,8 @@ pub record IsStoppedWithin {D : Type 0} (may_leave : D → Image → Type 0) (ho
   pub change_of : IsChangeOf table input replica (Some stop.change)
 
 -- a disk that tells of itself is neither armed nor stopped
-abbrev pub IsQuiet : Option Told → Type 0
-IsQuiet told = IfSome told (λ now. (now.stopped ≡ false) × (now.arm ≡ None))
+abbrev pub IsDiskUnarmed : Option Told → Type 0
+IsDiskUnarmed told = IfSome told (λ now. (now.stopped ≡ false) × (now.arm ≡ None))
 
 -- the answer of a node that is reopened, without the change
 abbrev pub reopened : {D : Type 0} → Result (Node D × Option Delta) (D × NodeFault) → Result (Node D) (D × NodeFault)

@@ -4,7 +4,7 @@ ghost use Rattle.disk_model.specs.declared.armed.Arm.{Arm};
 ghost use Rattle.disk_model.specs.declared.fault.FileNo.{FileNo};
 ghost use Rattle.disk_model.specs.Images.{Image, file_of, LeavesOnly};
 ghost use Rattle.disk_model.specs.Made.{MadeCalls};
-ghost use Rattle.disk_model.specs.Told.{Tells, Told, after_arm, after_disarm, image_left};
+ghost use Rattle.disk_model.specs.Told.{TellsThen, Told, after_arm, after_disarm, image_left};
 ghost use Rattle.due_set.specs.Table.{Table};
 ghost use Rattle.gate_file.specs.Gates.{HasBodies};
 ghost use Rattle.paxos_base.specs.Durable.{after_delta};
@@ -17,13 +17,13 @@ ghost use Rattle.store_format.specs.Area.{IsFirstRecordAtFault};
 ghost use Rattle.store_format.specs.Order.{ChangeMayFollow};
 ghost use Rattle.replica_core.specs.Commit.{kept_after};
 ghost use Rattle.replica_core.specs.Replica.{IsSmall};
-ghost use Rattle.replica_core.specs.Step.{IsAlike, IsInputInside, IsOfTable, Steps, fault_in};
+ghost use Rattle.replica_core.specs.Step.{IsSameReplica, IsInputInside, IsOfTable, Steps, fault_in};
 ghost use Rattle.replica_store.specs.Files.{selected, FilesStand, FilesStandForEither, IsRecoverable};
-ghost use Rattle.replica_store.specs.Store.{area_of, jobs_of, StoreKeeps, IsStoreSettled};
+ghost use Rattle.replica_store.specs.Store.{area_of, jobs_of_store, StoreKeeps, IsStoreSettled};
 ghost use Rattle.replica_node.specs.declared.fault.NodeFault.TheVariants.{Stopped, OutOfMemory, Damaged, Letter};
-ghost use Rattle.replica_node.specs.Faults.{of_disk, EndsRun, HasNodeAnswer, IsRefused, letter_told};
+ghost use Rattle.replica_node.specs.Faults.{of_disk_answer, EndsRun, HasNodeAnswer, IsStepRefused, letter_told};
 ghost use Rattle.replica_node.specs.Reliable.{CantFail, IsReliable, IsUnfailing, IsUnfailingAfter};
-ghost use Rattle.replica_node.specs.Kept.{area_for, calls_of, EndsByArm, IsAnsweredByArm, IsSynced, KeepsChange, LeavesByArm};
+ghost use Rattle.replica_node.specs.Kept.{area_for, calls_of_change, EndsByArm, IsAnsweredByArm, IsAreaSynced, KeepsChange, LeavesByArm};
 
 use crate::fault::NodeFault;
 use crate::reopen::{attach_stopped, take_kept};
@@ -46,7 +46,7 @@ pub struct Node<D> {
 }
 
 impl<D: Disk> Node<D> {
-    ghost use Rattle.replica_node.specs.Node.{disk_after, disk_of, fault_of, calls_for, replica_of, runs_in, store_of, FilesStandAround, IsChangeOf, IsNodeAtRest, IsRecoverableAround, RecordsStand};
+    ghost use Rattle.replica_node.specs.Node.{disk_after, disk_of, fault_of, disk_calls_for, replica_of, runs_in, store_of, FilesStandAround, IsChangeOf, IsNodeAtRest, IsRecoverableAround, RecordsStand};
     ghost use Rattle.replica_node.specs.Kept.{IsNodeArmed, IsNodeClean};
     ghost use Rattle.replica_node.specs.Stopped.{IsStoppedWithin, cut_short};
 
@@ -155,17 +155,17 @@ impl<D: Disk> Node<D> {
             → OnOk result (area_of (store_of self.new) ≡ area_for change (area_of (store_of self.old))) }
         // It uses up as many calls of the disk's arm as save its change, and stops where fewer are left.
         ensures armed { (change : Option Delta) (arm : Arm) → IsChangeOf table.now input.entry (replica_of self.old) change → IsNodeArmed D.told self.old arm
-            → OnOk result ((calls_of change ≤ arm.left) × IsNodeArmed D.told self.new (record arm { left = arm.left - calls_of change })) }
+            → OnOk result ((calls_of_change change ≤ arm.left) × IsNodeArmed D.told self.new (record arm { left = arm.left - calls_of_change change })) }
         ensures too_few { (change : Option Delta) (arm : Arm) → IsChangeOf table.now input.entry (replica_of self.old) change → IsErrOf result Stopped
-            → IsNodeClean D.told self.old → IsNodeArmed D.told self.old arm → arm.left < calls_of change }
+            → IsNodeClean D.told self.old → IsNodeArmed D.told self.old arm → arm.left < calls_of_change change }
         // A disk that can't fail doesn't, whether it is armed or not; so it stops exactly there, but for want of memory.
         ensures unfailing { IsUnfailing (D.told (disk_of self.old)) → IsUnfailingAfter result (D.told (disk_of self.new)) }
         ensures ends_by_arm { (change : Option Delta) (arm : Arm) → IsChangeOf table.now input.entry (replica_of self.old) change
             → IsUnfailing (D.told (disk_of self.old)) → IsNodeClean D.told self.old → IsNodeArmed D.told self.old arm
-            → EndsByArm (calls_of change) arm.left result }
+            → EndsByArm (calls_of_change change) arm.left result }
 
-        ensures alike { OnErr result (IsAlike (replica_of self.new) (replica_of self.old)) }
-        ensures refused { IsRefused result → IsNodeAtRest D.seen D.may_leave D.honest table.now self.new }
+        ensures alike { OnErr result (IsSameReplica (replica_of self.new) (replica_of self.old)) }
+        ensures refused { IsStepRefused result → IsNodeAtRest D.seen D.may_leave D.honest table.now self.new }
         // The bytes of a letter are refused exactly where they break a rule, for the first that they break.
         ensures fault { letter_told result ≡ fault_in (replica_of self.old).identity.members input.entry }
         ensures untouched { (fault : LetterFault) → result ≡ Err (Letter fault) → disk_of self.new ≡ disk_of self.old }
@@ -187,7 +187,7 @@ impl<D: Disk> Node<D> {
             → IsRecoverableAround table.now input.entry (replica_of self.old) (D.may_leave (disk_of self.new)) }
         // At Ok each call of the disk was made that saves the step's change, and at a fault of the disk they broke off there.
         ensures told { (own : Option ℕ) (change : Option Delta) → RecordsStand self.old own → IsChangeOf table.now input.entry (replica_of self.old) change
-            → Tells (MadeCalls of_disk (calls_for self.old own change) result) (D.told (disk_of self.old)) (D.told (disk_of self.new)) }
+            → TellsThen (MadeCalls of_disk_answer (disk_calls_for self.old own change) result) (D.told (disk_of self.old)) (D.told (disk_of self.new)) }
         ensures answer { HasNodeAnswer D.honest D.counts (disk_of self.old) (disk_of self.new) result }
     {
         let planned = self.replica.plan(table, input)?;
@@ -206,10 +206,10 @@ impl<D: Disk> Node<D> {
         requires settled { IsStoreSettled D.seen D.may_leave D.honest (disk_of self.old) (store_of self.old) }
         requires keeps { StoreKeeps (store_of self.old) (replica_of self.old).state.kept }
         requires follows { (change : Delta) → option_copied delta ≡ Some change
-            → ChangeMayFollow (jobs_of (store_of self.old)) (replica_of self.old).state.kept change }
+            → ChangeMayFollow (jobs_of_store (store_of self.old)) (replica_of self.old).state.kept change }
         ensures replica { replica_of self.new ≡ replica_of self.old }
         ensures changed { IsErrOf result Stopped → IsSome (option_copied delta.entry) }
-        ensures jobs { jobs_of (store_of self.new) ≡ jobs_of (store_of self.old) }
+        ensures jobs { jobs_of_store (store_of self.new) ≡ jobs_of_store (store_of self.old) }
         ensures runs { OnOk result (runs_in self.new ≡ runs_in self.old) }
         ensures settled { OnOk result (IsStoreSettled D.seen D.may_leave D.honest (disk_of self.new) (store_of self.new)) }
         ensures keeps { OnOk result (StoreKeeps (store_of self.new) (kept_after (option_copied delta.entry) (replica_of self.old).state.kept)) }
@@ -218,13 +218,13 @@ impl<D: Disk> Node<D> {
             × StoreKeeps (store_of self.new) (replica_of self.old).state.kept }
         ensures ended { EndsRun result → runs_in self.new ≡ false }
         ensures images { D.honest (disk_of self.old) → LeavesOnly D.moment D.left_since (disk_of self.old) (disk_of self.new)
-            (FilesStandForEither (jobs_of (store_of self.old)) (replica_of self.old).state.kept (kept_after (option_copied delta.entry) (replica_of self.old).state.kept)) }
-        ensures recoverable { D.honest (disk_of self.old) → IsRecoverable (jobs_of (store_of self.old)) (replica_of self.old).state.kept
+            (FilesStandForEither (jobs_of_store (store_of self.old)) (replica_of self.old).state.kept (kept_after (option_copied delta.entry) (replica_of self.old).state.kept)) }
+        ensures recoverable { D.honest (disk_of self.old) → IsRecoverable (jobs_of_store (store_of self.old)) (replica_of self.old).state.kept
             (kept_after (option_copied delta.entry) (replica_of self.old).state.kept) (D.may_leave (disk_of self.new)) }
         ensures undamaged { (gate : ℕ) → result ≡ Err (Damaged gate) → ⊥ }
         ensures no_letter { (fault : LetterFault) → result ≡ Err (Letter fault) → ⊥ }
         ensures told { (own : Option ℕ) → RecordsStand self.old own
-            → Tells (MadeCalls of_disk (calls_for self.old own (option_copied delta.entry)) result) (D.told (disk_of self.old)) (D.told (disk_of self.new)) }
+            → TellsThen (MadeCalls of_disk_answer (disk_calls_for self.old own (option_copied delta.entry)) result) (D.told (disk_of self.old)) (D.told (disk_of self.new)) }
         ensures reliable { IsReliable (D.told (disk_of self.old)) → OnOk result (IsReliable (D.told (disk_of self.new))) }
         ensures unended { IsReliable (D.told (disk_of self.old)) → EndsRun result → ⊥ }
         ensures unfailing { IsUnfailing (D.told (disk_of self.old)) → IsUnfailingAfter result (D.told (disk_of self.new)) }
@@ -232,7 +232,7 @@ impl<D: Disk> Node<D> {
         ensures area { OnOk result (area_of (store_of self.new) ≡ area_for (option_copied delta.entry) (area_of (store_of self.old))) }
         ensures kept_by_arm { (change : Delta) (arm : Arm) → option_copied delta.entry ≡ Some change → IsErrOf result Stopped
             → IsNodeClean D.told self.old → IsNodeArmed D.told self.old arm
-            → LeavesByArm (jobs_of (store_of self.old)) (area_of (store_of self.old)) (replica_of self.old).state.kept change arm (D.told (disk_of self.new)) }
+            → LeavesByArm (jobs_of_store (store_of self.old)) (area_of (store_of self.old)) (replica_of self.old).state.kept change arm (D.told (disk_of self.new)) }
         ensures answer { HasNodeAnswer D.honest D.counts (disk_of self.old) (disk_of self.new) result }
     {
         let Some(delta) = delta else {
@@ -257,13 +257,13 @@ impl<D: Disk> Node<D> {
 impl<D: ArmedDisk> Node<D> {
     ghost use Rattle.replica_node.specs.Node.{disk_after, disk_of, fault_of, replica_of, runs_in, store_of, IsNodeAtRest};
     ghost use Rattle.replica_node.specs.Kept.{IsNodeArmed, IsNodeClean};
-    ghost use Rattle.replica_node.specs.Stopped.{IsQuiet, IsStopped, reopened};
+    ghost use Rattle.replica_node.specs.Stopped.{IsDiskUnarmed, IsStopped, reopened};
     ghost use Rattle.replica_node.specs.declared.fault.NodeFault.{NodeFault};
 
     /// Lets `pass` more writes, cuts and syncs of its disk succeed, and the next one stop within and leave the image of that
     /// number. Nothing else of the node changes.
     pub fn arm(&mut self, pass: u32, image: u32)
-        ensures told { Tells (λ old new. new ≡ after_arm pass image old) (D.told (disk_of self.old)) (D.told (disk_of self.new)) }
+        ensures told { TellsThen (λ old new. new ≡ after_arm pass image old) (D.told (disk_of self.old)) (D.told (disk_of self.new)) }
         ensures seen { D.seen (disk_of self.new) ≡ D.seen (disk_of self.old) }
         ensures images { (left : Image) → D.may_leave (disk_of self.new) left ↔ D.may_leave (disk_of self.old) left }
         ensures moment { D.moment (disk_of self.new) ≡ D.moment (disk_of self.old) }
@@ -284,7 +284,7 @@ impl<D: ArmedDisk> Node<D> {
 
     /// Takes [`Node::arm`] back, where no stop has come. Nothing else of the node changes.
     pub fn disarm(&mut self)
-        ensures told { Tells (λ old new. new ≡ after_disarm old) (D.told (disk_of self.old)) (D.told (disk_of self.new)) }
+        ensures told { TellsThen (λ old new. new ≡ after_disarm old) (D.told (disk_of self.old)) (D.told (disk_of self.new)) }
         ensures seen { D.seen (disk_of self.new) ≡ D.seen (disk_of self.old) }
         ensures images { (left : Image) → D.may_leave (disk_of self.new) left ↔ D.may_leave (disk_of self.old) left }
         ensures moment { D.moment (disk_of self.new) ≡ D.moment (disk_of self.old) }
@@ -347,7 +347,7 @@ impl<D: ArmedDisk> Node<D> {
 
         ensures still_recoverable { (stop : IsStopped D.may_leave D.honest D.told table.now self) → D.honest (disk_of self)
             → IsRecoverable (length table.now.jobs) (replica_of self).state.kept (after_delta stop.change (replica_of self).state.kept) (D.may_leave (disk_after (reopened result))) }
-        ensures quiet { IsQuiet (D.told (disk_after (reopened result))) }
+        ensures quiet { IsDiskUnarmed (D.told (disk_after (reopened result))) }
         // A disk that can't fail is reliable then, and of an honest one want of memory is the only fault.
         ensures reliable { CantFail (D.told (disk_of self)) → IsReliable (D.told (disk_after (reopened result))) }
         ensures unended { CantFail (D.told (disk_of self)) → EndsRun (fault_of (reopened result)) → ⊥ }
@@ -456,14 +456,14 @@ fn start<D: Disk>(
     requires me { me < members }
     requires few { members ≤ 7 }
     ensures settled { IfOk result (λ found. IsStoreSettled D.seen D.may_leave D.honest disk.new found.0) }
-    ensures jobs { IfOk result (λ found. jobs_of found.0 ≡ length table.now.jobs) }
+    ensures jobs { IfOk result (λ found. jobs_of_store found.0 ≡ length table.now.jobs) }
     ensures keeps { IfOk result (λ found. StoreKeeps found.0 found.1.state.kept) }
     ensures identity { IfOk result (λ found. found.1.identity ≡ record { me = me; members = members }) }
     ensures started { IfOk result (λ found. found.1.state ≡ started me found.1.state.kept) }
     ensures of_table { IfOk result (λ found. IsOfTable table.now found.1) }
     ensures stand { IfOk result (λ found. FilesStand (length table.now.jobs) found.1.state.kept (D.seen disk.old)) }
     ensures area { IfOk result (λ found. area_of found.0 ≡ selected (D.seen disk.old)) }
-    ensures clean { IsSome (D.told disk.old) → IfOk result (λ found. IsSomeAnd (D.told disk.new) (IsSynced (area_of found.0))) }
+    ensures clean { IsSome (D.told disk.old) → IfOk result (λ found. IsSomeAnd (D.told disk.new) (IsAreaSynced (area_of found.0))) }
     ensures reliable { IsReliable (D.told disk.old) → OnOk result (IsReliable (D.told disk.new)) }
     ensures unended { IsReliable (D.told disk.old) → EndsRun result → ⊥ }
     ensures unfailing { IsUnfailing (D.told disk.old) → IsUnfailingAfter result (D.told disk.new) }

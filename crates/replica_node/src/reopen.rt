@@ -1,7 +1,7 @@
 //! What a node does where it is reopened.
 ghost use Rattle.std.specs.Prelude.{◌≡◌, ◌↔◌, ◌⊎◌, ℕ, List, IsTrue, None, Some, Err, IfOk, IsSomeAnd};
 ghost use Rattle.disk_model.specs.Images.{file_of, LeavesOnly, NoNewImage};
-ghost use Rattle.disk_model.specs.Told.{Told, HasStopped, image_left};
+ghost use Rattle.disk_model.specs.Told.{Told, TellsStop, image_left};
 ghost use Rattle.due_set.specs.Table.{Table};
 ghost use Rattle.gate_file.specs.Gates.{HasBodies};
 ghost use Rattle.replica_core.specs.Commit.{kept_after};
@@ -12,12 +12,12 @@ ghost use Rattle.store_format.specs.Area.{IsFirstRecordAtFault};
 ghost use Rattle.replica_core.specs.Replica.{IsSmall, ReplicaState};
 ghost use Rattle.replica_core.specs.Step.{CanTake, IsOfTable};
 ghost use Rattle.replica_store.specs.Files.{selected, FilesStand, IsRecoverable};
-ghost use Rattle.replica_store.specs.Store.{area_of, jobs_of, StoreKeeps, IsStoreSettled};
+ghost use Rattle.replica_store.specs.Store.{area_of, jobs_of_store, StoreKeeps, IsStoreSettled};
 ghost use Rattle.replica_node.specs.Change.{ShowsChange, IsDecided};
 ghost use Rattle.replica_node.specs.Faults.{EndsRun, HasNodeAnswer};
-ghost use Rattle.replica_node.specs.Kept.{IsSynced};
+ghost use Rattle.replica_node.specs.Kept.{IsAreaSynced};
 ghost use Rattle.replica_node.specs.Reliable.{CantFail, IsReliable};
-ghost use Rattle.replica_node.specs.Stopped.{HasPlanned, IsQuiet};
+ghost use Rattle.replica_node.specs.Stopped.{HasPlanned, IsDiskUnarmed};
 ghost use Rattle.replica_node.specs.declared.fault.NodeFault.TheVariants.{Stopped, Damaged, Letter};
 
 use crate::change::shows_change;
@@ -35,13 +35,13 @@ pub fn attach_stopped<D: ArmedDisk>(
     disk: &mut D,
     jobs: u32,
 ) -> Result<(Store, Durable), NodeFault>
-    requires stopped { HasStopped (D.told disk.old) }
+    requires stopped { TellsStop (D.told disk.old) }
     ensures settled { IfOk result (λ found. IsStoreSettled D.seen D.may_leave D.honest disk.new found.0) }
-    ensures jobs { IfOk result (λ found. jobs_of found.0 ≡ jobs) }
+    ensures jobs { IfOk result (λ found. jobs_of_store found.0 ≡ jobs) }
     ensures keeps { IfOk result (λ found. StoreKeeps found.0 found.1) }
     ensures image { (told : Told) → D.told disk.old ≡ Some told → IfOk result (λ found. FilesStand jobs found.1 (image_left told)) }
     ensures area { (told : Told) → D.told disk.old ≡ Some told → IfOk result (λ found. area_of found.0 ≡ selected (image_left told)) }
-    ensures clean { IfOk result (λ found. IsSomeAnd (D.told disk.new) (IsSynced (area_of found.0))) }
+    ensures clean { IfOk result (λ found. IsSomeAnd (D.told disk.new) (IsAreaSynced (area_of found.0))) }
     ensures either { (before after : Durable) → D.honest disk.old → IsRecoverable jobs before after (D.may_leave disk.old)
         → IfOk result (λ found. (found.1 ≡ before) ⊎ (found.1 ≡ after)) }
     ensures sound { (before after : Durable) (gate : ℕ) → D.honest disk.old → IsRecoverable jobs before after (D.may_leave disk.old)
@@ -50,7 +50,7 @@ pub fn attach_stopped<D: ArmedDisk>(
         → IsRecoverable jobs before after (D.may_leave disk.new) }
     ensures damaged { (gate : ℕ) (bodies : List (List ℕ)) → result ≡ Err (Damaged gate) → HasBodies (file_of (selected (D.seen disk.new)) (D.seen disk.new)) bodies
         → IsFirstRecordAtFault jobs bodies gate }
-    ensures quiet { IsQuiet (D.told disk.new) }
+    ensures quiet { IsDiskUnarmed (D.told disk.new) }
     ensures reliable { CantFail (D.told disk.old) → IsReliable (D.told disk.new) }
     ensures unended { CantFail (D.told disk.old) → EndsRun result → ⊥ }
     ensures never_stopped { result ≡ Err Stopped → ⊥ }

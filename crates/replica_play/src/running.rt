@@ -1,7 +1,7 @@
 ghost use Rattle.std.specs.Prelude.{◌<◌, ◌≤◌, ◌^◌, IsTrue, IfOk, OnOk, length};
 ghost use Rattle.paxos_base.specs.Rows.{RowsStand};
 ghost use Rattle.replica_core.specs.Replica.{IsSmall};
-ghost use Rattle.replica_core.specs.Step.{IsAlike, IsInputInside, Steps};
+ghost use Rattle.replica_core.specs.Step.{IsSameReplica, IsInputInside, Steps};
 
 use crate::fault::{PlayFault, Refusal};
 use crate::text::Text;
@@ -70,7 +70,7 @@ impl<'a> Running<'a> {
 
     /// An equal one.
     pub fn copy(&self) -> Result<Running<'a>, PlayFault>
-        ensures { IfOk result (λ copy. IsAlike copy.1 self.now.1) }
+        ensures { IfOk result (λ copy. IsSameReplica copy.1 self.now.1) }
     {
         let replica = self.replica.copy()?;
         Ok(Running {

@@ -5,11 +5,11 @@ use Rattle.disk_model.specs.declared.fault.DiskFault.TheVariants.{Stopped}
 use Rattle.disk_model.specs.declared.fault.FileNo.{FileNo}
 use Rattle.disk_model.specs.declared.fault.FileNo.TheVariants.{Chooser, AreaA, AreaB}
 use Rattle.disk_model.specs.Images.{file_of, with_file, written_over}
-use Rattle.disk_model.specs.Made.{CutTo, IsAnswered, BreaksOff, synced_write}
+use Rattle.disk_model.specs.Made.{CutTo, GaveAnswer, BreaksOff, synced_write}
 use Rattle.disk_model.specs.Told.{Told, bytes_in_image, image_left}
 use Rattle.disk_model.proofs.MadeLemmas.{runs_on}
 use Rattle.disk_model.proofs.StopLemmas.{one_passes, one_stops, stops_at}
-use Rattle.gate_file.specs.Gates.{AreWhole, IsAtRest, gated}
+use Rattle.gate_file.specs.Gates.{AreWhole, HasRestingGate, gated}
 use Rattle.gate_file.proofs.GateLemmas.{has_at_rest, gated_rest}
 use Rattle.gate_file.proofs.RewriteLemmas.{written_alone}
 use Rattle.paxos_base.specs.declared.durable.Delta.TheVariants.{Base}
@@ -36,10 +36,10 @@ pub record IsEmptied (file : FileNo) (old new : Told) : Type 0 where
   pub synced : new.synced ≡ old.synced
   pub touched : new.touched ≡ old.touched
 
-pub cut_passed : (file : FileNo) (old new : Told) → IsAnswered (CutTo file 0) (Ok tt) old new → IsEmptied file old new
+pub cut_passed : (file : FileNo) (old new : Told) → GaveAnswer (CutTo file 0) (Ok tt) old new → IsEmptied file old new
 cut_passed file old new passed = record { done = ap (λ (told : Told). told.done) passed.2; synced = ap (λ (told : Told). told.synced) passed.2; touched = ap (λ (told : Told). told.touched) passed.2 }
 
-cut_stopped : (file : FileNo) (old new : Told) → old.stopped ≡ false → IsAnswered (CutTo file 0) (Err Stopped) old new → IsEmptied file old new
+cut_stopped : (file : FileNo) (old new : Told) → old.stopped ≡ false → GaveAnswer (CutTo file 0) (Err Stopped) old new → IsEmptied file old new
 cut_stopped file old new running (inl before) = absurd (cc (running, before.0))
 cut_stopped file old new running (inr now) = record { done = ap (λ (told : Told). told.done) now.2; synced = ap (λ (told : Told). told.synced) now.2; touched = ap (λ (told : Told). told.touched) now.2 }
 
@@ -96,7 +96,7 @@ module _ (jobs : ℕ) (area : FileNo) (kept : Durable) (own : Option ℕ) (slot 
   area_stays : selected (image_left new) ≡ area → IsClean area new → file_of area new.done ≡ file_of area old.done → StandsIn jobs area kept (image_left new)
   area_stays selects clean same =
       selects_in jobs kept (image_left new) area save.records selects
-      (has_at_rest (file_of area (image_left new)) save.records (subst (λ l. IsAtRest l save.records) (sym (clean_left last new area armed clean ∙ same)) save.ready.at_rest))
+      (has_at_rest (file_of area (image_left new)) save.records (subst (λ l. HasRestingGate l save.records) (sym (clean_left last new area armed clean ∙ same)) save.ready.at_rest))
       (own, save.stand)
 
   both_stay : IsClean Chooser new → file_of Chooser new.done ≡ file_of Chooser old.done → IsClean area new → file_of area new.done ≡ file_of area old.done → StandsIn jobs area kept (image_left new)
@@ -160,7 +160,7 @@ module _ (jobs : ℕ) (area : FileNo) (kept : Durable) (own : Option ℕ) (slot 
       base_shown : AreRecords bodies (base_records kept own slot rows) → Shows SelectsOther arm.image → StandsIn jobs (other_area area) (after_delta (Base slot rows) kept) (image_left new)
       base_shown are shows =
           selects_in jobs (after_delta (Base slot rows) kept) (image_left new) other bodies (base_selects shows)
-          (has_at_rest (file_of other (image_left new)) bodies (subst (λ l. IsAtRest l bodies) (sym other_bytes) (gated_rest bodies (all_whole (base_records kept own slot rows)))))
+          (has_at_rest (file_of other (image_left new)) bodies (subst (λ l. HasRestingGate l bodies) (sym other_bytes) (gated_rest bodies (all_whole (base_records kept own slot rows)))))
           (own, base_stand_for jobs bodies kept own slot rows are (StandFor-sound jobs save.records kept own save.stand) save.follows.1)
 
   -- Within the first three calls, or within the last two.
@@ -186,7 +186,7 @@ module _ (jobs : ℕ) (area : FileNo) (kept : Durable) (own : Option ℕ) (slot 
       after_cut cut emptied some (inr later) =
           inr (last_two cut emptied some later (stops_in_write Chooser 0 (bit ∷ []) [] (record fewer { left = arm.left - 1 - 1 - 1 }) later.mid new later.runs later.armed later.stops))
 
-      first : IsAnswered (CutTo other 0) (Err Stopped) old new ⊎ ((cut : Told) × IsAnswered (CutTo other 0) (Ok tt) old cut × BreaksOff Stopped (synced_write other 0 (gated bodies) ++ choose_calls other) cut new)
+      first : GaveAnswer (CutTo other 0) (Err Stopped) old new ⊎ ((cut : Told) × GaveAnswer (CutTo other 0) (Ok tt) old cut × BreaksOff Stopped (synced_write other 0 (gated bodies) ++ choose_calls other) cut new)
           → ((arm.left < 3) × StandsIn jobs area kept (image_left new)) ⊎ StopsAtChooser
       first (inl stopped) = inl (omega (arith, (one_stops (CutTo other 0) arm old new save.ready.runs save.armed stopped).0), cut_ends (cut_stopped other old new save.ready.runs stopped))
       first (inr (cut, passed, rest)) =

@@ -6,7 +6,7 @@ use Rattle.disk_model.specs.declared.fault.FileNo.TheVariants.{Chooser}
 use Rattle.disk_model.specs.Images.{Image, file_of}
 use Rattle.disk_model.specs.Made.{DiskCall, AllDone, synced_write}
 use Rattle.disk_model.specs.Told.{Told, after_arm, after_disarm, after_revive, image_left}
-use Rattle.gate_file.specs.Gates.{IsAtRest, gated}
+use Rattle.gate_file.specs.Gates.{HasRestingGate, gated}
 use Rattle.gate_file.specs.Made.{append_calls}
 use Rattle.paxos_base.specs.declared.durable.Delta.{Delta}
 use Rattle.paxos_base.specs.declared.durable.Delta.TheVariants.{Tried, Promised, Voted, Base}
@@ -88,7 +88,7 @@ settled_ready seen may_leave honest disk store told settled same runs chooser cl
       selects = ap selected same ∙ settled.selects;
       chooser = chooser;
       area_clean = clean;
-      at_rest = subst (λ image. IsAtRest (file_of (area_of store) image) (records_of store)) (sym same) settled.gates.at_rest;
+      at_rest = subst (λ image. HasRestingGate (file_of (area_of store) image) (records_of store)) (sym same) settled.gates.at_rest;
     }
 
 arm_clean : (stopped : Bool) (arm : Option Arm) (file : FileNo) (told : Told) → IsClean file told → IsClean file (if stopped then told else record told { arm = arm })

@@ -3,7 +3,7 @@ use Rattle.std.proofs.Common.{◌≡◌, ◌≢◌, ℕ, List, [], ◌∷◌, �
 use Rattle.disk_model.specs.declared.fault.FileNo.{FileNo}
 use Rattle.disk_model.specs.declared.fault.FileNo.TheVariants.{Chooser}
 use Rattle.disk_model.specs.Images.{Image, file_of, OthersStay, IsDurable, InFileOnly}
-use Rattle.gate_file.specs.Gates.{IsAtRest, IsStaged}
+use Rattle.gate_file.specs.Gates.{HasRestingGate, IsStaged}
 use Rattle.gate_file.proofs.GateLemmas.{staged_at_rest}
 use Rattle.paxos_base.specs.declared.durable.Durable.{Durable}
 use Rattle.replica_store.specs.Files.{selected, other_area, BodiesStandForEither, IsAreaStaged, IsRecoverable}
@@ -30,7 +30,7 @@ module _ (jobs : ℕ) (before after : Durable) (seen : Image) (old : Image → T
       (λ image only. same_chooser image seen (others_as_seen Chooser area (λ same. differs (sym same)) seen old (IsStaged bodies pending) durable image only) ∙ is)
       (record { bodies = bodies; pending = pending; staged = λ image only. only.3; without = without; with_it = with_it })
 
-  at_rest : (file : FileNo) (bodies : List (List ℕ)) (P : Image → Type 0) → IsAtRest (file_of file seen) bodies → ((image : Image) → P image → file_of file image ≡ file_of file seen) → BodiesStandForEither jobs before after bodies → IsAreaStaged jobs before after file P
+  at_rest : (file : FileNo) (bodies : List (List ℕ)) (P : Image → Type 0) → HasRestingGate (file_of file seen) bodies → ((image : Image) → P image → file_of file image ≡ file_of file seen) → BodiesStandForEither jobs before after bodies → IsAreaStaged jobs before after file P
   at_rest file bodies P rest same stand =
       record {
         bodies = bodies;
@@ -41,7 +41,7 @@ module _ (jobs : ℕ) (before after : Durable) (seen : Image) (old : Image → T
       }
 
   -- calls on the other area, while the selected one is at rest
-  pub in_other : (area : FileNo) (bodies : List (List ℕ)) (P : List ℕ → Type 0) → area ≢ Chooser → selected seen ≡ area → IsDurable Chooser seen old → IsDurable area seen old → IsAtRest (file_of area seen) bodies → BodiesStandForEither jobs before after bodies
+  pub in_other : (area : FileNo) (bodies : List (List ℕ)) (P : List ℕ → Type 0) → area ≢ Chooser → selected seen ≡ area → IsDurable Chooser seen old → IsDurable area seen old → HasRestingGate (file_of area seen) bodies → BodiesStandForEither jobs before after bodies
       → IsRecoverable jobs before after (InFileOnly (other_area area) old P)
   in_other area bodies P differs is chooser durable rest stand =
       one_area jobs before after (InFileOnly (other_area area) old P) area
@@ -49,7 +49,7 @@ module _ (jobs : ℕ) (before after : Durable) (seen : Image) (old : Image → T
       (at_rest area bodies (InFileOnly (other_area area) old P) rest (λ image only. others_as_seen area (other_area area) (λ same. other_differs area differs (sym same)) seen old P durable image only) stand)
 
   -- a write of the chooser, while both areas are at rest
-  pub in_chooser : (area : FileNo) (bodies others : List (List ℕ)) (P : List ℕ → Type 0) → area ≢ Chooser → IsDurable area seen old → IsDurable (other_area area) seen old → IsAtRest (file_of area seen) bodies → IsAtRest (file_of (other_area area) seen) others
+  pub in_chooser : (area : FileNo) (bodies others : List (List ℕ)) (P : List ℕ → Type 0) → area ≢ Chooser → IsDurable area seen old → IsDurable (other_area area) seen old → HasRestingGate (file_of area seen) bodies → HasRestingGate (file_of (other_area area) seen) others
       → BodiesStandForEither jobs before after bodies → BodiesStandForEither jobs before after others → IsRecoverable jobs before after (InFileOnly Chooser old P)
   in_chooser area bodies others P differs durable other rest other_rest stand other_stand =
       two_areas jobs before after (InFileOnly Chooser old P) area differs
@@ -57,6 +57,6 @@ module _ (jobs : ℕ) (before after : Durable) (seen : Image) (old : Image → T
       (at_rest (other_area area) others (InFileOnly Chooser old P) other_rest (λ image only. others_as_seen (other_area area) Chooser (other_is_area area) seen old P other image only) other_stand)
 
   -- nothing but what is read
-  pub at_rest_alone : (area : FileNo) (bodies : List (List ℕ)) → selected seen ≡ area → IsDurable Chooser seen old → IsDurable area seen old → IsAtRest (file_of area seen) bodies → BodiesStandForEither jobs before after bodies → IsRecoverable jobs before after old
+  pub at_rest_alone : (area : FileNo) (bodies : List (List ℕ)) → selected seen ≡ area → IsDurable Chooser seen old → IsDurable area seen old → HasRestingGate (file_of area seen) bodies → BodiesStandForEither jobs before after bodies → IsRecoverable jobs before after old
   at_rest_alone area bodies is chooser durable rest stand =
       one_area jobs before after old area (λ image left. same_chooser image seen (chooser image left) ∙ is) (at_rest area bodies old rest durable stand)

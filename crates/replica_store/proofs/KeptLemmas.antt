@@ -9,7 +9,7 @@ use Rattle.disk_model.specs.Images.{Image, file_of, written_over, Torn}
 use Rattle.disk_model.specs.Made.{BreaksOff, synced_write}
 use Rattle.disk_model.specs.Told.{Told, bytes_in_image, image_left}
 use Rattle.disk_model.proofs.StopLemmas.{stops_at}
-use Rattle.gate_file.specs.Gates.{AreOpen, HasBodies, IsAtRest, IsStaged, HasBodyBehind}
+use Rattle.gate_file.specs.Gates.{AreOpen, HasBodies, HasRestingGate, IsStaged, HasBodyBehind}
 use Rattle.gate_file.specs.Made.{append_calls}
 use Rattle.gate_file.proofs.AppendLemmas.{mid_behind, mid_open, mid_at_rest}
 use Rattle.gate_file.proofs.GateLemmas.{torn_body, torn_gate, staged_has}
@@ -52,7 +52,7 @@ zero_not_1 byte is_0 is_1 = absurd (omega (arith, is_0, is_1))
 -- ---- a record
 
 -- whatever the write behind the gate leaves, the gate is closed
-body_lost : (file piece image : List ℕ) (bodies : List (List ℕ)) → IsAtRest file bodies → Torn (57 * length bodies + 1) (length piece) file image → HasBodies image bodies
+body_lost : (file piece image : List ℕ) (bodies : List (List ℕ)) → HasRestingGate file bodies → Torn (57 * length bodies + 1) (length piece) file image → HasBodies image bodies
 body_lost file piece image bodies rest torn =
     let closed : get_or image (57 * length bodies) 0 ≡ 0 =
     sym (get_or-take (57 * length bodies + 1) image (57 * length bodies) 0 (omega arith)) ∙ ap (λ (l : List ℕ). get_or l (57 * length bodies) 0) torn.before ∙ get_or-take (57 * length bodies + 1) file (57 * length bodies) 0 (omega arith) ∙ rest.tail_closed in

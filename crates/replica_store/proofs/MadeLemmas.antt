@@ -4,11 +4,11 @@ use Rattle.disk_model.specs.declared.fault.DiskFault.{DiskFault}
 use Rattle.disk_model.specs.declared.fault.DiskFault.TheVariants as Disk
 use Rattle.disk_model.specs.declared.fault.FileNo.{FileNo}
 use Rattle.disk_model.specs.Told.{Told, AfterLook}
-use Rattle.disk_model.specs.Made.{DiskCall, SyncOf, IsAnswered, AllDone, BreaksOff, MadeCalls}
+use Rattle.disk_model.specs.Made.{DiskCall, SyncOf, GaveAnswer, AllDone, BreaksOff, MadeCalls}
 use Rattle.disk_model.proofs.MadeLemmas.{breaks_later, look_breaks, no_memory_first, one_done, runs_on, err_inner}
 use Rattle.gate_file.specs.declared.fault.GateFault.{GateFault}
 use Rattle.gate_file.specs.declared.fault.GateFault.TheVariants as Gate
-use Rattle.gate_file.specs.Faults.{fault_of}
+use Rattle.gate_file.specs.Faults.{gate_fault_of}
 use Rattle.gate_file.specs.Made.{append_calls}
 use Rattle.paxos_base.specs.declared.durable.Delta.{Delta}
 use Rattle.paxos_base.specs.declared.durable.Delta.TheVariants.{Tried, Promised, Voted, Base}
@@ -37,7 +37,7 @@ disk_apart Disk.OutOfMemory Disk.Stopped is = absurd (cc is)
 disk_apart Disk.OutOfMemory Disk.Failed is = absurd (cc is)
 disk_apart Disk.OutOfMemory Disk.OutOfMemory is = refl
 
-gates_apart : (one : GateFault) (other : DiskFault) → of_gates one ≡ of_disk other → one ≡ fault_of other
+gates_apart : (one : GateFault) (other : DiskFault) → of_gates one ≡ of_disk other → one ≡ gate_fault_of other
 gates_apart Gate.Stopped Disk.Stopped is = refl
 gates_apart Gate.Stopped Disk.Failed is = absurd (cc is)
 gates_apart Gate.Stopped Disk.OutOfMemory is = absurd (cc is)
@@ -60,7 +60,7 @@ pub disk_handed : {T U : Type 0} (result : Result U StoreFault) (given : DiskFau
 disk_handed (Ok value) given gives fault is = absurd gives
 disk_handed (Err found) given gives fault is = ap Err (disk_apart given fault (sym gives ∙ err_inner found (of_disk fault) is))
 
-pub gates_handed : {T U : Type 0} (result : Result U StoreFault) (given : GateFault) → IsErrAnd result (λ e. e ≡ of_gates given) → (fault : DiskFault) → IsErrOf result (of_disk fault) → ◌≡◌ {A = Result T GateFault} (Err given) (Err (fault_of fault))
+pub gates_handed : {T U : Type 0} (result : Result U StoreFault) (given : GateFault) → IsErrAnd result (λ e. e ≡ of_gates given) → (fault : DiskFault) → IsErrOf result (of_disk fault) → ◌≡◌ {A = Result T GateFault} (Err given) (Err (gate_fault_of fault))
 gates_handed (Ok value) given gives fault is = absurd gives
 gates_handed (Err found) given gives fault is = ap Err (gates_apart given fault (sym gives ∙ err_inner found (of_disk fault) is))
 
@@ -77,7 +77,7 @@ records_made front back given (Err found) gives old new first =
     }
 
 -- a look after a sync
-pub look_after : (file : FileNo) (fault : DiskFault) (old mid new : Told) → IsAnswered (SyncOf file) (Ok tt) old mid → AfterLook {T = Unit} (Err fault) mid new → BreaksOff fault (SyncOf file ∷ []) old new
+pub look_after : (file : FileNo) (fault : DiskFault) (old mid new : Told) → GaveAnswer (SyncOf file) (Ok tt) old mid → AfterLook {T = Unit} (Err fault) mid new → BreaksOff fault (SyncOf file ∷ []) old new
 look_after file Disk.Stopped old mid new synced looked = breaks_later Disk.Stopped (SyncOf file ∷ []) [] old mid new (one_done (SyncOf file) old mid synced) (look_breaks Disk.Stopped [] mid new (runs_on (SyncOf file) old mid synced) looked)
 look_after file Disk.Failed old mid new synced looked = breaks_later Disk.Failed (SyncOf file ∷ []) [] old mid new (one_done (SyncOf file) old mid synced) (look_breaks Disk.Failed [] mid new (runs_on (SyncOf file) old mid synced) looked)
 look_after file Disk.OutOfMemory old mid new synced looked = absurd looked

@@ -6,7 +6,7 @@ use Rattle.disk_model.specs.Images.{Image, file_of, OthersStay, InFile, HoldsPie
 use Rattle.disk_model.proofs.CallerLemmas.{follows_on, leaves_weaker}
 use Rattle.disk_model.proofs.RunLemmas.{now_in_run}
 use Rattle.gate_file.specs.File.{file_no, bodies_of, IsFileSettled}
-use Rattle.gate_file.specs.Gates.{IsAtRest, IsStaged}
+use Rattle.gate_file.specs.Gates.{HasRestingGate, IsStaged}
 use Rattle.gate_file.specs.declared.gate_file.GateFile.{GateFile}
 use Rattle.paxos_base.specs.declared.durable.Delta.{Delta}
 use Rattle.paxos_base.specs.declared.durable.Delta.TheVariants.{Tried, Promised, Voted, Base}
@@ -43,7 +43,7 @@ module _ {D : Type 0} (seen : D → Image) (may_leave : D → Image → Type 0) 
       → (honest old → (image : Image) → may_leave new image → InFileOnly changed (may_leave old) P image) → IsFileSettled seen may_leave honest new gates
   still_settled old new gates changed P differs before settled others only =
       record {
-        at_rest = subst (λ bytes. IsAtRest bytes (bodies_of gates)) (sym (others (file_no gates) differs)) settled.at_rest;
+        at_rest = subst (λ bytes. HasRestingGate bytes (bodies_of gates)) (sym (others (file_no gates) differs)) settled.at_rest;
         durable = λ is. stays_durable (file_no gates) changed differs (seen old) (seen new) (may_leave old) (may_leave new) P (settled.durable (before is)) others (only (before is));
       }
 
@@ -65,7 +65,7 @@ module _ {D : Type 0} (seen : D → Image) (may_leave : D → Image → Type 0) 
     chooser_recoverable kept after P gates other others keeps is stand =
         in_chooser store.jobs kept after (seen disk) (may_leave disk) (file_no store.gates) (bodies_of store.gates) (bodies_of gates) P is_area (settled.gates.durable is)
         (subst (λ file. IsDurable file (seen disk) (may_leave disk)) other (others.durable is)) settled.gates.at_rest
-        (subst (λ file. IsAtRest (file_of file (seen disk)) (bodies_of gates)) other others.at_rest) (inl keeps) (inr stand)
+        (subst (λ file. HasRestingGate (file_of file (seen disk)) (bodies_of gates)) other others.at_rest) (inl keeps) (inr stand)
 
     -- a store at rest
     pub settled_recoverable : (kept : Durable) → StoreKeeps store kept → honest disk → IsRecoverable store.jobs kept kept (may_leave disk)

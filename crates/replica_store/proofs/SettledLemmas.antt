@@ -3,7 +3,7 @@ use Rattle.std.proofs.Common.{◌≡◌, sym, ap, ◌∙◌, subst}
 use Rattle.disk_model.specs.declared.fault.FileNo.TheVariants.{Chooser}
 use Rattle.disk_model.specs.Images.{Image, file_of, NoNewImage}
 use Rattle.gate_file.specs.File.{file_no, bodies_of}
-use Rattle.gate_file.specs.Gates.{IsAtRest}
+use Rattle.gate_file.specs.Gates.{HasRestingGate}
 use Rattle.replica_store.specs.declared.store.Store.{Store}
 use Rattle.replica_store.specs.Files.{selected}
 use Rattle.replica_store.specs.Store.{IsStoreSettled}
@@ -13,7 +13,7 @@ pub settled_still : {D : Type 0} (seen : D → Image) (may_leave : D → Image �
 settled_still seen may_leave honest old new store same none before settled =
     record {
       gates = record {
-        at_rest = subst (λ image. IsAtRest (file_of (file_no store.gates) image) (bodies_of store.gates)) (sym same) settled.gates.at_rest;
+        at_rest = subst (λ image. HasRestingGate (file_of (file_no store.gates) image) (bodies_of store.gates)) (sym same) settled.gates.at_rest;
         durable = λ is image left. settled.gates.durable (before is) image (none image left) ∙ ap (file_of (file_no store.gates)) (sym same);
       };
       selects = ap selected same ∙ settled.selects;

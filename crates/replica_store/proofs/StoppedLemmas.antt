@@ -6,7 +6,7 @@ use Rattle.disk_model.specs.declared.armed.Arm.{Arm}
 use Rattle.disk_model.specs.declared.fault.DiskFault.TheVariants.{Stopped}
 use Rattle.disk_model.specs.declared.fault.FileNo.{FileNo}
 use Rattle.disk_model.specs.Images.{file_of, written_over}
-use Rattle.disk_model.specs.Made.{DiskCall, WriteAt, SyncOf, IsAnswered, AllDone, EndsAt, BreaksOff, synced_write}
+use Rattle.disk_model.specs.Made.{DiskCall, WriteAt, SyncOf, GaveAnswer, AllDone, StopsCalls, BreaksOff, synced_write}
 use Rattle.disk_model.specs.Told.{Told, is_file, is_within, bytes_in_image}
 use Rattle.disk_model.proofs.FileLemmas.{get_or-overwritten, length-written_over}
 use Rattle.disk_model.proofs.MadeLemmas.{runs_on}
@@ -21,41 +21,41 @@ use Rattle.disk_model.proofs.ToldLemmas.{is_file-same as same_is}
 
 -- it stopped, or was done, and the stop came later
 pub breaks_first : (call : DiskCall) (rest : List DiskCall) (old new : Told) → BreaksOff Stopped (call ∷ rest) old new
-    → IsAnswered call (Err Stopped) old new ⊎ ((mid : Told) × IsAnswered call (Ok tt) old mid × BreaksOff Stopped rest mid new)
+    → GaveAnswer call (Err Stopped) old new ⊎ ((mid : Told) × GaveAnswer call (Ok tt) old mid × BreaksOff Stopped rest mid new)
 breaks_first call rest old new broken = at broken.done broken.rest broken.parts broken.made broken.ends
   where
-    at : (done more : List DiskCall) → call ∷ rest ≡ done ++ more → AllDone done old broken.mid → EndsAt Stopped more broken.mid new → IsAnswered call (Err Stopped) old new ⊎ ((mid : Told) × IsAnswered call (Ok tt) old mid × BreaksOff Stopped rest mid new)
+    at : (done more : List DiskCall) → call ∷ rest ≡ done ++ more → AllDone done old broken.mid → StopsCalls Stopped more broken.mid new → GaveAnswer call (Err Stopped) old new ⊎ ((mid : Told) × GaveAnswer call (Ok tt) old mid × BreaksOff Stopped rest mid new)
     at [] [] parts made ends = absurd ends
     at [] (first ∷ others) parts made ends =
         let same : call ≡ first = cc parts in
-        inl (subst (λ told. IsAnswered call (Err Stopped) told new) made (subst (λ c. IsAnswered c (Err Stopped) broken.mid new) (sym same) ends))
+        inl (subst (λ told. GaveAnswer call (Err Stopped) told new) made (subst (λ c. GaveAnswer c (Err Stopped) broken.mid new) (sym same) ends))
     at (first ∷ others) more parts made ends =
         let same : call ≡ first = cc parts in
         let later : rest ≡ others ++ more = cc parts in
-        inr (made.0, subst (λ c. IsAnswered c (Ok tt) old made.0) (sym same) made.1, record { done = others; rest = more; parts = later; mid = broken.mid; made = made.2; ends = ends })
+        inr (made.0, subst (λ c. GaveAnswer c (Ok tt) old made.0) (sym same) made.1, record { done = others; rest = more; parts = later; mid = broken.mid; made = made.2; ends = ends })
 
 -- of no calls none stops
 pub none_breaks : (old new : Told) → BreaksOff Stopped [] old new → ⊥
 none_breaks old new broken = at broken.done broken.rest broken.parts broken.ends
   where
-    at : (done more : List DiskCall) → [] ≡ done ++ more → EndsAt Stopped more broken.mid new → ⊥
+    at : (done more : List DiskCall) → [] ≡ done ++ more → StopsCalls Stopped more broken.mid new → ⊥
     at [] [] parts ends = ends
     at [] (first ∷ others) parts ends = absurd (cc parts)
     at (first ∷ others) more parts ends = absurd (cc parts)
 
 -- ---- one call
 
-pub write_passed : (file : FileNo) (at : ℕ) (piece : List ℕ) (old new : Told) → IsAnswered (WriteAt file at piece) (Ok tt) old new → IsPending file at piece old new
+pub write_passed : (file : FileNo) (at : ℕ) (piece : List ℕ) (old new : Told) → GaveAnswer (WriteAt file at piece) (Ok tt) old new → IsPending file at piece old new
 write_passed file at piece old new passed =
     record { done = ap (λ (told : Told). told.done) passed.2; synced = ap (λ (told : Told). told.synced) passed.2; touched = λ other place. ap (λ (told : Told). told.touched other place) passed.2 }
 
-pub write_stopped : (file : FileNo) (at : ℕ) (piece : List ℕ) (old new : Told) → old.stopped ≡ false → IsAnswered (WriteAt file at piece) (Err Stopped) old new → IsPending file at piece old new
+pub write_stopped : (file : FileNo) (at : ℕ) (piece : List ℕ) (old new : Told) → old.stopped ≡ false → GaveAnswer (WriteAt file at piece) (Err Stopped) old new → IsPending file at piece old new
 write_stopped file at piece old new running (inl before) = absurd (cc (running, before.0))
 write_stopped file at piece old new running (inr now) =
     record { done = ap (λ (told : Told). told.done) now.2; synced = ap (λ (told : Told). told.synced) now.2; touched = λ other place. ap (λ (told : Told). told.touched other place) now.2 }
 
 -- a sync that stopped has done nothing
-pub sync_stopped : (file written : FileNo) (at : ℕ) (piece : List ℕ) (old mid new : Told) → mid.stopped ≡ false → IsPending written at piece old mid → IsAnswered (SyncOf file) (Err Stopped) mid new → IsPending written at piece old new
+pub sync_stopped : (file written : FileNo) (at : ℕ) (piece : List ℕ) (old mid new : Told) → mid.stopped ≡ false → IsPending written at piece old mid → GaveAnswer (SyncOf file) (Err Stopped) mid new → IsPending written at piece old new
 sync_stopped file written at piece old mid new running pending (inl before) = absurd (cc (running, before.0))
 sync_stopped file written at piece old mid new running pending (inr now) =
     record {
@@ -73,7 +73,7 @@ and_none true c is = absurd (cc is)
 and_none false c is = refl
 
 -- what a sync leaves of its file, and of others
-module _ (file : FileNo) (old new : Told) (passed : IsAnswered (SyncOf file) (Ok tt) old new) where
+module _ (file : FileNo) (old new : Told) (passed : GaveAnswer (SyncOf file) (Ok tt) old new) where
   pub sync_same : new.done ≡ old.done
   sync_same = ap (λ (told : Told). told.done) passed.2
 
@@ -100,7 +100,7 @@ pub record IsSynced (file : FileNo) (at : ℕ) (piece : List ℕ) (old new : Tol
   pub others_clean : (other : FileNo) → other ≢ file → IsClean other old → IsClean other new
   pub same : (other : FileNo) → other ≢ file → file_of other new.done ≡ file_of other old.done
 
-pub synced_then : (file : FileNo) (at : ℕ) (piece : List ℕ) (old mid new : Told) → IsPending file at piece old mid → IsAnswered (SyncOf file) (Ok tt) mid new → IsSynced file at piece old new
+pub synced_then : (file : FileNo) (at : ℕ) (piece : List ℕ) (old mid new : Told) → IsPending file at piece old mid → GaveAnswer (SyncOf file) (Ok tt) mid new → IsSynced file at piece old new
 synced_then file at piece old mid new pending passed =
     record {
       clean = sync_cleans file mid new passed;
@@ -122,14 +122,14 @@ pub stops_in_write : (file : FileNo) (at : ℕ) (piece : List ℕ) (rest : List 
     → ((arm.left < 2) × IsPending file at piece old new) ⊎ StopsLater file at piece rest arm old new
 stops_in_write file at piece rest arm old new running is broken = first (breaks_first (WriteAt file at piece) (SyncOf file ∷ rest) old new broken)
   where
-    first : IsAnswered (WriteAt file at piece) (Err Stopped) old new ⊎ ((mid : Told) × IsAnswered (WriteAt file at piece) (Ok tt) old mid × BreaksOff Stopped (SyncOf file ∷ rest) mid new)
+    first : GaveAnswer (WriteAt file at piece) (Err Stopped) old new ⊎ ((mid : Told) × GaveAnswer (WriteAt file at piece) (Ok tt) old mid × BreaksOff Stopped (SyncOf file ∷ rest) mid new)
         → ((arm.left < 2) × IsPending file at piece old new) ⊎ StopsLater file at piece rest arm old new
     first (inl stopped) = inl (omega (arith, (one_stops (WriteAt file at piece) arm old new running is stopped).0), write_stopped file at piece old new running stopped)
     first (inr (mid, passed, later)) =
         second mid passed (one_passes arm old mid is (WriteAt file at piece) passed) (runs_on (WriteAt file at piece) old mid passed) (breaks_first (SyncOf file) rest mid new later)
       where
-        second : (mid : Told) → IsAnswered (WriteAt file at piece) (Ok tt) old mid → (0 < arm.left) × (mid.arm ≡ Some (record arm { left = arm.left - 1 })) → mid.stopped ≡ false
-            → IsAnswered (SyncOf file) (Err Stopped) mid new ⊎ ((end : Told) × IsAnswered (SyncOf file) (Ok tt) mid end × BreaksOff Stopped rest end new)
+        second : (mid : Told) → GaveAnswer (WriteAt file at piece) (Ok tt) old mid → (0 < arm.left) × (mid.arm ≡ Some (record arm { left = arm.left - 1 })) → mid.stopped ≡ false
+            → GaveAnswer (SyncOf file) (Err Stopped) mid new ⊎ ((end : Told) × GaveAnswer (SyncOf file) (Ok tt) mid end × BreaksOff Stopped rest end new)
             → ((arm.left < 2) × IsPending file at piece old new) ⊎ StopsLater file at piece rest arm old new
         second mid passed armed runs (inl stopped) =
             inl (omega (arith, armed.0, (one_stops (SyncOf file) (record arm { left = arm.left - 1 }) mid new runs armed.1 stopped).0), sync_stopped file file at piece old mid new runs (write_passed file at piece old mid passed) stopped)

@@ -7,7 +7,7 @@ use Rattle.disk_model.specs.declared.fault.FileNo.TheVariants.{Chooser}
 use Rattle.disk_model.specs.Images.{file_of}
 use Rattle.disk_model.specs.Made.{BreaksOff}
 use Rattle.disk_model.specs.Told.{Told}
-use Rattle.gate_file.specs.Gates.{IsAtRest}
+use Rattle.gate_file.specs.Gates.{HasRestingGate}
 use Rattle.paxos_base.specs.declared.durable.Delta.{Delta}
 use Rattle.paxos_base.specs.declared.durable.Durable.{Durable}
 use Rattle.store_format.specs.Area.{StandFor}
@@ -27,7 +27,7 @@ pub record IsReady (area : FileNo) (records : List (List ℕ)) (told : Told) : T
   pub selects : selected told.done ≡ area
   pub chooser : IsClean Chooser told
   pub area_clean : IsClean area told
-  pub at_rest : IsAtRest (file_of area told.done) records
+  pub at_rest : HasRestingGate (file_of area told.done) records
 
 -- The disk was armed and stopped within the save of a change: a store kept this, with the replica's own ballot, in records of
 -- the area, and some of the calls of the save were done, and a stop came within the next one.

@@ -9,8 +9,8 @@ use Rattle.replica_store.specs.declared.store.Store.{Store}
 use Rattle.replica_store.specs.Files.{selected, BodiesStand}
 
 -- how many jobs the store's table has
-abbrev pub jobs_of : Store → ℕ
-jobs_of store = store.jobs
+abbrev pub jobs_of_store : Store → ℕ
+jobs_of_store store = store.jobs
 
 -- the area that has its records
 abbrev pub area_of : Store → FileNo

@@ -3,7 +3,7 @@ ghost use Rattle.std.specs.Prelude.{◌≡◌, ◌↔◌, [], ◌∷◌, IfOk, O
 ghost use Rattle.disk_model.specs.Faults.{CountsDiskAnswer, WantsNoMemory};
 ghost use Rattle.disk_model.specs.Images.{IsDurable, NoNewImage, LeavesOnly};
 ghost use Rattle.disk_model.specs.Made.{SyncOf, MadeCalls};
-ghost use Rattle.disk_model.specs.Told.{Tells};
+ghost use Rattle.disk_model.specs.Told.{TellsThen};
 ghost use Rattle.disk_model.specs.declared.fault.FileNo.TheVariants.{Chooser};
 ghost use Rattle.replica_store.specs.Files.{selected, selected_by, bit_of, other_area};
 
@@ -50,7 +50,7 @@ pub(crate) fn select<D: Disk>(disk: &mut D) -> Result<FileNo, DiskFault>
     ensures honest { D.honest disk.new ↔ D.honest disk.old }
     ensures counts { CountsDiskAnswer (D.counts disk.old) (D.counts disk.new) result }
     ensures memory { WantsNoMemory result }
-    ensures told { Tells (MadeCalls (λ fault. fault) (SyncOf Chooser ∷ []) result) (D.told disk.old) (D.told disk.new) }
+    ensures told { TellsThen (MadeCalls (λ fault. fault) (SyncOf Chooser ∷ []) result) (D.told disk.old) (D.told disk.new) }
 {
     disk.sync(FileNo::Chooser)?;
     if disk.length(FileNo::Chooser)? == 0 {

@@ -5,7 +5,7 @@ ghost use Rattle.disk_model.specs.declared.fault.FileNo.TheVariants.{Chooser};
 ghost use Rattle.disk_model.specs.Images.{Image, file_of, IsDurable, NoNewImage};
 ghost use Rattle.disk_model.specs.Made.{AllDone};
 ghost use Rattle.disk_model.specs.Told.{Told, image_left, after_arm, after_disarm, after_revive};
-ghost use Rattle.gate_file.specs.Gates.{IsAtRest};
+ghost use Rattle.gate_file.specs.Gates.{HasRestingGate};
 ghost use Rattle.paxos_base.specs.declared.durable.Delta.{Delta};
 ghost use Rattle.paxos_base.specs.declared.durable.Delta.TheVariants.{Base};
 ghost use Rattle.paxos_base.specs.declared.durable.Durable.{Durable};
@@ -19,7 +19,7 @@ ghost use Rattle.replica_store.specs.declared.store.Store.{Store};
 ghost use Rattle.replica_store.specs.Files.{selected, selected_by, other_area, BodiesStand, FilesStand, FilesStandForEither, IsRecoverable};
 ghost use Rattle.replica_store.specs.Kept.{IsClean, IsReady, StopsInSave, Shows};
 ghost use Rattle.replica_store.specs.Made.{attach_calls, save_calls, area_after};
-ghost use Rattle.replica_store.specs.Store.{jobs_of, area_of, records_of, StoreKeeps, IsStoreSettled};
+ghost use Rattle.replica_store.specs.Store.{jobs_of_store, area_of, records_of, StoreKeeps, IsStoreSettled};
 
 use disk_model::Disk;
 
@@ -48,7 +48,7 @@ pub fn a_stop_leaves_one_of_two_states<D: Disk>()
 /// A law, with nothing to run: between two calls of a store, whatever a stop leaves stands for the one state that it keeps.
 pub fn a_settled_store_is_recoverable<D: Disk>()
     ensures { (disk : D) (store : Store) (kept : Durable) → D.honest disk → IsStoreSettled D.seen D.may_leave D.honest disk store → StoreKeeps store kept
-        → IsRecoverable (jobs_of store) kept kept (D.may_leave disk) }
+        → IsRecoverable (jobs_of_store store) kept kept (D.may_leave disk) }
 {}
 
 /// A law, with nothing to run: a settled store stays so while a disk's files stay as they are, as through the calls of
@@ -63,7 +63,7 @@ pub fn a_settled_store_stays_settled<D: Disk>()
 pub fn synced_files_are_recoverable<D: Disk>()
     ensures { (disk : D) (jobs : ℕ) (records : List (List ℕ)) (kept : Durable)
         → IsDurable Chooser (D.seen disk) (D.may_leave disk) → IsDurable (selected (D.seen disk)) (D.seen disk) (D.may_leave disk)
-        → IsAtRest (file_of (selected (D.seen disk)) (D.seen disk)) records → BodiesStand jobs records kept
+        → HasRestingGate (file_of (selected (D.seen disk)) (D.seen disk)) records → BodiesStand jobs records kept
         → IsRecoverable jobs kept kept (D.may_leave disk) }
 {}
 

@@ -2,7 +2,7 @@ ghost use Rattle.std.specs.Prelude.{◌≡◌, ◌↔◌, ◌⊎◌, ◌<◌, �
 ghost use Rattle.disk_model.specs.Images.{file_of, OthersStay, NoNewImage, LeavesOnly, InFileOnly};
 ghost use Rattle.gate_file.specs.File.{file_no, bodies_of, IsFileSettled};
 ghost use Rattle.disk_model.specs.Made.{AllDone, MadeCalls};
-ghost use Rattle.disk_model.specs.Told.{Tells};
+ghost use Rattle.disk_model.specs.Told.{TellsThen};
 ghost use Rattle.gate_file.specs.Gates.{HasBodies};
 ghost use Rattle.gate_file.specs.Made.{rewrite_calls};
 ghost use Rattle.paxos_base.specs.declared.durable.Delta.{Delta};
@@ -37,7 +37,7 @@ pub struct Store {
 }
 
 impl Store {
-    ghost use Rattle.replica_store.specs.Store.{jobs_of, area_of, records_of, StoreKeeps, IsStoreSettled};
+    ghost use Rattle.replica_store.specs.Store.{jobs_of_store, area_of, records_of, StoreKeeps, IsStoreSettled};
 
     /// Attaches the files of a disk, of a table of that many jobs, and says what they stand for. What an earlier call that
     /// failed left is decided here.
@@ -51,7 +51,7 @@ impl Store {
         jobs: u32,
     ) -> Result<(Store, Durable), StoreFault>
         ensures settled { IfOk result (λ found. IsStoreSettled D.seen D.may_leave D.honest disk.new found.0) }
-        ensures jobs { IfOk result (λ found. jobs_of found.0 ≡ jobs) }
+        ensures jobs { IfOk result (λ found. jobs_of_store found.0 ≡ jobs) }
         ensures keeps { IfOk result (λ found. StoreKeeps found.0 found.1) }
         ensures stand { IfOk result (λ found. FilesStand jobs found.1 (D.seen disk.old)) }
         // So a replica can start with it.
@@ -83,9 +83,9 @@ impl Store {
             → LeavesOnly D.moment D.left_since disk.old disk.new (D.may_leave disk.old) }
         ensures memory_image { IsErrOf result OutOfMemory → D.honest disk.old → NoNewImage (D.may_leave disk.old) (D.may_leave disk.new) }
         ensures told { (records : List (List ℕ)) → HasBodies (file_of (selected (D.seen disk.old)) (D.seen disk.old)) records
-            → Tells (MadeCalls of_disk (attach_calls (D.seen disk.old) (length records)) result) (D.told disk.old) (D.told disk.new) }
+            → TellsThen (MadeCalls of_disk (attach_calls (D.seen disk.old) (length records)) result) (D.told disk.old) (D.told disk.new) }
         ensures told_damaged { (gate : ℕ) → result ≡ Err (Damaged gate)
-            → Tells (AllDone (look_calls (D.seen disk.old))) (D.told disk.old) (D.told disk.new) }
+            → TellsThen (AllDone (look_calls (D.seen disk.old))) (D.told disk.old) (D.told disk.new) }
         ensures answer { HasStoreAnswer D.honest D.counts disk.old disk.new result }
     {
         let area = select(disk)?;
@@ -107,17 +107,17 @@ impl Store {
     /// can go on. `Damaged` never.
     pub fn save<D: Disk>(&mut self, disk: &mut D, delta: &Delta) -> Result<(), StoreFault>
         requires settled { IsStoreSettled D.seen D.may_leave D.honest disk.old self.old }
-        requires follows { (kept : Durable) → StoreKeeps self.old kept → ChangeMayFollow (jobs_of self.old) kept delta.now }
+        requires follows { (kept : Durable) → StoreKeeps self.old kept → ChangeMayFollow (jobs_of_store self.old) kept delta.now }
         ensures settled { OnOk result (IsStoreSettled D.seen D.may_leave D.honest disk.new self.new) }
         ensures keeps { (kept : Durable) → StoreKeeps self.old kept → OnOk result (StoreKeeps self.new (after_delta delta.now kept)) }
-        ensures jobs { jobs_of self.new ≡ jobs_of self.old }
+        ensures jobs { jobs_of_store self.new ≡ jobs_of_store self.old }
 
         // Whatever a stop within the call leaves stands for the state before the change or for the one after it, and whatever
         // the answer is, the disk is recoverable with one of the two.
         ensures images { (kept : Durable) → StoreKeeps self.old kept → D.honest disk.old
-            → LeavesOnly D.moment D.left_since disk.old disk.new (FilesStandForEither (jobs_of self.old) kept (after_delta delta.now kept)) }
+            → LeavesOnly D.moment D.left_since disk.old disk.new (FilesStandForEither (jobs_of_store self.old) kept (after_delta delta.now kept)) }
         ensures recoverable { (kept : Durable) → StoreKeeps self.old kept → D.honest disk.old
-            → IsRecoverable (jobs_of self.old) kept (after_delta delta.now kept) (D.may_leave disk.new) }
+            → IsRecoverable (jobs_of_store self.old) kept (after_delta delta.now kept) (D.may_leave disk.new) }
 
         ensures memory { IsErrOf result OutOfMemory → IsStoreSettled D.seen D.may_leave D.honest disk.new self.new }
         ensures memory_keeps { (kept : Durable) → StoreKeeps self.old kept → IsErrOf result OutOfMemory → StoreKeeps self.new kept }
@@ -125,12 +125,12 @@ impl Store {
         // It goes on in its area, and after a base in the other one.
         ensures area { OnOk result (area_of self.new ≡ area_after delta.now (area_of self.old)) }
         ensures same_area { OnErr result (area_of self.new ≡ area_of self.old) }
-        ensures told { (kept : Durable) (own : Option ℕ) → StandFor (jobs_of self.old) (records_of self.old) kept own
-            → Tells (MadeCalls of_disk (save_calls (area_of self.old) (length (records_of self.old)) kept own delta.now) result)
+        ensures told { (kept : Durable) (own : Option ℕ) → StandFor (jobs_of_store self.old) (records_of self.old) kept own
+            → TellsThen (MadeCalls of_disk (save_calls (area_of self.old) (length (records_of self.old)) kept own delta.now) result)
             (D.told disk.old) (D.told disk.new) }
         // What is said of a stop within it asks that its records are spelled.
         ensures spelled { (item : Record) → delta_record delta.now ≡ Some item → IsRecord (record_bytes item) item }
-        ensures base_spelled { (kept : Durable) (own : Option ℕ) (slot : ℕ) (rows : List JobRow) → StandFor (jobs_of self.old) (records_of self.old) kept own
+        ensures base_spelled { (kept : Durable) (own : Option ℕ) (slot : ℕ) (rows : List JobRow) → StandFor (jobs_of_store self.old) (records_of self.old) kept own
             → delta.now ≡ Base slot rows → IsErrOf result Stopped
             → AreRecords (map record_bytes (base_records kept own slot rows)) (base_records kept own slot rows) }
         ensures answer { HasStoreAnswer D.honest D.counts disk.old disk.new result }
@@ -156,22 +156,22 @@ impl Store {
         rows: &RowList,
     ) -> Result<GateFile, StoreFault>
         requires settled { IsStoreSettled D.seen D.may_leave D.honest disk.old self.now }
-        requires rows { RowsStand rows.now (jobs_of self.now) }
+        requires rows { RowsStand rows.now (jobs_of_store self.now) }
         ensures settled { IfOk result (λ gates. IsFileSettled D.seen D.may_leave D.honest disk.new gates) }
         ensures file { IfOk result (λ gates. file_no gates ≡ other_area (area_of self.now)) }
         ensures stand { (kept : Durable) → StoreKeeps self.now kept
-            → IfOk result (λ gates. BodiesStand (jobs_of self.now) (bodies_of gates) (after_delta (Base slot rows.now) kept)) }
+            → IfOk result (λ gates. BodiesStand (jobs_of_store self.now) (bodies_of gates) (after_delta (Base slot rows.now) kept)) }
         ensures others { OnOk result (OthersStay (other_area (area_of self.now)) (D.seen disk.old) (D.seen disk.new)) }
         ensures images { D.honest disk.old → LeavesOnly D.moment D.left_since disk.old disk.new
             (InFileOnly (other_area (area_of self.now)) (D.may_leave disk.old) (λ bytes. ⊤)) }
         ensures memory_others { IsErrOf result OutOfMemory → OthersStay (other_area (area_of self.now)) (D.seen disk.old) (D.seen disk.new) }
         ensures undamaged { (gate : ℕ) → result ≡ Err (Damaged gate) → ⊥ }
-        ensures told { (kept : Durable) (own : Option ℕ) → StandFor (jobs_of self.now) (records_of self.now) kept own
-            → Tells (MadeCalls of_disk (rewrite_calls (other_area (area_of self.now)) (map record_bytes (base_records kept own slot rows.now))) result)
+        ensures told { (kept : Durable) (own : Option ℕ) → StandFor (jobs_of_store self.now) (records_of self.now) kept own
+            → TellsThen (MadeCalls of_disk (rewrite_calls (other_area (area_of self.now)) (map record_bytes (base_records kept own slot rows.now))) result)
             (D.told disk.old) (D.told disk.new) }
-        ensures spelled { (kept : Durable) (own : Option ℕ) → StandFor (jobs_of self.now) (records_of self.now) kept own
+        ensures spelled { (kept : Durable) (own : Option ℕ) → StandFor (jobs_of_store self.now) (records_of self.now) kept own
             → OnOk result (AreRecords (map record_bytes (base_records kept own slot rows.now)) (base_records kept own slot rows.now)) }
-        ensures stopped_spelled { (kept : Durable) (own : Option ℕ) → StandFor (jobs_of self.now) (records_of self.now) kept own → IsErrOf result Stopped
+        ensures stopped_spelled { (kept : Durable) (own : Option ℕ) → StandFor (jobs_of_store self.now) (records_of self.now) kept own → IsErrOf result Stopped
             → AreRecords (map record_bytes (base_records kept own slot rows.now)) (base_records kept own slot rows.now) }
         ensures answer { HasStoreAnswer D.honest D.counts disk.old disk.new result }
     {

@@ -12,7 +12,7 @@ use Rattle.paxos_base.specs.declared.entry.Kind.TheVariants.{Launch, Void}
 use Rattle.cluster_sched.specs.Held.{AreNamedOnce}
 use Rattle.cluster_sched.specs.declared.row.SchedRow.{SchedRow}
 use Rattle.launch_safety.specs.Launched.{IsWanted, LaunchesEachDue}
-use Rattle.report_text.specs.Listing.{instants_of, rows_of}
+use Rattle.report_text.specs.Listing.{instants_of, rows_of_kind}
 use Rattle.report_text.specs.Report.{IsInOrder, count_of_kind, is_same_kind}
 use Rattle.report_text.proofs.ListingLemmas.{each_due_listed}
 use Rattle.report_text.proofs.OrderLemmas.{some_order}
@@ -27,7 +27,7 @@ abbrev one_if : (SchedRow → Bool) → SchedRow → ℕ
 one_if p row = cond (p row) 1 0
 
 -- a count is how many rows of the job and the kind are listed
-pub counts_listed : (held rows : List SchedRow) (job : ℕ) (kind : Kind) → IsInOrder held rows → count_of_kind held job kind ≡ length (rows_of rows job kind)
+pub counts_listed : (held rows : List SchedRow) (job : ℕ) (kind : Kind) → IsInOrder held rows → count_of_kind held job kind ≡ length (rows_of_kind rows job kind)
 counts_listed held rows job kind x =
     sym (sum_by-IsPermutation (one_if (is_counted job kind)) held rows x.same) ∙ sym (length-filter (is_counted job kind) rows)
 

@@ -9,5 +9,5 @@ abbrev pub instants_of : List SchedRow → ℕ → List ℤ
 instants_of rows job = map (λ row. row.name.at) (filter (λ row. row.name.job == job) rows)
 
 -- the job's rows of a kind
-abbrev pub rows_of : List SchedRow → ℕ → Kind → List SchedRow
-rows_of rows job kind = filter (λ row. (row.name.job == job) && is_same_kind row.kind kind) rows
+abbrev pub rows_of_kind : List SchedRow → ℕ → Kind → List SchedRow
+rows_of_kind rows job kind = filter (λ row. (row.name.job == job) && is_same_kind row.kind kind) rows

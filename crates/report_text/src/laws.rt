@@ -11,7 +11,7 @@ ghost use Rattle.history.specs.Book.{Row, votes_in};
 ghost use Rattle.launch_safety.specs.Fitting.{held_in, FitsItsLog};
 ghost use Rattle.world_law.specs.Book.{BookState, StandsBehind};
 ghost use Rattle.report_text.specs.Book.{IsBookReport};
-ghost use Rattle.report_text.specs.Listing.{instants_of, rows_of};
+ghost use Rattle.report_text.specs.Listing.{instants_of, rows_of_kind};
 ghost use Rattle.report_text.specs.Report.{IsInOrder, IsReport, count_of_kind};
 ghost use Rattle.paxos_base.specs.declared.entry.Entry.{Entry};
 ghost use Rattle.launch_safety.specs.Fits.{Fits};
@@ -44,7 +44,7 @@ pub fn a_report_lists_each_date()
 /// and nothing else is held, there are as many launches as due instants, of a job that doesn't run by its period, and no void.
 pub fn a_report_counts_what_it_lists()
     ensures listed { (held rows : List SchedRow) (job : ℕ) (kind : Kind) → IsInOrder held rows
-        → count_of_kind held job kind ≡ length (rows_of rows job kind) }
+        → count_of_kind held job kind ≡ length (rows_of_kind rows job kind) }
     ensures launched { (table : Table) (held : List SchedRow) (job : ℕ) (dues : List ℤ) → AreNamedOnce held → LaunchesEachDue table held
         → (IsRunByPeriod table job → ⊥) → IsJobDueList table job dues → count_of_kind held job Launch ≡ length dues }
     ensures void { (table : Table) (held : List SchedRow) (job : ℕ) → LaunchesEachDue table held → count_of_kind held job Void ≡ 0 }

@@ -10,7 +10,7 @@ use Rattle.history.proofs.Turns.{after_rows}
 use Rattle.script_semantics.specs.Situation.{Performs, Situation, Task}
 use Rattle.script_semantics.specs.Settling.{IsDrainRound, campaign_tasks}
 use Rattle.script_semantics.specs.Round.{round_tasks}
-use Rattle.settling.specs.Rounds.{GoesOnBy, IsFaultless, IsWithinBounds}
+use Rattle.settling.specs.Rounds.{GoesOnWithin, IsFaultless, IsWithinBounds}
 use Rattle.settling.proofs.BookLemmas.{front_legal, stand_after}
 use Rattle.settling.proofs.RoundsLemmas.{front_bounds}
 use Rattle.run_outcome.proofs.PartLemmas.{Comes}
@@ -80,7 +80,7 @@ back_of members table book front back rows situation middle after parts is spans
 
 -- where no fault is left, it goes on by the part that its rows are
 pub goes_by : (part : Situation → List Row → Situation → Type 0) (members : ℕ) (table : Table) (at : ℤ) (book rows : List Row) (situation after : Situation) → IsInWindow table.window at → IsFaultless members situation
-    → Spans members table book rows situation after → part situation rows after → GoesOnBy part members table at book rows situation after
+    → Spans members table book rows situation after → part situation rows after → GoesOnWithin part members table at book rows situation after
 goes_by part members table at book rows situation after within faultless spans goes = record {
   few = spans.few;
   sound = spans.sound;

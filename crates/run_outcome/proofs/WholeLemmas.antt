@@ -14,12 +14,12 @@ use Rattle.script_semantics.specs.Script.{Obeys}
 use Rattle.settling.specs.Rounds.{IsWithinBounds}
 use Rattle.run_outcome.proofs.Whole.{each_called, each_ended, each_launched}
 use Rattle.run_outcome.proofs.ScriptLemmas.{script_calls, script_ends, script_learned, script_starts}
-use Rattle.run_outcome.specs.Whole.{HaveLearned, IsWholeRun}
+use Rattle.run_outcome.specs.Whole.{HaveLearnedAll, IsWholeRun}
 
 module _ (members : ℕ) (table : Table) (script : List Command) (rows : List Row) (obeyed : Obeys members table script rows) (some : 1 ≤ members) (few : members ≤ 7) (sound : IsSound table)
     (legal : IsLegal members table rows) (limits : IsWithinBounds rows obeyed.after.standing.posted) (log : List Entry) (is_log : IsLog members (votes_in rows) log) where
   -- the situation in which the script ends stands as the book does
-  all_learned : HaveLearned members table rows log
+  all_learned : HaveLearnedAll members table rows log
   all_learned who member =
       subst (λ (standing : Standing). prefix_of (standing.replicas who) ≡ length log)
       (script_ends members table script rows obeyed log some few sound legal limits is_log).standing

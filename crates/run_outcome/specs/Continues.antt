@@ -9,7 +9,8 @@ use Rattle.settling.specs.Rounds.{IsWithinBounds}
 
 -- **The book of one to seven replicas is legal and goes on with a part, within the limits.** Before it replicas may have stopped,
 -- letters may wait or be lost, clocks may be wrong, and calls may be lost or late.
-pub record ContinuesBy (part : Situation → List Row → Situation → Type 0) (members : ℕ) (table : Table) (book rows : List Row) (situation after : Situation) : Type 0 where
+pub record ContinuesBy (part : Situation → List Row → Situation → Type 0) (members : ℕ) (table : Table) (book rows : List Row)
+    (situation after : Situation) : Type 0 where
   pub some : 1 ≤ members
   pub few : members ≤ 7
   pub sound : IsSound table

@@ -26,8 +26,8 @@ abbrev pub HasLog : ℕ → List Row → Type 0
 HasLog members book = (log : List Entry) × IsLog members (votes_in book) log
 
 -- each replica has learned as many entries as the log has
-abbrev pub HaveLearned : ℕ → Table → List Row → List Entry → Type 0
-HaveLearned members table book log =
+abbrev pub HaveLearnedAll : ℕ → Table → List Row → List Entry → Type 0
+HaveLearnedAll members table book log =
     (who : ℕ) → who < members → prefix_of ((standing_after members (first_rows table) book).replicas who) ≡ length log
 
 -- each entry of the log but the no-ops takes effect on what those before it left
@@ -65,7 +65,7 @@ pub record IsWholeRun (members : ℕ) (table : Table) (script : List Command) (r
   pub log : List Entry
   pub is_log : IsLog members (votes_in rows) log
   -- all have learned it
-  pub learned : HaveLearned members table rows log
+  pub learned : HaveLearnedAll members table rows log
   -- nothing in it is ignored
   pub effective : IgnoresNone table log
   -- nothing is left to do at the window's last minute

@@ -47,7 +47,8 @@ pub fn a_walk_ends_quietly()
     ensures faultless { (members : ℕ) (table : Table) (to : ℤ) (book rows : List Row) (situation after : Situation) → IsInWindow table.window to
         → table.window.from.0 ≤ℤ situation.latest → ContinuesBy (Walks members table to) members table book rows situation after
         → IsFaultless members after }
-    ensures drained { (members : ℕ) (table : Table) (to : ℤ) (book rows : List Row) (situation after : Situation) (log : List Entry) → IsInWindow table.window to
+    ensures drained { (members : ℕ) (table : Table) (to : ℤ) (book rows : List Row) (situation after : Situation) (log : List Entry)
+        → IsInWindow table.window to
         → table.window.from.0 ≤ℤ situation.latest → ContinuesBy (Walks members table to) members table book rows situation after
         → IsLog members (votes_in (book ++ rows)) log
         → (minute : ℤ) × (int_min situation.latest to ≤ℤ minute) × (minute ≤ℤ to)
@@ -66,13 +67,16 @@ pub fn an_obeyed_script_ends_quietly()
         → 1 ≤ members → members ≤ 7 → IsSound table → IsLegal members table rows → IsWithinBounds rows obeyed.after.standing.posted
         → IsLog members (votes_in rows) log
         → EndsQuietly members table rows (coordinator members (script_end obeyed)) (table.window.until.0 -ℤ pos 1) obeyed.after log }
-    ensures learned { (members : ℕ) (table : Table) (script : List Command) (rows : List Row) (obeyed : Obeys members table script rows) (log : List Entry) (who : ℕ)
+    ensures learned { (members : ℕ) (table : Table) (script : List Command) (rows : List Row) (obeyed : Obeys members table script rows)
+        (log : List Entry) (who : ℕ)
         → 1 ≤ members → members ≤ 7 → IsSound table → IsLegal members table rows → IsWithinBounds rows obeyed.after.standing.posted
         → IsLog members (votes_in rows) log → who < members → prefix_of (obeyed.after.standing.replicas who) ≡ length log }
-    ensures calls { (members : ℕ) (table : Table) (script : List Command) (rows : List Row) (obeyed : Obeys members table script rows) (log : List Entry) (launch : List JobRow)
+    ensures calls { (members : ℕ) (table : Table) (script : List Command) (rows : List Row) (obeyed : Obeys members table script rows)
+        (log : List Entry) (launch : List JobRow)
         → 1 ≤ members → members ≤ 7 → IsSound table → IsLegal members table rows → IsWithinBounds rows obeyed.after.standing.posted
         → IsLog members (votes_in rows) log → IsClerkOf table log launch → NoCall table launch (table.window.until.0 -ℤ pos 1) }
-    ensures starts { (members : ℕ) (table : Table) (script : List Command) (rows : List Row) (obeyed : Obeys members table script rows) (log : List Entry) (launch : List JobRow)
+    ensures starts { (members : ℕ) (table : Table) (script : List Command) (rows : List Row) (obeyed : Obeys members table script rows)
+        (log : List Entry) (launch : List JobRow)
         → 1 ≤ members → members ≤ 7 → IsSound table → IsLegal members table rows → IsWithinBounds rows obeyed.after.standing.posted
         → IsLog members (votes_in rows) log → IsClerkOf table log launch → NoStart table launch (table.window.until.0 -ℤ pos 1) }
 {}

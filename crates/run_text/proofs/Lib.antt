@@ -1,18 +1,18 @@
-pub mod AnacrontabLemmas
-pub mod CountLemmas
 mod CutLemmas
-pub mod FrameLemmas
 mod ListLemmas
 mod PhraseLemmas
 mod PartLemmas
 mod SectionLemmas
-pub mod SoundLemmas
 mod ScriptLemmas
 mod StepLemmas
 mod TableLemmas
-pub mod UniqueLemmas
-mod VariantLemmas
 mod WindowLemmas
 mod WordLemmas
 mod ZoneLemmas
 mod OffsetLemmas
+pub mod AnacrontabLemmas
+pub mod CountLemmas
+pub mod FrameLemmas
+pub mod SoundLemmas
+pub mod UniqueLemmas
+pub mod VariantLemmas

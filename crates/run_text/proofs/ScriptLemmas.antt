@@ -9,7 +9,7 @@ use Rattle.script_text.specs.declared.limits.Limits.{Limits}
 use Rattle.script_text.proofs.UniqueLemmas.{one_command}
 use Rattle.run_text.specs.Follow.{Script, End, SaysCommand}
 use Rattle.run_text.specs.Run.{Run, with_command, with_commands}
-use Rattle.run_text.specs.Steps.{place_of, LeadsTo, RefusedFrom, HasRoom, BeginsScript, HasScript, PassesCommand}
+use Rattle.run_text.specs.Steps.{place_of, CarriesBack, RefusedFrom, CanCountLines, BeginsScript, HasScript, PassesCommand}
 use Rattle.run_text.specs.declared.head.Head.{Head}
 use Rattle.run_text.specs.declared.reader.Reader.{Reader}
 use Rattle.run_text.specs.declared.refusal.Refusal.{Refusal}
@@ -21,16 +21,16 @@ same_script run a b is = rw is refl
 
 -- what was read from the first place on, which is the beginning of a script
 pub record ReadsCommands (head : Head) (first now : Reader) (left : Limits) (commands : List Command) : Type 0 where
-  pub room : HasRoom now
-  pub leads : (tables : Tables) (run : Run) → BeginsScript head run → LeadsTo tables (place_of first (Script run)) (place_of now (Script (with_commands run commands)))
+  pub room : CanCountLines now
+  pub leads : (tables : Tables) (run : Run) → BeginsScript head run → CarriesBack tables (place_of first (Script run)) (place_of now (Script (with_commands run commands)))
   pub has : (run : Run) → BeginsScript head run → HasScript head (with_commands run commands) left
 
 -- nothing is read at first
-pub commands_none : (head : Head) (reader : Reader) (left : Limits) → IsLeftBy [] left → HasRoom reader → ReadsCommands head reader reader left []
+pub commands_none : (head : Head) (reader : Reader) (left : Limits) → IsLeftBy [] left → CanCountLines reader → ReadsCommands head reader reader left []
 commands_none head reader left whole room = record {
   room = room;
   leads = λ tables run begins.
-      subst (λ r. LeadsTo tables (place_of reader (Script run)) (place_of reader (Script r)))
+      subst (λ r. CarriesBack tables (place_of reader (Script run)) (place_of reader (Script r)))
       (same_script run run.commands (run.commands ++ []) (sym (append-nil run.commands)))
       (stays _ _ _ _ refl);
   has = λ run begins. record {
@@ -46,12 +46,12 @@ script_next run commands command =
     same_script run ((run.commands ++ commands) ++ command ∷ []) (run.commands ++ (commands ++ command ∷ [])) (append_assoc run.commands commands (command ∷ []))
 
 pub commands_next : (head : Head) (first now new : Reader) (before after : Limits) (commands : List Command) (command : Command)
-    → ReadsCommands head first now before commands → PassesCommand head now new before after command → HasRoom new
+    → ReadsCommands head first now before commands → PassesCommand head now new before after command → CanCountLines new
     → ReadsCommands head first new after (commands ++ command ∷ [])
 commands_next head first now new before after commands command so_far passes room = record {
   room = room;
   leads = λ tables run begins.
-      subst (λ r. LeadsTo tables (place_of first (Script run)) (place_of new (Script r))) (script_next run commands command)
+      subst (λ r. CarriesBack tables (place_of first (Script run)) (place_of new (Script r))) (script_next run commands command)
       (goes_on _ _ _ (so_far.leads tables run begins) (passes.leads tables (with_commands run commands) (so_far.has run begins)));
   has = λ run begins. subst (λ r. HasScript head r after) (script_next run commands command) (passes.left_is (with_commands run commands) (so_far.has run begins));
 }
@@ -64,8 +64,8 @@ commands_refused head first now left commands refusal so_far refused tables run 
 
 -- the line that ends the script
 pub script_ends : (head : Head) (first now new : Reader) (left : Limits) (commands : List Command) → ReadsCommands head first now left commands
-    → ((tables : Tables) (run : Run) → LeadsTo tables (place_of now (Script run)) (place_of new (End run)))
-    → (tables : Tables) (run : Run) → BeginsScript head run → LeadsTo tables (place_of first (Script run)) (place_of new (End (with_commands run commands)))
+    → ((tables : Tables) (run : Run) → CarriesBack tables (place_of now (Script run)) (place_of new (End run)))
+    → (tables : Tables) (run : Run) → BeginsScript head run → CarriesBack tables (place_of first (Script run)) (place_of new (End (with_commands run commands)))
 script_ends head first now new left commands so_far last tables run begins = goes_on _ _ _ (so_far.leads tables run begins) (last tables (with_commands run commands))
 
 -- the reader passed a line that says a command

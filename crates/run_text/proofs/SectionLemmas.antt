@@ -4,7 +4,7 @@ use Rattle.crontab_text.specs.Lines.{lines_of}
 use Rattle.run_text.specs.Follow.{Above, Sections, inside, OpensNone}
 use Rattle.run_text.specs.Grammar.{IsSectionLine}
 use Rattle.run_text.specs.Run.{Run, opened}
-use Rattle.run_text.specs.Steps.{place_of, at_table, IsWhole, LeadsTo, RefusedFrom, RefusesTable}
+use Rattle.run_text.specs.Steps.{place_of, at_table, IsComplete, CarriesBack, RefusedFrom, RefusesTable}
 use Rattle.run_text.specs.declared.opening.Opening.{Opening}
 use Rattle.run_text.specs.declared.reader.Reader.{Reader}
 use Rattle.run_text.specs.declared.refusal.Refusal.{Refusal}
@@ -25,8 +25,8 @@ abbrev at_number : ℕ → Opening → Run → Above
 at_number number opening run = inside run (opened number opening.kind opening.label.now opening.zone.now) opening.count
 
 -- the line that opens a section whose lines are all there
-pub opening_leads : {tables : Tables} (old new : Reader) (opening : Opening) → PassesOpening old new opening → IsWhole new opening
-    → (run : Run) → LeadsTo tables (place_of old (Sections run)) (place_of new (at_table new opening run))
+pub opening_leads : {tables : Tables} (old new : Reader) (opening : Opening) → PassesOpening old new opening → IsComplete new opening
+    → (run : Run) → CarriesBack tables (place_of old (Sections run)) (place_of new (at_table new opening run))
 opening_leads old new opening passes is_whole run =
     one_line_at old new (Sections run) (at_table new opening run) passes.line passes.number passes.lines
     (inr (inr (record {

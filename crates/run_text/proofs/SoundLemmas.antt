@@ -15,7 +15,7 @@ use Rattle.run_text.specs.Reading.{ReadsFrom, IsRunText}
 use Rattle.run_text.specs.Run.{NamedZone, Section, Run, run_with, opened, with_line, with_section, with_zone, with_command}
 use Rattle.run_text.specs.Sound.{IsSoundSection, IsSoundSource, IsSoundZone, AreDistinct, AreSoundZones, AreSoundReplicas, IsSoundRun}
 use Rattle.run_text.specs.Table.{Says, AreSaid}
-use Rattle.run_text.specs.Zones.{IsSourceText, fixed, posix, tzif, AddsZone, names_of}
+use Rattle.run_text.specs.Zones.{IsSourceText, fixed, posix, tzif, AddsZone, zone_names_of}
 use Rattle.run_text.specs.declared.run.SectionKind.{SectionKind}
 use Rattle.run_text.specs.declared.table.Tables.TheVariants.{Judged}
 use Rattle.run_text.proofs.AnacrontabLemmas.{say_none}
@@ -84,7 +84,7 @@ distinct_push (first ∷ names) name distinct new =
     (all_push (λ other. other ≢ first) names name distinct.0 (λ same. new.0 (sym same)), distinct_push names name distinct.1 new.1)
 
 -- one zone more
-sound_zones : (zones : List NamedZone) (zone : NamedZone) (line : List ℕ) → AreSoundZones zones → AddsZone (names_of zones) line zone.name zone.source → AreSoundZones (zones ++ zone ∷ [])
+sound_zones : (zones : List NamedZone) (zone : NamedZone) (line : List ℕ) → AreSoundZones zones → AddsZone (zone_names_of zones) line zone.name zone.source → AreSoundZones (zones ++ zone ∷ [])
 sound_zones zones zone line sound adds = record {
   few = omega (arith, length-append zones (zone ∷ []), length-map zones (λ (z : NamedZone). z.name), adds.free.few);
   each = all_push IsSoundZone zones zone sound.each (record {
@@ -92,10 +92,10 @@ sound_zones zones zone line sound adds = record {
     no_utc = adds.free.no_utc;
     source = sound_source adds.is.kind adds.is.text zone.source adds.is.is_source;
   });
-  distinct = rw (map-append (λ (z : NamedZone). z.name) zones (zone ∷ [])) (distinct_push (names_of zones) zone.name sound.distinct adds.free.new);
+  distinct = rw (map-append (λ (z : NamedZone). z.name) zones (zone ∷ [])) (distinct_push (zone_names_of zones) zone.name sound.distinct adds.free.new);
 }
 
-with_zone_more : (next number : ℕ) (run : Run) (line name : List ℕ) (source : Source) → IsSoundRun next run → AddsZone (names_of run.zones) line name source
+with_zone_more : (next number : ℕ) (run : Run) (line name : List ℕ) (source : Source) → IsSoundRun next run → AddsZone (zone_names_of run.zones) line name source
     → IsSoundRun next (with_zone run (record { line = number; name = name; source = source }))
 with_zone_more next number run line name source sound adds = record {
   replicas = sound.replicas;

@@ -17,7 +17,7 @@ use Rattle.run_text.specs.Anacrontab.{SayAll, IsFirstBreak}
 use Rattle.run_text.specs.Follow.{Sections, Table, inside, style_of, MayStandIn, RefusesInTable}
 use Rattle.run_text.specs.Reading.{ReadsFrom, RefusesFrom}
 use Rattle.run_text.specs.Run.{Run, Section, section_of, opened, with_line, with_lines, with_section}
-use Rattle.run_text.specs.Steps.{Place, place_of, at_table, IsCut, LeadsTo, RefusedFrom, PassesTable, RefusesTable}
+use Rattle.run_text.specs.Steps.{Place, place_of, at_table, IsCut, CarriesBack, RefusedFrom, PassesTable, RefusesTable}
 use Rattle.run_text.specs.Table.{Says, AreSaid, IsFirstFault, IsTableFault}
 use Rattle.run_text.specs.declared.opening.Opening.{Opening}
 use Rattle.run_text.specs.declared.reader.Reader.{Reader}
@@ -104,7 +104,7 @@ module _ where
   front_leads : (style : Style) (front : List (List ℕ)) (left total number last : ℕ) (run : Run) (section : Section) (text rest : List ℕ)
       → style_of section.kind ≡ Some style → total ≡ length front + left → last ≡ number + length front
       → lines_of text ≡ front ++ lines_of rest → AllByRecursion (Says style section.label) front
-      → LeadsTo Judged (in_section number run section total text) (in_section last run (with_lines section front) left rest)
+      → CarriesBack Judged (in_section number run section total text) (in_section last run (with_lines section front) left rest)
   front_leads style [] left total number last run section text rest kind total_is last_is is all =
       let total_left : total ≡ left = omega (arith, total_is) in
       let last_number : last ≡ number = omega (arith, last_is) in
@@ -118,8 +118,8 @@ module _ where
       let others = front_leads style lines left (length lines + left) (number + 1) last run (with_line section line) middle rest kind refl (omega (arith, last_is)) (sym behind) all.1 in
       let joined : with_lines (with_line section line) lines ≡ with_lines section (line ∷ lines) =
       same_lines section ((section.lines ++ line ∷ []) ++ lines) (section.lines ++ line ∷ lines) (append_assoc section.lines (line ∷ []) lines) in
-      subst (λ t. LeadsTo Judged (in_section number run section t text) (in_section last run (with_lines section (line ∷ lines)) left rest)) (sym total_next)
-      (subst (λ s. LeadsTo Judged (in_section number run section (suc (length lines + left)) text) (in_section last run s left rest)) joined (goes_on _ _ _ first others))
+      subst (λ t. CarriesBack Judged (in_section number run section t text) (in_section last run (with_lines section (line ∷ lines)) left rest)) (sym total_next)
+      (subst (λ s. CarriesBack Judged (in_section number run section (suc (length lines + left)) text) (in_section last run s left rest)) joined (goes_on _ _ _ first others))
 
   -- a refused line of a crontab
   refused_in_crontab : (style : Style) (number : ℕ) (section : Section) (left : ℕ) (line : List ℕ) (fault : LineFault) (refusal : Refusal) → style_of section.kind ≡ Some style → IsLineFault style line fault.cause fault.place
@@ -216,12 +216,12 @@ module _ where
 
   -- lines that are only counted
   counted_lead : (lines : List (List ℕ)) (number last : ℕ) (run : Run) (section : Section) (text rest : List ℕ) → last ≡ number + length lines → lines_of text ≡ lines ++ lines_of rest
-      → LeadsTo Counted (in_section number run section (length lines) text) (in_section last run (with_lines section lines) 0 rest)
+      → CarriesBack Counted (in_section number run section (length lines) text) (in_section last run (with_lines section lines) 0 rest)
   counted_lead [] number last run section text rest last_is is =
       let last_number : number ≡ last = omega (arith, last_is) in
       let section_same : section ≡ with_lines section [] = same_lines section section.lines (section.lines ++ []) (sym (append-nil section.lines)) in
-      subst (λ n. LeadsTo Counted (in_section number run section 0 text) (in_section n run (with_lines section []) 0 rest)) last_number
-      (subst (λ s. LeadsTo Counted (in_section number run section 0 text) (in_section number run s 0 rest)) section_same (stays number (inside run section 0) text rest is))
+      subst (λ n. CarriesBack Counted (in_section number run section 0 text) (in_section n run (with_lines section []) 0 rest)) last_number
+      (subst (λ s. CarriesBack Counted (in_section number run section 0 text) (in_section number run s 0 rest)) section_same (stays number (inside run section 0) text rest is))
   counted_lead (line ∷ lines) number last run section text rest last_is is =
       let (middle, behind) = lines_of-first text line (lines ++ lines_of rest) is in
       let first = one_line {tables = Counted} number (Table run section (length lines)) (inside run (with_line section line) (length lines)) text line middle
@@ -229,12 +229,12 @@ module _ where
       let others = counted_lead lines (number + 1) last run (with_line section line) middle rest (omega (arith, last_is)) (sym behind) in
       let joined : with_lines (with_line section line) lines ≡ with_lines section (line ∷ lines) =
       same_lines section ((section.lines ++ line ∷ []) ++ lines) (section.lines ++ line ∷ lines) (append_assoc section.lines (line ∷ []) lines) in
-      subst (λ s. LeadsTo Counted (in_section number run section (suc (length lines)) text) (in_section last run s 0 rest)) joined (goes_on _ _ _ first others)
+      subst (λ s. CarriesBack Counted (in_section number run section (suc (length lines)) text) (in_section last run s 0 rest)) joined (goes_on _ _ _ first others)
 
   -- the lines of a section, which all say something where they are judged
   section_leads : (tables : Tables) (style : Option Style) (lines : List (List ℕ)) (line last : ℕ) (kind : SectionKind) (label zone : List ℕ) (run : Run) (text rest : List ℕ)
       → style_of kind ≡ style → (tables ≡ Judged → AreSaid style label lines) → last ≡ line + 1 + length lines → lines_of text ≡ lines ++ lines_of rest
-      → LeadsTo tables (in_section (line + 1) run (opened line kind label zone) (length lines) text) (in_section last run (with_lines (opened line kind label zone) lines) 0 rest)
+      → CarriesBack tables (in_section (line + 1) run (opened line kind label zone) (length lines) text) (in_section last run (with_lines (opened line kind label zone) lines) 0 rest)
   section_leads Counted style lines line last kind label zone run text rest style_is all last_is is =
       counted_lead lines (line + 1) last run (opened line kind label zone) text rest last_is is
   section_leads Judged (Some style) lines line last kind label zone run text rest style_is all last_is is =
@@ -264,8 +264,8 @@ pub passed_table : (tables : Tables) (old new : Reader) (opening : Opening) (sec
 passed_table tables old new opening section front cut all number_is section_is = record {
   whole = cut_whole old.rest.now front new.rest.now opening.count cut;
   leads = λ run.
-      subst (λ s. LeadsTo tables (place_of old (at_table old opening run)) (place_of new (Sections (with_section run s)))) (sym section_is)
-      (subst (λ n. LeadsTo tables (in_section (old.number + 1) run (opened old.number opening.kind opening.label.now opening.zone.now) n old.rest.now) (place_of new (Sections (with_section run (record { line = old.number; kind = opening.kind; label = opening.label.now; zone = opening.zone.now; lines = lines_of front }))))) cut.count_is
+      subst (λ s. CarriesBack tables (place_of old (at_table old opening run)) (place_of new (Sections (with_section run s)))) (sym section_is)
+      (subst (λ n. CarriesBack tables (in_section (old.number + 1) run (opened old.number opening.kind opening.label.now opening.zone.now) n old.rest.now) (place_of new (Sections (with_section run (record { line = old.number; kind = opening.kind; label = opening.label.now; zone = opening.zone.now; lines = lines_of front }))))) cut.count_is
       (section_leads tables (style_of opening.kind) (lines_of front) old.number (new.number + 1) opening.kind opening.label.now opening.zone.now run old.rest.now new.rest.now refl all (omega (arith, number_is, cut.count_is)) cut.lines));
 }
 

@@ -10,7 +10,7 @@ use Rattle.script_text.specs.Command.{command_line}
 use Rattle.script_text.specs.declared.command.Command.{Command}
 use Rattle.script_text.specs.declared.command.Command.TheVariants as command
 use Rattle.script_text.proofs.UniqueLemmas.{one_command}
-use Rattle.run_text.specs.Follow.{Above, Nothing, Version, Replicas, Times, Sections, Table, Script, End, inside, style_of, MayStandIn, MayStandBelow, NamesZone, StartsSection, IsOfLine, Refuses, RefusesInTable, RefusesBeforeScript, RefusesInScript, AddsCommand, Misses}
+use Rattle.run_text.specs.Follow.{Above, Nothing, Version, Replicas, Times, Sections, Table, Script, End, inside, style_of, MayStandIn, MayStandBelow, OpensZone, StartsSection, IsOfLine, Refuses, RefusesInTable, RefusesBeforeScript, RefusesInScript, AddsCommand, Misses}
 use Rattle.run_text.specs.Grammar.{HasSectionWord}
 use Rattle.run_text.specs.Reading.{ReadsFrom, RefusesFrom}
 use Rattle.run_text.specs.Run.{Run, Section, opened, with_line}
@@ -22,7 +22,7 @@ use Rattle.run_text.proofs.AnacrontabLemmas as anacrontab
 use Rattle.run_text.proofs.PhraseLemmas.{one_members, one_grace_line, one_opening, opening_word}
 use Rattle.run_text.proofs.WindowLemmas.{one_window_line}
 use Rattle.run_text.proofs.ZoneLemmas.{zone_word, one_zone}
-use Rattle.run_text.specs.Zones.{HasZoneWord, names_of}
+use Rattle.run_text.specs.Zones.{HasZoneWord, zone_names_of}
 
 -- two texts with another byte at a place
 at_differs : {a b : List ℕ} (place : ℕ) → a ≡ b → (get_or a place 0 ≡ get_or b place 0 → ⊥) → ⊥
@@ -109,15 +109,15 @@ script_no_start : (number behind : ℕ) (run : Run) (line : List ℕ) (x : Above
 script_no_start number behind run line x is start =
     script_no_section (subst HasSectionWord is (opening_word line start.kind start.label start.zone start.count start.opens.is))
 
-script_no_name : (number : ℕ) (run : Run) (line : List ℕ) (x : Above) → line ≡ codes "script" → NamesZone number run line x → ⊥
+script_no_name : (number : ℕ) (run : Run) (line : List ℕ) (x : Above) → line ≡ codes "script" → OpensZone number run line x → ⊥
 script_no_name number run line x is names =
     script_no_zone (subst HasZoneWord is (zone_word line names.name names.source names.adds.is))
 
-name_no_start : (number behind : ℕ) (run : Run) (line : List ℕ) (x y : Above) → NamesZone number run line x → StartsSection number behind run line y → ⊥
+name_no_start : (number behind : ℕ) (run : Run) (line : List ℕ) (x y : Above) → OpensZone number run line x → StartsSection number behind run line y → ⊥
 name_no_start number behind run line x y names start =
     section_no_zone line (opening_word line start.kind start.label start.zone start.count start.opens.is) (zone_word line names.name names.source names.adds.is)
 
-next_of_name : (number : ℕ) (run : Run) (line : List ℕ) (x y : Above) → NamesZone number run line x → NamesZone number run line y → x ≡ y
+next_of_name : (number : ℕ) (run : Run) (line : List ℕ) (x y : Above) → OpensZone number run line x → OpensZone number run line y → x ≡ y
 next_of_name number run line x y first second =
     let same = one_zone line first.name second.name first.source second.source first.adds.is second.adds.is in
     first.next_is ∙ rw (same.0, same.1) (sym second.next_is)
@@ -177,7 +177,7 @@ start_not_refused number behind known run line next fault p (inr (inr refused)) 
     refused.0 (opening_word line p.kind p.label p.zone p.count p.opens.is)
 
 name_not_refused : (number behind : ℕ) (run : Run) (line : List ℕ) (next : Above) (fault : ℕ)
-    → NamesZone number run line next → RefusesBeforeScript behind (names_of run.zones) line fault → ⊥
+    → OpensZone number run line next → RefusesBeforeScript behind (zone_names_of run.zones) line fault → ⊥
 name_not_refused number behind run line next fault p (inl refused) = section_no_zone line refused.0 (zone_word line p.name p.source p.adds.is)
 name_not_refused number behind run line next fault p (inr (inl refused)) = refused.1 p.name p.source p.adds
 name_not_refused number behind run line next fault p (inr (inr refused)) = refused.1 (zone_word line p.name p.source p.adds.is)
@@ -187,10 +187,10 @@ script_not_refused behind known line fault is (inl refused) = script_no_section 
 script_not_refused behind known line fault is (inr (inl refused)) = script_no_zone (subst HasZoneWord is refused.0)
 script_not_refused behind known line fault is (inr (inr refused)) = refused.2 is
 
-not_refused_before_script : (tables : Tables) (number behind : ℕ) (run : Run) (line : List ℕ) (next : Above) (fault : ℕ) → MayStandBelow tables number behind (Sections run) line next → RefusesBeforeScript behind (names_of run.zones) line fault → ⊥
-not_refused_before_script tables number behind run line next fault (inl p) refused = script_not_refused behind (names_of run.zones) line fault p.0 refused
+not_refused_before_script : (tables : Tables) (number behind : ℕ) (run : Run) (line : List ℕ) (next : Above) (fault : ℕ) → MayStandBelow tables number behind (Sections run) line next → RefusesBeforeScript behind (zone_names_of run.zones) line fault → ⊥
+not_refused_before_script tables number behind run line next fault (inl p) refused = script_not_refused behind (zone_names_of run.zones) line fault p.0 refused
 not_refused_before_script tables number behind run line next fault (inr (inl p)) refused = name_not_refused number behind run line next fault p refused
-not_refused_before_script tables number behind run line next fault (inr (inr p)) refused = start_not_refused number behind (names_of run.zones) run line next fault p refused
+not_refused_before_script tables number behind run line next fault (inr (inr p)) refused = start_not_refused number behind (zone_names_of run.zones) run line next fault p refused
 
 not_refused_in_script : (run : Run) (line : List ℕ) (next : Above) (fault : ℕ)
     → ((line ≡ codes "end") × (next ≡ End run)) ⊎ AddsCommand run line next → RefusesInScript run line fault → ⊥
@@ -231,7 +231,7 @@ one_fault tables number behind Nothing line a b p q = one_of_line number a b (p.
 one_fault tables number behind Version line a b p q = one_of_line number a b (p.1 ∙ sym q.1) p.2 q.2
 one_fault tables number behind (Replicas members) line a b p q = one_of_line number a b (p.1 ∙ sym q.1) p.2 q.2
 one_fault tables number behind (Times members window) line a b p q = one_of_line number a b (p.1 ∙ sym q.1) p.2 q.2
-one_fault tables number behind (Sections run) line a b p q = one_of_line number a b (one_fault_before_script behind (names_of run.zones) line a.cause b.cause p.0 q.0) p.1 q.1
+one_fault tables number behind (Sections run) line a b p q = one_of_line number a b (one_fault_before_script behind (zone_names_of run.zones) line a.cause b.cause p.0 q.0) p.1 q.1
 one_fault tables number behind (Table run section left) line a b p q = one_break tables (style_of section.kind) number section left line a b p q
 one_fault tables number behind (Script run) line a b p q = one_of_line number a b (one_fault_in_script run line a.cause b.cause p.0 q.0) p.1 q.1
 one_fault tables number behind (End run) line a b p q = one_of_line number a b (p.0 ∙ sym q.0) p.1 q.1

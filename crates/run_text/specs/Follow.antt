@@ -14,7 +14,7 @@ use Rattle.run_text.specs.Grammar.{IsReplicasLine, IsWindowLine, IsGraceLine, Is
 use Rattle.run_text.specs.Anacrontab.{SayAll, IsFirstBreak}
 use Rattle.run_text.specs.Run.{Section, Run, run_with, opened, with_line, with_section, with_zone, with_command}
 use Rattle.run_text.specs.Table.{Says}
-use Rattle.run_text.specs.Zones.{AddsZone, AddsNone, HasZoneWord, names_of}
+use Rattle.run_text.specs.Zones.{AddsZone, AddsNone, HasZoneWord, zone_names_of}
 use Rattle.run_text.specs.declared.refusal.Refusal.{Refusal}
 use Rattle.run_text.specs.declared.table.Tables.{Tables}
 use Rattle.run_text.specs.declared.run.SectionKind.{SectionKind}
@@ -63,7 +63,7 @@ MayStandIn Judged None section zero line = SayAll no_settings (joined (with_line
 MayStandIn Judged None section (suc left) line = ⊤
 
 -- The line opens a section of so many lines, which are all there: so many lines are behind it.
-pub record Opens (behind : ℕ) (line : List ℕ) (kind : SectionKind) (label zone : List ℕ) (count : ℕ) : Type 0 where
+pub record OpensSection (behind : ℕ) (line : List ℕ) (kind : SectionKind) (label zone : List ℕ) (count : ℕ) : Type 0 where
   pub is : IsSectionLine line kind label zone count
   pub whole : count ≤ behind
 
@@ -73,18 +73,18 @@ pub record StartsSection (number behind : ℕ) (run : Run) (line : List ℕ) (ne
   pub label : List ℕ
   pub zone : List ℕ
   pub count : ℕ
-  pub opens : Opens behind line kind label zone count
+  pub opens : OpensSection behind line kind label zone count
   pub next_is : next ≡ inside run (opened number kind label zone) count
 
 -- the line opens no section
 abbrev pub OpensNone : (behind : ℕ) → List ℕ → Type 0
-OpensNone behind line = (kind : SectionKind) (label zone : List ℕ) (count : ℕ) → Opens behind line kind label zone count → ⊥
+OpensNone behind line = (kind : SectionKind) (label zone : List ℕ) (count : ℕ) → OpensSection behind line kind label zone count → ⊥
 
 -- the line names a zone, and what stands above the next line then
-pub record NamesZone (number : ℕ) (run : Run) (line : List ℕ) (next : Above) : Type 0 where
+pub record OpensZone (number : ℕ) (run : Run) (line : List ℕ) (next : Above) : Type 0 where
   pub name : List ℕ
   pub source : Source
-  pub adds : AddsZone (names_of run.zones) line name source
+  pub adds : AddsZone (zone_names_of run.zones) line name source
   pub next_is : next ≡ Sections (with_zone run (record { line = number; name = name; source = source }))
 
 -- the line says a command more, within the limits of a script
@@ -106,7 +106,7 @@ MayStandBelow tables number behind (Replicas members) line next = (window : Wind
 MayStandBelow tables number behind (Times members window) line next =
     (grace : ℕ) × IsGraceLine line grace × (next ≡ Sections (run_with members window grace))
 MayStandBelow tables number behind (Sections run) line next =
-    ((line ≡ codes "script") × (next ≡ Script run)) ⊎ (NamesZone number run line next ⊎ StartsSection number behind run line next)
+    ((line ≡ codes "script") × (next ≡ Script run)) ⊎ (OpensZone number run line next ⊎ StartsSection number behind run line next)
 MayStandBelow tables number behind (Table run section left) line next =
     MayStandIn tables (style_of section.kind) section left line × (next ≡ inside run (with_line section line) left)
 MayStandBelow tables number behind (Script run) line next = ((line ≡ codes "end") × (next ≡ End run)) ⊎ AddsCommand run line next
@@ -149,7 +149,7 @@ Refuses tables number behind (Replicas members) line refusal =
     ((window : Window) → IsWindowLine line window → ⊥) × (refusal.cause ≡ cause_number BadWindow) × IsOfLine number refusal
 Refuses tables number behind (Times members window) line refusal =
     ((grace : ℕ) → IsGraceLine line grace → ⊥) × (refusal.cause ≡ cause_number BadGrace) × IsOfLine number refusal
-Refuses tables number behind (Sections run) line refusal = RefusesBeforeScript behind (names_of run.zones) line refusal.cause × IsOfLine number refusal
+Refuses tables number behind (Sections run) line refusal = RefusesBeforeScript behind (zone_names_of run.zones) line refusal.cause × IsOfLine number refusal
 Refuses tables number behind (Table run section left) line refusal = RefusesInTable tables (style_of section.kind) number section left line refusal
 Refuses tables number behind (Script run) line refusal = RefusesInScript run line refusal.cause × IsOfLine number refusal
 Refuses tables number behind (End run) line refusal = (refusal.cause ≡ cause_number BadScript) × IsOfLine number refusal

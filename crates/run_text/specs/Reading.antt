@@ -51,8 +51,8 @@ abbrev pub HasFrame : List ℕ → Type 0
 HasFrame text = ((run : Run) × IsFrameText text run) ⊎ ((refusal : Refusal) × IsRefusedFrame text refusal)
 
 -- no section's text is longer than the file's
-abbrev pub ArePartsOf : ℕ → List Section → Type 0
-ArePartsOf size sections = All (λ section. length section.text.now ≤ size) sections
+abbrev pub FitInFile : ℕ → List Section → Type 0
+FitInFile size sections = All (λ section. length section.text.now ≤ size) sections
 
 -- the hexadecimal digits of a zone stand for some bytes
 abbrev pub AreDigits : ZoneText → Type 0
@@ -60,6 +60,7 @@ AreDigits (Fixed minutes) = ⊤
 AreDigits (Posix text) = ⊤
 AreDigits (Hex digits) = (bytes : List ℕ) × (decode_of digits.now ≡ Ok bytes)
 
+-- the digits of a zone are digits
 abbrev pub HasDigits : ZoneLine → Type 0
 HasDigits zone = AreDigits zone.source
 
@@ -68,7 +69,7 @@ pub record IsReadRun (run : RunFile) : Type 0 where
   pub text : List ℕ
   pub short : length text < 2 ^ 32
   pub says : IsRunText text (run_of run)
-  pub parts : ArePartsOf (length text) run.sections.items
+  pub parts : FitInFile (length text) run.sections.items
   pub digits : All HasDigits run.zones.items
 
 -- the run is one whose frame is read from some text
@@ -76,4 +77,4 @@ pub record IsReadFrame (run : RunFile) : Type 0 where
   pub text : List ℕ
   pub short : length text < 2 ^ 32
   pub says : IsFrameText text (run_of run)
-  pub parts : ArePartsOf (length text) run.sections.items
+  pub parts : FitInFile (length text) run.sections.items

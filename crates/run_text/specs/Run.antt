@@ -91,14 +91,17 @@ abbrev pub bytes_or_none : Result (List ℕ) FromHexError → List ℕ
 bytes_or_none (Ok bytes) = bytes
 bytes_or_none (Err fault) = []
 
-abbrev pub source_of : ZoneText → Source
-source_of (Fixed minutes) = FixedOffset minutes
-source_of (Posix text) = PosixRule text.now
-source_of (Hex digits) = TzifFile (bytes_or_none (decode_of digits.now))
+-- where a zone's offsets come from
+abbrev pub source_of_zone : ZoneText → Source
+source_of_zone (Fixed minutes) = FixedOffset minutes
+source_of_zone (Posix text) = PosixRule text.now
+source_of_zone (Hex digits) = TzifFile (bytes_or_none (decode_of digits.now))
 
+-- the zone of a line
 abbrev pub zone_of : ZoneLine → NamedZone
-zone_of zone = record { line = zone.line; name = zone.name.now; source = source_of zone.source }
+zone_of zone = record { line = zone.line; name = zone.name.now; source = source_of_zone zone.source }
 
+-- what a run file says
 abbrev pub run_of : RunFile → Run
 run_of run = record {
   members = run.members;

@@ -9,7 +9,7 @@ use Rattle.run_text.specs.Follow.{style_of}
 use Rattle.run_text.specs.Grammar.{IsZoneName}
 use Rattle.run_text.specs.Run.{NamedZone, Section, Run}
 use Rattle.run_text.specs.Table.{AreSaid}
-use Rattle.run_text.specs.Zones.{names_of}
+use Rattle.run_text.specs.Zones.{zone_names_of}
 
 -- each line of the section says something, and its last line has a number below this one
 pub record IsSoundSection (next : ℕ) (section : Section) : Type 0 where
@@ -37,7 +37,7 @@ AreDistinct (name ∷ names) = AllByRecursion (λ other. other ≢ name) names �
 pub record AreSoundZones (zones : List NamedZone) : Type 0 where
   pub few : length zones ≤ 32
   pub each : AllByRecursion IsSoundZone zones
-  pub distinct : AreDistinct (names_of zones)
+  pub distinct : AreDistinct (zone_names_of zones)
 
 -- each command of the script names what the run has, and the script is within its limits
 pub record IsSoundScript (run : Run) : Type 0 where

@@ -8,7 +8,7 @@ use Rattle.script_text.specs.declared.limits.Limits.{Limits}
 use Rattle.run_text.specs.Follow.{Above, Nothing, Sections, Script, IsOfLine, inside}
 use Rattle.run_text.specs.Reading.{ReadsFrom, RefusesFrom, HasDigits}
 use Rattle.run_text.specs.Run.{NamedZone, Run, section_of, zone_of, opened, with_section, with_zone, with_parts, with_command}
-use Rattle.run_text.specs.Zones.{names_of}
+use Rattle.run_text.specs.Zones.{zone_names_of}
 use Rattle.run_text.specs.declared.head.Head.{Head}
 use Rattle.run_text.specs.declared.opening.Opening.{Opening}
 use Rattle.run_text.specs.declared.part.Part.{Part}
@@ -42,13 +42,13 @@ abbrev pub RefusedFrom : Tables → Place → Refusal → Type 0
 RefusedFrom tables place refusal = RefusesFrom tables place.number place.above (lines_of place.rest) refusal
 
 -- what is read or refused from the later place on is so from the earlier one on
-pub record LeadsTo (tables : Tables) (from to : Place) : Type 0 where
+pub record CarriesBack (tables : Tables) (from to : Place) : Type 0 where
   pub reads : (run : Run) → ReadsFrom tables to.number to.above (lines_of to.rest) run → ReadsFrom tables from.number from.above (lines_of from.rest) run
   pub refuses : (refusal : Refusal) → RefusedFrom tables to refusal → RefusedFrom tables from refusal
 
 -- the lines that are left can be counted
-abbrev pub HasRoom : Reader → Type 0
-HasRoom reader = reader.number + length reader.rest.now + 1 < 2 ^ 32
+abbrev pub CanCountLines : Reader → Type 0
+CanCountLines reader = reader.number + length reader.rest.now + 1 < 2 ^ 32
 
 -- a fact of the refusal, where it is one
 abbrev pub IfRefused : RunFault → (Refusal → Type 0) → Type 0
@@ -66,27 +66,27 @@ pub record IsCut (text : List ℕ) (count : ℕ) (front rest : List ℕ) : Type 
   pub count_is : length (lines_of front) ≡ count
 
 -- the lines that are left are as many as the section is to have
-abbrev pub IsWhole : Reader → Opening → Type 0
-IsWhole reader opening = opening.count ≤ length (lines_of reader.rest.now)
+abbrev pub IsComplete : Reader → Opening → Type 0
+IsComplete reader opening = opening.count ≤ length (lines_of reader.rest.now)
 
 -- the reader passed the lines of a section
 pub record PassesTable (tables : Tables) (old new : Reader) (opening : Opening) (section : SectionText) : Type 0 where
-  pub whole : IsWhole old opening
-  pub leads : (run : Run) → LeadsTo tables (place_of old (at_table old opening run)) (place_of new (Sections (with_section run (section_of section))))
+  pub whole : IsComplete old opening
+  pub leads : (run : Run) → CarriesBack tables (place_of old (at_table old opening run)) (place_of new (Sections (with_section run (section_of section))))
 
 -- the reader found too few lines for a section, or a line that is none of a table
 abbrev pub RefusesTable : Tables → Reader → Opening → Refusal → Type 0
 RefusesTable tables reader opening refusal =
     ((length (lines_of reader.rest.now) < opening.count) × (refusal.cause ≡ cause_number BadSection) × IsOfLine reader.number refusal)
-    ⊎ (IsWhole reader opening × ((run : Run) → RefusedFrom tables (place_of reader (at_table reader opening run)) refusal))
+    ⊎ (IsComplete reader opening × ((run : Run) → RefusedFrom tables (place_of reader (at_table reader opening run)) refusal))
 
 -- the texts of some names
-abbrev pub texts_of : List (Bor (List ℕ)) → List (List ℕ)
-texts_of names = map (λ name. name.now) names
+abbrev pub texts_of_names : List (Bor (List ℕ)) → List (List ℕ)
+texts_of_names names = map (λ name. name.now) names
 
 -- these are the names of the zones
 abbrev pub HasNames : List (Bor (List ℕ)) → List NamedZone → Type 0
-HasNames names zones = names_of zones ≡ texts_of names
+HasNames names zones = zone_names_of zones ≡ texts_of_names names
 
 -- the run with a part more
 abbrev pub with_part : Run → Part → Run
@@ -100,13 +100,13 @@ names_with names (SectionPart section) = names
 
 -- the reader passed a part, below zones of these names, and keeps the names
 pub record PassesPart (tables : Tables) (old new : Reader) (before after : List (Bor (List ℕ))) (part : Part) : Type 0 where
-  pub leads : (run : Run) → HasNames before run.zones → LeadsTo tables (place_of old (Sections run)) (place_of new (Sections (with_part run part)))
+  pub leads : (run : Run) → HasNames before run.zones → CarriesBack tables (place_of old (Sections run)) (place_of new (Sections (with_part run part)))
   pub names : after ≡ names_with before part
 
 -- the digits of a zone stand for some bytes, and the text of a section isn't longer than that
-abbrev pub IsPartOf : ℕ → Part → Type 0
-IsPartOf size (ZonePart zone) = HasDigits zone
-IsPartOf size (SectionPart section) = length section.text.now ≤ size
+abbrev pub FitsInFile : ℕ → Part → Type 0
+FitsInFile size (ZonePart zone) = HasDigits zone
+FitsInFile size (SectionPart section) = length section.text.now ≤ size
 
 -- the parts with this one more
 abbrev pub AddsPart : Parts → Parts → Part → Type 0
@@ -131,5 +131,6 @@ pub record HasScript (head : Head) (run : Run) (left : Limits) : Type 0 where
 
 -- the reader passed a command, before and behind which so much is left of the limits
 pub record PassesCommand (head : Head) (old new : Reader) (before after : Limits) (command : Command) : Type 0 where
-  pub leads : (tables : Tables) (run : Run) → HasScript head run before → LeadsTo tables (place_of old (Script run)) (place_of new (Script (with_command run command)))
+  pub leads : (tables : Tables) (run : Run) → HasScript head run before
+      → CarriesBack tables (place_of old (Script run)) (place_of new (Script (with_command run command)))
   pub left_is : (run : Run) → HasScript head run before → HasScript head (with_command run command) after

@@ -22,7 +22,8 @@ pub data IsOffsetText (text : List ℕ) (offset : ℤ) : Type 0 where
   -- as +05:30, ahead of UTC by 14 hours at most
   ahead : (clock : List ℕ) (minutes : ℕ) → text ≡ 43 ∷ clock → IsClockText clock minutes → minutes ≤ 840 → offset ≡ pos minutes → IsOffsetText text offset
   -- as -03:30, behind it by 12 hours at most
-  behind : (clock : List ℕ) (minutes : ℕ) → text ≡ 45 ∷ clock → IsClockText clock minutes → minutes ≤ 720 → offset ≡ neg_ℤ (pos minutes) → IsOffsetText text offset
+  behind : (clock : List ℕ) (minutes : ℕ) → text ≡ 45 ∷ clock → IsClockText clock minutes → minutes ≤ 720 → offset ≡ neg_ℤ (pos minutes)
+      → IsOffsetText text offset
 
 -- Where the offsets come from. Whether a rule or a file can be read is found only when a zone is built from it.
 pub data IsSourceText (kind text : List ℕ) (source : Source) : Type 0 where
@@ -71,5 +72,5 @@ abbrev pub AddsNone : (known : List (List ℕ)) → List ℕ → Type 0
 AddsNone known line = (name : List ℕ) (source : Source) → AddsZone known line name source → ⊥
 
 -- the names that the zones have
-abbrev pub names_of : List NamedZone → List (List ℕ)
-names_of zones = map (λ zone. zone.name) zones
+abbrev pub zone_names_of : List NamedZone → List (List ℕ)
+zone_names_of zones = map (λ zone. zone.name) zones

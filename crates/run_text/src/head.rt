@@ -4,7 +4,7 @@ ghost use Rattle.zone_minutes.specs.declared.minute.Window.{Window};
 ghost use Rattle.run_text.specs.Follow.{Version, Replicas, Times, Sections};
 ghost use Rattle.run_text.specs.Grammar.{IsReplicasLine, IsWindowLine, IsGraceLine};
 ghost use Rattle.run_text.specs.Run.{run_with};
-ghost use Rattle.run_text.specs.Steps.{place_of, start, LeadsTo, RefusedFrom, HasRoom};
+ghost use Rattle.run_text.specs.Steps.{place_of, start, CarriesBack, RefusedFrom, CanCountLines};
 ghost use Rattle.run_text.specs.declared.table.Tables.{Tables};
 
 use crate::reader::Reader;
@@ -32,9 +32,10 @@ pub struct Head {
 /// Reads the head.
 pub fn read_head(text: &str) -> Result<(Head, Reader<'_>), Refusal>
     requires { length text.now < 2 ^ 32 }
-    ensures read { IfOk result (λ read. (tables : Tables) → LeadsTo tables (start text.now) (place_of read.1 (Sections (run_with read.0.members read.0.window read.0.grace)))) }
+    ensures read { IfOk result (λ read. (tables : Tables)
+        → CarriesBack tables (start text.now) (place_of read.1 (Sections (run_with read.0.members read.0.window read.0.grace)))) }
     ensures refused { IfErr result (λ refusal. (tables : Tables) → RefusedFrom tables (start text.now) refusal) }
-    ensures room { IfOk result (λ read. HasRoom read.1) }
+    ensures room { IfOk result (λ read. CanCountLines read.1) }
     ensures shorter { IfOk result (λ read. length read.1.rest.now ≤ length text.now) }
 {
     let mut reader = read_version(text)?;
@@ -52,9 +53,9 @@ pub fn read_head(text: &str) -> Result<(Head, Reader<'_>), Refusal>
 // Reads the first line.
 fn read_version(text: &str) -> Result<Reader<'_>, Refusal>
     requires { length text.now < 2 ^ 32 }
-    ensures read { IfOk result (λ reader. (tables : Tables) → LeadsTo tables (start text.now) (place_of reader Version)) }
+    ensures read { IfOk result (λ reader. (tables : Tables) → CarriesBack tables (start text.now) (place_of reader Version)) }
     ensures refused { IfErr result (λ refusal. (tables : Tables) → RefusedFrom tables (start text.now) refusal) }
-    ensures room { IfOk result HasRoom }
+    ensures room { IfOk result CanCountLines }
     ensures shorter { IfOk result (λ reader. length reader.rest.now ≤ length text.now) }
 {
     let Some((line, rest)) = first_line(text) else {
@@ -68,10 +69,10 @@ fn read_version(text: &str) -> Result<Reader<'_>, Refusal>
 
 // Reads the number of replicas.
 fn read_replicas(reader: &mut Reader<'_>) -> Result<u8, Refusal>
-    requires { HasRoom reader.old }
-    ensures read { IfOk result (λ members. (tables : Tables) → LeadsTo tables (place_of reader.old Version) (place_of reader.new (Replicas members))) }
+    requires { CanCountLines reader.old }
+    ensures read { IfOk result (λ members. (tables : Tables) → CarriesBack tables (place_of reader.old Version) (place_of reader.new (Replicas members))) }
     ensures refused { IfErr result (λ refusal. (tables : Tables) → RefusedFrom tables (place_of reader.old Version) refusal) }
-    ensures room { OnOk result (HasRoom reader.new) }
+    ensures room { OnOk result (CanCountLines reader.new) }
     ensures shorter { OnOk result (length reader.new.rest.now ≤ length reader.old.rest.now) }
 {
     let Some(line) = reader.next_line() else {
@@ -85,10 +86,11 @@ fn read_replicas(reader: &mut Reader<'_>) -> Result<u8, Refusal>
 
 // Reads the window.
 fn read_window(reader: &mut Reader<'_>) -> Result<Window, Refusal>
-    requires { HasRoom reader.old }
-    ensures read { IfOk result (λ window. (tables : Tables) (members : ℕ) → LeadsTo tables (place_of reader.old (Replicas members)) (place_of reader.new (Times members window))) }
+    requires { CanCountLines reader.old }
+    ensures read { IfOk result (λ window. (tables : Tables) (members : ℕ)
+        → CarriesBack tables (place_of reader.old (Replicas members)) (place_of reader.new (Times members window))) }
     ensures refused { IfErr result (λ refusal. (tables : Tables) (members : ℕ) → RefusedFrom tables (place_of reader.old (Replicas members)) refusal) }
-    ensures room { OnOk result (HasRoom reader.new) }
+    ensures room { OnOk result (CanCountLines reader.new) }
     ensures shorter { OnOk result (length reader.new.rest.now ≤ length reader.old.rest.now) }
 {
     let Some(line) = reader.next_line() else {
@@ -102,11 +104,12 @@ fn read_window(reader: &mut Reader<'_>) -> Result<Window, Refusal>
 
 // Reads the minutes of grace.
 fn read_grace(reader: &mut Reader<'_>) -> Result<u32, Refusal>
-    requires { HasRoom reader.old }
+    requires { CanCountLines reader.old }
     ensures read { IfOk result (λ grace. (tables : Tables) (members : ℕ) (window : Window)
-        → LeadsTo tables (place_of reader.old (Times members window)) (place_of reader.new (Sections (run_with members window grace)))) }
-    ensures refused { IfErr result (λ refusal. (tables : Tables) (members : ℕ) (window : Window) → RefusedFrom tables (place_of reader.old (Times members window)) refusal) }
-    ensures room { OnOk result (HasRoom reader.new) }
+        → CarriesBack tables (place_of reader.old (Times members window)) (place_of reader.new (Sections (run_with members window grace)))) }
+    ensures refused { IfErr result (λ refusal. (tables : Tables) (members : ℕ) (window : Window)
+        → RefusedFrom tables (place_of reader.old (Times members window)) refusal) }
+    ensures room { OnOk result (CanCountLines reader.new) }
     ensures shorter { OnOk result (length reader.new.rest.now ≤ length reader.old.rest.now) }
 {
     let Some(line) = reader.next_line() else {

@@ -2,7 +2,7 @@
 ghost use Rattle.std.specs.Prelude.{◌<◌, length, IfSome, IfNone, IfOk, IfErr, OnOk};
 ghost use Rattle.run_text.specs.Follow.{Sections, Script};
 ghost use Rattle.run_text.specs.Run.{Run};
-ghost use Rattle.run_text.specs.Steps.{place_of, LeadsTo, RefusedFrom, HasRoom, HasNames, PassesPart, IsPartOf};
+ghost use Rattle.run_text.specs.Steps.{place_of, CarriesBack, RefusedFrom, CanCountLines, HasNames, PassesPart, FitsInFile};
 
 use crate::opening::read_opening;
 use crate::reader::Reader;
@@ -30,13 +30,15 @@ pub fn read_part<'a>(
     names: &mut Names<'a>,
     tables: Tables,
 ) -> Result<Option<Part<'a>>, Refusal>
-    requires { HasRoom reader.old }
+    requires { CanCountLines reader.old }
     ensures part { IfOk result (λ read. IfSome read (PassesPart tables reader.old reader.new names.old.items names.new.items)) }
-    ensures script { IfOk result (λ read. IfNone read ((run : Run) → LeadsTo tables (place_of reader.old (Sections run)) (place_of reader.new (Script run)))) }
-    ensures refused { IfErr result (λ refusal. (run : Run) → HasNames names.old.items run.zones → RefusedFrom tables (place_of reader.old (Sections run)) refusal) }
-    ensures room { OnOk result (HasRoom reader.new) }
+    ensures script { IfOk result (λ read. IfNone read ((run : Run)
+        → CarriesBack tables (place_of reader.old (Sections run)) (place_of reader.new (Script run)))) }
+    ensures refused { IfErr result (λ refusal. (run : Run) → HasNames names.old.items run.zones
+        → RefusedFrom tables (place_of reader.old (Sections run)) refusal) }
+    ensures room { OnOk result (CanCountLines reader.new) }
     ensures shorter { OnOk result (length reader.new.rest.now < length reader.old.rest.now) }
-    ensures part_of { IfOk result (λ read. IfSome read (IsPartOf (length reader.old.rest.now))) }
+    ensures part_of { IfOk result (λ read. IfSome read (FitsInFile (length reader.old.rest.now))) }
 {
     let Some(line) = reader.next_line() else {
         return Err(Refusal::of_line(reader.number, Cause::MissingLine));

@@ -2,8 +2,8 @@
 ghost use Rattle.std.specs.Prelude.{◌≡◌, ◌+◌, ◌≤◌, List, [], length, IfOk, IfErr, OnOk, All};
 ghost use Rattle.run_text.specs.Follow.{Sections, Script};
 ghost use Rattle.run_text.specs.Run.{Run, NamedZone, Section as SectionLines, with_parts};
-ghost use Rattle.run_text.specs.Reading.{ArePartsOf, HasDigits};
-ghost use Rattle.run_text.specs.Steps.{place_of, LeadsTo, RefusedFrom, HasRoom, IfRefused, AddsPart, with_all};
+ghost use Rattle.run_text.specs.Reading.{FitInFile, HasDigits};
+ghost use Rattle.run_text.specs.Steps.{place_of, CarriesBack, RefusedFrom, CanCountLines, IfRefused, AddsPart, with_all};
 
 use crate::part::{Names, Part, read_part};
 use crate::reader::Reader;
@@ -39,13 +39,13 @@ pub fn read_parts<'a>(
     reader: &mut Reader<'a>,
     tables: Tables,
 ) -> Result<Parts<'a>, RunFault>
-    requires { HasRoom reader.old }
+    requires { CanCountLines reader.old }
     ensures read { IfOk result (λ parts. (run : Run) → run.zones ≡ []
-        → LeadsTo tables (place_of reader.old (Sections run)) (place_of reader.new (Script (with_all run parts)))) }
+        → CarriesBack tables (place_of reader.old (Sections run)) (place_of reader.new (Script (with_all run parts)))) }
     ensures refused { IfErr result (λ fault. IfRefused fault (λ refusal. (run : Run) → run.zones ≡ []
         → RefusedFrom tables (place_of reader.old (Sections run)) refusal)) }
-    ensures room { OnOk result (HasRoom reader.new) }
-    ensures parts { IfOk result (λ parts. ArePartsOf (length reader.old.rest.now) parts.sections.items) }
+    ensures room { OnOk result (CanCountLines reader.new) }
+    ensures parts { IfOk result (λ parts. FitInFile (length reader.old.rest.now) parts.sections.items) }
     ensures digits { IfOk result (λ parts. All HasDigits parts.zones.items) }
 {
     let mut names = Names::new();
@@ -61,11 +61,11 @@ pub fn read_parts<'a>(
 
 /// Passes the zones, the sections and the line that opens the script, lines of tables as `tables` says, and keeps none of them.
 pub fn pass_parts(reader: &mut Reader<'_>, tables: Tables) -> Result<(), Refusal>
-    requires { HasRoom reader.old }
+    requires { CanCountLines reader.old }
     ensures read { OnOk result ((zones : List NamedZone) × (sections : List SectionLines) × ((run : Run) → run.zones ≡ []
-        → LeadsTo tables (place_of reader.old (Sections run)) (place_of reader.new (Script (with_parts run zones sections))))) }
+        → CarriesBack tables (place_of reader.old (Sections run)) (place_of reader.new (Script (with_parts run zones sections))))) }
     ensures refused { IfErr result (λ refusal. (run : Run) → run.zones ≡ [] → RefusedFrom tables (place_of reader.old (Sections run)) refusal) }
-    ensures room { OnOk result (HasRoom reader.new) }
+    ensures room { OnOk result (CanCountLines reader.new) }
 {
     let mut names = Names::new();
     'parts: while let Some(_part) = read_part(reader, &mut names, tables)? {}

@@ -1,7 +1,7 @@
 ghost use Rattle.std.specs.Prelude.{◌<◌, ◌^◌, length, IfOk, IfErr, OnOk, All};
 ghost use Rattle.crontab_text.specs.Lines.{lines_of};
 ghost use Rattle.run_text.specs.Follow.{Nothing};
-ghost use Rattle.run_text.specs.Reading.{ReadsFrom, IsRunText, IsRefusedText, IsFrameText, IsRefusedFrame, ArePartsOf, HasDigits};
+ghost use Rattle.run_text.specs.Reading.{ReadsFrom, IsRunText, IsRefusedText, IsFrameText, IsRefusedFrame, FitInFile, HasDigits};
 ghost use Rattle.run_text.specs.Run.{Run, run_of};
 ghost use Rattle.run_text.specs.Steps.{start, RefusedFrom, IfRefused};
 
@@ -22,7 +22,7 @@ use std::alloc::Global;
 pub fn read_run(alloc: Global, text: &str) -> Result<RunFile<'_>, RunFault>
     requires { length text.now < 2 ^ 32 }
     ensures read { IfOk result (λ run. IsRunText text.now (run_of run)) }
-    ensures parts { IfOk result (λ run. ArePartsOf (length text.now) run.sections.items) }
+    ensures parts { IfOk result (λ run. FitInFile (length text.now) run.sections.items) }
     ensures digits { IfOk result (λ run. All HasDigits run.zones.items) }
     ensures refused { IfErr result (λ fault. IfRefused fault (IsRefusedText text.now)) }
 {
@@ -38,7 +38,7 @@ pub fn read_run(alloc: Global, text: &str) -> Result<RunFile<'_>, RunFault>
 pub fn read_frame(alloc: Global, text: &str) -> Result<RunFile<'_>, RunFault>
     requires { length text.now < 2 ^ 32 }
     ensures read { IfOk result (λ run. IsFrameText text.now (run_of run)) }
-    ensures parts { IfOk result (λ run. ArePartsOf (length text.now) run.sections.items) }
+    ensures parts { IfOk result (λ run. FitInFile (length text.now) run.sections.items) }
     ensures digits { IfOk result (λ run. All HasDigits run.zones.items) }
     ensures refused { IfErr result (λ fault. IfRefused fault (IsRefusedFrame text.now)) }
 {
@@ -49,7 +49,7 @@ pub fn read_frame(alloc: Global, text: &str) -> Result<RunFile<'_>, RunFault>
 fn read_file(alloc: Global, text: &str, tables: Tables) -> Result<RunFile<'_>, RunFault>
     requires { length text.now < 2 ^ 32 }
     ensures read { IfOk result (λ run. ReadsFrom tables 1 Nothing (lines_of text.now) (run_of run)) }
-    ensures parts { IfOk result (λ run. ArePartsOf (length text.now) run.sections.items) }
+    ensures parts { IfOk result (λ run. FitInFile (length text.now) run.sections.items) }
     ensures digits { IfOk result (λ run. All HasDigits run.zones.items) }
     ensures refused { IfErr result (λ fault. IfRefused fault (RefusedFrom tables (start text.now))) }
 {

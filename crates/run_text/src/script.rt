@@ -5,7 +5,7 @@ ghost use Rattle.script_text.specs.declared.command.Command.{Command as Says};
 ghost use Rattle.run_text.specs.Follow.{Script, End, SaysCommand};
 ghost use Rattle.run_text.specs.Reading.{ReadsFrom};
 ghost use Rattle.run_text.specs.Run.{Run, with_command, with_commands};
-ghost use Rattle.run_text.specs.Steps.{place_of, LeadsTo, RefusedFrom, HasRoom, IfRefused, BeginsScript, HasScript, PassesCommand};
+ghost use Rattle.run_text.specs.Steps.{place_of, CarriesBack, RefusedFrom, CanCountLines, IfRefused, BeginsScript, HasScript, PassesCommand};
 ghost use Rattle.run_text.specs.declared.table.Tables.{Tables};
 
 use crate::head::Head;
@@ -21,7 +21,7 @@ pub fn read_script(
     reader: &mut Reader<'_>,
     head: Head,
 ) -> Result<Vec<Command>, RunFault>
-    requires { HasRoom reader.old }
+    requires { CanCountLines reader.old }
     ensures read { IfOk result (λ commands. (tables : Tables) (run : Run) → BeginsScript head run
         → ReadsFrom tables (reader.old.number + 1) (Script run) (lines_of reader.old.rest.now) (with_commands run commands.items)) }
     ensures refused { IfErr result (λ fault. IfRefused fault (λ refusal. (tables : Tables) (run : Run) → BeginsScript head run
@@ -38,10 +38,11 @@ pub fn read_script(
 
 /// Passes the rest of a file with this head, from the line on that is behind the one that opens the script, and keeps no command.
 pub fn pass_script(reader: &mut Reader<'_>, head: Head) -> Result<(), Refusal>
-    requires { HasRoom reader.old }
+    requires { CanCountLines reader.old }
     ensures read { OnOk result ((commands : List Says) × ((tables : Tables) (run : Run) → BeginsScript head run
         → ReadsFrom tables (reader.old.number + 1) (Script run) (lines_of reader.old.rest.now) (with_commands run commands))) }
-    ensures refused { IfErr result (λ refusal. (tables : Tables) (run : Run) → BeginsScript head run → RefusedFrom tables (place_of reader.old (Script run)) refusal) }
+    ensures refused { IfErr result (λ refusal. (tables : Tables) (run : Run) → BeginsScript head run
+        → RefusedFrom tables (place_of reader.old (Script run)) refusal) }
 {
     let mut left = Limits::whole();
     'commands: while let Some(_command) = read_line(reader, head, &mut left)? {}
@@ -54,11 +55,13 @@ fn read_line(
     head: Head,
     left: &mut Limits,
 ) -> Result<Option<Command>, Refusal>
-    requires { HasRoom reader.old }
+    requires { CanCountLines reader.old }
     ensures command { IfOk result (λ read. IfSome read (PassesCommand head reader.old reader.new left.old left.new)) }
-    ensures end { IfOk result (λ read. IfNone read ((tables : Tables) (run : Run) → LeadsTo tables (place_of reader.old (Script run)) (place_of reader.new (End run)))) }
-    ensures refused { IfErr result (λ refusal. (tables : Tables) (run : Run) → HasScript head run left.old → RefusedFrom tables (place_of reader.old (Script run)) refusal) }
-    ensures room { OnOk result (HasRoom reader.new) }
+    ensures end { IfOk result (λ read. IfNone read ((tables : Tables) (run : Run)
+        → CarriesBack tables (place_of reader.old (Script run)) (place_of reader.new (End run)))) }
+    ensures refused { IfErr result (λ refusal. (tables : Tables) (run : Run) → HasScript head run left.old
+        → RefusedFrom tables (place_of reader.old (Script run)) refusal) }
+    ensures room { OnOk result (CanCountLines reader.new) }
     ensures shorter { OnOk result (length reader.new.rest.now < length reader.old.rest.now) }
 {
     let Some(line) = reader.next_line() else {
@@ -86,7 +89,7 @@ fn command_of(line: &str, head: Head, left: &mut Limits) -> Option<Command>
 
 // Finds that no line is behind the one that ends the script.
 fn read_end(reader: &mut Reader<'_>) -> Result<(), Refusal>
-    requires { HasRoom reader.old }
+    requires { CanCountLines reader.old }
     ensures read { OnOk result ((tables : Tables) (run : Run) → ReadsFrom tables (reader.old.number + 1) (End run) (lines_of reader.old.rest.now) run) }
     ensures refused { IfErr result (λ refusal. (tables : Tables) (run : Run) → RefusedFrom tables (place_of reader.old (End run)) refusal) }
 {

@@ -8,7 +8,7 @@ ghost use Rattle.crontab_text.specs.Lines.{lines_of};
 ghost use Rattle.crontab_text.specs.TableReader.{table_reader};
 ghost use Rattle.run_text.specs.Anacrontab.{SayAll, IsFirstBreak};
 ghost use Rattle.run_text.specs.Follow.{style_of};
-ghost use Rattle.run_text.specs.Steps.{HasRoom, PassesTable, RefusesTable};
+ghost use Rattle.run_text.specs.Steps.{CanCountLines, PassesTable, RefusesTable};
 ghost use Rattle.run_text.specs.Table.{Says, AreSaid, IsFirstFault, IsTableFault};
 
 use crate::opening::Opening;
@@ -34,10 +34,10 @@ pub fn read_table<'a>(
     opening: Opening<'a>,
     tables: Tables,
 ) -> Result<Section<'a>, Refusal>
-    requires { HasRoom reader.old }
+    requires { CanCountLines reader.old }
     ensures read { IfOk result (PassesTable tables reader.old reader.new opening.entry) }
     ensures refused { IfErr result (RefusesTable tables reader.old opening.entry) }
-    ensures room { OnOk result (HasRoom reader.new) }
+    ensures room { OnOk result (CanCountLines reader.new) }
     ensures shorter { OnOk result (length reader.new.rest.now ≤ length reader.old.rest.now) }
     ensures part { IfOk result (λ section. length section.text.now ≤ length reader.old.rest.now) }
 {

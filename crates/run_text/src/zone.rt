@@ -7,8 +7,8 @@ ghost use Rattle.zone_minutes.specs.Stamp.{two_digits};
 ghost use Rattle.zone_minutes.specs.Zone.{Source};
 ghost use Rattle.run_text.specs.Follow.{IsOfLine};
 ghost use Rattle.run_text.specs.Reading.{AreDigits, HasDigits};
-ghost use Rattle.run_text.specs.Run.{source_of};
-ghost use Rattle.run_text.specs.Steps.{texts_of};
+ghost use Rattle.run_text.specs.Run.{source_of_zone};
+ghost use Rattle.run_text.specs.Steps.{texts_of_names};
 ghost use Rattle.run_text.specs.Zones.{IsClockText, IsOffsetText, IsSourceText, IsHexText, IsZoneLine, IsFreeName, AddsZone, AddsNone};
 
 use crate::part::Names;
@@ -28,11 +28,11 @@ pub fn read_zone<'a>(
     line: &'a str,
     names: &mut Names<'a>,
 ) -> Result<ZoneLine<'a>, Refusal>
-    ensures read { IfOk result (λ zone. AddsZone (texts_of names.old.items) line.now zone.name.now (source_of zone.source)) }
+    ensures read { IfOk result (λ zone. AddsZone (texts_of_names names.old.items) line.now zone.name.now (source_of_zone zone.source)) }
     ensures number { IfOk result (λ zone. zone.line ≡ number) }
     ensures digits { IfOk result HasDigits }
     ensures names { IfOk result (λ zone. names.new.items ≡ names.old.items ++ zone.name ∷ []) }
-    ensures refused { IfErr result (λ refusal. AddsNone (texts_of names.old.items) line.now) }
+    ensures refused { IfErr result (λ refusal. AddsNone (texts_of_names names.old.items) line.now) }
     ensures line { IfErr result (IsOfLine number) }
     ensures cause { IfErr result (λ refusal. refusal.cause ≡ cause_number Cause.BadZoneLine) }
 {
@@ -48,7 +48,7 @@ pub fn read_zone<'a>(
 
 // Whether a zone may have the name, below those that have these.
 fn is_free(names: &Names<'_>, name: &str) -> bool
-    ensures { IsTrue result ↔ IsFreeName (texts_of names.now.items) name.now }
+    ensures { IsTrue result ↔ IsFreeName (texts_of_names names.now.items) name.now }
 {
     if names.is_full() {
         return false;
@@ -70,7 +70,7 @@ fn is_other(other: &str, name: &str) -> bool
 
 // zone NAME fixed OFFSET, zone NAME posix RULE, or zone NAME tzif HEX
 fn zone_of(number: u32, line: &str) -> Option<ZoneLine<'_>>
-    ensures read { IfSome result (λ zone. IsZoneLine line.now zone.name.now (source_of zone.source)) }
+    ensures read { IfSome result (λ zone. IsZoneLine line.now zone.name.now (source_of_zone zone.source)) }
     ensures number { IfSome result (λ zone. zone.line ≡ number) }
     ensures digits { IfSome result HasDigits }
     ensures none { IfNone result ((name : List ℕ) (source : Source) → IsZoneLine line.now name source → ⊥) }
@@ -91,7 +91,7 @@ fn zone_of(number: u32, line: &str) -> Option<ZoneLine<'_>>
 
 // What a zone line says of the offsets. A rule isn't read here, and digits aren't decoded.
 fn text_of<'a>(kind: &str, text: &'a str) -> Option<ZoneText<'a>>
-    ensures read { IfSome result (λ read. IsSourceText kind.now text.now (source_of read)) }
+    ensures read { IfSome result (λ read. IsSourceText kind.now text.now (source_of_zone read)) }
     ensures digits { IfSome result AreDigits }
     ensures none { IfNone result ((source : Source) → IsSourceText kind.now text.now source → ⊥) }
 {

@@ -13,8 +13,8 @@ calls_before (Voted vote) = 2
 calls_before (Base slot rows) = 3
 
 -- how many calls save a change
-abbrev pub calls_of : Delta → ℕ
-calls_of change = calls_before change + 2
+abbrev pub calls_of_delta : Delta → ℕ
+calls_of_delta change = calls_before change + 2
 
 -- The byte that makes a change hold shows the state after it: an open gate, or a chooser whose low bit selects the other area. The
 -- area in use follows from how many bases were kept before, since each goes to the other area, and the first area is selected by 0.

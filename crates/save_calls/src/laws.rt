@@ -3,14 +3,14 @@ ghost use Rattle.std.specs.Prelude.{◌≡◌, ◌↔◌, ◌⊎◌, ◌≤◌, 
 ghost use Rattle.paxos_base.specs.declared.durable.Delta.TheVariants.{Tried, Promised, Voted, Base};
 ghost use Rattle.paxos_base.specs.declared.entry.Vote.{Vote};
 ghost use Rattle.paxos_base.specs.declared.rows.JobRow.{JobRow};
-ghost use Rattle.save_calls.specs.Save.{bases_after, calls_of, is_kept};
+ghost use Rattle.save_calls.specs.Save.{bases_after, calls_of_delta, is_kept};
 
 /// A change takes four calls of the disk, and a base five.
 pub fn a_change_is_saved_in_four_calls()
-    ensures tried { (ballot : ℕ) → calls_of (Tried ballot) ≡ 4 }
-    ensures promised { (ballot : ℕ) → calls_of (Promised ballot) ≡ 4 }
-    ensures voted { (vote : Vote) → calls_of (Voted vote) ≡ 4 }
-    ensures base { (slot : ℕ) (rows : List JobRow) → calls_of (Base slot rows) ≡ 5 }
+    ensures tried { (ballot : ℕ) → calls_of_delta (Tried ballot) ≡ 4 }
+    ensures promised { (ballot : ℕ) → calls_of_delta (Promised ballot) ≡ 4 }
+    ensures voted { (vote : Vote) → calls_of_delta (Voted vote) ≡ 4 }
+    ensures base { (slot : ℕ) (rows : List JobRow) → calls_of_delta (Base slot rows) ≡ 5 }
 {}
 
 /// A disk that stops within the save of a change, after so many calls since it was armed, keeps the change exactly where the stop

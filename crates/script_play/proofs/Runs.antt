@@ -23,7 +23,7 @@ use Rattle.world_law.specs.Book.{IsLegalBook, StandsBehind, standing_behind}
 use Rattle.disk_model.specs.Images.{Image}
 use Rattle.disk_model.specs.MemDisk.{left_by, seen_of, told_of}
 use Rattle.world_rounds.proofs.Limits.{within_bounds}
-use Rattle.world_rounds.specs.Bounds.{IsBounded}
+use Rattle.world_rounds.specs.Bounds.{IsBookBounded}
 use Rattle.world_rounds.specs.World.{book_of}
 use Rattle.world_rounds.specs.declared.world.World.{World}
 use Rattle.script_play.specs.Play.{AreMemNodesOf, HasPlayed, HasRun, IsMemWorldAt}
@@ -48,7 +48,7 @@ last_inside window limits =
 -- the world walks to the window's last minute
 pub walked : (table : Table) (members : ℕ) (script : List Command) (starts : List ℕ) (old new : World MemDisk) (more : List Row) (after : Situation) → (played : HasPlayed table members script starts old)
     → Walks members table (table.window.until.0 -ℤ pos 1) played.situation more after → IsMemWorldAt table (played.rows ++ more) new after
-    → (book_of new).members ≡ (book_of old).members → IsBounded (book_of new) → HasRun table members script new
+    → (book_of new).members ≡ (book_of old).members → IsBookBounded (book_of new) → HasRun table members script new
 walked table members script starts old new more after played walks here same bounded = record {
   rows = played.rows ++ more;
   situation = after;
@@ -65,7 +65,7 @@ walked table members script starts old new more after played walks here same bou
 -- behind its book stand the turns of the script, and then those of the walk
 pub walked_rows : (table : Table) (members : ℕ) (script : List Command) (starts : List ℕ) (old new : World MemDisk) (more : List Row) (after : Situation) → (played : HasPlayed table members script starts old)
     → (walks : Walks members table (table.window.until.0 -ℤ pos 1) played.situation more after) (here : IsMemWorldAt table (played.rows ++ more) new after)
-    → (same : (book_of new).members ≡ (book_of old).members) (bounded : IsBounded (book_of new))
+    → (same : (book_of new).members ≡ (book_of old).members) (bounded : IsBookBounded (book_of new))
     → (walked table members script starts old new more after played walks here same bounded).rows ≡ played.rows ++ more
 unfolding walked
 walked_rows table members script starts old new more after played walks here same bounded = refl

@@ -2,7 +2,7 @@
 use Rattle.std.proofs.Common.{◌≡◌, ◌≢◌, ℕ, ◌-◌, ◌<◌, ◌≤◌, ◌==◌, Bool, true, false, List, [], ◌∷◌, Option, None, Some, inl, inr, refl, sym, ap, ◌∙◌, subst, arith}
 use Rattle.std.proofs.lemmas.Bool.{eq-eqb, ne_eqb}
 use Rattle.paxos_base.specs.declared.durable.Delta.{Delta}
-use Rattle.save_calls.specs.Save.{bases_after, calls_of, is_kept}
+use Rattle.save_calls.specs.Save.{bases_after, calls_of_delta, is_kept}
 use Rattle.step_spec.specs.Folds.{deltas_of}
 use Rattle.history.specs.Book.{Row, acts_at, with_fact}
 use Rattle.history.specs.declared.turn.CallRow.{CallRow}
@@ -93,18 +93,18 @@ same_change members situation who cause row change stops are =
     (let both : stops.change ∷ [] ≡ change ∷ [] = sym stops.changes ∙ (changes_of_stop members situation who cause _ row stops.is ∙ are) in cc)
 
 pub comes_whole : (members : ℕ) (situation : Situation) (who : ℕ) (cause : Cause) (row : Row) (armed : Armed) (change : Delta) → IsTurnByArm members situation (Do who cause) row
-    → situation.arms who ≡ Some armed → changed members situation who row ≡ change ∷ [] → calls_of change ≤ armed.left
-    → Does situation.fates who cause row.turn × ((after_turn members situation row).arms who ≡ Some (record armed { left = armed.left - calls_of change }))
+    → situation.arms who ≡ Some armed → changed members situation who row ≡ change ∷ [] → calls_of_delta change ≤ armed.left
+    → Does situation.fates who cause row.turn × ((after_turn members situation row).arms who ≡ Some (record armed { left = armed.left - calls_of_delta change }))
 comes_whole members situation who cause row armed change (inl takes) is are enough =
-    (takes.does, less_left members situation who cause takes.does.made row armed (change ∷ []) (armed.left - calls_of change) takes.does.is is are (omega arith))
+    (takes.does, less_left members situation who cause takes.does.made row armed (change ∷ []) (armed.left - calls_of_delta change) takes.does.is is are (omega arith))
 comes_whole members situation who cause row armed change (inr stops) is are enough =
-    let few : armed.left < calls_of change =
-    subst (λ (a : Armed). a.left < calls_of change) (same_arm members situation who cause row armed stops is)
-    (subst (λ (d : Delta). stops.armed.left < calls_of d) (same_change members situation who cause row change stops are) stops.few) in
+    let few : armed.left < calls_of_delta change =
+    subst (λ (a : Armed). a.left < calls_of_delta change) (same_arm members situation who cause row armed stops is)
+    (subst (λ (d : Delta). stops.armed.left < calls_of_delta d) (same_change members situation who cause row change stops are) stops.few) in
     absurd (omega (arith, few, enough))
 
 pub stops_there : (members : ℕ) (situation : Situation) (who : ℕ) (cause : Cause) (row : Row) (armed : Armed) (change : Delta) → IsTurnByArm members situation (Do who cause) row
-    → situation.arms who ≡ Some armed → changed members situation who row ≡ change ∷ [] → armed.left < calls_of change
+    → situation.arms who ≡ Some armed → changed members situation who row ≡ change ∷ [] → armed.left < calls_of_delta change
     → (row.turn ≡ Stopped who (Some cause) (is_kept (situation.bases who) change armed.left armed.image)) × ((after_turn members situation row).arms who ≡ None)
 stops_there members situation who cause row armed change (inl takes) is are few =
     let enough : calls_for (change ∷ []) ≤ armed.left =

@@ -2,7 +2,7 @@
 use Rattle.std.specs.Prelude.{◌≡◌, ◌⊎◌, ⊤, ℕ, zero, suc, ℤ, if◌then◌else◌, ◌==◌, ◌<◌, ◌≤◌, not, Bool, false, List, [], ◌∷◌, length, Option, None, Some}
 use Rattle.std.specs.List.{filter}
 use Rattle.paxos_base.specs.declared.durable.Delta.{Delta}
-use Rattle.save_calls.specs.Save.{calls_of, is_kept}
+use Rattle.save_calls.specs.Save.{calls_of_delta, is_kept}
 use Rattle.zone_minutes.specs.declared.minute.Window.{Window}
 use Rattle.history.specs.Book.{Row, with_fact}
 use Rattle.history.specs.declared.turn.Cause.{Cause}
@@ -32,7 +32,7 @@ pub record StopsInStep (members : ℕ) (situation : Situation) (who : ℕ) (caus
   pub change : Delta
   pub is : row.turn ≡ Stopped who (Some cause) (is_kept (situation.bases who) change armed.left armed.image)
   pub changes : changes_in members situation.standing row.turn row.event ≡ change ∷ []
-  pub few : armed.left < calls_of change
+  pub few : armed.left < calls_of_delta change
 
 -- the turn is that of the task, on the replica's disk
 abbrev pub IsTurnByArm : ℕ → Situation → Task → Row → Type 0

@@ -65,7 +65,8 @@ IsDrainRound members table who at =
     Then (Plays members (λ situation. campaign_tasks who (situation.standing.replicas who).term)) (IsRound members table.window at)
 
 -- it isn't quiet yet, and so this comes
-pub record GoesOnTo (quiet : Situation → Type 0) (part : Situation → List Row → Situation → Type 0) (situation : Situation) (rows : List Row) (after : Situation) : Type 0 where
+pub record GoesOnTo (quiet : Situation → Type 0) (part : Situation → List Row → Situation → Type 0) (situation : Situation) (rows : List Row)
+    (after : Situation) : Type 0 where
   pub not_yet : quiet situation → ⊥
   pub goes_on : part situation rows after
 

@@ -7,7 +7,7 @@ use Rattle.cluster_sched.specs.declared.fate.Fate.TheVariants as fate
 use Rattle.due_set.specs.Table.{Table}
 use Rattle.launch_machine.specs.Clerk.{first_rows}
 use Rattle.paxos_base.specs.declared.durable.Delta.{Delta}
-use Rattle.save_calls.specs.Save.{bases_after, calls_of}
+use Rattle.save_calls.specs.Save.{bases_after, calls_of_delta}
 use Rattle.step_spec.specs.Folds.{deltas_of}
 use Rattle.step_spec.specs.Step.{Event}
 use Rattle.history.specs.Book.{PostedLetter, Row, Standing, acts_at, after_row, first_standing, with_fact}
@@ -105,7 +105,7 @@ changes_in members standing turn event = []
 -- how many calls of a disk save them
 abbrev pub calls_for : List Delta → ℕ
 calls_for [] = 0
-calls_for (change ∷ changes) = calls_of change + calls_for changes
+calls_for (change ∷ changes) = calls_of_delta change + calls_for changes
 
 -- a disk that is armed has so many calls less left
 abbrev pub armed_after : List Delta → Option Armed → Option Armed

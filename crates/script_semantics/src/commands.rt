@@ -1,7 +1,7 @@
 //! Laws of scripts. Each is the contract of a function that does nothing.
 ghost use Rattle.std.specs.Prelude.{◌≡◌, ◌≢◌, ℕ, ◌-◌, ◌<◌, ◌≤◌, ◌<ℤ◌, ◌≤ℤ◌, ℤ, pos, ◌+ℤ◌, Bool, true, false, List, [], ◌∷◌, ◌++◌, drop, length, map, Option, None, Some, IsSome, AllPairs, Contains, get_or, slice_get};
 ghost use Rattle.paxos_base.specs.declared.durable.Delta.{Delta};
-ghost use Rattle.save_calls.specs.Save.{bases_after, calls_of, is_kept};
+ghost use Rattle.save_calls.specs.Save.{bases_after, calls_of_delta, is_kept};
 ghost use Rattle.zone_minutes.specs.Window.{IsInWindow};
 ghost use Rattle.zone_minutes.specs.declared.minute.Minute.{Minute};
 ghost use Rattle.zone_minutes.specs.declared.minute.Window.{Window};
@@ -115,12 +115,12 @@ pub fn a_disk_stops_where_too_few_calls_are_left()
         → Does situation.fates who cause row.turn × ((after_turn members situation row).arms who ≡ Some armed) }
     ensures saves { (members : ℕ) (situation : Situation) (who : ℕ) (cause : Cause) (row : Row) (armed : Armed) (change : Delta)
         → IsTurnByArm members situation (Do who cause) row → situation.arms who ≡ Some armed
-        → deltas_of (acts_at members situation.standing who row.event) ≡ change ∷ [] → calls_of change ≤ armed.left
+        → deltas_of (acts_at members situation.standing who row.event) ≡ change ∷ [] → calls_of_delta change ≤ armed.left
         → Does situation.fates who cause row.turn
-        × ((after_turn members situation row).arms who ≡ Some (record armed { left = armed.left - calls_of change })) }
+        × ((after_turn members situation row).arms who ≡ Some (record armed { left = armed.left - calls_of_delta change })) }
     ensures stops { (members : ℕ) (situation : Situation) (who : ℕ) (cause : Cause) (row : Row) (armed : Armed) (change : Delta)
         → IsTurnByArm members situation (Do who cause) row → situation.arms who ≡ Some armed
-        → deltas_of (acts_at members situation.standing who row.event) ≡ change ∷ [] → armed.left < calls_of change
+        → deltas_of (acts_at members situation.standing who row.event) ≡ change ∷ [] → armed.left < calls_of_delta change
         → (row.turn ≡ Stopped who (Some cause) (is_kept (situation.bases who) change armed.left armed.image))
         × ((after_turn members situation row).arms who ≡ None) }
     ensures others { (members : ℕ) (situation : Situation) (row : Row) (other : ℕ) → is_turn_of other row.turn ≡ false

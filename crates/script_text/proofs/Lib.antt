@@ -1,5 +1,5 @@
 mod CommandLemmas
-mod CutLemmas
 mod LineLemmas
-mod OperandLemmas
+pub mod CutLemmas
+pub mod OperandLemmas
 pub mod UniqueLemmas

@@ -10,7 +10,7 @@ use Rattle.world_law.specs.Book.{BookState}
 use Rattle.cron_serve.specs.Ends.{Ends}
 use Rattle.run_text.specs.Run.{Run}
 use Rattle.run_text.specs.declared.refusal.Refusal.{Refusal}
-use Rattle.cron_serve.specs.Input.{IsTaken}
+use Rattle.cron_serve.specs.Input.{IsRunWithTable}
 use Rattle.service_tests.specs.OverMemory.{IsReportOfRun, FitsRoom, IsBeyondRoom}
 use Rattle.cron_serve.specs.Serve.{IsRefused, IsReportOf, IsTextOfInput}
 use Rattle.cron_serve.specs.declared.words.Output.TheVariants.{Report}
@@ -37,7 +37,7 @@ are_left (suc (suc (suc zero))) small a b c = absurd (c (omega arith))
 are_left (suc (suc (suc (suc zero)))) small a b c = inl (inr (omega arith))
 are_left (suc (suc (suc (suc (suc k))))) small a b c = inr (omega arith)
 
-no_refusal : (source source' : SourceView) (bytes : List ℕ) (run : Run) (table : Table) (refusal : Option Refusal) → source.left ≡ Some bytes → IsTaken bytes run table
+no_refusal : (source source' : SourceView) (bytes : List ℕ) (run : Run) (table : Table) (refusal : Option Refusal) → source.left ≡ Some bytes → IsRunWithTable bytes run table
     → IsSomeAnd refusal (IsRefused Report source source') → ⊥
 no_refusal source source' bytes run table None told taken refused = absurd refused
 no_refusal source source' bytes run table (Some refusal) told taken refused =
@@ -52,7 +52,7 @@ pub record EndsOverMemory (source source' : SourceView) (sink sink' : SinkView) 
   pub ends : Ends Report source source' sink sink' end
 
 module _ (source source' : SourceView) (sink sink' : SinkView) (bytes : List ℕ) (room : ℕ) (end : RunEnd)
-    (over : EndsOverMemory source source' sink sink' bytes room end) (run : Run) (table : Table) (taken : IsTaken bytes run table) where
+    (over : EndsOverMemory source source' sink sink' bytes room end) (run : Run) (table : Table) (taken : IsRunWithTable bytes run table) where
   left_of_run : AreLeft end.status
   left_of_run =
       are_left end.status over.ends.statuses over.usage (λ e. no_refusal source source' bytes run table end.refusal over.has taken (over.ends.refused e)) over.reliable

@@ -3,7 +3,7 @@ ghost use Rattle.std.specs.Prelude.{◌≡◌, ◌⊎◌, IfOk};
 ghost use Rattle.due_set.specs.Table.{Table};
 ghost use Rattle.run_text.specs.Run.{Run};
 ghost use Rattle.service_tests.specs.OverMemory.{FitsRoom, IsBeyondRoom};
-ghost use Rattle.cron_serve.specs.Input.{IsTaken, Suits};
+ghost use Rattle.cron_serve.specs.Input.{IsRunWithTable, Suits};
 ghost use Rattle.cron_serve.specs.declared.words.Output.{Output};
 
 use cron_io::{MemSink, MemSource, OutOfMemory};
@@ -22,9 +22,9 @@ fn status_in_memory<R: Threads + Wait + Sync>(
     room: u32,
     notes: &mut MemSink,
 ) -> Result<u8, OutOfMemory>
-    ensures fits { IfOk result (λ status. (run : Run) (table : Table) → IsTaken bytes.items run table → FitsRoom bytes.items room
+    ensures fits { IfOk result (λ status. (run : Run) (table : Table) → IsRunWithTable bytes.items run table → FitsRoom bytes.items room
         → (status ≡ 0) ⊎ (status ≡ 5)) }
-    ensures exceeds { IfOk result (λ status. (run : Run) (table : Table) → IsTaken bytes.items run table → IsBeyondRoom bytes.items room
+    ensures exceeds { IfOk result (λ status. (run : Run) (table : Table) → IsRunWithTable bytes.items run table → IsBeyondRoom bytes.items room
         → (status ≡ 4) ⊎ (status ≡ 5)) }
     ensures refused { IfOk result (λ status. (Suits Output.Report bytes.items → ⊥) → (status ≡ 2) ⊎ (status ≡ 5)) }
 {

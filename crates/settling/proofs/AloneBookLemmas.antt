@@ -34,7 +34,7 @@ use Rattle.script_semantics.specs.Settling.{IsFreeTerm, campaign_tasks}
 use Rattle.script_semantics.specs.Situation.{AreTurnsFor, Do, Performs, Situation, after_turn, after_turns, delivered, letters_for, reaches}
 use Rattle.settling.specs.Leads.{GoesDrainRound}
 use Rattle.settling.specs.Rounds.{GoesRound, IsFaultless, StandsForRound}
-use Rattle.settling.specs.Stands.{IsLetterAt, StandsFor}
+use Rattle.settling.specs.Stands.{IsLetterAt, StandsForCalm}
 use Rattle.settling.proofs.BookLemmas.{all_follow, stand_after}
 use Rattle.settling.proofs.CalmLemmas.{round_is_calm, round_leaves_no_fault}
 use Rattle.settling.specs.Campaigns.{GoesCampaign}
@@ -200,7 +200,7 @@ drain_stands table at book rows situation after leads goes =
 
 -- the situation stands for its replica without a letter, and the answer that waits for it
 stands_alone : (table : Table) (situation : Situation) (waits : Option SchedRow) → situation.standing.waits 0 ≡ waits → situation.mails 0 ≡ []
-    → StandsFor 1 (length table.jobs) situation (unheard situation.standing.replicas waits)
+    → StandsForCalm 1 (length table.jobs) situation (unheard situation.standing.replicas waits)
 stands_alone table situation waits same none = record {
   replicas = λ who below. refl;
   waits = λ who below. waits_there who below;
@@ -245,7 +245,7 @@ round_comes_to table at book rows situation after leads goes =
     let waits : Option SchedRow = situation.standing.waits 0 in
     let before : Calm = unheard situation.standing.replicas waits in
     let round = drain_is_round table at book rows situation after leads goes in
-    let stands : StandsFor 1 (length table.jobs) situation before = stands_alone table situation waits refl leads.unheard in
+    let stands : StandsForCalm 1 (length table.jobs) situation before = stands_alone table situation waits refl leads.unheard in
     let one : StandsForRound 1 table at before after = round_is_calm 1 table at book rows situation after before round stands in
     let next : Calm = calm_round 1 at one.advice one.answers before in
     let advised : IsAdvised 1 leads.at.table at one.advice before = subst (λ t. IsAdvised 1 t at one.advice before) (sym leads.over) one.advised in

@@ -14,7 +14,7 @@ use Rattle.synchronous_rounds.specs.Calm.{Calm, calm_round}
 use Rattle.script_semantics.specs.Round.{clock_reading, tasks_of}
 use Rattle.script_semantics.specs.Situation.{Situation, after_turns, delivered, letters_for}
 use Rattle.settling.specs.Rounds.{GoesRound, IsFaultless, IsWithinBounds, StandsForRound}
-use Rattle.settling.specs.Stands.{IsLetterAt, StandsFor}
+use Rattle.settling.specs.Stands.{IsLetterAt, StandsForCalm}
 use Rattle.settling.proofs.AllLemmas.{BeginsPart, HadPart, HadParts, all_parts}
 use Rattle.settling.proofs.BookLemmas.{all_follow, book_coherent, front_legal, letters_are_whole, stand_after}
 use Rattle.settling.proofs.DeliverLemmas.{letters_join}
@@ -30,7 +30,7 @@ reads_right window at within =
 
 -- a replica at the beginning of the round
 begins : (members : ℕ) (table : Table) (at : ℤ) (book rows : List Row) (situation after : Situation) (calm : Calm) → GoesRound members table at book rows situation after
-    → StandsFor members (length table.jobs) situation calm → (who : ℕ) → who < members
+    → StandsForCalm members (length table.jobs) situation calm → (who : ℕ) → who < members
     → BeginsPart members table at (tasks_of table.window at situation) calm situation who
 begins members table at book rows situation after calm goes there who member =
     let runs = goes.faultless.runs who member in
@@ -47,7 +47,7 @@ begins members table at book rows situation after calm goes there who member =
 
 -- what all have done
 parts_of : (members : ℕ) (table : Table) (at : ℤ) (book rows : List Row) (situation after : Situation) (calm : Calm) → GoesRound members table at book rows situation after
-    → StandsFor members (length table.jobs) situation calm → HadParts members table at 0 members calm situation rows
+    → StandsForCalm members (length table.jobs) situation calm → HadParts members table at 0 members calm situation rows
 parts_of members table at book rows situation after calm goes there =
     all_parts members table at 0 members (tasks_of table.window at situation) calm situation rows
     (λ who least below. begins members table at book rows situation after calm goes there who (omega (arith, below)))
@@ -85,7 +85,7 @@ mails_then members table at book rows situation after calm goes had who member =
     (subst (λ posted. AllZip (IsLetterAt members jobs posted who) (letters_for had.later first who) letters) (ap (λ (s : Situation). s.standing.posted) (sym is)) joined)
 
 pub round_is_calm : (members : ℕ) (table : Table) (at : ℤ) (book rows : List Row) (situation after : Situation) (calm : Calm) → GoesRound members table at book rows situation after
-    → StandsFor members (length table.jobs) situation calm → StandsForRound members table at calm after
+    → StandsForCalm members (length table.jobs) situation calm → StandsForRound members table at calm after
 round_is_calm members table at book rows situation after calm goes there =
     let had = parts_of members table at book rows situation after calm goes there in
     let own : (who : ℕ) → who < members → HadPart members table at calm had.later who (had.advice who) (had.answers who) =
@@ -109,7 +109,7 @@ round_is_calm members table at book rows situation after calm goes there =
     }
 
 pub round_leaves_no_fault : (members : ℕ) (table : Table) (at : ℤ) (book rows : List Row) (situation after : Situation) (calm : Calm) → GoesRound members table at book rows situation after
-    → StandsFor members (length table.jobs) situation calm → IsFaultless members after
+    → StandsForCalm members (length table.jobs) situation calm → IsFaultless members after
 round_leaves_no_fault members table at book rows situation after calm goes there =
     let had = parts_of members table at book rows situation after calm goes there in
     let is : after ≡ delivered (length situation.standing.posted) had.later = goes.round.is ∙ ap (λ (s : Situation). delivered (length situation.standing.posted) s) had.is in

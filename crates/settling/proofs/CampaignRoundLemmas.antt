@@ -15,8 +15,8 @@ use Rattle.script_semantics.specs.Round.{IsRound, round_tasks}
 use Rattle.script_semantics.specs.Settling.{campaign_tasks}
 use Rattle.script_semantics.specs.Situation.{Performs, Situation, Task, Do, after_turns, delivered, letters_for, reaches}
 use Rattle.settling.specs.Leads.{GoesDrainRound}
-use Rattle.settling.specs.Rounds.{GoesOnBy, GoesRound, IsFaultless, IsWithinBounds}
-use Rattle.settling.specs.Stands.{IsLetterAt, StandsFor}
+use Rattle.settling.specs.Rounds.{GoesOnWithin, GoesRound, IsFaultless, IsWithinBounds}
+use Rattle.settling.specs.Stands.{IsLetterAt, StandsForCalm}
 use Rattle.settling.proofs.BookLemmas.{front_legal, stand_after}
 use Rattle.settling.proofs.CalmLemmas.{round_leaves_no_fault}
 use Rattle.settling.proofs.RoundsLemmas.{front_bounds}
@@ -37,9 +37,9 @@ nothing_performed members situation after rows performs =
     performs.is ∙ ap (λ list. delivered (length situation.standing.posted) (after_turns members situation list)) performs.turns
 
 -- what stood stands where no turn was taken
-nothing_stands : (members jobs : ℕ) (situation after : Situation) (rows : List Row) (calm : Calm) → Performs members [] situation rows after → StandsFor members jobs situation calm → StandsFor members jobs after calm
+nothing_stands : (members jobs : ℕ) (situation after : Situation) (rows : List Row) (calm : Calm) → Performs members [] situation rows after → StandsForCalm members jobs situation calm → StandsForCalm members jobs after calm
 nothing_stands members jobs situation after rows calm performs there =
-    subst (λ (s : Situation). StandsFor members jobs s calm) (sym (nothing_performed members situation after rows performs)) (record {
+    subst (λ (s : Situation). StandsForCalm members jobs s calm) (sym (nothing_performed members situation after rows performs)) (record {
       replicas = there.replicas;
       waits = there.waits;
       mails = λ who below.
@@ -71,10 +71,10 @@ pub record InTwo (one : Tasks) (two : Part) (members : ℕ) (table : Table) (at 
   pub front : List Row
   pub middle : Situation
   pub back : List Row
-  pub first : GoesOnBy (Plays members one) members table at book front situation middle
-  pub second : IsFaultless members middle → GoesOnBy two members table at (book ++ front) back middle after
+  pub first : GoesOnWithin (Plays members one) members table at book front situation middle
+  pub second : IsFaultless members middle → GoesOnWithin two members table at (book ++ front) back middle after
 
-pub in_two : (one : Tasks) (two : Part) (members : ℕ) (table : Table) (at : ℤ) (book rows : List Row) (situation after : Situation) → GoesOnBy (Then (Plays members one) two) members table at book rows situation after
+pub in_two : (one : Tasks) (two : Part) (members : ℕ) (table : Table) (at : ℤ) (book rows : List Row) (situation after : Situation) → GoesOnWithin (Then (Plays members one) two) members table at book rows situation after
     → after.standing ≡ standing_after members (first_rows table) (book ++ rows) → InTwo one two members table at book rows situation after
 in_two one two members table at book rows situation after goes stands =
     let parts = goes.round in
@@ -127,7 +127,7 @@ pub record AtRound (members : ℕ) (table : Table) (at : ℤ) (calm : Calm) (aft
   pub rows : List Row
   pub situation : Situation
   pub goes : GoesRound members table at book rows situation after
-  pub stands : StandsFor members (length table.jobs) situation calm
+  pub stands : StandsForCalm members (length table.jobs) situation calm
 
 abbrev asked_of : ℕ → Tasks
 asked_of who situation = campaign_tasks who (situation.standing.replicas who).term
@@ -140,7 +140,7 @@ drain_parts members table who at book rows situation after goes =
 
 -- where the replica asks for no campaign, the round comes at once
 pub waits_round : (members : ℕ) (table : Table) (who : ℕ) (at : ℤ) (book rows : List Row) (situation after : Situation) (calm : Calm) → GoesDrainRound members table who at book rows situation after
-    → StandsFor members (length table.jobs) situation calm → campaign_tasks who (situation.standing.replicas who).term ≡ [] → AtRound members table at calm after
+    → StandsForCalm members (length table.jobs) situation calm → campaign_tasks who (situation.standing.replicas who).term ≡ [] → AtRound members table at calm after
 waits_round members table who at book rows situation after calm goes there none =
     let parts = drain_parts members table who at book rows situation after goes in
     let performs : Performs members [] situation parts.front parts.middle =
@@ -155,7 +155,7 @@ waits_round members table who at book rows situation after calm goes there none 
 
 -- where it asks for one, the round comes after the campaign
 pub campaigns_round : (members : ℕ) (table : Table) (who : ℕ) (at : ℤ) (book rows : List Row) (situation after : Situation) (calm : Calm) → 2 ≤ members → GoesDrainRound members table who at book rows situation after
-    → StandsFor members (length table.jobs) situation calm → campaign_tasks who (situation.standing.replicas who).term ≡ Do who Campaign ∷ []
+    → StandsForCalm members (length table.jobs) situation calm → campaign_tasks who (situation.standing.replicas who).term ≡ Do who Campaign ∷ []
     → AtRound members table at (after_campaign members who (unanswered who calm)) after
 campaigns_round members table who at book rows situation after calm more goes there one =
     let parts = drain_parts members table who at book rows situation after goes in
@@ -180,7 +180,7 @@ campaigns_round members table who at book rows situation after calm more goes th
 
 -- whatever it is, no fault comes of the round
 pub drain_leaves_no_fault : (members : ℕ) (table : Table) (who : ℕ) (at : ℤ) (book rows : List Row) (situation after : Situation) (calm : Calm) → 2 ≤ members → GoesDrainRound members table who at book rows situation after
-    → StandsFor members (length table.jobs) situation calm → IsFaultless members after
+    → StandsForCalm members (length table.jobs) situation calm → IsFaultless members after
 drain_leaves_no_fault members table who at book rows situation after calm more goes there = go (situation.standing.replicas who).term refl
   where
     by_round : (calm : Calm) → AtRound members table at calm after → IsFaultless members after

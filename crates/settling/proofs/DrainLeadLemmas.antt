@@ -27,7 +27,7 @@ use Rattle.script_semantics.specs.Settling.{AsksNothing, IsFreeTerm, campaign_ta
 use Rattle.script_semantics.specs.Situation.{Performs, Situation, after_turns, delivered, letters_for, reaches}
 use Rattle.settling.specs.Leads.{GoesDrainRound, LeadsAlone}
 use Rattle.settling.specs.Rounds.{GoesRound, StandsForRound}
-use Rattle.settling.specs.Stands.{StandsFor}
+use Rattle.settling.specs.Stands.{StandsForCalm}
 use Rattle.settling.proofs.BookLemmas.{stand_after}
 use Rattle.settling.proofs.CalmLemmas.{round_is_calm}
 use Rattle.settling.specs.Drain.{HasFewerLeft}
@@ -140,7 +140,7 @@ fewer_left best at later flight next_flight waits next_waits state next leading 
 
 -- ---- rest
 
-pub free_rests : (members : ℕ) (table : Table) (who : ℕ) (best : List Vote) (far : Progress) (now : ℤ) (calm : Calm) (situation : Situation) → far.table ≡ table → StandsFor members (length table.jobs) situation calm → IsFreeNow members who best far calm → votes_from far.prefix best ≡ [] → IsIntent far.table far.rows now Rest → IsAtRest table who now situation
+pub free_rests : (members : ℕ) (table : Table) (who : ℕ) (best : List Vote) (far : Progress) (now : ℤ) (calm : Calm) (situation : Situation) → far.table ≡ table → StandsForCalm members (length table.jobs) situation calm → IsFreeNow members who best far calm → votes_from far.prefix best ≡ [] → IsIntent far.table far.rows now Rest → IsAtRest table who now situation
 free_rests members table who best far now calm situation over stands it unbound rests =
     let member = it.free.ruled.member in
     let leading = it.free.leading in

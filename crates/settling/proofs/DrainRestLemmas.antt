@@ -24,7 +24,7 @@ use Rattle.settling.specs.Quiet.{EndsQuietly, HasPromisedMost}
 use Rattle.synchronous_rounds.proofs.IdleLemmas.{all_level, idle_round}
 use Rattle.settling.specs.Leads.{GoesDrainRound, LeadsAlone}
 use Rattle.settling.specs.Rounds.{StandsForRound}
-use Rattle.settling.specs.Stands.{StandsFor}
+use Rattle.settling.specs.Stands.{StandsForCalm}
 use Rattle.settling.proofs.CalmLemmas.{round_is_calm}
 use Rattle.settling.specs.Drain.{RestsFor}
 use Rattle.settling.specs.Rest.{AreLevelWith, IsAtRest}
@@ -81,7 +81,7 @@ record HasRestedFor (rounds members : ℕ) (table : Table) (who : ℕ) (at : ℤ
   are : AreRoundsAt rounds members who far.table at first last
   base : ℕ
   is : IsIdle members who best (with_base base far) at last
-  stands : StandsFor members (length table.jobs) situation last
+  stands : StandsForCalm members (length table.jobs) situation last
 
 still_alone : (rounds members : ℕ) (table : Table) (who : ℕ) (at : ℤ) (situation : Situation) → HasRestedFor rounds members table who at situation → LeadsAlone members table who situation
 still_alone rounds members table who at situation has =

@@ -17,7 +17,7 @@ use Rattle.synchronous_rounds.proofs.MadeLemmas.{first_made}
 use Rattle.script_semantics.specs.Settling.{coordinator}
 use Rattle.script_semantics.specs.Situation.{Situation}
 use Rattle.script_semantics.proofs.CoordinatorLemmas.{furthest_most, furthest_within}
-use Rattle.settling.specs.Stands.{IsLetterAt, StandsFor}
+use Rattle.settling.specs.Stands.{IsLetterAt, StandsForCalm}
 use Rattle.settling.proofs.BookLemmas.{front_legal}
 use Rattle.settling.specs.Campaigns.{GoesCampaign, unanswered}
 use Rattle.settling.specs.Within.{LeadsWithin}
@@ -29,7 +29,7 @@ use Rattle.history.proofs.Standings.{fact_here}
 abbrev unread : Situation → Calm
 unread situation = record { replicas = situation.standing.replicas; waits = situation.standing.waits; mails = λ who. [] }
 
-unread_stands : (members jobs : ℕ) (situation : Situation) → ((who : ℕ) → who < members → situation.mails who ≡ []) → StandsFor members jobs situation (unread situation)
+unread_stands : (members jobs : ℕ) (situation : Situation) → ((who : ℕ) → who < members → situation.mails who ≡ []) → StandsForCalm members jobs situation (unread situation)
 unread_stands members jobs situation empty = record {
   replicas = λ who below. refl;
   waits = λ who below. refl;

@@ -19,8 +19,8 @@ use Rattle.synchronous_rounds.specs.Flights.{with_base}
 use Rattle.synchronous_rounds.specs.Rounds.{Stage, free, answer, asked, accepted}
 use Rattle.synchronous_rounds.specs.Ruled.{Progress}
 use Rattle.synchronous_rounds.proofs.StageLemmas.{stage_at_tick, stage_next}
-use Rattle.synchronous_rounds.specs.Again.{HasCampaignedAgain, IsPromised}
-use Rattle.synchronous_rounds.specs.Campaign.{ComesToLead, HasCampaigned, HasYielded, IsAnswered}
+use Rattle.synchronous_rounds.specs.Again.{HasCampaignedAgain, HaveAllPromised}
+use Rattle.synchronous_rounds.specs.Campaign.{ComesToLead, HasCampaigned, HasYielded, HaveAllAnswered}
 use Rattle.synchronous_rounds.specs.Made.{after_campaign, campaigned_at, own_votes}
 use Rattle.synchronous_rounds.proofs.AnswerLemmas.{first_answered}
 use Rattle.synchronous_rounds.proofs.DecidedLemmas.{second_decides}
@@ -31,7 +31,7 @@ use Rattle.script_semantics.specs.Settling.{IsFreeTerm, IsQuiet, campaign_tasks}
 use Rattle.script_semantics.specs.Situation.{Situation, Do}
 use Rattle.settling.specs.Leads.{GoesDrainRound, LeadsAlone}
 use Rattle.settling.specs.Rounds.{StandsForRound}
-use Rattle.settling.specs.Stands.{StandsFor}
+use Rattle.settling.specs.Stands.{StandsForCalm}
 use Rattle.settling.proofs.CalmLemmas.{round_is_calm}
 use Rattle.settling.specs.Campaigns.{unanswered}
 use Rattle.settling.specs.Within.{FirstCampaign, FirstRound, IsAfterYielding, IsAfterAnswers, IsAfterCampaign, IsOnItsWay, IsAfterPromises, LeadsWithin, after_first}
@@ -45,12 +45,12 @@ calm_at : (members : ℕ) (table : Table) (at : ℤ) (calm : Calm) (after : Situ
 calm_at members table at calm after here = round_is_calm members table at here.book here.rows here.situation after calm here.goes here.stands
 
 -- the term of a replica, where its situation stands for this
-term_there : (members jobs who : ℕ) (situation : Situation) (calm : Calm) (term : Term) → who < members → StandsFor members jobs situation calm → (calm.replicas who).term ≡ term → (situation.standing.replicas who).term ≡ term
+term_there : (members jobs who : ℕ) (situation : Situation) (calm : Calm) (term : Term) → who < members → StandsForCalm members jobs situation calm → (calm.replicas who).term ≡ term → (situation.standing.replicas who).term ≡ term
 term_there members jobs who situation calm term member there is = ap (λ (s : State). s.term) (sym (there.replicas who member)) ∙ is
 
 -- a round of a drain in which a candidate hears its mail
 candidate_round : (members : ℕ) (table : Table) (who : ℕ) (at : ℤ) (book rows : List Row) (situation after : Situation) (calm : Calm) (ballot first heard : ℕ) (best : List Vote) → who < members
-    → GoesDrainRound members table who at book rows situation after → StandsFor members (length table.jobs) situation calm
+    → GoesDrainRound members table who at book rows situation after → StandsForCalm members (length table.jobs) situation calm
     → (calm.replicas who).term ≡ Candidate ballot first heard best → StandsForRound members table at calm after
 candidate_round members table who at book rows situation after calm ballot first heard best member goes there is =
     calm_at members table at calm after
@@ -59,7 +59,7 @@ candidate_round members table who at book rows situation after calm ballot first
 
 -- a round of a drain that begins with a campaign
 follower_round : (members : ℕ) (table : Table) (who : ℕ) (at : ℤ) (book rows : List Row) (situation after : Situation) (calm : Calm) → who < members → 2 ≤ members
-    → GoesDrainRound members table who at book rows situation after → StandsFor members (length table.jobs) situation calm
+    → GoesDrainRound members table who at book rows situation after → StandsForCalm members (length table.jobs) situation calm
     → IsFollower (calm.replicas who).term → StandsForRound members table at (after_campaign members who (unanswered who calm)) after
 follower_round members table who at book rows situation after calm member more goes there follows =
     calm_at members table at (after_campaign members who (unanswered who calm)) after
@@ -134,7 +134,7 @@ from_answered members table who at book rows situation after goes was =
     calm : Calm
     calm = after_first one
 
-    answered : (base : ℕ) × IsAnswered members who first.best (with_base base first.at) calm
+    answered : (base : ℕ) × HaveAllAnswered members who first.best (with_base base first.at) calm
     answered = first_answered members who first.best first.at one.now one.advice one.answers first.calm made one.advised
 
     round : StandsForRound members table at calm after
@@ -200,7 +200,7 @@ from_yielding members table who at book rows situation after goes was = record {
     then_at : Progress
     then_at = campaigned_at first.at.table launch.0 who (last.replicas who)
 
-    promised : (base : ℕ) × IsPromised members who (own_votes (last.replicas who)) (with_base base then_at) (calm_round members at round.advice round.answers campaigned)
+    promised : (base : ℕ) × HaveAllPromised members who (own_votes (last.replicas who)) (with_base base then_at) (calm_round members at round.advice round.answers campaigned)
     promised = third_round members who (last.replicas who).seen (own_votes (last.replicas who)) then_at at round.advice round.answers campaigned again advised
 
 from_promised : (members : ℕ) (table : Table) (who : ℕ) (at : ℤ) (book rows : List Row) (situation after : Situation) → GoesDrainRound members table who at book rows situation after
@@ -282,11 +282,11 @@ not_free prefix (Candidate ballot first heard best) follows is = is
 not_free prefix (Leader ballot best flight) follows is = follows
 
 -- the term of a quiet situation is a leader's
-free_there : (members : ℕ) (table : Table) (who : ℕ) (at : ℤ) (situation : Situation) (calm : Calm) → who < members → StandsFor members (length table.jobs) situation calm → IsQuiet members table who at situation
+free_there : (members : ℕ) (table : Table) (who : ℕ) (at : ℤ) (situation : Situation) (calm : Calm) → who < members → StandsForCalm members (length table.jobs) situation calm → IsQuiet members table who at situation
     → IsFreeTerm (prefix_of (calm.replicas who)) (calm.replicas who).term
 free_there members table who at situation calm member there quiet = subst (λ (s : State). IsFreeTerm (prefix_of s) s.term) (sym (there.replicas who member)) quiet.free
 
-candidate_is_not_quiet : (members : ℕ) (table : Table) (who : ℕ) (at : ℤ) (situation : Situation) (calm : Calm) (ballot first heard : ℕ) (best : List Vote) → who < members → StandsFor members (length table.jobs) situation calm
+candidate_is_not_quiet : (members : ℕ) (table : Table) (who : ℕ) (at : ℤ) (situation : Situation) (calm : Calm) (ballot first heard : ℕ) (best : List Vote) → who < members → StandsForCalm members (length table.jobs) situation calm
     → (calm.replicas who).term ≡ Candidate ballot first heard best → IsQuiet members table who at situation → ⊥
 candidate_is_not_quiet members table who at situation calm ballot first heard best member there is quiet =
     subst (λ term. IsFreeTerm (prefix_of (calm.replicas who)) term) is (free_there members table who at situation calm member there quiet)

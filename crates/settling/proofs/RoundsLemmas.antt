@@ -20,7 +20,7 @@ use Rattle.script_semantics.specs.Round.{round_tasks}
 use Rattle.script_semantics.specs.Situation.{Performs, Situation}
 use Rattle.script_semantics.proofs.ArmsLemmas.{unarmed_performed, unarmed_performs}
 use Rattle.settling.specs.Rounds.{GoesRound, GoesRounds, IsWithinBounds, StandsForRounds}
-use Rattle.settling.specs.Stands.{StandsFor}
+use Rattle.settling.specs.Stands.{StandsForCalm}
 use Rattle.settling.proofs.BookLemmas.{front_legal, stand_after}
 use Rattle.settling.proofs.CalmLemmas.{round_is_calm, round_leaves_no_fault}
 
@@ -94,9 +94,9 @@ first_round members table at more book rows situation after goes none parts =
     }
 
 pub rounds_are_calm : (members : ℕ) (table : Table) (at : ℤ) (rounds : ℕ) (book rows : List Row) (situation after : Situation) (calm : Calm) → GoesRounds members table at rounds book rows situation after
-    → AreUnarmed situation → StandsFor members (length table.jobs) situation calm → StandsForRounds members table at rounds calm after
+    → AreUnarmed situation → StandsForCalm members (length table.jobs) situation calm → StandsForRounds members table at rounds calm after
 rounds_are_calm members table at zero book rows situation after calm goes none there =
-    subst (λ (s : Situation). StandsFor members (length table.jobs) s calm) (sym goes.round.is) there
+    subst (λ (s : Situation). StandsForCalm members (length table.jobs) s calm) (sym goes.round.is) there
 rounds_are_calm members table at (suc more) book rows situation after calm goes none there =
     let parts = goes.round in
     let whole : book ++ rows ≡ (book ++ parts.front) ++ parts.back = ap (λ list. book ++ list) parts.parts ∙ sym (append_assoc book parts.front parts.back) in

@@ -15,7 +15,7 @@ use Rattle.script_semantics.specs.Situation.{Situation}
 use Rattle.settling.specs.Quiet.{EndsQuietly}
 use Rattle.settling.specs.Leads.{GoesDrainRound}
 use Rattle.settling.specs.Rounds.{IsFaultless}
-use Rattle.settling.specs.Stands.{StandsFor}
+use Rattle.settling.specs.Stands.{StandsForCalm}
 use Rattle.settling.proofs.CalmLemmas.{round_leaves_no_fault}
 use Rattle.settling.specs.Campaigns.{GoesCampaign}
 use Rattle.settling.specs.Within.{IsOnItsWay, LeadsWithin}
@@ -130,7 +130,7 @@ campaign_faultless members table at book rows situation after some goes = elim (
 record IsOnTheWay (members : ℕ) (table : Table) (situation : Situation) : Type 0 where
   more : 2 ≤ members
   calm : Calm
-  stands : StandsFor members (length table.jobs) situation calm
+  stands : StandsForCalm members (length table.jobs) situation calm
 
 way_of : (rounds members : ℕ) (table : Table) (who : ℕ) (situation : Situation) → IsOnItsWay rounds members table who situation → IsOnTheWay members table situation
 way_of zero members table who situation way = absurd way

@@ -30,7 +30,7 @@ use Rattle.script_semantics.specs.Settling.{IsFreeTerm, AsksNothing, campaign_ta
 use Rattle.script_semantics.specs.Situation.{Do, Situation, AreTurnsFor, after_turns, delivered, letters_for, reaches}
 use Rattle.settling.specs.Leads.{GoesDrainRound, LeadsAlone}
 use Rattle.settling.specs.Rounds.{IsFaultless}
-use Rattle.settling.specs.Stands.{IsLetterAt, StandsFor}
+use Rattle.settling.specs.Stands.{IsLetterAt, StandsForCalm}
 use Rattle.settling.proofs.BookLemmas.{stand_after}
 use Rattle.settling.specs.Drain.{RestsFor}
 use Rattle.settling.specs.Rest.{IsAtRest}
@@ -227,7 +227,7 @@ one_calm situation = record {
 far : Progress
 far = record { ballot = 8; table = bare; rows = []; prefix = 0; base = 0 }
 
-stands_for : (rounds : ℕ) (book : List Row) (situation : Situation) → Resting rounds book situation → StandsFor 2 0 situation (one_calm situation)
+stands_for : (rounds : ℕ) (book : List Row) (situation : Situation) → Resting rounds book situation → StandsForCalm 2 0 situation (one_calm situation)
 unfolding one_calm
 stands_for rounds book situation rests = record { replicas = λ who below. refl; waits = λ who below. refl; mails = mails }
   where

@@ -17,7 +17,7 @@ use Rattle.history.proofs.Keeping.{empty_is_legal}
 use Rattle.synchronous_rounds.specs.Calm.{Calm}
 use Rattle.script_semantics.specs.Situation.{Situation, after_turns, delivered, first_situation}
 use Rattle.settling.specs.Rounds.{GoesRound}
-use Rattle.settling.specs.Stands.{StandsFor}
+use Rattle.settling.specs.Stands.{StandsForCalm}
 use Rattle.script_semantics.proofs.SomeParts.{nothing_found}
 
 abbrev quiet_table : Table
@@ -97,7 +97,7 @@ goes = record {
 }
 
 pub some_round : (members : ℕ) × (table : Table) × (at : ℤ) × (book : List Row) × (rows : List Row) × (situation : Situation) × (after : Situation) × (calm : Calm)
-    × GoesRound members table at book rows situation after × StandsFor members (length table.jobs) situation calm
+    × GoesRound members table at book rows situation after × StandsForCalm members (length table.jobs) situation calm
 some_round = (
   2,
   quiet_table,

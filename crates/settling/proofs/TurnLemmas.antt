@@ -23,7 +23,7 @@ use Rattle.synchronous_rounds.proofs.CountLemmas.{few_alone}
 use Rattle.synchronous_rounds.specs.Made.{after_campaign, campaign_acts}
 use Rattle.script_semantics.specs.Situation.{AreTurnsFor, Does, Situation, Do, after_turn, after_turns, delivered, letters_for, mails_after}
 use Rattle.settling.specs.Rounds.{IsFaultless, IsWithinBounds}
-use Rattle.settling.specs.Stands.{IsHeardLike, IsLetterAt, StandsFor}
+use Rattle.settling.specs.Stands.{IsHeardLike, IsLetterAt, StandsForCalm}
 use Rattle.settling.proofs.BookLemmas.{all_follow, letters_are_whole, stand_after}
 use Rattle.settling.proofs.DeliverLemmas.{letters_join}
 use Rattle.settling.proofs.PartLemmas.{zip_posted}
@@ -122,7 +122,7 @@ campaign_leaves_no_fault members table who at book rows situation after more goe
 
 -- the mails after it
 mails_then : (members : ℕ) (table : Table) (who : ℕ) (at : ℤ) (book rows : List Row) (situation after : Situation) (calm : Calm) → GoesCampaign members table who at book rows situation after
-    → StandsFor members (length table.jobs) situation calm → (turn : CampaignTurn members table who situation rows) → (q : ℕ) → q < members
+    → StandsForCalm members (length table.jobs) situation calm → (turn : CampaignTurn members table who situation rows) → (q : ℕ) → q < members
     → AllZip (IsLetterAt members (length table.jobs) after.standing.posted q) (after.mails q) ((after_campaign members who (unanswered who calm)).mails q)
 mails_then members table who at book rows situation after calm goes there turn q below =
     let jobs = length table.jobs in
@@ -146,7 +146,7 @@ mails_then members table who at book rows situation after calm goes there turn q
 
 -- what stands after it is what the campaign makes of what stood before, but for the answer that waited
 pub campaign_stands : (members : ℕ) (table : Table) (who : ℕ) (at : ℤ) (book rows : List Row) (situation after : Situation) (calm : Calm) → 2 ≤ members → GoesCampaign members table who at book rows situation after
-    → StandsFor members (length table.jobs) situation calm → StandsFor members (length table.jobs) after (after_campaign members who (unanswered who calm))
+    → StandsForCalm members (length table.jobs) situation calm → StandsForCalm members (length table.jobs) after (after_campaign members who (unanswered who calm))
 campaign_stands members table who at book rows situation after calm more goes there = record {
   replicas = replicas;
   waits = waits;

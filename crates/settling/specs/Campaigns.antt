@@ -6,7 +6,7 @@ use Rattle.history.specs.declared.turn.Cause.TheVariants.{Campaign}
 use Rattle.synchronous_rounds.specs.Calm.{Calm}
 use Rattle.script_semantics.specs.Parts.{Plays}
 use Rattle.script_semantics.specs.Situation.{Situation, Do}
-use Rattle.settling.specs.Rounds.{GoesOnBy}
+use Rattle.settling.specs.Rounds.{GoesOnWithin}
 
 -- the answer that waits for a replica is lost
 abbrev pub unanswered : (who : ℕ) → Calm → Calm
@@ -14,4 +14,4 @@ unanswered who calm = record calm { waits = with_fact who None calm.waits }
 
 -- the book is legal and goes on with the campaign of a replica, and nothing else
 abbrev pub GoesCampaign : ℕ → Table → (who : ℕ) → (at : ℤ) → (book rows : List Row) → (situation after : Situation) → Type 0
-GoesCampaign members table who at = GoesOnBy (Plays members (λ situation. Do who Campaign ∷ [])) members table at
+GoesCampaign members table who at = GoesOnWithin (Plays members (λ situation. Do who Campaign ∷ [])) members table at

@@ -8,8 +8,8 @@ use Rattle.synchronous_rounds.specs.Rounds.{Stage}
 use Rattle.synchronous_rounds.specs.Ruled.{Progress}
 use Rattle.script_semantics.specs.Settling.{IsDrainRound}
 use Rattle.script_semantics.specs.Situation.{Situation}
-use Rattle.settling.specs.Rounds.{GoesOnBy}
-use Rattle.settling.specs.Stands.{StandsFor}
+use Rattle.settling.specs.Rounds.{GoesOnWithin}
+use Rattle.settling.specs.Stands.{StandsForCalm}
 
 -- One replica of the situation leads alone: the others follow and have promised no higher ballot, and it is at a stage of what it does.
 pub record LeadsAlone (members : ℕ) (table : Table) (leader : ℕ) (situation : Situation) : Type 0 where
@@ -17,9 +17,9 @@ pub record LeadsAlone (members : ℕ) (table : Table) (leader : ℕ) (situation 
   pub best : List Vote
   pub at : Progress
   pub over : at.table ≡ table
-  pub stands : StandsFor members (length table.jobs) situation calm
+  pub stands : StandsForCalm members (length table.jobs) situation calm
   pub stage : Stage members leader best at calm
 
 -- The book is legal and goes on with a round of a drain: the replica stands for leader where it follows, and a round comes after that.
 abbrev pub GoesDrainRound : ℕ → Table → (who : ℕ) → (at : ℤ) → (book rows : List Row) → (situation after : Situation) → Type 0
-GoesDrainRound members table who at = GoesOnBy (IsDrainRound members table who at) members table at
+GoesDrainRound members table who at = GoesOnWithin (IsDrainRound members table who at) members table at

@@ -12,7 +12,7 @@ use Rattle.synchronous_rounds.specs.Rounds.{IsAnswerTo}
 use Rattle.script_semantics.specs.Arms.{AreRoundsByArms}
 use Rattle.script_semantics.specs.Round.{IsRound}
 use Rattle.script_semantics.specs.Situation.{Situation}
-use Rattle.settling.specs.Stands.{StandsFor}
+use Rattle.settling.specs.Stands.{StandsForCalm}
 
 -- All replicas run, no letter is lost, each clock is right, and each call is answered.
 pub record IsFaultless (members : ℕ) (situation : Situation) : Type 0 where
@@ -28,7 +28,8 @@ pub record IsWithinBounds (book : List Row) (posted : List PostedLetter) : Type 
   pub letters : (letter : PostedLetter) → Contains posted letter → length letter.bytes < 56 * 2 ^ 31
 
 -- The book is legal and goes on with a part, at an instant of the window, without a fault and within the limits.
-pub record GoesOnBy (part : Situation → List Row → Situation → Type 0) (members : ℕ) (table : Table) (at : ℤ) (book rows : List Row) (situation after : Situation) : Type 0 where
+pub record GoesOnWithin (part : Situation → List Row → Situation → Type 0) (members : ℕ) (table : Table) (at : ℤ) (book rows : List Row)
+    (situation after : Situation) : Type 0 where
   pub few : members ≤ 7
   pub sound : IsSound table
   pub within : IsInWindow table.window at
@@ -40,11 +41,11 @@ pub record GoesOnBy (part : Situation → List Row → Situation → Type 0) (me
 
 -- it goes on with a round
 abbrev pub GoesRound : ℕ → Table → (at : ℤ) → (book rows : List Row) → (situation after : Situation) → Type 0
-GoesRound members table at = GoesOnBy (IsRound members table.window at) members table at
+GoesRound members table at = GoesOnWithin (IsRound members table.window at) members table at
 
 -- it goes on with so many rounds, in which a disk that is armed may stop
 abbrev pub GoesRounds : ℕ → Table → (at : ℤ) → ℕ → (book rows : List Row) → (situation after : Situation) → Type 0
-GoesRounds members table at rounds = GoesOnBy (AreRoundsByArms members table.window at rounds) members table at
+GoesRounds members table at rounds = GoesOnWithin (AreRoundsByArms members table.window at rounds) members table at
 
 -- **The situation stands for a calm round**: by true advice, after which each replica that calls has the answer to its call.
 pub record StandsForRound (members : ℕ) (table : Table) (at : ℤ) (calm : Calm) (after : Situation) : Type 0 where
@@ -52,11 +53,11 @@ pub record StandsForRound (members : ℕ) (table : Table) (at : ℤ) (calm : Cal
   pub answers : ℕ → Option SchedRow
   pub advised : IsAdvised members table at advice calm
   pub answered : (who : ℕ) → who < members → IsAnswerTo (calls_at members at advice calm who) (answers who)
-  pub stands : StandsFor members (length table.jobs) after (calm_round members at advice answers calm)
+  pub stands : StandsForCalm members (length table.jobs) after (calm_round members at advice answers calm)
 
 -- The situation stands for so many calm rounds, one after another.
 abbrev pub StandsForRounds : ℕ → Table → (at : ℤ) → ℕ → Calm → Situation → Type 0
-StandsForRounds members table at zero calm after = StandsFor members (length table.jobs) after calm
+StandsForRounds members table at zero calm after = StandsForCalm members (length table.jobs) after calm
 StandsForRounds members table at (suc more) calm after =
     (advice : ℕ → Advice) × (answers : ℕ → Option SchedRow) × IsAdvised members table at advice calm
     × ((who : ℕ) → who < members → IsAnswerTo (calls_at members at advice calm who) (answers who))

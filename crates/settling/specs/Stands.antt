@@ -26,7 +26,7 @@ AreMailsPosted situation =
 
 -- **The situation stands for this**, of so many replicas and jobs: the same replicas, the same answers that wait for them, and in
 -- each mail the letters of its numbers, in order, as they are heard.
-pub record StandsFor (members jobs : ℕ) (situation : Situation) (calm : Calm) : Type 0 where
+pub record StandsForCalm (members jobs : ℕ) (situation : Situation) (calm : Calm) : Type 0 where
   pub replicas : (who : ℕ) → who < members → calm.replicas who ≡ situation.standing.replicas who
   pub waits : (who : ℕ) → who < members → calm.waits who ≡ situation.standing.waits who
   pub mails : (who : ℕ) → who < members

@@ -9,7 +9,7 @@ use Rattle.synchronous_rounds.specs.Again.{HasCampaignedAgain}
 use Rattle.synchronous_rounds.specs.Campaign.{HasCampaigned, HasYielded}
 use Rattle.script_semantics.specs.Situation.{Situation}
 use Rattle.settling.specs.Leads.{LeadsAlone}
-use Rattle.settling.specs.Stands.{StandsFor}
+use Rattle.settling.specs.Stands.{StandsForCalm}
 
 -- ---- a first campaign
 
@@ -37,12 +37,12 @@ after_first {members} one = calm_round members one.now one.advice one.answers on
 -- The situation stands for what a first campaign has left.
 pub record IsAfterCampaign (members : ℕ) (table : Table) (who : ℕ) (situation : Situation) : Type 0 where
   pub first : FirstCampaign members table who
-  pub stands : StandsFor members (length table.jobs) situation first.calm
+  pub stands : StandsForCalm members (length table.jobs) situation first.calm
 
 -- It stands for what is left a round later: the others have answered, and the candidate has heard none of them.
 pub record IsAfterAnswers (members : ℕ) (table : Table) (who : ℕ) (situation : Situation) : Type 0 where
   pub one : FirstRound members table who
-  pub stands : StandsFor members (length table.jobs) situation (after_first one)
+  pub stands : StandsForCalm members (length table.jobs) situation (after_first one)
 
 -- It stands for what is left two rounds later, where the candidate yields to a higher ballot that it has heard of.
 pub record IsAfterYielding (members : ℕ) (table : Table) (who : ℕ) (situation : Situation) : Type 0 where
@@ -52,7 +52,7 @@ pub record IsAfterYielding (members : ℕ) (table : Table) (who : ℕ) (situatio
   pub answers : ℕ → Option SchedRow
   pub advised : IsAdvised members one.first.at.table now advice (after_first one)
   pub yielded : HasYielded members who one.first.at.ballot (after_first one) (calm_round members now advice answers (after_first one))
-  pub stands : StandsFor members (length table.jobs) situation (calm_round members now advice answers (after_first one))
+  pub stands : StandsForCalm members (length table.jobs) situation (calm_round members now advice answers (after_first one))
 
 -- ---- a second campaign
 
@@ -70,7 +70,7 @@ pub record IsAfterPromises (members : ℕ) (table : Table) (who : ℕ) (situatio
   pub answers : ℕ → Option SchedRow
   pub advised : IsAdvised members at.table now advice calm
   pub alone : answers who ≡ None
-  pub stands : StandsFor members (length table.jobs) situation (calm_round members now advice answers calm)
+  pub stands : StandsForCalm members (length table.jobs) situation (calm_round members now advice answers calm)
 
 -- ---- the rounds that are left
 

@@ -16,7 +16,7 @@ ghost use Rattle.script_semantics.specs.Settling.{IsQuiet, coordinator};
 ghost use Rattle.script_semantics.specs.Situation.{Situation};
 ghost use Rattle.settling.specs.Leads.{GoesDrainRound, LeadsAlone};
 ghost use Rattle.settling.specs.Rounds.{IsFaultless};
-ghost use Rattle.settling.specs.Stands.{StandsFor};
+ghost use Rattle.settling.specs.Stands.{StandsForCalm};
 ghost use Rattle.settling.specs.Campaigns.{GoesCampaign, unanswered};
 ghost use Rattle.settling.specs.Tried.{IsTried};
 ghost use Rattle.settling.specs.Within.{IsAfterYielding, LeadsWithin};
@@ -43,8 +43,8 @@ pub fn a_ballot_is_tried_by_its_own_replica()
 /// but for the answer that waited for the replica, which is lost. No fault comes of it.
 pub fn a_campaign_in_a_book_is_a_campaign()
     ensures campaign { (members : ℕ) (table : Table) (who : ℕ) (at : ℤ) (book rows : List Row) (situation after : Situation) (calm : Calm) → 2 ≤ members
-        → GoesCampaign members table who at book rows situation after → StandsFor members (length table.jobs) situation calm
-        → StandsFor members (length table.jobs) after (after_campaign members who (unanswered who calm)) }
+        → GoesCampaign members table who at book rows situation after → StandsForCalm members (length table.jobs) situation calm
+        → StandsForCalm members (length table.jobs) after (after_campaign members who (unanswered who calm)) }
     ensures faultless { (members : ℕ) (table : Table) (who : ℕ) (at : ℤ) (book rows : List Row) (situation after : Situation) → 2 ≤ members
         → GoesCampaign members table who at book rows situation after → IsFaultless members after }
 {}
@@ -52,7 +52,7 @@ pub fn a_campaign_in_a_book_is_a_campaign()
 /// No fault comes of a round of a drain, whoever campaigns in it or not.
 pub fn a_drain_leaves_no_fault()
     ensures { (members : ℕ) (table : Table) (who : ℕ) (at : ℤ) (book rows : List Row) (situation after : Situation) (calm : Calm) → 2 ≤ members
-        → GoesDrainRound members table who at book rows situation after → StandsFor members (length table.jobs) situation calm
+        → GoesDrainRound members table who at book rows situation after → StandsForCalm members (length table.jobs) situation calm
         → IsFaultless members after }
 {}
 

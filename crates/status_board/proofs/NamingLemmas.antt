@@ -7,16 +7,16 @@ use Rattle.crossbeam_utils.specs.Register.{Admits, Forks, Merges, Turns, TurnsAt
 use Rattle.logbook.specs.Pages.{Book}
 use Rattle.status_board.specs.declared.name.Name.{Name}
 use Rattle.status_board.specs.Posted.{Posted}
-use Rattle.status_board.specs.Naming.{AllName, IsShown, Keeps, Names, Sees, ShowsIt, name_of, told_name}
+use Rattle.status_board.specs.Naming.{AllName, IsShown, Keeps, Names, Sees, ShowsIt, board_name_of, told_name}
 
 -- a board's name says which it is
-pub same_board : (one other : Book) → name_of one ≡ name_of other → one ≡ other
+pub same_board : (one other : Book) → board_name_of one ≡ board_name_of other → one ≡ other
 same_board one other same = ap (λ (n : Name). record { number = n.number; log_name = n.log; cells_name = n.cells }) same
 
 -- the board of who has its name
-pub named_board : (name : Option Name) (mine shown : Book) → name ≡ Some (name_of mine) → Names name shown → shown ≡ mine
+pub named_board : (name : Option Name) (mine shown : Book) → name ≡ Some (board_name_of mine) → Names name shown → shown ≡ mine
 named_board name mine shown is names =
-    let same : name_of mine ≡ name_of shown = subst (λ (n : Option Name). Names n shown) is names in
+    let same : board_name_of mine ≡ board_name_of shown = subst (λ (n : Option Name). Names n shown) is names in
     sym (same_board mine shown same)
 
 -- one name is another
@@ -44,10 +44,10 @@ lets_in seat name posted names keeps at = (
 
 pub shows : (seat : ℕ) (name : Option Name) (before after : Posted) → after.board ≡ before.board → IsShown after → TurnsAt Keeps seat name before after ShowsIt
 shows seat name before after same shown names keeps at = (
-  Some (name_of after.board),
+  Some (board_name_of after.board),
   record {
     shown = shown;
-    named = names_set after.board names seat (Some (name_of after.board)) (subst (λ (b : Book). AllName b names) (sym same) keeps.named) refl;
+    named = names_set after.board names seat (Some (board_name_of after.board)) (subst (λ (b : Book). AllName b names) (sym same) keeps.named) refl;
   },
   refl,
 )

@@ -5,15 +5,15 @@ use mathlib.Core.List.{IsPrefix}
 use Rattle.paxos_base.specs.declared.rows.JobRow.{JobRow}
 use Rattle.paxos_base.specs.Rows.{RowsStand, fresh_rows}
 use Rattle.status_board.specs.declared.shown.Shown.{Shown}
-use Rattle.status_board.specs.Shown.{HaveRowsOf, IsHistory, IsLast, PrefixesRise, state_of}
+use Rattle.status_board.specs.Shown.{HaveRowsOf, IsHistory, IsLast, PrefixesRise, shown_state_of}
 use Rattle.status_board.proofs.Beginnings.{get_first, get_last, get_snoc, get_within, prefix_get, prefix_shorter, prefix_whole}
 
 -- where the last state stands
 pub last_stands : (states : List Shown) (prefix : ℕ) (rows : List JobRow) (last : IsLast states prefix rows)
-    → (slice_get states (length last.0) ≡ Some (state_of prefix rows)) × (length states ≡ length last.0 + 1)
+    → (slice_get states (length last.0) ≡ Some (shown_state_of prefix rows)) × (length states ≡ length last.0 + 1)
 last_stands states prefix rows last = (
-  subst (λ (s : List Shown). slice_get s (length last.0) ≡ Some (state_of prefix rows)) (sym last.1) (get_last last.0 (state_of prefix rows)),
-  ap length last.1 ∙ length-append last.0 (state_of prefix rows ∷ []),
+  subst (λ (s : List Shown). slice_get s (length last.0) ≡ Some (shown_state_of prefix rows)) (sym last.1) (get_last last.0 (shown_state_of prefix rows)),
+  ap length last.1 ∙ length-append last.0 (shown_state_of prefix rows ∷ []),
 )
 
 -- no state has a prefix above the last one's
@@ -22,11 +22,11 @@ pub at_most_last : (states : List Shown) (prefix : ℕ) (rows : List JobRow) (k 
 at_most_last states prefix rows k state rise last at =
     let stands = last_stands states prefix rows last in
     elim (cases_lt k (length last.0)) [
-      | inl before ↦ (let less : state.prefix < prefix = rise k (length last.0) state (state_of prefix rows) before at stands.0 in omega arith)
+      | inl before ↦ (let less : state.prefix < prefix = rise k (length last.0) state (shown_state_of prefix rows) before at stands.0 in omega arith)
       | inr after ↦
           let within : k < length states = get_within states k state at in
           let here : k ≡ length last.0 = omega (arith, stands.1) in
-          let same : state ≡ state_of prefix rows = cc (at, stands.0, here) in
+          let same : state ≡ shown_state_of prefix rows = cc (at, stands.0, here) in
           omega (arith, ap (λ (s : Shown). s.prefix) same)
     ]
 
@@ -56,7 +56,7 @@ rows_more jobs states next have stand k state at = elim (get_snoc states next k 
 pub history_more : (jobs : ℕ) (states : List Shown) (prefix : ℕ) (rows : List JobRow) (next : Shown) → IsHistory jobs states → IsLast states prefix rows
     → prefix < next.prefix → RowsStand next.rows jobs → IsHistory jobs (states ++ next ∷ [])
 history_more jobs states prefix rows next history last above stand = record {
-  begins = prefix_get states (states ++ next ∷ []) 0 (state_of 0 (fresh_rows jobs)) (next ∷ [], refl) history.begins;
+  begins = prefix_get states (states ++ next ∷ []) 0 (shown_state_of 0 (fresh_rows jobs)) (next ∷ [], refl) history.begins;
   rise = rise_more states prefix rows next history.rise last above;
   rows = rows_more jobs states next history.rows stand;
 }
@@ -65,7 +65,7 @@ history_more jobs states prefix rows next history last above stand = record {
 pub history_front : (jobs : ℕ) (front states : List Shown) → IsHistory jobs states → IsPrefix front states → 0 < length front → IsHistory jobs front
 history_front jobs front states history begins some =
     let first = get_first front some in
-    let same : first.0 ≡ state_of 0 (fresh_rows jobs) = cc (prefix_get front states 0 first.0 begins first.1, history.begins) in record {
+    let same : first.0 ≡ shown_state_of 0 (fresh_rows jobs) = cc (prefix_get front states 0 first.0 begins first.1, history.begins) in record {
       begins = first.1 ∙ ap Some same;
       rise = λ j k earlier later order at_j at_k. history.rise j k earlier later order (prefix_get front states j earlier begins at_j) (prefix_get front states k later begins at_k);
       rows = λ k state at. history.rows k state (prefix_get front states k state begins at);
@@ -74,10 +74,10 @@ history_front jobs front states history begins some =
 -- a beginning says how many jobs there are
 pub same_jobs : (jobs others : ℕ) (front states : List Shown) → IsHistory jobs front → IsHistory others states → IsPrefix front states → others ≡ jobs
 same_jobs jobs others front states one other begins =
-    let here = prefix_get front states 0 (state_of 0 (fresh_rows jobs)) begins one.begins in
-    let same : state_of 0 (fresh_rows others) ≡ state_of 0 (fresh_rows jobs) = cc (other.begins, here) in
-    let mine = (one.rows 0 (state_of 0 (fresh_rows jobs)) one.begins).count in
-    let theirs = (other.rows 0 (state_of 0 (fresh_rows others)) other.begins).count in
+    let here = prefix_get front states 0 (shown_state_of 0 (fresh_rows jobs)) begins one.begins in
+    let same : shown_state_of 0 (fresh_rows others) ≡ shown_state_of 0 (fresh_rows jobs) = cc (other.begins, here) in
+    let mine = (one.rows 0 (shown_state_of 0 (fresh_rows jobs)) one.begins).count in
+    let theirs = (other.rows 0 (shown_state_of 0 (fresh_rows others)) other.begins).count in
     sym theirs ∙ (ap (λ (s : Shown). length s.rows) same ∙ mine)
 
 -- of two beginnings the one whose last prefix is not higher begins the other
@@ -88,9 +88,9 @@ begins_later xs ys zs low high low_rows high_rows in_x in_y rise last_x last_y o
     let y = last_stands ys high high_rows last_y in
     elim (cases_lt (length ys) (length xs)) [
       | inl shorter ↦
-          let at_x = prefix_get xs zs (length last_x.0) (state_of low low_rows) in_x x.0 in
-          let at_y = prefix_get ys zs (length last_y.0) (state_of high high_rows) in_y y.0 in
-          let less : high < low = rise (length last_y.0) (length last_x.0) (state_of high high_rows) (state_of low low_rows) (omega (arith, x.1, y.1)) at_y at_x in
+          let at_x = prefix_get xs zs (length last_x.0) (shown_state_of low low_rows) in_x x.0 in
+          let at_y = prefix_get ys zs (length last_y.0) (shown_state_of high high_rows) in_y y.0 in
+          let less : high < low = rise (length last_y.0) (length last_x.0) (shown_state_of high high_rows) (shown_state_of low low_rows) (omega (arith, x.1, y.1)) at_y at_x in
           absurd (omega arith)
       | inr longer ↦ prefix_shorter xs ys zs in_x in_y longer
     ]
@@ -103,18 +103,18 @@ front_is_whole front states prefix rows others begins rise last_front last =
     let y = last_stands states prefix others last in
     elim (cases_lt (length front) (length states)) [
       | inl shorter ↦
-          let at_x = prefix_get front states (length last_front.0) (state_of prefix rows) begins x.0 in
-          let less : prefix < prefix = rise (length last_front.0) (length last.0) (state_of prefix rows) (state_of prefix others) (omega (arith, x.1, y.1)) at_x y.0 in
+          let at_x = prefix_get front states (length last_front.0) (shown_state_of prefix rows) begins x.0 in
+          let less : prefix < prefix = rise (length last_front.0) (length last.0) (shown_state_of prefix rows) (shown_state_of prefix others) (omega (arith, x.1, y.1)) at_x y.0 in
           absurd (omega arith)
       | inr longer ↦ prefix_whole front states begins longer
     ]
 
 -- the states of a board before the log
-pub history_first : (jobs : ℕ) → RowsStand (fresh_rows jobs) jobs → IsHistory jobs (state_of 0 (fresh_rows jobs) ∷ [])
+pub history_first : (jobs : ℕ) → RowsStand (fresh_rows jobs) jobs → IsHistory jobs (shown_state_of 0 (fresh_rows jobs) ∷ [])
 history_first jobs stand = record {
   begins = refl;
-  rise = λ j k earlier later order at_j at_k. (let one = get_within (state_of 0 (fresh_rows jobs) ∷ []) k later at_k in absurd (omega arith));
-  rows = λ k state at. elim (get_snoc [] (state_of 0 (fresh_rows jobs)) k state at) [
+  rise = λ j k earlier later order at_j at_k. (let one = get_within (shown_state_of 0 (fresh_rows jobs) ∷ []) k later at_k in absurd (omega arith));
+  rows = λ k state at. elim (get_snoc [] (shown_state_of 0 (fresh_rows jobs)) k state at) [
     | inl inside ↦ absurd (cc inside)
     | inr is ↦ subst (λ (s : Shown). RowsStand s.rows jobs) is.1 stand
   ];

@@ -14,11 +14,11 @@ use Rattle.status_board.specs.declared.latest.Latest.{Latest}
 use Rattle.status_board.specs.Change.{changed, with_new}
 use Rattle.status_board.specs.declared.change.NewRows.{NewRows}
 use Rattle.status_board.specs.History.{word_of}
-use Rattle.status_board.specs.Naming.{IsShown, name_of}
+use Rattle.status_board.specs.Naming.{IsShown, board_name_of}
 use Rattle.status_board.specs.Posted.{Posted}
-use Rattle.status_board.specs.Shown.{IsHistory, state_of}
+use Rattle.status_board.specs.Shown.{IsHistory, shown_state_of}
 use Rattle.status_board.specs.declared.shown.Shown.{Shown}
-use Rattle.status_board.specs.Upkeep.{IsKeptUp, changes_of, latest_of, shown_by}
+use Rattle.status_board.specs.Upkeep.{IsKeptUp, changes_unshown, latest_posted, shown_by}
 use Rattle.status_board.proofs.Beginnings.{prefix_self, prefix_trans}
 use Rattle.status_board.proofs.StateLemmas.{same_jobs}
 
@@ -42,11 +42,11 @@ pub record Follows (old new : Keeper) : Type 0 where
   pub longer : IsPrefix old.past.log new.past.log
 
 pub kept_up : (table : Table) (was ready : Bool) (old new : Keeper) → IsKeptUp table was old → Follows old new → IsHistory (length table.jobs) new.past.log
-    → StandsFor table new.latest.machine → (ready ≡ true → IsShown (latest_of new)) → (ready ≡ true → fold changed (shown_by new) (changes_of new) ≡ latest_of new)
+    → StandsFor table new.latest.machine → (ready ≡ true → IsShown (latest_posted new)) → (ready ≡ true → fold changed (shown_by new) (changes_unshown new) ≡ latest_posted new)
     → IsKeptUp table ready new
 kept_up table was ready old new kept follows history stands last changes = record {
   word = follows.head ∙ (kept.word ∙ ap (λ b. word_of b) (sym follows.book));
-  named = ap (λ d. view d.place) follows.desk ∙ (kept.named ∙ ap (λ b. Some (name_of b)) (sym follows.book));
+  named = ap (λ d. view d.place) follows.desk ∙ (kept.named ∙ ap (λ b. Some (board_name_of b)) (sym follows.book));
   board = ap (λ d. d.shown.value.board) follows.desk ∙ (kept.board ∙ sym follows.book);
   begins = prefix_trans (shown_by new).states old.past.log new.past.log
       (subst (λ (p : Posted). IsPrefix p.states old.past.log) (sym (ap (λ d. d.shown.value) follows.desk)) kept.begins) follows.longer;
@@ -59,16 +59,16 @@ kept_up table was ready old new kept follows history stands last changes = recor
 -- one state more, by what is new in its rows
 pub next_kept : (table : Table) (old new : Keeper) (latest : Latest) (rows : NewRows) → IsKeptUp table true old → Follows old new → new.latest ≡ latest
     → StandsFor table latest.machine → with_new rows old.latest.machine.rows ≡ latest.machine.rows → IsHistory (length table.jobs) new.past.log
-    → new.past.log ≡ old.past.log ++ state_of latest.prefix latest.machine.rows ∷ []
-    → changes_of new ≡ changes_of old ++ record { past = new.past; prefix = latest.prefix; rows = rows } ∷ [] → IsKeptUp table true new
+    → new.past.log ≡ old.past.log ++ shown_state_of latest.prefix latest.machine.rows ∷ []
+    → changes_unshown new ≡ changes_unshown old ++ record { past = new.past; prefix = latest.prefix; rows = rows } ∷ [] → IsKeptUp table true new
 next_kept table old new latest rows kept follows is stands fresh history added more = kept_up table true true old new kept follows history
     (subst (λ (l : Latest). StandsFor table l.machine) (sym is) stands)
     (λ _. subst (λ (l : Latest). IsShown (record { board = new.past.book; states = new.past.log; prefix = l.prefix; rows = l.machine.rows })) (sym is) (old.past.log, added))
     (λ _.
     let shown : shown_by new ≡ shown_by old = ap (λ d. d.shown.value) follows.desk in
-    let led : fold changed (shown_by new) (changes_of old) ≡ latest_of old =
-    ap (λ (p : Posted). fold changed p (changes_of old)) shown ∙ kept.changes refl in
-    more_changes (shown_by new) (latest_of old) (latest_of new) (changes_of old) (changes_of new) (record { past = new.past; prefix = latest.prefix; rows = rows }) led more
+    let led : fold changed (shown_by new) (changes_unshown old) ≡ latest_posted old =
+    ap (λ (p : Posted). fold changed p (changes_unshown old)) shown ∙ kept.changes refl in
+    more_changes (shown_by new) (latest_posted old) (latest_posted new) (changes_unshown old) (changes_unshown new) (record { past = new.past; prefix = latest.prefix; rows = rows }) led more
     (λ i. record { board = new.past.book; states = new.past.log; prefix = (sym is i).prefix; rows = (fresh ∙ ap (λ (l : Latest). l.machine.rows) (sym is)) i }))
 
 -- what two facts of an answer that is Ok give

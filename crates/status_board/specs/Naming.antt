@@ -9,13 +9,13 @@ use Rattle.status_board.specs.Posted.{Posted}
 use Rattle.status_board.specs.Shown.{IsLast}
 
 -- a board's name
-abbrev pub name_of : Book → Name
-name_of board = record { number = board.number; log = board.log_name; cells = board.cells_name }
+abbrev pub board_name_of : Book → Name
+board_name_of board = record { number = board.number; log = board.log_name; cells = board.cells_name }
 
 -- who has a name has this board's
 abbrev pub Names : Option Name → Book → Type 0
 Names None board = ⊤
-Names (Some name) board = name ≡ name_of board
+Names (Some name) board = name ≡ board_name_of board
 
 -- what is shown is the last of its states
 abbrev pub IsShown : Posted → Type 0
@@ -25,6 +25,7 @@ IsShown posted = IsLast posted.states posted.prefix posted.rows
 abbrev pub AllName : Book → List (Option Name) → Type 0
 AllName board names = (seat : ℕ) (name : Option Name) → get_elem? names seat ≡ some name → Names name board
 
+-- a posted state is shown, and each of these names is of its board
 pub record Keeps (posted : Posted) (names : List (Option Name)) : Type 0 where
   pub shown : IsShown posted
   pub named : AllName posted.board names
@@ -35,7 +36,7 @@ Sees name before after later = (later ≡ name) × IsShown after × Names name a
 
 -- the writer shows a state, and has the name of its board
 abbrev pub ShowsIt : Option Name → Posted → Posted → Option Name → Type 0
-ShowsIt name before after later = later ≡ Some (name_of after.board)
+ShowsIt name before after later = later ≡ Some (board_name_of after.board)
 
 -- who is told a name has that one
 abbrev pub told_name : Option Name → Option Name → Option Name

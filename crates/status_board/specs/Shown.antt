@@ -5,12 +5,12 @@ use Rattle.paxos_base.specs.Rows.{RowsStand, fresh_rows}
 use Rattle.status_board.specs.declared.shown.Shown.{Shown}
 
 -- the state with this prefix and these rows
-abbrev pub state_of : ℕ → List JobRow → Shown
-state_of prefix rows = record { prefix = prefix; rows = rows }
+abbrev pub shown_state_of : ℕ → List JobRow → Shown
+shown_state_of prefix rows = record { prefix = prefix; rows = rows }
 
 -- the last of the states has this prefix and these rows
 abbrev pub IsLast : List Shown → ℕ → List JobRow → Type 0
-IsLast states prefix rows = (before : List Shown) × (states ≡ before ++ state_of prefix rows ∷ [])
+IsLast states prefix rows = (before : List Shown) × (states ≡ before ++ shown_state_of prefix rows ∷ [])
 
 -- of two states the later has the higher prefix
 abbrev pub PrefixesRise : List Shown → Type 0
@@ -24,6 +24,6 @@ HaveRowsOf jobs states = (k : ℕ) (state : Shown) → slice_get states k ≡ So
 
 -- the states of a board for so many jobs: they begin before the log with fresh rows, and their prefixes rise
 pub record IsHistory (jobs : ℕ) (states : List Shown) : Type 0 where
-  pub begins : slice_get states 0 ≡ Some (state_of 0 (fresh_rows jobs))
+  pub begins : slice_get states 0 ≡ Some (shown_state_of 0 (fresh_rows jobs))
   pub rise : PrefixesRise states
   pub rows : HaveRowsOf jobs states

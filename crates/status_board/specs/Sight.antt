@@ -26,8 +26,8 @@ pub record Viewed : Type 0 where
   pub rows : List JobRow
 
 -- the last of the states has this prefix
-abbrev pub EndsAt : List Shown → ℕ → Type 0
-EndsAt states prefix = (rows : List JobRow) × IsLast states prefix rows
+abbrev pub HasLastPrefix : List Shown → ℕ → Type 0
+HasLastPrefix states prefix = (rows : List JobRow) × IsLast states prefix rows
 
 -- what is viewed is a state of the board that the reader is of. It is the last of the states that have been seen by then, whose
 -- prefixes rise; and they begin with all that the reader had seen before, and was told of

@@ -8,13 +8,13 @@ use Rattle.status_board.specs.declared.change.Change.{Change}
 use Rattle.status_board.specs.declared.keeper.Keeper.{Keeper}
 use Rattle.status_board.specs.Change.{changed}
 use Rattle.status_board.specs.History.{word_of}
-use Rattle.status_board.specs.Naming.{IsShown, name_of}
+use Rattle.status_board.specs.Naming.{IsShown, board_name_of}
 use Rattle.status_board.specs.Posted.{Posted}
 use Rattle.status_board.specs.Shown.{IsHistory}
 
 -- the latest state
-abbrev pub latest_of : Keeper → Posted
-latest_of keeper = record {
+abbrev pub latest_posted : Keeper → Posted
+latest_posted keeper = record {
   board = keeper.past.book;
   states = keeper.past.log;
   prefix = keeper.latest.prefix;
@@ -26,16 +26,16 @@ abbrev pub shown_by : Keeper → Posted
 shown_by keeper = keeper.shower.desk.shown.value
 
 -- the changes that they aren't shown yet
-abbrev pub changes_of : Keeper → List Change
-changes_of keeper = drop keeper.shower.behind keeper.shower.log.items
+abbrev pub changes_unshown : Keeper → List Change
+changes_unshown keeper = drop keeper.shower.behind keeper.shower.log.items
 
 -- what holds of a keeper at all times, and while it is ready: then the changes lead from what is shown to the latest state
 pub record IsKeptUp (table : Table) (ready : Bool) (keeper : Keeper) : Type 0 where
   pub word : keeper.head ≡ word_of keeper.past.book
-  pub named : view keeper.shower.desk.place ≡ Some (name_of keeper.past.book)
+  pub named : view keeper.shower.desk.place ≡ Some (board_name_of keeper.past.book)
   pub board : (shown_by keeper).board ≡ keeper.past.book
   pub begins : IsPrefix (shown_by keeper).states keeper.past.log
   pub history : IsHistory (length table.jobs) keeper.past.log
   pub stands : StandsFor table keeper.latest.machine
-  pub last : ready ≡ true → IsShown (latest_of keeper)
-  pub changes : ready ≡ true → fold changed (shown_by keeper) (changes_of keeper) ≡ latest_of keeper
+  pub last : ready ≡ true → IsShown (latest_posted keeper)
+  pub changes : ready ≡ true → fold changed (shown_by keeper) (changes_unshown keeper) ≡ latest_posted keeper

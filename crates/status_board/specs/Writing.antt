@@ -8,7 +8,7 @@ use Rattle.due_set.specs.Table.{Table}
 use Rattle.launch_machine.specs.Clerk.{Applies, first_rows}
 use Rattle.launch_machine.specs.Machine.{Launches, StandsFor}
 use Rattle.status_board.specs.declared.shown.Shown.{Shown}
-use Rattle.status_board.specs.Shown.{IsHistory, IsLast, state_of}
+use Rattle.status_board.specs.Shown.{IsHistory, IsLast, shown_state_of}
 use Rattle.status_board.specs.Sight.{Marked, Sight}
 
 -- the writer of a board: the states that it has had, those of them that are published, its prefix, the machine with its rows, and
@@ -22,7 +22,7 @@ pub record Writing : Type 0 where
   pub ready : Bool
 
 -- the published states are the first of the writer's, whose prefixes rise. The last of the writer's has its prefix and its rows
-pub record IsInOrder (writer : Writing) : Type 0 where
+pub record ArePublishedInOrder (writer : Writing) : Type 0 where
   pub begins : IsPrefix writer.published writer.states
   pub history : IsHistory (length writer.machine.rows) writer.states
   pub last : writer.ready ≡ true → IsLast writer.states writer.prefix writer.machine.rows
@@ -30,7 +30,7 @@ pub record IsInOrder (writer : Writing) : Type 0 where
 -- a board begins before the log, with fresh rows, which are published
 pub record Starts (table : Table) (writer : Writing) : Type 0 where
   pub stands : StandsFor table writer.machine
-  pub states : writer.states ≡ state_of 0 (first_rows table) ∷ []
+  pub states : writer.states ≡ shown_state_of 0 (first_rows table) ∷ []
   pub published : writer.published ≡ writer.states
   pub prefix : writer.prefix ≡ 0
   pub rows : writer.machine.rows ≡ first_rows table
@@ -46,7 +46,7 @@ AreReadersOf writer readers = All (λ reader. reader ≡ sight_of writer) reader
 
 -- the writer has one state more, of this prefix and these rows
 pub record HasNext (old new : Writing) (prefix : ℕ) (rows : List JobRow) : Type 0 where
-  pub states : new.states ≡ old.states ++ state_of prefix rows ∷ []
+  pub states : new.states ≡ old.states ++ shown_state_of prefix rows ∷ []
   pub prefix_is : new.prefix ≡ prefix
   pub rows_are : new.machine.rows ≡ rows
 
@@ -58,4 +58,3 @@ pub record Learns (table : Table) (entry : Entry) (old new : Writing) : Type 0 w
 -- the place of the writer's last state
 abbrev pub mark_of : Writing → Marked
 mark_of writer = record { board = writer.board; states = writer.states }
-

@@ -1,6 +1,6 @@
 //! How a board begins.
 ghost use Rattle.std.specs.Prelude.{◌≡◌, ◌<◌, ◌≤◌, ◌∷◌, [], IfOk, length, true};
-ghost use Rattle.status_board.specs.Shown.{state_of};
+ghost use Rattle.status_board.specs.Shown.{shown_state_of};
 ghost use Rattle.status_board.specs.Upkeep.{IsKeptUp, shown_by};
 ghost use Rattle.status_board.specs.Writing.{AreReadersOf, Starts, sight_of};
 ghost use Rattle.launch_machine.specs.Clerk.{first_rows};
@@ -33,7 +33,7 @@ impl Keeper {
         ensures kept { IfOk result (λ keeper. IsKeptUp table.now true keeper) }
         ensures prefix { IfOk result (λ keeper. keeper.latest.prefix ≡ 0) }
         ensures rows { IfOk result (λ keeper. keeper.latest.machine.rows ≡ first_rows table.now) }
-        ensures states { IfOk result (λ keeper. keeper.past.log ≡ state_of 0 (first_rows table.now) ∷ []) }
+        ensures states { IfOk result (λ keeper. keeper.past.log ≡ shown_state_of 0 (first_rows table.now) ∷ []) }
         ensures shown { IfOk result (λ keeper. (shown_by keeper).states ≡ keeper.past.log) }
     {
         let latest = Latest::first(alloc, table)?;

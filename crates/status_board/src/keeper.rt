@@ -7,9 +7,9 @@ ghost use Rattle.launch_machine.specs.Clerk.{Applies};
 ghost use Rattle.launch_machine.specs.Machine.{CanCount, StandsFor};
 ghost use Rattle.status_board.specs.Change.{with_new};
 ghost use Rattle.status_board.specs.History.{AreOfBoard, word_of};
-ghost use Rattle.status_board.specs.Shown.{IsHistory, state_of};
-ghost use Rattle.status_board.specs.Sight.{EndsAt};
-ghost use Rattle.status_board.specs.Upkeep.{IsKeptUp, changes_of, shown_by};
+ghost use Rattle.status_board.specs.Shown.{IsHistory, shown_state_of};
+ghost use Rattle.status_board.specs.Sight.{HasLastPrefix};
+ghost use Rattle.status_board.specs.Upkeep.{IsKeptUp, changes_unshown, shown_by};
 
 use crate::change::{Change, NewRows};
 use crate::latest::Latest;
@@ -37,7 +37,7 @@ impl Keeper {
     fn append(&mut self, before: u64, rows: NewRows) -> Result<(), OutOfMemory>
         requires word { self.old.head ≡ word_of self.old.past.book }
         requires history { AreOfBoard self.old.past.log }
-        requires last { EndsAt self.old.past.log before }
+        requires last { HasLastPrefix self.old.past.log before }
         requires rises { before < self.old.latest.prefix }
         requires rows { (jobs : ℕ) → IsHistory jobs self.old.past.log → RowsStand self.old.latest.machine.rows jobs }
         ensures desk { self.new.shower.desk ≡ self.old.shower.desk }
@@ -46,8 +46,9 @@ impl Keeper {
         ensures book { self.new.past.book ≡ self.old.past.book }
         ensures longer { IsPrefix self.old.past.log self.new.past.log }
         ensures history { (jobs : ℕ) → IsHistory jobs self.old.past.log → IsHistory jobs self.new.past.log }
-        ensures added { OnOk result (self.new.past.log ≡ self.old.past.log ++ state_of self.old.latest.prefix self.old.latest.machine.rows ∷ []) }
-        ensures changes { OnOk result (changes_of self.new ≡ changes_of self.old ++ record { past = self.new.past; prefix = self.old.latest.prefix; rows = rows } ∷ []) }
+        ensures added { OnOk result (self.new.past.log ≡ self.old.past.log ++ shown_state_of self.old.latest.prefix self.old.latest.machine.rows ∷ []) }
+        ensures changes { OnOk result (changes_unshown self.new
+            ≡ changes_unshown self.old ++ record { past = self.new.past; prefix = self.old.latest.prefix; rows = rows } ∷ []) }
     {
         if !add(&self.head, &mut self.past, before, &self.latest) {
             return Err(OutOfMemory);
@@ -74,7 +75,7 @@ impl Keeper {
         ensures board { self.new.past.book ≡ self.old.past.book }
         ensures prefix { self.new.latest.prefix ≡ self.old.latest.prefix + 1 }
         ensures applies { Applies table.now self.old.latest.machine.rows entry self.new.latest.machine.rows }
-        ensures states { OnOk result (self.new.past.log ≡ self.old.past.log ++ state_of self.new.latest.prefix self.new.latest.machine.rows ∷ []) }
+        ensures states { OnOk result (self.new.past.log ≡ self.old.past.log ++ shown_state_of self.new.latest.prefix self.new.latest.machine.rows ∷ []) }
     {
         let before = self.latest.prefix;
         let rows = self.latest.learn(table, entry);
@@ -91,7 +92,7 @@ impl Keeper {
         ensures shown { shown_by self.new ≡ shown_by self.old }
         ensures board { self.new.past.book ≡ self.old.past.book }
         ensures latest { self.new.latest ≡ latest }
-        ensures states { OnOk result (self.new.past.log ≡ self.old.past.log ++ state_of latest.prefix latest.machine.rows ∷ []) }
+        ensures states { OnOk result (self.new.past.log ≡ self.old.past.log ++ shown_state_of latest.prefix latest.machine.rows ∷ []) }
     {
         let before = self.latest.prefix;
         self.latest = latest;
@@ -124,7 +125,7 @@ impl Keeper {
 
     /// The place of the latest state.
     pub fn mark(&self) -> Mark
-        requires { EndsAt self.now.past.log self.now.latest.prefix }
+        requires { HasLastPrefix self.now.past.log self.now.latest.prefix }
         ensures board { result.board ≡ self.now.past.book }
         ensures states { result.states ≡ self.now.past.log }
     {

@@ -10,11 +10,11 @@ pub struct Mark {
 
 impl Model for Mark {
     ghost use Rattle.std.specs.Prelude.{◌≡◌};
-    ghost use Rattle.status_board.specs.Sight.{EndsAt, Marked};
+    ghost use Rattle.status_board.specs.Sight.{HasLastPrefix, Marked};
 
     ghost Value = { Marked };
 
     ghost view = { λ mark. record { board = mark.past.book; states = mark.past.log } };
 
-    ghost invariant = { λ mark. EndsAt mark.past.log mark.prefix };
+    ghost invariant = { λ mark. HasLastPrefix mark.past.log mark.prefix };
 }

@@ -6,8 +6,8 @@ ghost use Rattle.due_set.specs.Table.{Table};
 ghost use Rattle.launch_machine.specs.Clerk.{first_rows};
 ghost use Rattle.paxos_base.specs.Rows.{RowsStand};
 ghost use Rattle.status_board.specs.History.{AreOfBoard, word_of};
-ghost use Rattle.status_board.specs.Shown.{IsHistory, state_of};
-ghost use Rattle.status_board.specs.Sight.{EndsAt};
+ghost use Rattle.status_board.specs.Shown.{IsHistory, shown_state_of};
+ghost use Rattle.status_board.specs.Sight.{HasLastPrefix};
 
 use crate::latest::Latest;
 use crate::shown::Shown;
@@ -43,9 +43,9 @@ pub(crate) type Head = Word<Shown, u64, History>;
 
 impl Opening<Latest, Shown> for History {
     ghost use Rattle.std.specs.Prelude.{◌∷◌, []};
-    ghost use Rattle.status_board.specs.Shown.{state_of};
+    ghost use Rattle.status_board.specs.Shown.{shown_state_of};
 
-    ghost log = { λ _ latest. state_of latest.prefix latest.machine.rows ∷ [] };
+    ghost log = { λ _ latest. shown_state_of latest.prefix latest.machine.rows ∷ [] };
 }
 
 // The step trades nothing.
@@ -68,9 +68,9 @@ impl Play<Shown, u64> for Adding {
 
 impl Plain<Latest, Shown, u64> for Adding {
     ghost use Rattle.std.specs.Prelude.{None};
-    ghost use Rattle.status_board.specs.Shown.{state_of};
+    ghost use Rattle.status_board.specs.Shown.{shown_state_of};
 
-    ghost ask = { λ latest. state_of latest.prefix latest.machine.rows };
+    ghost ask = { λ latest. shown_state_of latest.prefix latest.machine.rows };
 
     ghost state = { λ _. None };
 }
@@ -80,7 +80,7 @@ pub(crate) fn begin(latest: &Latest, table: &JobTable) -> (Past, Head)
     requires prefix { latest.now.prefix ≡ 0 }
     requires rows { latest.now.machine.rows ≡ first_rows table.now }
     requires stand { RowsStand latest.now.machine.rows (length table.now.jobs) }
-    ensures states { result.0.log ≡ state_of latest.now.prefix latest.now.machine.rows ∷ [] }
+    ensures states { result.0.log ≡ shown_state_of latest.now.prefix latest.now.machine.rows ∷ [] }
     ensures history { IsHistory (length table.now.jobs) result.0.log }
     ensures word { result.1 ≡ word_of result.0.book }
 {
@@ -94,13 +94,13 @@ pub(crate) fn begin(latest: &Latest, table: &JobTable) -> (Past, Head)
 pub(crate) fn add(head: &Head, past: &mut Past, before: u64, latest: &Latest) -> bool
     requires word { head.now ≡ word_of past.old.book }
     requires history { AreOfBoard past.old.log }
-    requires last { EndsAt past.old.log before }
+    requires last { HasLastPrefix past.old.log before }
     requires rises { before < latest.now.prefix }
     requires rows { (jobs : ℕ) → IsHistory jobs past.old.log → RowsStand latest.now.machine.rows jobs }
     ensures book { past.new.book ≡ past.old.book }
     ensures longer { IsPrefix past.old.log past.new.log }
     ensures history { (jobs : ℕ) → IsHistory jobs past.old.log → IsHistory jobs past.new.log }
-    ensures added { IsTrue result → past.new.log ≡ past.old.log ++ state_of latest.now.prefix latest.now.machine.rows ∷ [] }
+    ensures added { IsTrue result → past.new.log ≡ past.old.log ++ shown_state_of latest.now.prefix latest.now.machine.rows ∷ [] }
 {
     let mut offer: Offer<Shown, u64, History, Nothing> = past.plain::<Nothing, Latest, Adding>(
         latest,

@@ -27,16 +27,16 @@ pub struct BoardReader {
 impl Model for BoardReader {
     ghost use Rattle.std.specs.Prelude.{◌≡◌, Some};
     ghost use Rattle.left_right.specs.Sides.{view as name_at};
-    ghost use Rattle.status_board.specs.Naming.{name_of};
+    ghost use Rattle.status_board.specs.Naming.{board_name_of};
     ghost use Rattle.status_board.specs.Shown.{IsHistory};
-    ghost use Rattle.status_board.specs.Sight.{EndsAt, Sight};
+    ghost use Rattle.status_board.specs.Sight.{HasLastPrefix, Sight};
 
     ghost Value = { Sight };
 
     ghost view = { λ r. record { board = r.past.book; jobs = r.jobs; states = r.past.log } };
 
     ghost invariant = { λ r.
-        (name_at r.reader.place ≡ Some (name_of r.past.book)) × EndsAt r.past.log r.prefix
+        (name_at r.reader.place ≡ Some (board_name_of r.past.book)) × HasLastPrefix r.past.log r.prefix
         × IsHistory r.jobs r.past.log };
 }
 
@@ -122,7 +122,7 @@ pub struct BoardView {
 impl Model for BoardView {
     ghost use Rattle.std.specs.Prelude.{◌≡◌, Some};
     ghost use Rattle.left_right.specs.Sides.{view as name_at};
-    ghost use Rattle.status_board.specs.Naming.{IsShown, name_of};
+    ghost use Rattle.status_board.specs.Naming.{IsShown, board_name_of};
     ghost use Rattle.status_board.specs.Shown.{IsHistory};
     ghost use Rattle.status_board.specs.Sight.{Viewed};
 
@@ -137,7 +137,7 @@ impl Model for BoardView {
     } };
 
     ghost invariant = { λ v.
-        (name_at v.reading.place ≡ Some (name_of v.reading.part.value.board)) × IsShown v.reading.part.value
+        (name_at v.reading.place ≡ Some (board_name_of v.reading.part.value.board)) × IsShown v.reading.part.value
         × IsHistory v.jobs v.reading.part.value.states };
 }
 

@@ -2,7 +2,7 @@
 ghost use Rattle.std.specs.Prelude.{◌≡◌, ◌≢◌, ◌<◌, ◌≤◌, ◌^◌, ◌↔◌, IsTrue, Ok, IfOk, OnOk, Some, length, slice_get, true, false};
 ghost use Rattle.launch_machine.specs.Machine.{StandsFor, CountsBelow};
 ghost use Rattle.paxos_base.specs.Rows.{RowsStand};
-ghost use Rattle.status_board.specs.Writing.{HasNext, IsInOrder, Learns, mark_of};
+ghost use Rattle.status_board.specs.Writing.{HasNext, ArePublishedInOrder, Learns, mark_of};
 
 use crate::change::NewRows;
 use crate::keeper::Keeper;
@@ -47,7 +47,7 @@ impl BoardWriter {
     /// How many entries of the log are in the writer's rows.
     pub fn prefix(&self) -> u64
         ensures prefix { result ≡ self.now.prefix }
-        ensures order { IsInOrder self.now }
+        ensures order { ArePublishedInOrder self.now }
     {
         self.keeper.latest.prefix
     }

@@ -16,6 +16,7 @@ use Rattle.cluster_sched.specs.declared.row.SchedRow.{SchedRow}
 use Rattle.step_spec.specs.Message.{Message, Whom}
 use Rattle.step_spec.specs.State.{State, prefix_of, started}
 
+-- what a step does, act by act
 pub data Act : Type 0 where
   -- hears of a ballot
   Observe : (ballot : ℕ) → Act

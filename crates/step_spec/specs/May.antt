@@ -114,7 +114,7 @@ pub record MayCast (said : List Saying) (state : State) (vote : Vote) : Type 0 w
   pub first : IsTrue (is_vote_of vote.ballot (vote_at vote.slot state.kept.votes)) → ⊥
 
 -- the launch table asks for the start of a launch
-pub record MayStart (setting : Setting) (state : State) (job : ℕ) (at now : ℤ) : Type 0 where
+pub record MayBeStarted (setting : Setting) (state : State) (job : ℕ) (at now : ℤ) : Type 0 where
   pub rows : List JobRow
   pub rows_are : IsLaunchTable setting.table state rows
   pub asked : IsIntent setting.table rows now (intent.Start job at)
@@ -129,7 +129,7 @@ pub record MayEnd (setting : Setting) (state : State) (job : ℕ) (at : ℤ) (ki
 -- the entries that a leader may propose of its own accord
 abbrev pub MayEnter : Setting → State → Entry → Type 0
 MayEnter setting state Noop = ⊤
-MayEnter setting state (Start job at now) = MayStart setting state job at now
+MayEnter setting state (Start job at now) = MayBeStarted setting state job at now
 MayEnter setting state (End job at kind) = MayEnd setting state job at kind
 
 -- it leads, has nothing in flight, and proposes at its prefix what its votes bind it to, or else an entry of its own accord

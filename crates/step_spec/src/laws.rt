@@ -25,7 +25,8 @@ ghost use Rattle.step_spec.specs.Step.{AsksOnce, Event, IsPlanned, step};
 /// said. What holds of every act that may be done holds of every step.
 pub fn each_act_may_be_done()
     ensures { (setting : Setting) (event : Event) (state : State) → setting.event ≡ Some event → setting.self.me < 8
-        → IsCoherent setting.self state → IsPlanned setting.table state event → TellsWhatWasSaid setting event → AllMay setting state (step setting.self event state) }
+        → IsCoherent setting.self state → IsPlanned setting.table state event → TellsWhatWasSaid setting event
+        → AllMay setting state (step setting.self event state) }
 {}
 
 /// An act that may be done leaves a coherent replica, so a step does, and a replica is coherent from its start on.

@@ -15,7 +15,7 @@ use Rattle.paxos_base.proofs.PutLemmas.{all_from, SlotsRise-votes_from}
 use Rattle.paxos_base.specs.Ballot.{IsAbove}
 use Rattle.store_format.specs.declared.body.Record.{Record}
 use Rattle.store_format.specs.Area.{Stands, StandFor, group_of, Copy, copy_records, IsCopy, IsGreatest, after_copy, promise_above, base_records}
-use Rattle.store_format.specs.Order.{IsKeptSound, IsPromised, IsChangeLog, own_round}
+use Rattle.store_format.specs.Order.{IsKeptSound, IsWithinPromise, IsChangeLog, own_round}
 use Rattle.store_format.specs.Records.{AreRecords, own_ballot}
 use Rattle.store_format.proofs.LogLemmas.{IsChangeLog-nil}
 use Rattle.store_format.proofs.CopyRuns.{longest_alone}
@@ -39,15 +39,15 @@ written-IsCopy kept own slot rise =
 
 -- ---- the greatest ballot
 
-ballots_below : (promised : ℕ) (votes : List Vote) → All (λ (vote : Vote). IsPromised (Some promised) vote.ballot) votes → All (λ (ballot : ℕ). ballot ≤ promised) (ballots_of votes)
+ballots_below : (promised : ℕ) (votes : List Vote) → All (λ (vote : Vote). IsWithinPromise (Some promised) vote.ballot) votes → All (λ (ballot : ℕ). ballot ≤ promised) (ballots_of votes)
 ballots_below promised [] all = All-nil _
 ballots_below promised (vote ∷ votes) all =
-    All-cons (λ (ballot : ℕ). ballot ≤ promised) vote.ballot (ballots_of votes) (All-head (λ (v : Vote). IsPromised (Some promised) v.ballot) vote votes all)
-    (ballots_below promised votes (All-tail (λ (v : Vote). IsPromised (Some promised) v.ballot) vote votes all))
+    All-cons (λ (ballot : ℕ). ballot ≤ promised) vote.ballot (ballots_of votes) (All-head (λ (v : Vote). IsWithinPromise (Some promised) v.ballot) vote votes all)
+    (ballots_below promised votes (All-tail (λ (v : Vote). IsWithinPromise (Some promised) v.ballot) vote votes all))
 
-no_votes_promised : (votes : List Vote) → All (λ (vote : Vote). IsPromised None vote.ballot) votes → ballots_of votes ≡ []
+no_votes_promised : (votes : List Vote) → All (λ (vote : Vote). IsWithinPromise None vote.ballot) votes → ballots_of votes ≡ []
 no_votes_promised [] all = refl
-no_votes_promised (vote ∷ votes) all = absurd (All-head (λ (v : Vote). IsPromised None v.ballot) vote votes all)
+no_votes_promised (vote ∷ votes) all = absurd (All-head (λ (v : Vote). IsWithinPromise None v.ballot) vote votes all)
 
 first_is : (ballot : ℕ) (others : List ℕ) → Contains (ballot ∷ others) ballot
 first_is ballot others = Contains-append_left (ballot ∷ []) others ballot (Contains-push [] ballot)
@@ -55,7 +55,7 @@ first_is ballot others = Contains-append_left (ballot ∷ []) others ballot (Con
 second_is : (other ballot : ℕ) (others : List ℕ) → Contains (other ∷ ballot ∷ others) ballot
 second_is other ballot others = Contains-append_right (other ∷ []) (ballot ∷ others) ballot (first_is ballot others)
 
-greatest_of : (own promised : Option ℕ) (votes : List Vote) → IfSome own (λ ballot. IsPromised promised ballot) → All (λ (vote : Vote). IsPromised promised vote.ballot) votes
+greatest_of : (own promised : Option ℕ) (votes : List Vote) → IfSome own (λ ballot. IsWithinPromise promised ballot) → All (λ (vote : Vote). IsWithinPromise promised vote.ballot) votes
     → IsGreatest promised (option_list own ++ (option_list (promise_above own promised) ++ ballots_of votes))
 greatest_of None None votes own_is votes_are = no_votes_promised votes votes_are
 greatest_of (Some own) None votes own_is votes_are = absurd own_is
@@ -87,7 +87,7 @@ after_base kept own slot rows round =
 pub base_stands : (jobs : ℕ) (kept : Durable) (own : Option ℕ) (slot : ℕ) (rows : List JobRow) → IsKeptSound kept own → RowsStand rows jobs → Stands jobs (base_records kept own slot rows) (after_delta (BaseDelta slot rows) kept)
 base_stands jobs kept own slot rows sound stand =
     let copy : Copy = written kept own slot in
-    let votes_are : All (λ (vote : Vote). IsPromised kept.promised vote.ballot) (votes_from slot kept.votes) = all_kept (λ (vote : Vote). IsPromised kept.promised vote.ballot) slot kept.votes sound.votes_promised in
+    let votes_are : All (λ (vote : Vote). IsWithinPromise kept.promised vote.ballot) (votes_from slot kept.votes) = all_kept (λ (vote : Vote). IsWithinPromise kept.promised vote.ballot) slot kept.votes sound.votes_promised in
     inr (record {
       slot = slot;
       rows = rows;

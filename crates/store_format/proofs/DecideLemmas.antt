@@ -23,7 +23,7 @@ use Rattle.store_format.specs.declared.place.Place.{Place}
 use Rattle.store_format.specs.declared.place.Place.TheVariants.{Start, Rows, CopyStart, CopyTried, CopyPromised, CopyVotes, Log}
 use Rattle.store_format.specs.Area.{StandFor, IsFirstRecordAtFault, fresh_kept}
 use Rattle.store_format.specs.Places.{next_place, taken}
-use Rattle.store_format.specs.Records.{record_kind, packet_of, record_bytes, IsRecord}
+use Rattle.store_format.specs.Records.{record_kind, record_packet, record_bytes, IsRecord}
 use Rattle.store_format.proofs.Machine.{option_cases}
 use Rattle.store_format.proofs.RecordLemmas.{packet_kind_of, IsRecord-kind, IsRecord-packet, IsRecord-same}
 use Rattle.store_format.proofs.BodyLemmas.{Behind, Behind-none, Behind-next, Behind-stand, IsRefused, fault_here, fault_at_end}
@@ -81,7 +81,7 @@ packet_fits_decided packet =
 
 record_decided : (body : List ℕ) (item : Record) → Decided (IsRecord body item)
 record_decided body item =
-    let packet : Packet = packet_of item in
+    let packet : Packet = record_packet item in
     same_decided
     (λ (is : ((keeps_kind (fields_of 0 packet) ≡ true) × (keeps_members 7 0 (fields_of 0 packet) ≡ true)) × (FitPacketFields (fields_of 0 packet) × (body ≡ record_bytes item))).
     record { packet = record { kind = is.0.0; members_keep = is.0.1; fits = is.1.0; spelled = refl }; spelled = is.1.1 })
@@ -114,7 +114,7 @@ abbrev record_as : ℕ → Packet → Record
 record_as kind packet =
     let f = fields_of 0 packet in record_from kind f.tag f.job f.ballot f.slot f.old f.at f.moment f.last
 
-row_as : (slot job launched voided : ℕ) (cursor started last : Option ℤ) → record_as 5 (packet_of (Row slot (record { job = job; cursor = cursor; open_now = started; last = last; launched = launched; voided = voided }))) ≡ Row slot (record { job = job; cursor = cursor; open_now = started; last = last; launched = launched; voided = voided })
+row_as : (slot job launched voided : ℕ) (cursor started last : Option ℤ) → record_as 5 (record_packet (Row slot (record { job = job; cursor = cursor; open_now = started; last = last; launched = launched; voided = voided }))) ≡ Row slot (record { job = job; cursor = cursor; open_now = started; last = last; launched = launched; voided = voided })
 row_as slot job launched voided None None None = refl
 row_as slot job launched voided None None (Some l) = refl
 row_as slot job launched voided None (Some o) None = refl
@@ -124,13 +124,13 @@ row_as slot job launched voided (Some a) None (Some l) = refl
 row_as slot job launched voided (Some a) (Some o) None = refl
 row_as slot job launched voided (Some a) (Some o) (Some l) = refl
 
-vote_as : (slot ballot : ℕ) (entry : Entry) → record_as 3 (packet_of (Voted (record { slot = slot; ballot = ballot; entry = entry }))) ≡ Voted (record { slot = slot; ballot = ballot; entry = entry })
+vote_as : (slot ballot : ℕ) (entry : Entry) → record_as 3 (record_packet (Voted (record { slot = slot; ballot = ballot; entry = entry }))) ≡ Voted (record { slot = slot; ballot = ballot; entry = entry })
 vote_as slot ballot Noop = refl
 vote_as slot ballot (StartEntry job at now) = refl
 vote_as slot ballot (End job at Launch) = refl
 vote_as slot ballot (End job at Void) = refl
 
-record_again : (item : Record) → record_as (record_kind item) (packet_of item) ≡ item
+record_again : (item : Record) → record_as (record_kind item) (record_packet item) ≡ item
 record_again (Tried ballot) = refl
 record_again (Promised ballot) = refl
 record_again (Voted vote) = vote_as vote.slot vote.ballot vote.entry
@@ -145,9 +145,9 @@ candidate body =
 candidate_is : (body : List ℕ) (item : Record) → IsRecord body item → candidate body ≡ item
 candidate_is body item is =
     let bytes = IsRecord-packet body item is in
-    let fields = ap fields_in (sym bytes) ∙ fields_again 7 0 (packet_of item) (packet_bytes 0 (packet_of item)) is.packet in
+    let fields = ap fields_in (sym bytes) ∙ fields_again 7 0 (record_packet item) (packet_bytes 0 (record_packet item)) is.packet in
     ap (λ f. record_from (get_or body 0 0) f.tag f.job f.ballot f.slot f.old f.at f.moment f.last) fields
-    ∙ ap (λ (kind : ℕ). record_as kind (packet_of item)) (IsRecord-kind body item is) ∙ record_again item
+    ∙ ap (λ (kind : ℕ). record_as kind (record_packet item)) (IsRecord-kind body item is) ∙ record_again item
 
 body_decided : (body : List ℕ) → ((item : Record) × IsRecord body item) ⊎ ((item : Record) → IsRecord body item → ⊥)
 body_decided body = elim (record_decided body (candidate body)) [

@@ -16,7 +16,7 @@ use Rattle.paxos_letter.proofs.PacketBack.{same_packets}
 use Rattle.paxos_letter.proofs.SingleLemmas.{fields_again}
 use Rattle.store_format.specs.declared.body.Record.{Record}
 use Rattle.store_format.specs.declared.body.Record.TheVariants.{Tried, Promised, Voted, Base, Row}
-use Rattle.store_format.specs.Records.{record_kind, packet_of, record_bytes, IsRecord}
+use Rattle.store_format.specs.Records.{record_kind, record_packet, record_bytes, IsRecord}
 
 -- the bytes of a packet behind its kind
 abbrev rest_of : Packet → List ℕ
@@ -26,14 +26,14 @@ rest_of packet =
 packet_bytes-rest : (packet : Packet) → packet_bytes 0 packet ≡ (fields_of 0 packet).kind ∷ rest_of packet
 packet_bytes-rest packet = refl
 
-pub record_bytes-rest : (item : Record) → record_bytes item ≡ record_kind item ∷ rest_of (packet_of item)
+pub record_bytes-rest : (item : Record) → record_bytes item ≡ record_kind item ∷ rest_of (record_packet item)
 record_bytes-rest item = refl
 
 -- the kind of the packet with a record's fields
 abbrev pub packet_kind_of : ℕ → ℕ
 packet_kind_of kind = if eqb kind 1 then 1 else if eqb kind 2 then 1 else if eqb kind 3 then 4 else if eqb kind 4 then 9 else 10
 
-pub packet_kind : (item : Record) → (fields_of 0 (packet_of item)).kind ≡ packet_kind_of (record_kind item)
+pub packet_kind : (item : Record) → (fields_of 0 (record_packet item)).kind ≡ packet_kind_of (record_kind item)
 packet_kind (Tried ballot) = refl
 packet_kind (Promised ballot) = refl
 packet_kind (Voted vote) = refl
@@ -48,7 +48,7 @@ record_with kind (SnapRow slot row) = Row slot row
 record_with kind (Snap slot count) = Base slot count
 record_with kind packet = Base 0 0
 
-pub record_back : (item : Record) → record_with (record_kind item) (packet_of item) ≡ item
+pub record_back : (item : Record) → record_with (record_kind item) (record_packet item) ≡ item
 record_back (Tried ballot) = refl
 record_back (Promised ballot) = refl
 record_back (Voted vote) = refl
@@ -58,31 +58,31 @@ record_back (Row slot row) = refl
 pub IsRecord-kind : (bytes : List ℕ) (item : Record) → IsRecord bytes item → get_or bytes 0 0 ≡ record_kind item
 IsRecord-kind bytes item is = ap (λ (bs : List ℕ). get_or bs 0 0) is.spelled
 
-pub IsRecord-packet : (bytes : List ℕ) (item : Record) → IsRecord bytes item → packet_bytes 0 (packet_of item) ≡ set bytes 0 (packet_kind_of (get_or bytes 0 0))
+pub IsRecord-packet : (bytes : List ℕ) (item : Record) → IsRecord bytes item → packet_bytes 0 (record_packet item) ≡ set bytes 0 (packet_kind_of (get_or bytes 0 0))
 IsRecord-packet bytes item is =
-    let kind : packet_kind_of (get_or bytes 0 0) ≡ (fields_of 0 (packet_of item)).kind = ap packet_kind_of (IsRecord-kind bytes item is) ∙ sym (packet_kind item) in
-    sym (ap (λ (k : ℕ). set bytes 0 k) kind ∙ ap (λ (bs : List ℕ). set bs 0 (fields_of 0 (packet_of item)).kind) is.spelled)
+    let kind : packet_kind_of (get_or bytes 0 0) ≡ (fields_of 0 (record_packet item)).kind = ap packet_kind_of (IsRecord-kind bytes item is) ∙ sym (packet_kind item) in
+    sym (ap (λ (k : ℕ). set bytes 0 k) kind ∙ ap (λ (bs : List ℕ). set bs 0 (fields_of 0 (record_packet item)).kind) is.spelled)
 
 -- bytes are those of one record at most
 pub IsRecord-same : (bytes : List ℕ) (one other : Record) → IsRecord bytes one → IsRecord bytes other → one ≡ other
 IsRecord-same bytes one other a b =
     let kinds : record_kind one ≡ record_kind other = sym (IsRecord-kind bytes one a) ∙ IsRecord-kind bytes other b in
-    let same : packet_bytes 0 (packet_of one) ≡ packet_bytes 0 (packet_of other) = IsRecord-packet bytes one a ∙ sym (IsRecord-packet bytes other b) in
-    let fields : fields_of 0 (packet_of one) ≡ fields_of 0 (packet_of other) =
-    sym (fields_again 7 0 (packet_of one) (packet_bytes 0 (packet_of one)) a.packet) ∙ ap fields_in same ∙ fields_again 7 0 (packet_of other) (packet_bytes 0 (packet_of other)) b.packet in
-    let packets : packet_of one ∷ [] ≡ packet_of other ∷ [] = same_packets 0 0 (packet_of one ∷ []) (packet_of other ∷ []) (ap (λ f. f ∷ []) fields) in
-    let packet : packet_of one ≡ packet_of other = cc packets in
-    sym (record_back one) ∙ ap (λ (k : ℕ). record_with k (packet_of one)) kinds ∙ ap (record_with (record_kind other)) packet ∙ record_back other
+    let same : packet_bytes 0 (record_packet one) ≡ packet_bytes 0 (record_packet other) = IsRecord-packet bytes one a ∙ sym (IsRecord-packet bytes other b) in
+    let fields : fields_of 0 (record_packet one) ≡ fields_of 0 (record_packet other) =
+    sym (fields_again 7 0 (record_packet one) (packet_bytes 0 (record_packet one)) a.packet) ∙ ap fields_in same ∙ fields_again 7 0 (record_packet other) (packet_bytes 0 (record_packet other)) b.packet in
+    let packets : record_packet one ∷ [] ≡ record_packet other ∷ [] = same_packets 0 0 (record_packet one ∷ []) (record_packet other ∷ []) (ap (λ f. f ∷ []) fields) in
+    let packet : record_packet one ≡ record_packet other = cc packets in
+    sym (record_back one) ∙ ap (λ (k : ℕ). record_with k (record_packet one)) kinds ∙ ap (record_with (record_kind other)) packet ∙ record_back other
 
 -- what `record_in` reads
-pub reads_record : (bytes : List ℕ) (kind : ℕ) (packet : Packet) (item : Record) → SpellsPacket 7 0 packet (set bytes 0 kind) → record_kind item ≡ get_or bytes 0 0 → packet_of item ≡ packet → IsRecord bytes item
+pub reads_record : (bytes : List ℕ) (kind : ℕ) (packet : Packet) (item : Record) → SpellsPacket 7 0 packet (set bytes 0 kind) → record_kind item ≡ get_or bytes 0 0 → record_packet item ≡ packet → IsRecord bytes item
 reads_record bytes kind packet item spells kinds packets =
-    let here : SpellsPacket 7 0 (packet_of item) (set bytes 0 kind) = subst (λ (p : Packet). SpellsPacket 7 0 p (set bytes 0 kind)) (sym packets) spells in
+    let here : SpellsPacket 7 0 (record_packet item) (set bytes 0 kind) = subst (λ (p : Packet). SpellsPacket 7 0 p (set bytes 0 kind)) (sym packets) spells in
     record {
       packet = record { kind = here.kind; members_keep = here.members_keep; fits = here.fits; spelled = refl };
       spelled = sym (set-get_or bytes 0 0) ∙ sym (set-set bytes 0 kind (get_or bytes 0 0))
           ∙ ap (λ (bs : List ℕ). set bs 0 (get_or bytes 0 0)) here.spelled
-          ∙ ap (λ (k : ℕ). set (packet_bytes 0 (packet_of item)) 0 k) (sym kinds);
+          ∙ ap (λ (k : ℕ). set (packet_bytes 0 (record_packet item)) 0 k) (sym kinds);
     }
 
 zero_fits : FitsSigned w64 (pos 0)
@@ -113,6 +113,6 @@ IsRecord-fresh slot job slot_fits job_fits =
       spelled = refl;
     }
 
-pub reads_option : (bytes : List ℕ) (kind : ℕ) (packet : Packet) (found : Option Record) → SpellsPacket 7 0 packet (set bytes 0 kind) → IfSome found (λ item. record_kind item ≡ get_or bytes 0 0) → IfSome found (λ item. packet_of item ≡ packet) → IfSome found (λ item. IsRecord bytes item)
+pub reads_option : (bytes : List ℕ) (kind : ℕ) (packet : Packet) (found : Option Record) → SpellsPacket 7 0 packet (set bytes 0 kind) → IfSome found (λ item. record_kind item ≡ get_or bytes 0 0) → IfSome found (λ item. record_packet item ≡ packet) → IfSome found (λ item. IsRecord bytes item)
 reads_option bytes kind packet None spells kinds packets = tt
 reads_option bytes kind packet (Some item) spells kinds packets = reads_record bytes kind packet item spells kinds packets

@@ -16,7 +16,7 @@ use Rattle.paxos_base.specs.Ballot.{IsAbove, IsAtLeast}
 use Rattle.store_format.specs.declared.body.Record.{Record}
 use Rattle.store_format.specs.declared.body.Record.TheVariants.{Tried, Promised, Voted, Row}
 use Rattle.store_format.specs.Area.{Stands, StandFor, fresh_kept, group_of, Copy, copy_records, IsCopy, IsGreatest, after_copy}
-use Rattle.store_format.specs.Order.{ChangeMayFollow, delta_record, IsChangeLog, IsKeptSound, IsPromised, own_after}
+use Rattle.store_format.specs.Order.{ChangeMayFollow, delta_record, IsChangeLog, IsKeptSound, IsWithinPromise, own_after}
 use Rattle.store_format.specs.Records.{record_ballot, tried_in, own_ballot}
 use Rattle.store_format.proofs.LogLemmas.{IsChangeLog-uncons, IsChangeLog-empty}
 use Rattle.store_format.proofs.CopyLemmas.{copy_with}
@@ -25,7 +25,7 @@ use Rattle.store_format.proofs.BodyLemmas.{own_ballot-append, last_or-append}
 -- ---- changes
 
 -- a ballot that was promised still is after a promise of a greater one
-promised_on : (promised : Option ℕ) (ballot other : ℕ) → IsAtLeast ballot promised → IsPromised promised other → IsPromised (Some ballot) other
+promised_on : (promised : Option ℕ) (ballot other : ℕ) → IsAtLeast ballot promised → IsWithinPromise promised other → IsWithinPromise (Some ballot) other
 promised_on None ballot other least is = absurd is
 promised_on (Some greatest) ballot other least is = omega (arith, least, is)
 
@@ -33,13 +33,13 @@ above_least : (promised : Option ℕ) (ballot : ℕ) → IsAbove ballot promised
 above_least None ballot above = tt
 above_least (Some other) ballot above = omega (arith, above)
 
-own_on : (promised own : Option ℕ) (ballot : ℕ) → IsAtLeast ballot promised → IfSome own (λ other. IsPromised promised other) → IfSome own (λ other. IsPromised (Some ballot) other)
+own_on : (promised own : Option ℕ) (ballot : ℕ) → IsAtLeast ballot promised → IfSome own (λ other. IsWithinPromise promised other) → IfSome own (λ other. IsWithinPromise (Some ballot) other)
 own_on promised None ballot least is = tt
 own_on promised (Some own) ballot least is = promised_on promised ballot own least is
 
-votes_on : (promised : Option ℕ) (ballot : ℕ) (votes : List Vote) → IsAtLeast ballot promised → All (λ (vote : Vote). IsPromised promised vote.ballot) votes → All (λ (vote : Vote). IsPromised (Some ballot) vote.ballot) votes
+votes_on : (promised : Option ℕ) (ballot : ℕ) (votes : List Vote) → IsAtLeast ballot promised → All (λ (vote : Vote). IsWithinPromise promised vote.ballot) votes → All (λ (vote : Vote). IsWithinPromise (Some ballot) vote.ballot) votes
 votes_on promised ballot votes least is =
-    All-weaker (λ (vote : Vote). IsPromised promised vote.ballot) (λ (vote : Vote). IsPromised (Some ballot) vote.ballot) (λ vote h. promised_on promised ballot vote.ballot least h) votes is
+    All-weaker (λ (vote : Vote). IsWithinPromise promised vote.ballot) (λ (vote : Vote). IsWithinPromise (Some ballot) vote.ballot) (λ vote h. promised_on promised ballot vote.ballot least h) votes is
 
 -- what holds of each vote and of one more holds of each with that one put in
 all_put : (P : Vote → Type 0) (vote : Vote) (votes : List Vote) → P vote → All P votes → All P (put_vote vote votes)
@@ -54,7 +54,7 @@ all_kept P slot votes all = All-filter _ P votes all
 pub IsKeptSound-change : (jobs : ℕ) (kept : Durable) (own : Option ℕ) (change : Delta) → IsKeptSound kept own → ChangeMayFollow jobs kept change → IsKeptSound (after_delta change kept) (own_after change own)
 unfolding after_delta
 IsKeptSound-change jobs kept own (TriedDelta ballot) sound may =
-    let promised : IsPromised (Some ballot) ballot = omega arith in
+    let promised : IsWithinPromise (Some ballot) ballot = omega arith in
     record {
       round = refl;
       own_promised = promised;
@@ -71,11 +71,11 @@ IsKeptSound-change jobs kept own (PromisedDelta ballot) sound may =
       votes_from_base = sound.votes_from_base;
     }
 IsKeptSound-change jobs kept own (VotedDelta vote) sound may =
-    let here : IsPromised (Some vote.ballot) vote.ballot = omega arith in
+    let here : IsWithinPromise (Some vote.ballot) vote.ballot = omega arith in
     record {
       round = sound.round;
       own_promised = own_on kept.promised own vote.ballot may.0 sound.own_promised;
-      votes_promised = all_put (λ (v : Vote). IsPromised (Some vote.ballot) v.ballot) vote kept.votes here (votes_on kept.promised vote.ballot kept.votes may.0 sound.votes_promised);
+      votes_promised = all_put (λ (v : Vote). IsWithinPromise (Some vote.ballot) v.ballot) vote kept.votes here (votes_on kept.promised vote.ballot kept.votes may.0 sound.votes_promised);
       votes_rise = SlotsRise-put_vote vote kept.votes sound.votes_rise;
       votes_from_base = all_put (λ (v : Vote). kept.base ≤ v.slot) vote kept.votes may.1 sound.votes_from_base;
     }
@@ -83,7 +83,7 @@ IsKeptSound-change jobs kept own (BaseDelta slot rows) sound may =
     record {
       round = sound.round;
       own_promised = sound.own_promised;
-      votes_promised = all_kept (λ (v : Vote). IsPromised kept.promised v.ballot) slot kept.votes sound.votes_promised;
+      votes_promised = all_kept (λ (v : Vote). IsWithinPromise kept.promised v.ballot) slot kept.votes sound.votes_promised;
       votes_rise = SlotsRise-votes_from slot kept.votes sound.votes_rise;
       votes_from_base = all_from slot kept.votes;
     }
@@ -139,8 +139,8 @@ copy_ballots (Some own) None votes = ap (λ (ballots : List ℕ). own ∷ ballot
 copy_ballots None (Some ballot) votes = ap (λ (ballots : List ℕ). ballot ∷ ballots) (voted_ballots votes)
 copy_ballots (Some own) (Some ballot) votes = ap (λ (ballots : List ℕ). own ∷ ballot ∷ ballots) (voted_ballots votes)
 
-all_promised : (promised : Option ℕ) (ballots : List ℕ) → IsGreatest promised ballots → All (λ (ballot : ℕ). IsPromised promised ballot) ballots
-all_promised None ballots none = subst (All (λ (ballot : ℕ). IsPromised None ballot)) (sym none) (All-nil _)
+all_promised : (promised : Option ℕ) (ballots : List ℕ) → IsGreatest promised ballots → All (λ (ballot : ℕ). IsWithinPromise promised ballot) ballots
+all_promised None ballots none = subst (All (λ (ballot : ℕ). IsWithinPromise None ballot)) (sym none) (All-nil _)
 all_promised (Some greatest) ballots is = is.1
 
 all_behind : (P : ℕ → Type 0) (xs ys : List ℕ) → All P (xs ++ ys) → All P ys
@@ -152,13 +152,13 @@ all_votes P [] all = All-nil _
 all_votes P (vote ∷ votes) all =
     All-cons (λ (v : Vote). P v.ballot) vote votes (All-head P vote.ballot (ballots_of votes) all) (all_votes P votes (All-tail P vote.ballot (ballots_of votes) all))
 
-own_first : (promised tried : Option ℕ) (others : List ℕ) → All (λ (ballot : ℕ). IsPromised promised ballot) (option_list tried ++ others) → IfSome tried (λ ballot. IsPromised promised ballot)
+own_first : (promised tried : Option ℕ) (others : List ℕ) → All (λ (ballot : ℕ). IsWithinPromise promised ballot) (option_list tried ++ others) → IfSome tried (λ ballot. IsWithinPromise promised ballot)
 own_first promised None others all = tt
-own_first promised (Some own) others all = All-head (λ (ballot : ℕ). IsPromised promised ballot) own others all
+own_first promised (Some own) others all = All-head (λ (ballot : ℕ). IsWithinPromise promised ballot) own others all
 
 IsKeptSound-copy : (slot : ℕ) (rows : List JobRow) (copy : Copy) (promised : Option ℕ) → IsCopy slot copy → IsGreatest promised (filter_map record_ballot (copy_records copy)) → IsKeptSound (after_copy slot rows copy promised) copy.tried
 IsKeptSound-copy slot rows copy promised is_copy greatest =
-    let P : ℕ → Type 0 = λ ballot. IsPromised promised ballot in
+    let P : ℕ → Type 0 = λ ballot. IsWithinPromise promised ballot in
     let behind : List ℕ = option_list copy.promised ++ ballots_of copy.votes in
     let all : All P (option_list copy.tried ++ behind) =
     subst (All P) (copy_ballots copy.tried copy.promised copy.votes) (all_promised promised (filter_map record_ballot (copy_records copy)) greatest) in

@@ -26,10 +26,12 @@ pub record Copy : Type 0 where
   pub promised : Option ℕ
   pub votes : List Vote
 
+-- the record of a round that was tried, if one was
 abbrev pub tried_records : Option ℕ → List Record
 tried_records None = []
 tried_records (Some ballot) = Tried ballot ∷ []
 
+-- the record of a promise, if there is one
 abbrev pub promised_records : Option ℕ → List Record
 promised_records None = []
 promised_records (Some ballot) = Promised ballot ∷ []

@@ -46,15 +46,15 @@ own_round None = 0
 own_round (Some ballot) = round_of ballot
 
 -- the ballot is the promised one or below it
-abbrev pub IsPromised : Option ℕ → ℕ → Type 0
-IsPromised promised ballot = IsSomeAnd promised (λ other. ballot ≤ other)
+abbrev pub IsWithinPromise : Option ℕ → ℕ → Type 0
+IsWithinPromise promised ballot = IsSomeAnd promised (λ other. ballot ≤ other)
 
 -- Of what is kept, the highest round is that of the replica's own ballot, no ballot is above the promise, and the votes are
 -- at slots from the base on.
 pub record IsKeptSound (kept : Durable) (own : Option ℕ) : Type 0 where
   pub round : kept.tried ≡ own_round own
-  pub own_promised : IfSome own (λ ballot. IsPromised kept.promised ballot)
-  pub votes_promised : All (λ vote. IsPromised kept.promised vote.ballot) kept.votes
+  pub own_promised : IfSome own (λ ballot. IsWithinPromise kept.promised ballot)
+  pub votes_promised : All (λ vote. IsWithinPromise kept.promised vote.ballot) kept.votes
   pub votes_rise : SlotsRise kept.votes
   pub votes_from_base : All (λ vote. kept.base ≤ vote.slot) kept.votes
 

@@ -19,20 +19,20 @@ record_kind (Base slot count) = 4
 record_kind (Row slot row) = 5
 
 -- the packet that has the fields of a record
-abbrev pub packet_of : Record → Packet
-packet_of (Tried ballot) = Prepare ballot 0
-packet_of (Promised ballot) = Prepare ballot 0
-packet_of (Voted vote) = Accept vote.ballot vote.slot vote.entry
-packet_of (Base slot count) = Snap slot count
-packet_of (Row slot row) = SnapRow slot row
+abbrev pub record_packet : Record → Packet
+record_packet (Tried ballot) = Prepare ballot 0
+record_packet (Promised ballot) = Prepare ballot 0
+record_packet (Voted vote) = Accept vote.ballot vote.slot vote.entry
+record_packet (Base slot count) = Snap slot count
+record_packet (Row slot row) = SnapRow slot row
 
 -- the bytes of a record: those of its packet, from 0, with the record's kind in place of the packet's
 abbrev pub record_bytes : Record → List ℕ
-record_bytes item = slice_set (packet_bytes 0 (packet_of item)) (offset_of KindField) (record_kind item)
+record_bytes item = slice_set (packet_bytes 0 (record_packet item)) (offset_of KindField) (record_kind item)
 
 -- The bytes are those of a record, whose packet is one from member 0 of seven.
 pub record IsRecord (bytes : List ℕ) (item : Record) : Type 0 where
-  pub packet : SpellsPacket 7 0 (packet_of item) (packet_bytes 0 (packet_of item))
+  pub packet : SpellsPacket 7 0 (record_packet item) (packet_bytes 0 (record_packet item))
   pub spelled : bytes ≡ record_bytes item
 
 -- the bodies are those of the records, place by place

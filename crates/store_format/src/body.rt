@@ -2,7 +2,7 @@
 ghost use Rattle.std.specs.Prelude.{◌≡◌, Some, IfSome};
 ghost use Rattle.paxos_letter.specs.Spelling.{fields_of};
 ghost use Rattle.store_format.specs.declared.body.Record.{Record};
-ghost use Rattle.store_format.specs.Records.{record_kind, packet_of, record_bytes, IsRecord, RowHasCursor};
+ghost use Rattle.store_format.specs.Records.{record_kind, record_packet, record_bytes, IsRecord, RowHasCursor};
 
 use paxos_base::layout::{KIND, PACKET_BYTES};
 use paxos_base::{Ballot, JobRow, Vote};
@@ -62,7 +62,7 @@ impl Record {
     }
 
     fn packet(&self) -> Packet
-        ensures { result ≡ packet_of self.now }
+        ensures { result ≡ record_packet self.now }
     {
         match *self {
             Record::Tried(ballot) | Record::Promised(ballot) => Packet::Prepare { ballot, slot: 0 },
@@ -89,7 +89,7 @@ pub fn record_bytes(item: &Record) -> [u8; PACKET_BYTES]
 
 // The kind of the packet that has the fields of a record of this kind.
 fn packet_kind(kind: u8) -> Option<u8>
-    ensures { (item : Record) → record_kind item ≡ kind → result ≡ Some (fields_of 0 (packet_of item)).kind }
+    ensures { (item : Record) → record_kind item ≡ kind → result ≡ Some (fields_of 0 (record_packet item)).kind }
 {
     match kind {
         TRIED | PROMISED => Some(PREPARE),
@@ -103,8 +103,8 @@ fn packet_kind(kind: u8) -> Option<u8>
 // The record of a kind that has the fields of a packet.
 fn record_of(kind: u8, packet: &Packet) -> Option<Record>
     ensures kind { IfSome result (λ item. record_kind item ≡ kind) }
-    ensures packet { IfSome result (λ item. packet_of item ≡ packet.now) }
-    ensures only { (item : Record) → record_kind item ≡ kind → packet_of item ≡ packet.now → result ≡ Some item }
+    ensures packet { IfSome result (λ item. record_packet item ≡ packet.now) }
+    ensures only { (item : Record) → record_kind item ≡ kind → record_packet item ≡ packet.now → result ≡ Some item }
 {
     match *packet {
         Packet::Prepare { ballot, slot: 0 } if kind == TRIED => Some(Record::Tried(ballot)),

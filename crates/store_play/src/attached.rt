@@ -24,13 +24,13 @@ pub struct Attached<'a> {
 }
 
 impl<'a> Model for Attached<'a> {
-    ghost use Rattle.store_play.specs.Attached.{AttachedState, IsAttached};
+    ghost use Rattle.store_play.specs.Attached.{AttachedState, IsStoreAttached};
 
     ghost Value = { AttachedState };
 
     ghost view = { λ here. record { table = here.owner.table.now; disk = here.disk; store = here.store; kept = here.kept } };
 
-    ghost invariant = { λ here. IsAttached (record { table = here.owner.table.now; disk = here.disk; store = here.store; kept = here.kept }) };
+    ghost invariant = { λ here. IsStoreAttached (record { table = here.owner.table.now; disk = here.disk; store = here.store; kept = here.kept }) };
 }
 
 // What is kept after a change.

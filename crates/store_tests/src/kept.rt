@@ -2,7 +2,7 @@
 ghost use Rattle.std.specs.Prelude.{◌≡◌, IfOk, OnOk};
 ghost use Rattle.paxos_base.specs.Durable.{after_delta};
 ghost use Rattle.store_format.specs.Order.{ChangeMayFollow};
-ghost use Rattle.replica_store.specs.Store.{jobs_of, StoreKeeps, IsStoreSettled};
+ghost use Rattle.replica_store.specs.Store.{jobs_of_store, StoreKeeps, IsStoreSettled};
 
 use crate::area_text::fill;
 use crate::change::{Change, JOBS, delta_of};
@@ -33,7 +33,7 @@ impl Kept {
     fn attach<D: Disk>(alloc: Global, disk: &mut D) -> Result<Kept, StoreFault>
         ensures settled { IfOk result (λ kept. IsStoreSettled D.seen D.may_leave D.honest disk.new kept.store) }
         ensures keeps { IfOk result (λ kept. StoreKeeps kept.store kept.durable) }
-        ensures jobs { IfOk result (λ kept. jobs_of kept.store ≡ 2) }
+        ensures jobs { IfOk result (λ kept. jobs_of_store kept.store ≡ 2) }
     {
         let (store, durable) = Store::attach(alloc, disk, JOBS)?;
         Ok(Kept { store, durable })
@@ -42,11 +42,11 @@ impl Kept {
     fn save<D: Disk>(&mut self, disk: &mut D, delta: Delta) -> Result<(), StoreFault>
         requires settled { IsStoreSettled D.seen D.may_leave D.honest disk.old self.old.store }
         requires keeps { StoreKeeps self.old.store self.old.durable }
-        requires jobs { jobs_of self.old.store ≡ 2 }
+        requires jobs { jobs_of_store self.old.store ≡ 2 }
         requires follows { ChangeMayFollow 2 self.old.durable delta }
         ensures settled { OnOk result (IsStoreSettled D.seen D.may_leave D.honest disk.new self.new.store) }
         ensures keeps { OnOk result (StoreKeeps self.new.store self.new.durable) }
-        ensures jobs { jobs_of self.new.store ≡ 2 }
+        ensures jobs { jobs_of_store self.new.store ≡ 2 }
     {
         self.store.save(disk, &delta)?;
         take(&mut self.durable, delta)?;
@@ -62,7 +62,7 @@ impl Kept {
     ) -> Result<(), StoreFault>
         requires settled { IsStoreSettled D.seen D.may_leave D.honest disk.old self.old.store }
         requires keeps { StoreKeeps self.old.store self.old.durable }
-        requires jobs { jobs_of self.old.store ≡ 2 }
+        requires jobs { jobs_of_store self.old.store ≡ 2 }
     {
         for change in changes {
             let delta = delta_of(alloc, *change)?;

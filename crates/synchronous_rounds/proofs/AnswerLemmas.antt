@@ -26,7 +26,7 @@ use Rattle.synchronous_rounds.proofs.Lists.{sent_in}
 use Rattle.synchronous_rounds.proofs.MailLemmas.{occurs_left, occurs_letter, occurs_next, occurs_right}
 use Rattle.synchronous_rounds.proofs.RoundLemmas.{round_after, round_planned}
 use Rattle.synchronous_rounds.proofs.TickLemmas.{holds_rebased}
-use Rattle.synchronous_rounds.specs.Campaign.{HasCampaigned, HasPromised, HasRefused, IsAnswered, IsCandidate}
+use Rattle.synchronous_rounds.specs.Campaign.{HasCampaigned, HasPromised, HasRefused, HaveAllAnswered, IsCandidate}
 use Rattle.synchronous_rounds.proofs.ReplyLemmas.{answers_steady, hears_campaign, tick_steady}
 use Rattle.due_set.proofs.Rising.{Contains-head as in_first}
 
@@ -94,7 +94,7 @@ candidate_tick self first heard best at now plan state holding planned =
 -- ---- the round
 
 -- all others answer a campaign
-pub first_answered : (members candidate : ℕ) (best : List Vote) (at : Progress) (now : ℤ) (advice : ℕ → Advice) (answers : ℕ → Option SchedRow) (calm : Calm) → HasCampaigned members candidate best at calm → IsAdvised members at.table now advice calm → (base : ℕ) × IsAnswered members candidate best (with_base base at) (calm_round members now advice answers calm)
+pub first_answered : (members candidate : ℕ) (best : List Vote) (at : Progress) (now : ℤ) (advice : ℕ → Advice) (answers : ℕ → Option SchedRow) (calm : Calm) → HasCampaigned members candidate best at calm → IsAdvised members at.table now advice calm → (base : ℕ) × HaveAllAnswered members candidate best (with_base base at) (calm_round members now advice answers calm)
 first_answered members candidate best at now advice answers calm campaigned advised =
     (mine.0, record { one = campaigned.one; stands = subst (λ s. IsCandidate best (with_base mine.0 at) candidate s) (sym (round_after members now advice answers calm candidate)) mine.1; answered = answered })
   where

@@ -17,7 +17,7 @@ use Rattle.synchronous_rounds.specs.Ruled.{AreWithin, IsBehind, IsRuled, Occurs,
 use Rattle.synchronous_rounds.proofs.FollowerLemmas.{behind_all, behind_hear}
 use Rattle.synchronous_rounds.proofs.Lists.{acts_append, sent_in}
 use Rattle.synchronous_rounds.proofs.MailLemmas.{occurs_left, occurs_letter, occurs_next, occurs_right}
-use Rattle.synchronous_rounds.specs.CatchUp.{HasSaid, HaveAsked}
+use Rattle.synchronous_rounds.specs.CatchUp.{HasSaidToAll, HaveAsked}
 use Rattle.synchronous_rounds.proofs.KeepLemmas.{answer_after, answer_letters, keeps_all, keeps_mail, level_mail, stays_level}
 use Rattle.due_set.proofs.Rising.{Contains-head as in_first, Contains-tail as in_rest, Contains-cases as cons_cases}
 
@@ -95,7 +95,7 @@ asks_mail self b p c now plan (letter ∷ mail) state within occurs behind =
     ]
 
 -- all that lack something ask for it
-pub asked_next : (members leader ballot prefix : ℕ) (now : ℤ) (advice : ℕ → Advice) (answers : ℕ → Option SchedRow) (calm : Calm) → IsRuled members leader ballot prefix calm → HasSaid members leader ballot prefix calm → HaveAsked members leader prefix (calm_round members now advice answers calm)
+pub asked_next : (members leader ballot prefix : ℕ) (now : ℤ) (advice : ℕ → Advice) (answers : ℕ → Option SchedRow) (calm : Calm) → IsRuled members leader ballot prefix calm → HasSaidToAll members leader ballot prefix calm → HaveAsked members leader prefix (calm_round members now advice answers calm)
 asked_next members leader ballot prefix now advice answers calm ruled said who below apart =
     let self = identity_of members who in
     let behind = ruled.behind who below apart in

@@ -16,7 +16,7 @@ use Rattle.synchronous_rounds.specs.Flights.{with_base}
 use Rattle.synchronous_rounds.specs.Ruled.{IsBehind, IsLeading, IsRuled, Occurs, Progress}
 use Rattle.synchronous_rounds.proofs.RoundLemmas.{round_after}
 use Rattle.synchronous_rounds.proofs.RuledLemmas.{plain_mail, ruled_by, ruled_next}
-use Rattle.synchronous_rounds.specs.Campaign.{ComesToLead, HasCampaigned, HasPromised, HasRefused, HasYielded, IsAnswered}
+use Rattle.synchronous_rounds.specs.Campaign.{ComesToLead, HasCampaigned, HasPromised, HasRefused, HasYielded, HaveAllAnswered}
 use Rattle.synchronous_rounds.proofs.AnswerLemmas.{first_answered}
 use Rattle.synchronous_rounds.proofs.CandidateLemmas.{Bid, Promised, all_lead, begins_alone, competes_mail}
 use Rattle.synchronous_rounds.proofs.ReplyLemmas.{tick_steady}
@@ -71,7 +71,7 @@ round_yields members table b from other now advice answers calm who below few al
 -- ---- the round
 
 -- where all others have promised, nobody has learned or promised more, and the mails are within
-first_ruled : (members candidate : ℕ) (best : List Vote) (at : Progress) (now : ℤ) (advice : ℕ → Advice) (answers : ℕ → Option SchedRow) (calm : Calm) → IsAdvised members at.table now advice calm → IsAnswered members candidate best at (calm_round members now advice answers calm) → ((who : ℕ) → who < members → (who ≡ candidate → ⊥) → IsBehind at.ballot at.prefix ((calm_round members now advice answers calm).replicas who)) → IsRuled members candidate at.ballot at.prefix (calm_round members now advice answers calm)
+first_ruled : (members candidate : ℕ) (best : List Vote) (at : Progress) (now : ℤ) (advice : ℕ → Advice) (answers : ℕ → Option SchedRow) (calm : Calm) → IsAdvised members at.table now advice calm → HaveAllAnswered members candidate best at (calm_round members now advice answers calm) → ((who : ℕ) → who < members → (who ≡ candidate → ⊥) → IsBehind at.ballot at.prefix ((calm_round members now advice answers calm).replicas who)) → IsRuled members candidate at.ballot at.prefix (calm_round members now advice answers calm)
 first_ruled members candidate best at now advice answers calm advised answered behind =
     ruled_by members candidate at.ballot at.prefix at.table now advice answers calm answered.one.member answered.one.few answered.one.more advised behind
     (omega (arith, answered.stands.promised)) (omega (arith, answered.stands.learned))
@@ -94,14 +94,14 @@ HasPromisedTo candidate at calm who = (who ≡ candidate → ⊥) → HasPromise
 abbrev HasRefusedTo : (candidate : ℕ) → Progress → Calm → ℕ → Type 0
 HasRefusedTo candidate at calm who = (who ≡ candidate → ⊥) × HasRefused who at.ballot at.prefix (calm.mails candidate) (calm.replicas who)
 
-answer_cases : (members candidate : ℕ) (best : List Vote) (at : Progress) (calm : Calm) → IsAnswered members candidate best at calm → (who : ℕ) → who < members → HasPromisedTo candidate at calm who ⊎ HasRefusedTo candidate at calm who
+answer_cases : (members candidate : ℕ) (best : List Vote) (at : Progress) (calm : Calm) → HaveAllAnswered members candidate best at calm → (who : ℕ) → who < members → HasPromisedTo candidate at calm who ⊎ HasRefusedTo candidate at calm who
 answer_cases members candidate best at calm answered who below = elim (cases_eq who candidate) [
   | inl same ↦ inl (λ apart. absurd (apart same))
   | inr apart ↦ elim (answered.answered who below apart) [ inl promised ↦ inl (λ again. promised) | inr refused ↦ inr (apart, refused) ]
 ]
 
 -- the round in which it hears the answers
-second_round_of : (members candidate : ℕ) (best : List Vote) (at : Progress) (now : ℤ) (advice : ℕ → Advice) (answers : ℕ → Option SchedRow) (calm : Calm) → IsAnswered members candidate best at calm → calm.waits candidate ≡ None → IsAdvised members at.table now advice calm → (((who : ℕ) → who < members → (who ≡ candidate → ⊥) → IsBehind at.ballot at.prefix (calm.replicas who)) → IsRuled members candidate at.ballot at.prefix calm) → ComesToLead members candidate at advice calm (calm_round members now advice answers calm) ⊎ HasYielded members candidate at.ballot calm (calm_round members now advice answers calm)
+second_round_of : (members candidate : ℕ) (best : List Vote) (at : Progress) (now : ℤ) (advice : ℕ → Advice) (answers : ℕ → Option SchedRow) (calm : Calm) → HaveAllAnswered members candidate best at calm → calm.waits candidate ≡ None → IsAdvised members at.table now advice calm → (((who : ℕ) → who < members → (who ≡ candidate → ⊥) → IsBehind at.ballot at.prefix (calm.replicas who)) → IsRuled members candidate at.ballot at.prefix calm) → ComesToLead members candidate at advice calm (calm_round members now advice answers calm) ⊎ HasYielded members candidate at.ballot calm (calm_round members now advice answers calm)
 second_round_of members candidate best at now advice answers calm answered alone advised ruled_if =
     elim (all_or_some members (HasPromisedTo candidate at calm) (HasRefusedTo candidate at calm) (answer_cases members candidate best at calm answered)) [
       | inl all ↦ inl (leads_alone members candidate at now advice answers calm alone advised (ruled_if (λ who below apart. (all who below apart).behind))

@@ -29,7 +29,7 @@ use Rattle.synchronous_rounds.proofs.OutcomeLemmas.{long_tick, saying_stays, sho
 use Rattle.synchronous_rounds.proofs.RoundLemmas.{round_after, round_planned}
 use Rattle.synchronous_rounds.proofs.StageLemmas.{ruled_then}
 use Rattle.synchronous_rounds.proofs.TickLemmas.{holds_rebased}
-use Rattle.synchronous_rounds.specs.CatchUp.{AreFiveRounds, AreLevel, AreTold, HasSaid, HaveAsked, IsIdle, IsRoundAt}
+use Rattle.synchronous_rounds.specs.CatchUp.{AreFiveRounds, AreLevel, AreTold, HasSaidToAll, HaveAsked, IsIdle, IsRoundAt}
 use Rattle.synchronous_rounds.proofs.AskLemmas.{asked_next}
 use Rattle.synchronous_rounds.proofs.LearnLemmas.{learned_next, level_still}
 use Rattle.synchronous_rounds.proofs.TellLemmas.{told_next}
@@ -121,12 +121,12 @@ idle_round members leader best at now calm next idle round =
     ])
 
 -- it says so, or its base rises
-pub idle_says : (members leader : ℕ) (best : List Vote) (at : Progress) (now : ℤ) (advice : ℕ → Advice) (answers : ℕ → Option SchedRow) (calm : Calm) → IsIdle members leader best at now calm → IsAdvised members at.table now advice calm → HasSaid members leader at.ballot at.prefix (calm_round members now advice answers calm) ⊎ HasRebased members leader best at now advice calm (calm_round members now advice answers calm)
+pub idle_says : (members leader : ℕ) (best : List Vote) (at : Progress) (now : ℤ) (advice : ℕ → Advice) (answers : ℕ → Option SchedRow) (calm : Calm) → IsIdle members leader best at now calm → IsAdvised members at.table now advice calm → HasSaidToAll members leader at.ballot at.prefix (calm_round members now advice answers calm) ⊎ HasRebased members leader best at now advice calm (calm_round members now advice answers calm)
 idle_says members leader best at now advice answers calm idle advised =
     elim (idle_begins members leader best at now advice answers calm idle advised) [ inl rested ↦ inl rested.told | inr rebased ↦ inr rebased ]
 
 -- one that has rested in a round
-pub rested_idle : (members leader : ℕ) (best : List Vote) (at : Progress) (now : ℤ) (advice : ℕ → Advice) (calm next : Calm) → StaysFree members leader best at now advice calm next → IsIdle members leader best at now next × HasSaid members leader at.ballot at.prefix next
+pub rested_idle : (members leader : ℕ) (best : List Vote) (at : Progress) (now : ℤ) (advice : ℕ → Advice) (calm next : Calm) → StaysFree members leader best at now advice calm next → IsIdle members leader best at now next × HasSaidToAll members leader at.ballot at.prefix next
 rested_idle members leader best at now advice calm next stays =
     (record { free = stays.free; unbound = stays.rested.free; rests = stays.rested.rests }, stays.rested.told)
 
@@ -137,7 +137,7 @@ abbrev OthersLevel : (members leader prefix : ℕ) → Calm → Type 0
 OthersLevel members leader prefix calm = (who : ℕ) → who < members → (who ≡ leader → ⊥) → prefix_of (calm.replicas who) ≡ prefix
 
 -- it has said so: three rounds later the others have learned as much
-said_level : (members leader : ℕ) (best : List Vote) (at : Progress) (now : ℤ) (one two three four : Calm) → IsIdle members leader best at now one → HasSaid members leader at.ballot at.prefix one → IsRoundAt members leader at.table now one two → IsRoundAt members leader at.table now two three → IsRoundAt members leader at.table now three four → OthersLevel members leader at.prefix four
+said_level : (members leader : ℕ) (best : List Vote) (at : Progress) (now : ℤ) (one two three four : Calm) → IsIdle members leader best at now one → HasSaidToAll members leader at.ballot at.prefix one → IsRoundAt members leader at.table now one two → IsRoundAt members leader at.table now two three → IsRoundAt members leader at.table now three four → OthersLevel members leader at.prefix four
 said_level members leader best at now one two three four idle said first second third =
     let idle_two = idle_round members leader best at now one two idle first in
     let idle_three = idle_round members leader best (with_base idle_two.0 at) now two three idle_two.1 second in
@@ -169,7 +169,7 @@ all_level members leader best at now calm five idle rounds = level
     idle_five = five_idle members leader best at now calm five idle rounds
 
     -- it says so in the first round
-    at_once : HasSaid members leader at.ballot at.prefix rounds.one → OthersLevel members leader at.prefix five
+    at_once : HasSaidToAll members leader at.ballot at.prefix rounds.one → OthersLevel members leader at.prefix five
     at_once said =
         let idle_one = idle_round members leader best at now calm rounds.one idle rounds.first in
         let level = said_level members leader best (with_base idle_one.0 at) now rounds.one rounds.two rounds.three rounds.four idle_one.1 said rounds.second rounds.third rounds.fourth in
@@ -180,15 +180,15 @@ all_level members leader best at now calm five idle rounds = level
     rebased_first : IsIdle members leader best (with_base at.prefix at) now rounds.one → OthersLevel members leader at.prefix five
     rebased_first idle_one =
         let idle_two = idle_round members leader best (with_base at.prefix at) now rounds.one rounds.two idle_one rounds.second in
-        let said : HasSaid members leader at.ballot at.prefix (calm_round members now rounds.second.advice rounds.second.answers rounds.one) = elim (idle_says members leader best (with_base at.prefix at) now rounds.second.advice rounds.second.answers rounds.one idle_one rounds.second.advised) [
+        let said : HasSaidToAll members leader at.ballot at.prefix (calm_round members now rounds.second.advice rounds.second.answers rounds.one) = elim (idle_says members leader best (with_base at.prefix at) now rounds.second.advice rounds.second.answers rounds.one idle_one rounds.second.advised) [
           | inl said ↦ said
           | inr again ↦ absurd (omega (arith, again.due))
         ] in
-        said_level members leader best (with_base idle_two.0 at) now rounds.two rounds.three rounds.four five idle_two.1 (subst (λ after. HasSaid members leader at.ballot at.prefix after) (sym rounds.second.is) said) rounds.third rounds.fourth rounds.fifth
+        said_level members leader best (with_base idle_two.0 at) now rounds.two rounds.three rounds.four five idle_two.1 (subst (λ after. HasSaidToAll members leader at.ballot at.prefix after) (sym rounds.second.is) said) rounds.third rounds.fourth rounds.fifth
 
     others : OthersLevel members leader at.prefix five
     others = elim (idle_begins members leader best at now rounds.first.advice rounds.first.answers calm idle rounds.first.advised) [
-      | inl rested ↦ at_once (subst (λ after. HasSaid members leader at.ballot at.prefix after) (sym rounds.first.is) rested.told)
+      | inl rested ↦ at_once (subst (λ after. HasSaidToAll members leader at.ballot at.prefix after) (sym rounds.first.is) rested.told)
       | inr rebased ↦ rebased_first (subst (λ after. IsIdle members leader best (with_base at.prefix at) now after) (sym rounds.first.is)
           (idle_still members leader best at at.prefix now rounds.first.advice rounds.first.answers calm idle rounds.first.advised rounds.first.answered rebased.uncalled rebased.leading))
     ]

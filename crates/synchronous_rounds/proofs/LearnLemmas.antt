@@ -19,7 +19,7 @@ use Rattle.synchronous_rounds.specs.Ruled.{AreWithin, IsBehind, IsRuled, StaysWi
 use Rattle.synchronous_rounds.proofs.ActLemmas.{observed, rebased_prefix}
 use Rattle.synchronous_rounds.proofs.FollowerLemmas.{behind_all, behind_hear}
 use Rattle.synchronous_rounds.proofs.Lists.{acts_append}
-use Rattle.synchronous_rounds.specs.CatchUp.{AreTold, IsTold, Tells, entries_from, table_and}
+use Rattle.synchronous_rounds.specs.CatchUp.{AreTold, IsTold, TellsWhatIsLacked, entries_from, table_and}
 use Rattle.synchronous_rounds.proofs.KeepLemmas.{answer_after, keeps_all, keeps_hear, level_mail, stays_level}
 use Rattle.due_set.proofs.Rising.{Contains-cases as cons_cases}
 
@@ -103,7 +103,7 @@ learns_behind self b p from slot (message ∷ front) rest once state learns with
     rw (acts_append acts (hear_all self from (front ++ rest) later now) state)
     (learns_behind self b p from slot front rest later now learns within.1 (behind_hear self b p from message once state within.0 behind) (omega (arith, least, up)))
 
-learns_letter : (self : Identity) (b p from slot : ℕ) (messages : List Message) (once : Once) (state : State) → Tells slot p messages → AllByRecursion (StaysWithin b p) messages → IsBehind b p state → slot ≤ prefix_of state → prefix_of (after_acts (hear_all self from messages once state) state) ≡ p
+learns_letter : (self : Identity) (b p from slot : ℕ) (messages : List Message) (once : Once) (state : State) → TellsWhatIsLacked slot p messages → AllByRecursion (StaysWithin b p) messages → IsBehind b p state → slot ≤ prefix_of state → prefix_of (after_acts (hear_all self from messages once state) state) ≡ p
 learns_letter self b p from slot messages once state (entries_from entries all piece) within behind least =
     let parts = all_split (StaysWithin b p) piece.front (known_from slot entries ++ piece.back) (subst (λ ms. AllByRecursion (StaysWithin b p) ms) piece.is within) in
     rw piece.is (learns_behind self b p from slot piece.front (known_from slot entries ++ piece.back) once state
@@ -124,7 +124,7 @@ learns_mail self b p c now plan (letter ∷ mail) who calm told state there with
     let next = behind_all self b p letter.from letter.messages not_yet state within.0 behind in
     elim (cons_cases letter mail told.letter there) [
       | inl same ↦
-          let tells : Tells told.slot p letter.messages = subst (λ l. Tells told.slot p l.messages) (sym same) told.tells in
+          let tells : TellsWhatIsLacked told.slot p letter.messages = subst (λ l. TellsWhatIsLacked told.slot p l.messages) (sym same) told.tells in
           let all = learns_letter self b p letter.from told.slot letter.messages not_yet state tells within.0 behind least in
           level_mail self b p now plan mail (after_acts acts state) within.1 next (omega (arith, all))
       | inr later ↦

@@ -27,7 +27,7 @@ use Rattle.synchronous_rounds.proofs.LeaderLemmas.{hold_line}
 use Rattle.synchronous_rounds.proofs.Lists.{acts_append, events_append}
 use Rattle.synchronous_rounds.proofs.MailLemmas.{letters_append, occurs_left, occurs_next, occurs_right}
 use Rattle.synchronous_rounds.proofs.RoundLemmas.{round_after, round_planned}
-use Rattle.synchronous_rounds.specs.Again.{EndsWithCampaign, HasCampaignedAgain, HasPromisedAgain, IsPromised}
+use Rattle.synchronous_rounds.specs.Again.{EndsWithCampaign, HasCampaignedAgain, HasPromisedAgain, HaveAllPromised}
 use Rattle.synchronous_rounds.specs.Campaign.{IsCandidate}
 use Rattle.synchronous_rounds.proofs.AnswerLemmas.{candidate_tick, told_to}
 use Rattle.synchronous_rounds.proofs.DecidedLemmas.{mail_alone, planned_front}
@@ -164,7 +164,7 @@ stays_mail self first heard top best at (letter ∷ mail) state above within hol
 -- ---- the round
 
 -- all others promise the second campaign's ballot, and the candidate is one still
-pub third_round : (members candidate top : ℕ) (best : List Vote) (at : Progress) (now : ℤ) (advice : ℕ → Advice) (answers : ℕ → Option SchedRow) (calm : Calm) → HasCampaignedAgain members candidate top best at calm → IsAdvised members at.table now advice calm → (base : ℕ) × IsPromised members candidate best (with_base base at) (calm_round members now advice answers calm)
+pub third_round : (members candidate top : ℕ) (best : List Vote) (at : Progress) (now : ℤ) (advice : ℕ → Advice) (answers : ℕ → Option SchedRow) (calm : Calm) → HasCampaignedAgain members candidate top best at calm → IsAdvised members at.table now advice calm → (base : ℕ) × HaveAllPromised members candidate best (with_base base at) (calm_round members now advice answers calm)
 third_round members candidate top best at now advice answers calm campaigned advised =
     let self = identity_of members candidate in
     let before = before_tick members advice calm candidate in

@@ -26,7 +26,7 @@ use Rattle.synchronous_rounds.specs.Ruled.{AreWithin, IsLeading, Occurs, Progres
 use Rattle.synchronous_rounds.proofs.ActLemmas.{observed}
 use Rattle.synchronous_rounds.proofs.LeaderLemmas.{free_all, free_hear, leading_observed}
 use Rattle.synchronous_rounds.proofs.Lists.{range_in}
-use Rattle.synchronous_rounds.specs.CatchUp.{AreTold, HaveAsked, IsPieceOf, Tells, entries_from, table_and}
+use Rattle.synchronous_rounds.specs.CatchUp.{AreTold, HaveAsked, IsPieceOf, TellsWhatIsLacked, entries_from, table_and}
 use Rattle.synchronous_rounds.proofs.KeepLemmas.{answer_after, keeps_mail, level_mail}
 use Rattle.due_set.proofs.Rising.{Contains-head as in_first, Contains-cases as cons_cases}
 use Rattle.step_spec.proofs.OutLemmas.{flat_has as flat_in}
@@ -47,7 +47,7 @@ piece_between inner front back outer piece = record {
 }
 
 -- what some messages tell, they tell with others before and behind them
-tells_between : (slot p : ℕ) (front back messages : List Message) → Tells slot p messages → Tells slot p (front ++ (messages ++ back))
+tells_between : (slot p : ℕ) (front back messages : List Message) → TellsWhatIsLacked slot p messages → TellsWhatIsLacked slot p (front ++ (messages ++ back))
 tells_between slot p front back messages (entries_from entries all piece) = entries_from entries all (piece_between (known_from slot entries) front back messages piece)
 tells_between slot p front back messages (table_and base rows entries all piece) =
     table_and base rows entries all (piece_between (Snap base rows ∷ known_from base entries) front back messages piece)
@@ -67,14 +67,14 @@ heard_piece inner outer itself piece = record {
       ∙ ap (λ zs. flat_map heard_as piece.front ++ zs) (flat_map-append heard_as inner piece.back ∙ ap (λ zs. zs ++ flat_map heard_as piece.back) itself));
 }
 
-tells_heard : (slot p : ℕ) (messages : List Message) → Tells slot p messages → Tells slot p (flat_map heard_as messages)
+tells_heard : (slot p : ℕ) (messages : List Message) → TellsWhatIsLacked slot p messages → TellsWhatIsLacked slot p (flat_map heard_as messages)
 tells_heard slot p messages (entries_from entries all piece) = entries_from entries all (heard_piece (known_from slot entries) messages (heard_known slot entries) piece)
 tells_heard slot p messages (table_and base rows entries all piece) =
     table_and base rows entries all
     (heard_piece (Snap base rows ∷ known_from base entries) messages (ap (λ rest. Snap base rows ∷ rest) (heard_known base entries)) piece)
 
 -- no message tells nothing
-none_left : (slot p : ℕ) (messages : List Message) → messages ≡ [] → Tells slot p messages → slot ≡ p
+none_left : (slot p : ℕ) (messages : List Message) → messages ≡ [] → TellsWhatIsLacked slot p messages → slot ≡ p
 none_left slot p messages none (entries_from [] all piece) = omega (arith, all)
 none_left slot p messages none (entries_from (entry ∷ entries) all piece) =
     let long = ap (λ ms. length ms) (sym none ∙ piece.is) in
@@ -88,7 +88,7 @@ none_left slot p messages none (table_and base rows entries all piece) =
 -- among the acts are those that send the replica what tells it all from the slot on
 record Answers (from slot p : ℕ) (acts : List Act) : Type 0 where
   messages : List Message
-  tells : Tells slot p messages
+  tells : TellsWhatIsLacked slot p messages
   front : List Act
   back : List Act
   is : acts ≡ front ++ (send_all from messages ++ back)
@@ -114,7 +114,7 @@ answers_right from slot p others acts answers = record {
   is = ap (λ zs. others ++ zs) answers.is ∙ sym (append_assoc others answers.front (send_all from answers.messages ++ answers.back));
 }
 
-answers_self : (from slot p : ℕ) (messages : List Message) → Tells slot p messages → Answers from slot p (send_all from messages)
+answers_self : (from slot p : ℕ) (messages : List Message) → TellsWhatIsLacked slot p messages → Answers from slot p (send_all from messages)
 answers_self from slot p messages tells =
     record { messages = messages; tells = tells; front = []; back = []; is = sym (append-nil (send_all from messages)) }
 
@@ -124,9 +124,9 @@ sent_whole me to [] = refl
 sent_whole me to (message ∷ messages) = rw (eq-eqb to to refl) (ap (λ rest. message ∷ rest) (sent_whole me to messages))
 
 -- what is sent to the replica tells it
-answers_sent : (me to slot p : ℕ) (acts : List Act) → Answers to slot p acts → Tells slot p (sent_to me to acts)
+answers_sent : (me to slot p : ℕ) (acts : List Act) → Answers to slot p acts → TellsWhatIsLacked slot p (sent_to me to acts)
 answers_sent me to slot p acts answers =
-    subst (λ some. Tells slot p some) (sym is)
+    subst (λ some. TellsWhatIsLacked slot p some) (sym is)
     (tells_between slot p (sent_to me to answers.front) (sent_to me to answers.back) answers.messages answers.tells)
   where
     is : sent_to me to acts ≡ sent_to me to answers.front ++ (answers.messages ++ sent_to me to answers.back)
@@ -301,9 +301,9 @@ record TellsIn (from slot p : ℕ) (mail : List HeardLetter) : Type 0 where
   letter : HeardLetter
   there : Contains mail letter
   is_from : letter.from ≡ from
-  tells : Tells slot p letter.messages
+  tells : TellsWhatIsLacked slot p letter.messages
 
-tells_letter : (me slot p : ℕ) (messages : List Message) → Tells slot p messages → TellsIn me slot p (letter_from me messages) ⊎ (slot ≡ p)
+tells_letter : (me slot p : ℕ) (messages : List Message) → TellsWhatIsLacked slot p messages → TellsIn me slot p (letter_from me messages) ⊎ (slot ≡ p)
 tells_letter me slot p [] tells = inr (none_left slot p [] refl tells)
 tells_letter me slot p (message ∷ messages) tells = inl (record {
   letter = record { from = me; messages = flat_map heard_as (message ∷ messages) };
@@ -324,7 +324,7 @@ tells_mail self best at who slot now plan (letter ∷ mail) state within occurs 
           let here : Contains letter.messages (AskFrom slot) = subst (λ l. Contains l.messages (AskFrom slot)) (sym same) occurs.has in
           elim (answers_all self best at letter.from slot letter.messages not_yet state within.0 here short leading) [
             | inl answers ↦
-                let told : Tells slot at.prefix (sent_to self.me who acts) = subst (λ q. Tells slot at.prefix (sent_to self.me q acts)) to (answers_sent self.me letter.from slot at.prefix acts answers) in
+                let told : TellsWhatIsLacked slot at.prefix (sent_to self.me who acts) = subst (λ q. TellsWhatIsLacked slot at.prefix (sent_to self.me q acts)) to (answers_sent self.me letter.from slot at.prefix acts answers) in
                 elim (tells_letter self.me slot at.prefix (sent_to self.me who acts) told) [
                   | inl tells ↦ inl (record { letter = tells.letter; there = Contains-append_left first _ tells.letter tells.there; is_from = tells.is_from; tells = tells.tells })
                   | inr all ↦ inr all

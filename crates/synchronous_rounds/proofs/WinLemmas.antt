@@ -12,7 +12,7 @@ use Rattle.synchronous_rounds.specs.Calm.{Advice, Calm, IsAdvised, calm_round}
 use Rattle.synchronous_rounds.specs.Flights.{with_base}
 use Rattle.synchronous_rounds.specs.Ruled.{IsRuled, Occurs, Progress}
 use Rattle.synchronous_rounds.proofs.RuledLemmas.{ruled_by}
-use Rattle.synchronous_rounds.specs.Again.{ComesToLeadAgain, HasCampaignedAgain, IsPromised}
+use Rattle.synchronous_rounds.specs.Again.{ComesToLeadAgain, HasCampaignedAgain, HaveAllPromised}
 use Rattle.synchronous_rounds.proofs.CandidateLemmas.{Bid, Competes, Promised, all_lead, begins_alone, competes_mail}
 use Rattle.synchronous_rounds.proofs.DecidedLemmas.{all_or_some, leads_alone}
 use Rattle.synchronous_rounds.proofs.NextEntryLemmas.{ahead, may_learn_mail}
@@ -24,7 +24,7 @@ record IsAhead (candidate : ℕ) (at : Progress) (calm : Calm) (who : ℕ) : Typ
   told : Occurs (calm.mails candidate) who (Known at.prefix entry)
 
 -- where all others have promised, the candidate leads after one more round
-fourth_wins : (members candidate : ℕ) (best : List Vote) (at : Progress) (sound : IsSound at.table) (now : ℤ) (advice : ℕ → Advice) (answers : ℕ → Option SchedRow) (calm : Calm) → IsPromised members candidate best at calm → calm.waits candidate ≡ None → IsAdvised members at.table now advice calm → ((q : ℕ) → at.prefix ≤ q → ((who : ℕ) → who < members → (who ≡ candidate → ⊥) → prefix_of (calm.replicas who) ≤ q) → IsRuled members candidate at.ballot q calm) → ComesToLeadAgain members candidate at advice calm (calm_round members now advice answers calm)
+fourth_wins : (members candidate : ℕ) (best : List Vote) (at : Progress) (sound : IsSound at.table) (now : ℤ) (advice : ℕ → Advice) (answers : ℕ → Option SchedRow) (calm : Calm) → HaveAllPromised members candidate best at calm → calm.waits candidate ≡ None → IsAdvised members at.table now advice calm → ((q : ℕ) → at.prefix ≤ q → ((who : ℕ) → who < members → (who ≡ candidate → ⊥) → prefix_of (calm.replicas who) ≤ q) → IsRuled members candidate at.ballot q calm) → ComesToLeadAgain members candidate at advice calm (calm_round members now advice answers calm)
 fourth_wins members candidate best at sound now advice answers calm promised alone advised ruled_if =
     elim (all_or_some members (λ who. (who ≡ candidate → ⊥) → prefix_of (calm.replicas who) ≤ at.prefix) (IsAhead candidate at calm) learned) [
       | inl level ↦
@@ -65,7 +65,7 @@ fourth_wins members candidate best at sound now advice answers calm promised alo
     near who below apart = (promised.promised who below apart).behind.short
 
 -- where all others have promised, the letters name no higher ballot, and tell no more than the others have learned
-promised_ruled : (members candidate : ℕ) (best : List Vote) (at : Progress) (now : ℤ) (advice : ℕ → Advice) (answers : ℕ → Option SchedRow) (calm : Calm) → IsAdvised members at.table now advice calm → IsPromised members candidate best at (calm_round members now advice answers calm) → (q : ℕ) → at.prefix ≤ q → ((who : ℕ) → who < members → (who ≡ candidate → ⊥) → prefix_of ((calm_round members now advice answers calm).replicas who) ≤ q) → IsRuled members candidate at.ballot q (calm_round members now advice answers calm)
+promised_ruled : (members candidate : ℕ) (best : List Vote) (at : Progress) (now : ℤ) (advice : ℕ → Advice) (answers : ℕ → Option SchedRow) (calm : Calm) → IsAdvised members at.table now advice calm → HaveAllPromised members candidate best at (calm_round members now advice answers calm) → (q : ℕ) → at.prefix ≤ q → ((who : ℕ) → who < members → (who ≡ candidate → ⊥) → prefix_of ((calm_round members now advice answers calm).replicas who) ≤ q) → IsRuled members candidate at.ballot q (calm_round members now advice answers calm)
 promised_ruled members candidate best at now advice answers calm advised promised q up short =
     ruled_by members candidate at.ballot q at.table now advice answers calm promised.one.member promised.one.few promised.one.more advised
     (λ who below apart. let mine = (promised.promised who below apart).behind in record { promised = mine.promised; follows = mine.follows; short = short who below apart })

@@ -45,7 +45,7 @@ pub record HasPromisedAgain (me ballot prefix : ℕ) (mail : List HeardLetter) (
   pub learned : (prefix_of state ≤ prefix) ⊎ ((entry : Entry) × Occurs mail me (Known prefix entry))
 
 -- All others have promised, and the candidate has heard none of them yet.
-pub record IsPromised (members candidate : ℕ) (best : List Vote) (at : Progress) (calm : Calm) : Type 0 where
+pub record HaveAllPromised (members candidate : ℕ) (best : List Vote) (at : Progress) (calm : Calm) : Type 0 where
   pub one : IsOneOf members candidate
   pub stands : IsCandidate best at candidate (calm.replicas candidate)
   pub promised : (who : ℕ) → who < members → (who ≡ candidate → ⊥)

@@ -48,7 +48,7 @@ pub record HasRefused (me ballot prefix : ℕ) (mail : List HeardLetter) (state 
   pub told : Occurs mail me (Nack ballot (promised_in state.kept))
 
 -- All others have answered the campaign, and the candidate has heard none of them yet.
-pub record IsAnswered (members candidate : ℕ) (best : List Vote) (at : Progress) (calm : Calm) : Type 0 where
+pub record HaveAllAnswered (members candidate : ℕ) (best : List Vote) (at : Progress) (calm : Calm) : Type 0 where
   pub one : IsOneOf members candidate
   pub stands : IsCandidate best at candidate (calm.replicas candidate)
   pub answered : (who : ℕ) → who < members → (who ≡ candidate → ⊥)

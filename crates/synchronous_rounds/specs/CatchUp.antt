@@ -46,8 +46,8 @@ pub record AreFiveRounds (members leader : ℕ) (table : Table) (now : ℤ) (cal
 -- ---- the others
 
 -- it has said to all others that it leads, and how far it has learned
-abbrev pub HasSaid : (members leader ballot prefix : ℕ) → Calm → Type 0
-HasSaid members leader ballot prefix calm =
+abbrev pub HasSaidToAll : (members leader ballot prefix : ℕ) → Calm → Type 0
+HasSaidToAll members leader ballot prefix calm =
     (who : ℕ) → who < members → (who ≡ leader → ⊥) → Occurs (calm.mails who) leader (Lead ballot prefix)
 
 -- a replica has asked for all that it lacks
@@ -69,11 +69,11 @@ pub record IsPieceOf (piece whole : List Message) : Type 0 where
 
 -- messages tell all that one lacks that has learned the entries below a slot, up to another: these entries, or a launch table in
 -- the place of the first and the others
-pub data Tells (slot prefix : ℕ) (messages : List Message) : Type 0 where
+pub data TellsWhatIsLacked (slot prefix : ℕ) (messages : List Message) : Type 0 where
   entries_from : (entries : List Entry) → slot + length entries ≡ prefix → IsPieceOf (known_from slot entries) messages
-      → Tells slot prefix messages
+      → TellsWhatIsLacked slot prefix messages
   table_and : (base : ℕ) → (rows : List JobRow) → (entries : List Entry) → base + length entries ≡ prefix
-      → IsPieceOf (Snap base rows ∷ known_from base entries) messages → Tells slot prefix messages
+      → IsPieceOf (Snap base rows ∷ known_from base entries) messages → TellsWhatIsLacked slot prefix messages
 
 -- a letter from the leader tells a replica what it lacks
 pub record IsTold (leader prefix who : ℕ) (calm : Calm) : Type 0 where
@@ -82,7 +82,7 @@ pub record IsTold (leader prefix who : ℕ) (calm : Calm) : Type 0 where
   pub letter : HeardLetter
   pub there : Contains (calm.mails who) letter
   pub is_from : letter.from ≡ leader
-  pub tells : Tells slot prefix letter.messages
+  pub tells : TellsWhatIsLacked slot prefix letter.messages
 
 -- each of the others has learned as much, or is told what it lacks
 abbrev pub AreTold : (members leader prefix : ℕ) → Calm → Type 0

@@ -8,7 +8,7 @@ ghost use Rattle.synchronous_rounds.specs.Calm.{Advice, Calm, IsAdvised, calm_ro
 ghost use Rattle.synchronous_rounds.specs.Flights.{with_base};
 ghost use Rattle.synchronous_rounds.specs.Rounds.{IsFreeNow, StaysFree};
 ghost use Rattle.synchronous_rounds.specs.Ruled.{IsRuled, Progress};
-ghost use Rattle.synchronous_rounds.specs.CatchUp.{AreFiveRounds, AreLevel, AreTold, HasSaid, HaveAsked, IsIdle, IsRoundAt};
+ghost use Rattle.synchronous_rounds.specs.CatchUp.{AreFiveRounds, AreLevel, AreTold, HasSaidToAll, HaveAsked, IsIdle, IsRoundAt};
 
 /// One that leads alone and rests does so after each round at that instant, over the same entries and rows: it says to all others
 /// how far it has learned, or its base rises. One that has rested in a round does so after it, and has said so.
@@ -18,11 +18,11 @@ pub fn an_idle_leader_stays_idle()
         → (base : ℕ) × IsIdle members leader best (with_base base at) now next }
     ensures says { (members leader : ℕ) (best : List Vote) (at : Progress) (now : ℤ) (advice : ℕ → Advice) (answers : ℕ → Option SchedRow) (calm : Calm)
         → IsIdle members leader best at now calm → IsAdvised members at.table now advice calm
-        → HasSaid members leader at.ballot at.prefix (calm_round members now advice answers calm)
+        → HasSaidToAll members leader at.ballot at.prefix (calm_round members now advice answers calm)
         ⊎ HasRebased members leader best at now advice calm (calm_round members now advice answers calm) }
     ensures rested { (members leader : ℕ) (best : List Vote) (at : Progress) (now : ℤ) (advice : ℕ → Advice) (calm next : Calm)
         → StaysFree members leader best at now advice calm next
-        → IsIdle members leader best at now next × HasSaid members leader at.ballot at.prefix next }
+        → IsIdle members leader best at now next × HasSaidToAll members leader at.ballot at.prefix next }
 {}
 
 /// Once one that leads alone has said how far it has learned, the others ask for what they lack; it tells them, where it has no flight
@@ -30,7 +30,7 @@ pub fn an_idle_leader_stays_idle()
 /// and it rests still.
 pub fn the_others_catch_up()
     ensures asked { (members leader ballot prefix : ℕ) (now : ℤ) (advice : ℕ → Advice) (answers : ℕ → Option SchedRow) (calm : Calm)
-        → IsRuled members leader ballot prefix calm → HasSaid members leader ballot prefix calm
+        → IsRuled members leader ballot prefix calm → HasSaidToAll members leader ballot prefix calm
         → HaveAsked members leader prefix (calm_round members now advice answers calm) }
     ensures told { (members leader : ℕ) (best : List Vote) (at : Progress) (now : ℤ) (advice : ℕ → Advice) (answers : ℕ → Option SchedRow) (calm : Calm)
         → IsFreeNow members leader best at calm → HaveAsked members leader at.prefix calm

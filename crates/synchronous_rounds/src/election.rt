@@ -10,8 +10,8 @@ ghost use Rattle.step_spec.specs.Step.{IsLaunchTable};
 ghost use Rattle.synchronous_rounds.specs.Calm.{Advice, Calm, IsAdvised, calm_round};
 ghost use Rattle.synchronous_rounds.specs.Flights.{with_base};
 ghost use Rattle.synchronous_rounds.specs.Ruled.{Progress};
-ghost use Rattle.synchronous_rounds.specs.Again.{ComesToLeadAgain, HasCampaignedAgain, IsBounded, IsPromised};
-ghost use Rattle.synchronous_rounds.specs.Campaign.{ComesToLead, HasCampaigned, HasYielded, IsAnswered, IsOneOf};
+ghost use Rattle.synchronous_rounds.specs.Again.{ComesToLeadAgain, HasCampaignedAgain, IsBounded, HaveAllPromised};
+ghost use Rattle.synchronous_rounds.specs.Campaign.{ComesToLead, HasCampaigned, HasYielded, HaveAllAnswered, IsOneOf};
 ghost use Rattle.synchronous_rounds.specs.Made.{after_campaign, campaigned_at, own_votes};
 ghost use Rattle.synchronous_rounds.specs.Named.{IsNamedUpTo};
 
@@ -28,8 +28,9 @@ pub fn no_promise_rises_without_a_campaign()
 pub fn a_campaign_is_answered()
     ensures answered { (members candidate : ℕ) (best : List Vote) (at : Progress) (now : ℤ) (advice : ℕ → Advice) (answers : ℕ → Option SchedRow) (calm : Calm)
         → HasCampaigned members candidate best at calm → IsAdvised members at.table now advice calm
-        → (base : ℕ) × IsAnswered members candidate best (with_base base at) (calm_round members now advice answers calm) }
-    ensures decided { (members candidate : ℕ) (best : List Vote) (at : Progress) (now then_now : ℤ) (advice then_advice : ℕ → Advice) (answers then_answers : ℕ → Option SchedRow) (calm : Calm)
+        → (base : ℕ) × HaveAllAnswered members candidate best (with_base base at) (calm_round members now advice answers calm) }
+    ensures decided { (members candidate : ℕ) (best : List Vote) (at : Progress) (now then_now : ℤ) (advice then_advice : ℕ → Advice)
+        (answers then_answers : ℕ → Option SchedRow) (calm : Calm)
         → HasCampaigned members candidate best at calm → IsAdvised members at.table now advice calm → answers candidate ≡ None
         → IsAdvised members at.table then_now then_advice (calm_round members now advice answers calm)
         → ((base : ℕ) × ComesToLead members candidate (with_base base at) then_advice (calm_round members now advice answers calm)
@@ -41,7 +42,8 @@ pub fn a_campaign_is_answered()
 /// In the two rounds after a campaign none learns more than the candidate had learned, and in the second none promises more than one
 /// had promised after the first; nor does a letter name or tell more then. The candidate learns nothing.
 pub fn a_campaign_leaves_bounds()
-    ensures { (members candidate top : ℕ) (best : List Vote) (at : Progress) (now then_now : ℤ) (advice then_advice : ℕ → Advice) (answers then_answers : ℕ → Option SchedRow) (calm : Calm)
+    ensures { (members candidate top : ℕ) (best : List Vote) (at : Progress) (now then_now : ℤ) (advice then_advice : ℕ → Advice)
+        (answers then_answers : ℕ → Option SchedRow) (calm : Calm)
         → HasCampaigned members candidate best at calm → IsAdvised members at.table now advice calm
         → IsAdvised members at.table then_now then_advice (calm_round members now advice answers calm)
         → ((who : ℕ) → who < members → promised_in ((calm_round members now advice answers calm).replicas who).kept ≤ top)
@@ -70,14 +72,16 @@ pub fn a_campaign_asks_all()
 /// One that has yielded and campaigns again makes a second campaign: its ballot is above each that was promised or named, and none has
 /// learned more than it.
 pub fn one_that_yields_campaigns_again()
-    ensures { (members candidate : ℕ) (best : List Vote) (at : Progress) (rows : List JobRow) (now then_now : ℤ) (advice then_advice : ℕ → Advice) (answers then_answers : ℕ → Option SchedRow) (calm : Calm)
+    ensures { (members candidate : ℕ) (best : List Vote) (at : Progress) (rows : List JobRow) (now then_now : ℤ) (advice then_advice : ℕ → Advice)
+        (answers then_answers : ℕ → Option SchedRow) (calm : Calm)
         → HasCampaigned members candidate best at calm → IsAdvised members at.table now advice calm
         → IsAdvised members at.table then_now then_advice (calm_round members now advice answers calm)
         → HasYielded members candidate at.ballot (calm_round members now advice answers calm)
         (calm_round members then_now then_advice then_answers (calm_round members now advice answers calm))
         → then_answers candidate ≡ None
         → IsLaunchTable at.table ((calm_round members then_now then_advice then_answers (calm_round members now advice answers calm)).replicas candidate) rows
-        → HasCampaignedAgain members candidate ((calm_round members then_now then_advice then_answers (calm_round members now advice answers calm)).replicas candidate).seen
+        → HasCampaignedAgain members candidate
+        ((calm_round members then_now then_advice then_answers (calm_round members now advice answers calm)).replicas candidate).seen
         (own_votes ((calm_round members then_now then_advice then_answers (calm_round members now advice answers calm)).replicas candidate))
         (campaigned_at at.table rows candidate ((calm_round members then_now then_advice then_answers (calm_round members now advice answers calm)).replicas candidate))
         (after_campaign members candidate (calm_round members then_now then_advice then_answers (calm_round members now advice answers calm))) }
@@ -87,10 +91,12 @@ pub fn one_that_yields_campaigns_again()
 /// then learned no more than the candidate, or one entry more, which it tells. In the next round the candidate leads in that ballot,
 /// and leads alone.
 pub fn a_second_campaign_wins()
-    ensures promised { (members candidate top : ℕ) (best : List Vote) (at : Progress) (now : ℤ) (advice : ℕ → Advice) (answers : ℕ → Option SchedRow) (calm : Calm)
+    ensures promised { (members candidate top : ℕ) (best : List Vote) (at : Progress) (now : ℤ) (advice : ℕ → Advice) (answers : ℕ → Option SchedRow)
+        (calm : Calm)
         → HasCampaignedAgain members candidate top best at calm → IsAdvised members at.table now advice calm
-        → (base : ℕ) × IsPromised members candidate best (with_base base at) (calm_round members now advice answers calm) }
-    ensures wins { (members candidate top : ℕ) (best : List Vote) (at : Progress) (sound : IsSound at.table) (now then_now : ℤ) (advice then_advice : ℕ → Advice) (answers then_answers : ℕ → Option SchedRow) (calm : Calm)
+        → (base : ℕ) × HaveAllPromised members candidate best (with_base base at) (calm_round members now advice answers calm) }
+    ensures wins { (members candidate top : ℕ) (best : List Vote) (at : Progress) (sound : IsSound at.table) (now then_now : ℤ)
+        (advice then_advice : ℕ → Advice) (answers then_answers : ℕ → Option SchedRow) (calm : Calm)
         → HasCampaignedAgain members candidate top best at calm → IsAdvised members at.table now advice calm → answers candidate ≡ None
         → IsAdvised members at.table then_now then_advice (calm_round members now advice answers calm)
         → ComesToLeadAgain members candidate at then_advice (calm_round members now advice answers calm)
@@ -105,11 +111,13 @@ pub fn a_campaign_may_be_made()
         × (calm : Calm) × (then_now : ℤ) × (then_advice : ℕ → Advice) × HasCampaigned members candidate best at calm
         × IsAdvised members at.table now advice calm × (answers candidate ≡ None)
         × IsAdvised members at.table then_now then_advice (calm_round members now advice answers calm) }
-    ensures again { (members : ℕ) × (candidate : ℕ) × (top : ℕ) × (best : List Vote) × (at : Progress) × (now : ℤ) × (advice : ℕ → Advice) × (answers : ℕ → Option SchedRow)
+    ensures again { (members : ℕ) × (candidate : ℕ) × (top : ℕ) × (best : List Vote) × (at : Progress) × (now : ℤ) × (advice : ℕ → Advice)
+        × (answers : ℕ → Option SchedRow)
         × (calm : Calm) × (then_now : ℤ) × (then_advice : ℕ → Advice) × IsSound at.table × HasCampaignedAgain members candidate top best at calm
         × IsAdvised members at.table now advice calm × (answers candidate ≡ None)
         × IsAdvised members at.table then_now then_advice (calm_round members now advice answers calm) }
-    ensures yielded { (members : ℕ) × (candidate : ℕ) × (best : List Vote) × (at : Progress) × (rows : List JobRow) × (now : ℤ) × (advice : ℕ → Advice) × (answers : ℕ → Option SchedRow)
+    ensures yielded { (members : ℕ) × (candidate : ℕ) × (best : List Vote) × (at : Progress) × (rows : List JobRow) × (now : ℤ)
+        × (advice : ℕ → Advice) × (answers : ℕ → Option SchedRow)
         × (calm : Calm) × HasCampaigned members candidate best at calm × IsAdvised members at.table now advice calm
         × IsAdvised members at.table now advice (calm_round members now advice answers calm)
         × HasYielded members candidate at.ballot (calm_round members now advice answers calm)

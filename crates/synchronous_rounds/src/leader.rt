@@ -61,7 +61,8 @@ pub fn a_free_leader_begins()
 
 /// A leader for which an answer waits proposes the end of its launch, and asks all others for their votes.
 pub fn an_answer_is_proposed()
-    ensures { (members leader : ℕ) (best : List Vote) (at : Progress) (row : SchedRow) (now : ℤ) (advice : ℕ → Advice) (answers : ℕ → Option SchedRow) (calm : Calm)
+    ensures { (members leader : ℕ) (best : List Vote) (at : Progress) (row : SchedRow) (now : ℤ) (advice : ℕ → Advice) (answers : ℕ → Option SchedRow)
+        (calm : Calm)
         → IsAnswerable members leader best at row calm → IsAdvised members at.table now advice calm
         → HasAnswered members leader best at (End row.name.job row.name.at row.kind) now advice calm (calm_round members now advice answers calm) }
 {}

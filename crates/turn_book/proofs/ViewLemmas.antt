@@ -4,7 +4,7 @@ use mathlib.Core.Option.{some, some-injective, some-ne-none}
 use lib.ListN.{get_elem?}
 use Rattle.atomic_table.proofs.Lists.{at_set}
 use Rattle.turn_book.specs.declared.view.View.{View}
-use Rattle.turn_book.specs.Rule.{one_if, waiting}
+use Rattle.turn_book.specs.Rule.{one_if, seats_waiting}
 
 module _ {A : Type 0} where
   -- a place that has something is below the length
@@ -30,17 +30,17 @@ one_at_most true = omega arith
 one_at_most false = omega arith
 
 module _ {L K R : Type 0} where
-  pub waiting_set : (views : List (View L K R)) (i : ℕ) (v w : View L K R) → get_elem? views i ≡ some v → waiting (set views i w) + one_if v.waits ≡ waiting views + one_if w.waits
+  pub waiting_set : (views : List (View L K R)) (i : ℕ) (v w : View L K R) → get_elem? views i ≡ some v → seats_waiting (set views i w) + one_if v.waits ≡ seats_waiting views + one_if w.waits
   waiting_set [] i v w is = absurd (some-ne-none v (sym is))
   waiting_set (x ∷ xs) zero v w is =
       let same : one_if x.waits ≡ one_if v.waits = ap (λ (u : View L K R). one_if u.waits) (some-injective x v is) in omega arith
   waiting_set (x ∷ xs) (suc i) v w is = let more = waiting_set xs i v w is in omega arith
 
-  pub waiting_end : (views : List (View L K R)) (w : View L K R) → waiting (views ++ w ∷ []) ≡ waiting views + one_if w.waits
+  pub waiting_end : (views : List (View L K R)) (w : View L K R) → seats_waiting (views ++ w ∷ []) ≡ seats_waiting views + one_if w.waits
   waiting_end [] w = omega arith
   waiting_end (x ∷ xs) w = let more = waiting_end xs w in omega arith
 
-  pub waiting_few : (views : List (View L K R)) → waiting views ≤ length views
+  pub waiting_few : (views : List (View L K R)) → seats_waiting views ≤ length views
   waiting_few [] = omega arith
   waiting_few (x ∷ xs) = let more = waiting_few xs in let one = one_at_most x.waits in omega arith
 

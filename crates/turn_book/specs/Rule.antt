@@ -18,9 +18,9 @@ one_if true = 1
 one_if false = 0
 
 -- how many seats have a ticket
-abbrev pub waiting : {L K R : Type 0} → List (View L K R) → ℕ
-waiting [] = 0
-waiting (v ∷ vs) = one_if v.waits + waiting vs
+abbrev pub seats_waiting : {L K R : Type 0} → List (View L K R) → ℕ
+seats_waiting [] = 0
+seats_waiting (v ∷ vs) = one_if v.waits + seats_waiting vs
 
 -- the words, by the true numbers
 abbrev pub words_of : (next serving count : ℕ) → List ℕ
@@ -39,7 +39,8 @@ module _ {L K R : Type 0} where
   abbrev pub IsKept : List (View L K R) → ℕ → Type 0
   IsKept views number =
       ((v : View L K R) × (get_elem? views number ≡ some v) × (v.spent ≡ false))
-      ⊎ ((v : View L K R) × (at : ℕ) × (past : Past R) × (get_elem? views 0 ≡ some v) × (v.spent ≡ false) × (get_elem? v.joined at ≡ some past) × (past.number ≡ number))
+      ⊎ ((v : View L K R) × (at : ℕ) × (past : Past R) × (get_elem? views 0 ≡ some v) × (v.spent ≡ false) × (get_elem? v.joined at ≡ some past)
+      × (past.number ≡ number))
 
 module _ {L K R M : Type 0} (law : Ghosts L K R M) where
   -- what a row may follow, by what the book began with
@@ -97,12 +98,14 @@ module _ {L K R M : Type 0} (law : Ghosts L K R M) where
     pub words : s.words ≡ words_of next serving (length after)
     pub slot : length s.homes ≡ 1
     pub few : (length s.views ≤ opening.seats) × (opening.seats ≤ 7)
-    pub tickets : serving + waiting s.views ≡ next
+    pub tickets : serving + seats_waiting s.views ≡ next
     pub each : (place : ℕ) (v : View L K R) → get_elem? s.views place ≡ some v → Fits opening first after next serving place v
-    pub apart : (i j : ℕ) (v w : View L K R) → get_elem? s.views i ≡ some v → get_elem? s.views j ≡ some w → v.waits ≡ true → w.waits ≡ true → v.ticket ≡ w.ticket → i ≡ j
+    pub apart : (i j : ℕ) (v w : View L K R) → get_elem? s.views i ≡ some v → get_elem? s.views j ≡ some w → v.waits ≡ true → w.waits ≡ true
+        → v.ticket ≡ w.ticket → i ≡ j
     pub home : IsFree s.views → IsHome opening (first ++ after) s.homes
     pub counts : (v : View L K R) → get_elem? s.views 0 ≡ some v → v.spent ≡ false → v.made ≡ length s.views
     pub named : (place : ℕ) (row : R) → slice_get after place ≡ Some row → NamesBelow (length s.views) row
-    pub gone : (place : ℕ) (v : View L K R) → get_elem? s.views place ≡ some v → (at : ℕ) (past : Past R) → get_elem? v.joined at ≡ some past → IsGone s.views past
+    pub gone : (place : ℕ) (v : View L K R) → get_elem? s.views place ≡ some v → (at : ℕ) (past : Past R) → get_elem? v.joined at ≡ some past
+        → IsGone s.views past
     pub lone : (place : ℕ) (v : View L K R) → get_elem? s.views place ≡ some v → place ≢ 0 → v.joined ≡ []
     pub kept : (number : ℕ) → number < length s.views → IsKept s.views number

@@ -11,4 +11,5 @@ module _ {L K R M : Type 0} where
 
   -- each job has the seat of its place
   abbrev pub AreJobs : TurnBook L K R M → List (Job L K R M) → Type 0
-  AreJobs book jobs = (place : ℕ) (job : Job L K R M) → place < length jobs → IsSeatOf book (slice_index_or jobs place job).seat × (number_of (slice_index_or jobs place job).seat ≡ place)
+  AreJobs book jobs = (place : ℕ) (job : Job L K R M) → place < length jobs
+      → IsSeatOf book (slice_index_or jobs place job).seat × (number_of (slice_index_or jobs place job).seat ≡ place)

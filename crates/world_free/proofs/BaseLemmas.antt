@@ -16,12 +16,12 @@ use Rattle.script_semantics.specs.Situation.{Situation, after_turn, after_turns,
 use Rattle.world_law.specs.declared.row.BookRow.{BookRow}
 use Rattle.world_law.proofs.Settled.{alike_after}
 use Rattle.world_free.specs.Jobs.{IsOfPlan, situation_in}
-use Rattle.world_free.specs.Plan.{ArePlayed, Plan, SharedBook}
+use Rattle.world_free.specs.Plan.{ArePlayed, FreePlan, SharedBook}
 use Rattle.world_free.proofs.Played.{begun_stands, front_legal, played_turns}
 use Rattle.history.proofs.FrontLemmas.{follows_there as may_next}
 
 -- how many bases the replicas have kept by some rows
-abbrev pub bases_in : Plan → List Row → ℕ → ℕ
+abbrev pub bases_in : FreePlan → List Row → ℕ → ℕ
 bases_in plan rows = (after_turns plan.book.members (first_situation plan.book.members plan.table) rows).bases
 
 -- ---- rows with the same turns
@@ -90,7 +90,7 @@ bases_settle n table one other legal lawful turns =
     walk n table [] [] one other (first_situation n table) (first_situation n table) legal lawful turns (record { first_is = refl; second_is = refl; stands = refl; bases = refl })
 
 -- whichever rows of a part have what the shared book has, as many were kept
-pub played_bases : (plan : Plan) (after : List BookRow) (begun more first other : List Row) → ArePlayed plan after begun more → ArePlayed plan after first other
+pub played_bases : (plan : FreePlan) (after : List BookRow) (begun more first other : List Row) → ArePlayed plan after begun more → ArePlayed plan after first other
     → bases_in plan (begun ++ more) ≡ bases_in plan (first ++ other)
 played_bases plan after begun more first other are also =
     bases_settle plan.book.members plan.table (begun ++ more) (first ++ other) are.legal also.legal
@@ -113,7 +113,7 @@ standing_of n situation [] = refl
 standing_of n situation (row ∷ rows) = standing_of n (after_turn n situation row) rows
 
 -- the situation has as many as the rows of the part have
-pub situation_bases : (plan : Plan) (book : SharedBook) (after : List BookRow) (begun more : List Row) → IsOfPlan plan book → ArePlayed plan after begun more
+pub situation_bases : (plan : FreePlan) (book : SharedBook) (after : List BookRow) (begun more : List Row) → IsOfPlan plan book → ArePlayed plan after begun more
     → (situation_in plan more).bases ≡ bases_in plan (begun ++ more)
 situation_bases plan book after begun more of are =
     posted_bases plan.book.members plan.situation (after_turns plan.book.members first begun) more
@@ -129,7 +129,7 @@ situation_bases plan book after begun more of are =
         ∙ bases_settle plan.book.members plan.table of.rows begun of.at.behind.legal (front_legal plan.book.members plan.table begun more are.legal) (sym of.at.behind.turns ∙ are.turns)
 
 -- whichever rows have what a seat has seen, a replica has kept as many
-pub bases_still : (plan : Plan) (book : SharedBook) (who : ℕ) (after : List BookRow) (begun more first other : List Row) → IsOfPlan plan book → ArePlayed plan after begun more
+pub bases_still : (plan : FreePlan) (book : SharedBook) (who : ℕ) (after : List BookRow) (begun more first other : List Row) → IsOfPlan plan book → ArePlayed plan after begun more
     → ArePlayed plan after first other → (situation_in plan more).bases who ≡ (situation_in plan other).bases who
 bases_still plan book who after begun more first other of are also =
     ap (λ (bases : ℕ → ℕ). bases who)

@@ -15,17 +15,17 @@ use Rattle.script_semantics.specs.Situation.{Situation, is_cut}
 use Rattle.script_semantics.proofs.PartLemmas.{goes_none}
 use Rattle.turn_book.specs.Turns.{AreNewSeats, BeganWith, IsNewSeat, opening_of}
 use Rattle.world_law.specs.Book.{BookState, StandsBehind, posted_as, standing_behind}
-use Rattle.world_law.specs.Rows.{IsBehind}
+use Rattle.world_law.specs.Rows.{HasTurnOf}
 use Rattle.world_law.specs.declared.letter.LetterRow.{LetterRow}
 use Rattle.world_law.proofs.Settled.{come_here}
 use Rattle.world_steps.specs.Nodes.{AreNodesOf, IsDiskAt, IsNodeOf, bases_behind}
 use Rattle.world_steps.specs.Parts.{ArePartsAt, IsBookAt, IsMailOf, IsSentTo}
 use Rattle.world_steps.specs.declared.bundle.Bundle.{Bundle}
 use Rattle.world_steps.specs.declared.mail.MemberMail.{MemberMail}
-use Rattle.world_free.specs.Jobs.{AreJobsAt, HasGone, HasPlayed, IsIdle, IsJobAt, IsOfPlan, IsRunner, situation_in}
+use Rattle.world_free.specs.Jobs.{AreJobsAt, HasGone, ArePlayedRows, HasNotBegun, IsJobAt, IsOfPlan, IsRunner, situation_in}
 use Rattle.world_free.specs.Mails.{HasFirstBytes, IsMailIn, IsPostedTo}
 use Rattle.world_free.specs.Parts.{AreJobsOf, AreKept, mail_in, mail_of, node_in, seat_in}
-use Rattle.world_free.specs.Plan.{Plan, Seat, SharedBook, plan_of}
+use Rattle.world_free.specs.Plan.{FreePlan, Seat, SharedBook, plan_of}
 use Rattle.world_free.specs.Seats.{IsSeatAt}
 use Rattle.world_free.specs.declared.job.FreeJob.{FreeJob}
 use Rattle.world_free.specs.declared.job.FreeMail.{FreeMail}
@@ -50,14 +50,14 @@ posted_to letters posted who number are sent =
 module _ {D : Type 0} (seen : D → Image) (may_leave : D → Image → Type 0) (honest : D → Type 0) (told_of : D → Option Told) where
   -- What the threads of a part begin with: the book of the plan, behind which these rows stand, the nodes of its replicas and what is set for
   -- them.
-  pub record Begins (plan : Plan) (book : SharedBook) (rows : List Row) (nodes : List (Node D)) (mails : List MemberMail) : Type 0 where
+  pub record Begins (plan : FreePlan) (book : SharedBook) (rows : List Row) (nodes : List (Node D)) (mails : List MemberMail) : Type 0 where
     pub of_plan : IsOfPlan plan book
     pub at : IsBookAt plan.table rows plan.book plan.situation
     pub nodes_are : AreNodesOf seen may_leave honest told_of plan.table rows plan.book nodes
     pub mails_are : (who : ℕ) (mail : MemberMail) → slice_get mails who ≡ Some mail → IsMailOf plan.book.letters plan.situation who [] mail
     pub few : length plan.book.turns < 2 ^ 31
 
-  module _ (plan : Plan) (book : SharedBook) (rows : List Row) (nodes : List (Node D)) (mails : List MemberMail) (begins : Begins plan book rows nodes mails)
+  module _ (plan : FreePlan) (book : SharedBook) (rows : List Row) (nodes : List (Node D)) (mails : List MemberMail) (begins : Begins plan book rows nodes mails)
       (who : ℕ) (job : FreeJob D)
       (node : IsNodeOf seen may_leave honest told_of plan.table rows plan.book who job.node) (member : who < plan.book.members)
       (mail : IsMailOf plan.book.letters plan.situation who [] job.mail.mail)
@@ -69,7 +69,7 @@ module _ {D : Type 0} (seen : D → Image) (may_leave : D → Image → Type 0) 
     posted : map posted_as plan.book.letters ≡ plan.situation.standing.posted
     posted = begins.at.behind.letters ∙ ap (λ (s : Standing). s.posted) (sym begins.at.standing)
 
-    played : HasPlayed plan []
+    played : ArePlayedRows plan []
     played = record {
       begun = rows;
       more = [];
@@ -112,17 +112,17 @@ module _ {D : Type 0} (seen : D → Image) (may_leave : D → Image → Type 0) 
       after = [];
       seat = seat_begins;
       some = played;
-      gone = λ begun more are. subst (λ l. HasGone plan who 0 l) (sym (none_beside IsBehind more are.each)) (gone_begins runs);
+      gone = λ begun more are. subst (λ l. HasGone plan who 0 l) (sym (none_beside HasTurnOf more are.each)) (gone_begins runs);
       state = λ begun more are.
-          subst (λ l. (replica_of job.node).state ≡ (situation_in plan l).standing.replicas who) (sym (none_beside IsBehind more are.each))
+          subst (λ l. (replica_of job.node).state ≡ (situation_in plan l).standing.replicas who) (sym (none_beside HasTurnOf more are.each))
           (node.state (ap (λ (s : Standing). s.runs who) (sym begins.at.standing) ∙ runs) ∙ ap (λ (s : Standing). s.replicas who) (sym begins.at.standing));
       disk = λ begun more are.
-          subst (λ l. IsDiskAt told_of ((situation_in plan l).bases who) job.node) (sym (none_beside IsBehind more are.each))
+          subst (λ l. IsDiskAt told_of ((situation_in plan l).bases who) job.node) (sym (none_beside HasTurnOf more are.each))
           (subst (λ (bases : ℕ → ℕ). IsDiskAt told_of (bases who) job.node) (sym begins.at.bases) node.disk);
-      mail = λ begun more are. subst (λ l. IsMailIn (situation_in plan l) who job.mail) (sym (none_beside IsBehind more are.each)) (mail_begins runs);
+      mail = λ begun more are. subst (λ l. IsMailIn (situation_in plan l) who job.mail) (sym (none_beside HasTurnOf more are.each)) (mail_begins runs);
     }
 
-    idle_begins : IsIdle seen may_leave honest told_of plan book who job
+    idle_begins : HasNotBegun seen may_leave honest told_of plan book who job
     idle_begins = record {
       seat = seat_begins;
       node = λ other at. node_still other (come_here plan.table rows other plan.book begins.at.behind at.behind).stands (sym begins.at.bases ∙ at.bases);
@@ -145,7 +145,7 @@ module _ {D : Type 0} (seen : D → Image) (may_leave : D → Image → Type 0) 
     job_begins = record { running = λ runs. runner_begins (sym mail.runs ∙ runs); stopped = λ stopped. inl idle_begins }
 
   -- **The jobs as a part begins.**
-  pub jobs_begin : (plan : Plan) (book : SharedBook) (rows : List Row) (nodes : List (Node D)) (mails : List MemberMail) (kept : List FreeMail)
+  pub jobs_begin : (plan : FreePlan) (book : SharedBook) (rows : List Row) (nodes : List (Node D)) (mails : List MemberMail) (kept : List FreeMail)
       (seats : List Seat) (jobs : List (FreeJob D))
       → Begins plan book rows nodes mails → map mail_of kept ≡ mails → AreKept plan.book.letters kept → AreNewSeats book 0 seats
       → AreJobsOf nodes kept seats jobs

@@ -26,7 +26,7 @@ use Rattle.script_semantics.proofs.PartLemmas.{course_with_others, goes_none, go
 use Rattle.turn_book.specs.Rows.{BeginsWith}
 use Rattle.turn_book.specs.Turns.{HasHistory, first_rows_by, opening_of, own_rows, seats_of, seen_by}
 use Rattle.world_law.specs.Book.{BookState, StandsBehind, posted_as, standing_behind}
-use Rattle.world_law.specs.Rows.{HasRows, IsBehind, seat_of}
+use Rattle.world_law.specs.Rows.{HasRows, HasTurnOf, seat_of}
 use Rattle.world_law.specs.contracts.turns.BookLaw.TheImpl as law
 use Rattle.world_law.specs.declared.letter.LetterRow.{LetterRow}
 use Rattle.world_law.specs.declared.row.BookRow.{BookRow}
@@ -35,9 +35,9 @@ use Rattle.world_steps.specs.Parts.{IsBookAt, IsMailOf, IsSentTo, armed_in}
 use Rattle.world_steps.specs.declared.mail.MemberMail.{MemberMail}
 use Rattle.world_steps.proofs.Ended.{running_node, stopped_node}
 use Rattle.world_free.specs.Ends.{HasEnded, letters_at_end}
-use Rattle.world_free.specs.Jobs.{HasBroken, HasGone, IsBroken, IsIdle, IsJobAt, IsRunner, situation_in}
+use Rattle.world_free.specs.Jobs.{HasStoppedFreely, HasGone, IsBroken, HasNotBegun, IsJobAt, IsRunner, situation_in}
 use Rattle.world_free.specs.Mails.{IsMailIn, IsPostedTo, IsStoppedMailIn, coming}
-use Rattle.world_free.specs.Plan.{ArePlayed, Plan, Seat, SharedBook, course_in, plan_of}
+use Rattle.world_free.specs.Plan.{ArePlayed, FreePlan, Seat, SharedBook, course_in, plan_of}
 use Rattle.world_free.specs.Seats.{IsSeatAt, rows_by}
 use Rattle.world_free.specs.declared.job.FreeJob.{FreeJob}
 use Rattle.world_free.specs.declared.job.Setting.{Setting}
@@ -83,7 +83,7 @@ zip_from R (a ∷ xs) (b ∷ ys) (suc place) y each there = zip_from R xs ys pla
 -- ---- the book
 
 -- The rows of a book that is closed, by what its seats know: those with which the part began, and those of the part.
-pub record IsClosed (plan : Plan) (count : ℕ) (seats : List Seat) (new : BookState) : Type 0 where
+pub record IsClosed (plan : FreePlan) (count : ℕ) (seats : List Seat) (new : BookState) : Type 0 where
   pub first : List BookRow
   pub after : List BookRow
   pub begins : HasRows plan.table first plan.book
@@ -110,7 +110,7 @@ is_closed book situation setting seats new history = record {
   rest = history.rests.rest;
 }
 
-module _ (plan : Plan) (count : ℕ) (seats : List Seat) (new : BookState) (closed : IsClosed plan count seats new) (rows : List Row)
+module _ (plan : FreePlan) (count : ℕ) (seats : List Seat) (new : BookState) (closed : IsClosed plan count seats new) (rows : List Row)
     (at : IsBookAt plan.table rows plan.book plan.situation) where
   abbrev joined : Joins plan.table rows closed.after new
   joined = joins plan.table rows closed.first closed.after plan.book new closed.members at.behind closed.begins closed.has
@@ -152,7 +152,7 @@ module _ (plan : Plan) (count : ℕ) (seats : List Seat) (new : BookState) (clos
   pub named_there : (members : ℕ) → count ≡ members → (place : ℕ) (row : Row) → slice_get more_of place ≡ Some row
       → (who : ℕ) × (who < members) × (is_turn_of who row.turn ≡ true)
   named_there members counts place row there =
-      let from = zip_from IsBehind closed.after more_of place row joined.each there in
+      let from = zip_from HasTurnOf closed.after more_of place row joined.each there in
       let named = closed.named place from.0 from.1 in
       (named.0, subst (λ n. named.0 < n) counts named.2, ap (is_turn_of named.0) from.2.turn_is ∙ named_by from.0.turn named.0 named.1)
 
@@ -290,7 +290,7 @@ module _ (plan : Plan) (count : ℕ) (seats : List Seat) (new : BookState) (clos
 
     -- ---- a replica that was stopped as the part began
 
-    module _ (idle : IsIdle seen may_leave honest told_of plan book who job) (halted : job.mail.mail.runs ≡ false) where
+    module _ (idle : HasNotBegun seen may_leave honest told_of plan book who job) (halted : job.mail.mail.runs ≡ false) where
       stopped : plan.situation.standing.runs who ≡ false
       stopped = sym idle.mail.runs ∙ halted
 
@@ -371,7 +371,7 @@ module _ (plan : Plan) (count : ℕ) (seats : List Seat) (new : BookState) (clos
       last_of : SinceLast who ended_in.after
       last_of = since_last book who ended_in.after job.seat ended_in.seat there
 
-      broken : HasBroken plan who last_of.one
+      broken : HasStoppedFreely plan who last_of.one
       broken = ended_in.broken rows last_of.one last_of.first
 
       passed : Passes who (situation_in plan last_of.one) after_of

@@ -30,7 +30,7 @@ use Rattle.world_steps.specs.Turns.{IsHalted, MayJoin, noted}
 use Rattle.world_steps.specs.declared.steps.Taken.{Taken}
 use Rattle.world_free.specs.Jobs.{IsBroken, IsNodeFit, IsOfPlan, IsRunner, IsStepper, IsStopper, situation_in}
 use Rattle.world_free.specs.Mails.{HasLooked}
-use Rattle.world_free.specs.Plan.{Plan, Seat, SharedBook}
+use Rattle.world_free.specs.Plan.{FreePlan, Seat, SharedBook}
 use Rattle.world_free.specs.Ready.{row_of_step, row_of_stop}
 use Rattle.world_free.specs.Seats.{IsSeatAt, rows_by}
 use Rattle.world_free.specs.declared.job.FreeJob.{FreeJob}
@@ -55,7 +55,7 @@ follows_there table book seat turn row state of at rests same next =
     (subst (λ (t : Table). HasRows t (shown_at turn) (state_at turn)) key rests.rows)))
 
 -- In a turn of the seat the book has what the seat has seen, and rows of others behind that.
-pub record Shows (plan : Plan) (who : ℕ) (after : List BookRow) (seat : Seat) (turn : SeatTurn) : Type 0 where
+pub record Shows (plan : FreePlan) (who : ℕ) (after : List BookRow) (seat : Seat) (turn : SeatTurn) : Type 0 where
   pub first : List BookRow
   pub first_is : first_rows_at turn ≡ Some first
   pub gone : List BookRow
@@ -67,7 +67,7 @@ pub record Shows (plan : Plan) (who : ℕ) (after : List BookRow) (seat : Seat) 
   pub rest : (state_at turn).pending ≡ None
   pub members : (state_at turn).members ≡ plan.book.members
 
-pub shows_book : (plan : Plan) (book : SharedBook) (who : ℕ) (after : List BookRow) (seat : Seat) (turn : SeatTurn) → IsOfPlan plan book → IsSeatAt book who after seat → IsTurnAt book seat turn
+pub shows_book : (plan : FreePlan) (book : SharedBook) (who : ℕ) (after : List BookRow) (seat : Seat) (turn : SeatTurn) → IsOfPlan plan book → IsSeatAt book who after seat → IsTurnAt book seat turn
     → ShowsHistory law.ghosts seat turn → ShowsRest law.ghosts turn → Shows plan who after seat turn
 shows_book plan book who after seat turn of at turn_at shows rests = record {
   first = shows.first;
@@ -109,7 +109,7 @@ shows_book plan book who after seat turn of at turn_at shows rests = record {
     members = rests.number ∙ ap (λ (state : BookState). state.members) book_is
 
 -- the seat after the turn
-pub seat_then : (plan : Plan) (book : SharedBook) (who : ℕ) (after : List BookRow) (seat new : Seat) (turn : SeatTurn) (row : BookRow) → (shows : Shows plan who after seat turn)
+pub seat_then : (plan : FreePlan) (book : SharedBook) (who : ℕ) (after : List BookRow) (seat new : Seat) (turn : SeatTurn) (row : BookRow) → (shows : Shows plan who after seat turn)
     → seat_of row.turn ≡ Some who → IsSeatOf book new → number_of new ≡ who → first_rows_by new ≡ first_rows_at turn → own_rows new ≡ own_at turn ++ row ∷ [] → seen_by new ≡ shown_at turn ++ row ∷ []
     → IsSeatAt book who ((after ++ shows.gone) ++ row ∷ []) new
 seat_then plan book who after seat new turn row shows mine of_book number first owns saw = record {
@@ -123,7 +123,7 @@ seat_then plan book who after seat new turn row shows mine of_book number first 
   own = owns ∙ ap (λ rows. rows ++ row ∷ []) shows.own ∙ sym (is_own (λ (r : BookRow). seat_of r.turn) who (after ++ shows.gone) row mine);
 }
 
-module _ {D : Type 0} (seen : D → Image) (may_leave : D → Image → Type 0) (honest : D → Type 0) (told_of : D → Option Told) (plan : Plan) (book : SharedBook) (who taken : ℕ) (step : Taken) (job : FreeJob D)
+module _ {D : Type 0} (seen : D → Image) (may_leave : D → Image → Type 0) (honest : D → Type 0) (told_of : D → Option Told) (plan : FreePlan) (book : SharedBook) (who taken : ℕ) (step : Taken) (job : FreeJob D)
     (stepper : IsStepper seen may_leave honest told_of plan book who taken step job) (turn : SeatTurn) (at : IsTurnAt book job.seat turn) (shows : ShowsHistory law.ghosts job.seat turn)
     (rests : ShowsRest law.ghosts turn) where
   abbrev shown : Shows plan who stepper.after job.seat turn
@@ -192,7 +192,7 @@ stop_row who cause change kept out is alone =
     stopped_row : Bool → StepOut → BookRow
     stopped_row k o = record { turn = Stopped who (Some cause) k; out = o }
 
-module _ {D : Type 0} (seen : D → Image) (may_leave : D → Image → Type 0) (honest : D → Type 0) (told_of : D → Option Told) (plan : Plan) (book : SharedBook) (who taken : ℕ) (cause : Cause)
+module _ {D : Type 0} (seen : D → Image) (may_leave : D → Image → Type 0) (honest : D → Type 0) (told_of : D → Option Told) (plan : FreePlan) (book : SharedBook) (who taken : ℕ) (cause : Cause)
     (change : Option Delta) (job : FreeJob D) (stopper : IsStopper seen may_leave honest told_of plan book who taken cause change job) (turn : SeatTurn) (at : IsTurnAt book job.seat turn)
     (shows : ShowsHistory law.ghosts job.seat turn) (rests : ShowsRest law.ghosts turn) where
   abbrev halts : Shows plan who stopper.after job.seat turn

@@ -20,7 +20,7 @@ use Rattle.world_steps.specs.declared.mail.MemberMail.{MemberMail}
 use Rattle.world_free.specs.Ends.{BeginsAt, HaveEnded, HaveLooked, latest_by}
 use Rattle.world_free.specs.Jobs.{HaveRun, IsJobAt}
 use Rattle.world_free.specs.Parts.{AreJobsOf, mail_in, node_in, seat_in}
-use Rattle.world_free.specs.Plan.{Plan, Seat, SharedBook, plan_of}
+use Rattle.world_free.specs.Plan.{FreePlan, Seat, SharedBook, plan_of}
 use Rattle.world_free.specs.declared.job.FreeJob.{FreeJob}
 use Rattle.world_free.specs.declared.job.FreeMail.{FreeMail}
 use Rattle.world_free.specs.declared.job.Setting.{Setting}
@@ -31,7 +31,7 @@ use Rattle.world_free.proofs.JobLemmas.{mapped_at, mapped_from, some_at}
 
 module _ {D : Type 0} (seen : D → Image) (may_leave : D → Image → Type 0) (honest : D → Type 0) (told_of : D → Option Told) where
   -- the seat of a job, whether its replica runs or not
-  seat_of_job : (plan : Plan) (book : SharedBook) (who : ℕ) (job : FreeJob D) → IsJobAt seen may_leave honest told_of plan book who plan.turns job
+  seat_of_job : (plan : FreePlan) (book : SharedBook) (who : ℕ) (job : FreeJob D) → IsJobAt seen may_leave honest told_of plan book who plan.turns job
       → IsSeatOf book job.seat × (number_of job.seat ≡ who)
   seat_of_job plan book who job ended = elim (cases_Bool job.mail.mail.runs) [
     | inl runs ↦ (let runner = ended.running runs in (runner.seat.of_book, runner.seat.number))
@@ -41,7 +41,7 @@ module _ {D : Type 0} (seen : D → Image) (may_leave : D → Image → Type 0) 
   module _ (book : SharedBook) (setting : Setting) (situation : Situation) (jobs : List (FreeJob D))
       (run : HaveRun seen may_leave honest told_of book setting situation jobs) (count : length jobs ≡ seats_of book)
       (nodes : List (Node D)) (mails : List FreeMail) (seats : List Seat) (are : AreJobsOf nodes mails seats jobs) where
-    abbrev plan : Plan
+    abbrev plan : FreePlan
     plan = plan_of (opening_of book).key.value book situation setting
 
     pub all_seats : AreAllSeats book seats

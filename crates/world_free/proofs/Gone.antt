@@ -20,11 +20,11 @@ use Rattle.script_semantics.specs.Others.{AreOthers, mail_behind}
 use Rattle.script_semantics.proofs.FreeMailLemmas.{Passes, others_pass}
 use Rattle.script_semantics.proofs.PartLemmas.{course_with_others, goes_others, goes_own, seen_next, taken_next}
 use Rattle.turn_book.specs.Rows.{is_seat}
-use Rattle.world_law.specs.Rows.{IsBehind, seat_of}
+use Rattle.world_law.specs.Rows.{HasTurnOf, seat_of}
 use Rattle.world_law.specs.declared.row.BookRow.{BookRow}
 use Rattle.world_steps.proofs.AfterTurn.{did_runs}
-use Rattle.world_free.specs.Jobs.{HasBroken, HasGone, situation_in}
-use Rattle.world_free.specs.Plan.{Plan, course_in}
+use Rattle.world_free.specs.Jobs.{HasStoppedFreely, HasGone, situation_in}
+use Rattle.world_free.specs.Plan.{FreePlan, course_in}
 use Rattle.world_free.specs.Seats.{rows_by}
 use Rattle.due_set.proofs.Rising.{Contains-tail as in_rest}
 use Rattle.history.proofs.Standings.{fact_here}
@@ -38,7 +38,7 @@ is_own who (Restarted other) = refl
 is_own who (Arrived number) = refl
 
 -- where none of some rows is the seat's, no turn behind them is its replica's
-pub others_behind : (who : ℕ) (rows : List BookRow) (behind : List Row) → AllZip IsBehind rows behind → rows_by who rows ≡ [] → AreOthers who behind
+pub others_behind : (who : ℕ) (rows : List BookRow) (behind : List Row) → AllZip HasTurnOf rows behind → rows_by who rows ≡ [] → AreOthers who behind
 others_behind who [] [] each none = tt
 others_behind who [] (next ∷ behind) each none = absurd each
 others_behind who (row ∷ rows) [] each none = absurd each
@@ -52,14 +52,14 @@ others_behind who (row ∷ rows) (next ∷ behind) each none = elim (cases_Bool 
 
 -- ---- the situation of a part that goes on
 
-pub situation_more : (plan : Plan) (more others : List Row) → situation_in plan (more ++ others) ≡ after_all_posted plan.book.members (situation_in plan more) others
+pub situation_more : (plan : FreePlan) (more others : List Row) → situation_in plan (more ++ others) ≡ after_all_posted plan.book.members (situation_in plan more) others
 situation_more plan more others = fold-append (after_posted plan.book.members) plan.situation more others
 
-pub situation_next : (plan : Plan) (more : List Row) (row : Row) → situation_in plan (more ++ row ∷ []) ≡ after_posted plan.book.members (situation_in plan more) row
+pub situation_next : (plan : FreePlan) (more : List Row) (row : Row) → situation_in plan (more ++ row ∷ []) ≡ after_posted plan.book.members (situation_in plan more) row
 situation_next plan more row = situation_more plan more (row ∷ [])
 
 -- what turns of others leave of it
-pub others_leave_it : (plan : Plan) (who : ℕ) (more others : List Row) → AreOthers who others → Passes who (situation_in plan more) (situation_in plan (more ++ others))
+pub others_leave_it : (plan : FreePlan) (who : ℕ) (more others : List Row) → AreOthers who others → Passes who (situation_in plan more) (situation_in plan (more ++ others))
 others_leave_it plan who more others none =
     subst (λ (s : Situation). Passes who (situation_in plan more) s) (sym (situation_more plan more others)) (others_pass plan.book.members who (situation_in plan more) others none)
 
@@ -95,7 +95,7 @@ cuts_stay members situation (row ∷ rows) = cuts_stay members (after_posted mem
 
 -- **A replica that has gone freely has with its next turn**, whatever turns of others came between, where the turn is the one that it was to take
 -- by what it saw last.
-pub gone_next : (plan : Plan) (who taken : ℕ) (more others : List Row) (row : Row) (cause : Cause) (made : Option CallRow) (changes : List Delta) → HasGone plan who taken more → taken < plan.turns
+pub gone_next : (plan : FreePlan) (who taken : ℕ) (more others : List Row) (row : Row) (cause : Cause) (made : Option CallRow) (changes : List Delta) → HasGone plan who taken more → taken < plan.turns
     → AreOthers who others → row.turn ≡ Did who cause made → cause ≡ next_cause plan.table.window plan.at who taken (situation_in plan more)
     → IfSome made (λ call. call.fate ≡ (situation_in plan more).fates who) → changes_in plan.book.members (situation_in plan more).standing row.turn row.event ≡ changes
     → IsEnough ((situation_in plan more).arms who) changes → HasGone plan who (taken + 1) ((more ++ others) ++ row ∷ [])
@@ -150,9 +150,9 @@ turn_halts members who situation row cause kept is =
     ap (λ (turn : Turn). (after_turn members situation (record row { turn = turn })).standing.runs who) is ∙ stop_halts members situation.standing who cause kept row.event row.letters
 
 -- **A replica that has gone freely has, and has stopped, with such a stop**, whatever turns of others came between.
-pub broken_next : (plan : Plan) (who taken : ℕ) (more others : List Row) (row : Row) (cause : Cause) → HasGone plan who taken more → taken < plan.turns
+pub broken_next : (plan : FreePlan) (who taken : ℕ) (more others : List Row) (row : Row) (cause : Cause) → HasGone plan who taken more → taken < plan.turns
     → AreOthers who others → cause ≡ next_cause plan.table.window plan.at who taken (situation_in plan more)
-    → StopsInStep plan.book.members (situation_in plan more) who cause row → HasBroken plan who ((more ++ others) ++ row ∷ [])
+    → StopsInStep plan.book.members (situation_in plan more) who cause row → HasStoppedFreely plan who ((more ++ others) ++ row ∷ [])
 broken_next plan who taken more others row cause gone left none next stop = record {
   goes =
       goes_own plan.book.members who plan.table.window plan.at plan.turns plan.situation (more ++ others) row

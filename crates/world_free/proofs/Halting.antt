@@ -27,7 +27,7 @@ use Rattle.script_semantics.specs.Situation.{Situation, after_turn, arms_after, 
 use Rattle.script_semantics.proofs.FreeMailLemmas.{Passes}
 use Rattle.world_law.specs.Book.{BookState, StandsBehind, standing_behind}
 use Rattle.world_law.specs.Replicas.{IsStopOf, StandsStopped, change_alone}
-use Rattle.world_law.specs.Rows.{HasRows, IsBehind, MayComeNext}
+use Rattle.world_law.specs.Rows.{HasRows, HasTurnOf, MayComeNext}
 use Rattle.world_law.specs.declared.row.BookRow.{BookRow}
 use Rattle.world_law.proofs.Behind.{turn_is_added}
 use Rattle.world_law.proofs.Settled.{come_here}
@@ -39,9 +39,9 @@ use Rattle.world_steps.specs.Stops.{IsNextStop, change_kept}
 use Rattle.world_steps.specs.Turns.{IsHalted}
 use Rattle.world_steps.proofs.Foreseen.{added, adds}
 use Rattle.world_steps.proofs.Stopping.{kept_is}
-use Rattle.world_free.specs.Jobs.{HasBroken, IsNodeFit, IsStopper, situation_in}
+use Rattle.world_free.specs.Jobs.{HasStoppedFreely, IsNodeFit, IsStopper, situation_in}
 use Rattle.world_free.specs.Mails.{IsMailIn, IsStoppedMailIn}
-use Rattle.world_free.specs.Plan.{ArePlayed, Plan, SharedBook}
+use Rattle.world_free.specs.Plan.{ArePlayed, FreePlan, SharedBook}
 use Rattle.world_free.specs.Ready.{row_of_stop}
 use Rattle.world_free.specs.Seats.{rows_by}
 use Rattle.world_free.specs.declared.job.FreeJob.{FreeJob}
@@ -71,7 +71,7 @@ stop_waits : (n : ℕ) (s : Standing) (who : ℕ) (cause : Option Cause) (kept :
 unfolding after_row
 stop_waits n s who cause kept event letters = fact_here who None s.waits
 
-module _ {D : Type 0} (seen : D → Image) (may_leave : D → Image → Type 0) (honest : D → Type 0) (told_of : D → Option Told) (plan : Plan) (book : SharedBook) (who taken : ℕ) (cause : Cause)
+module _ {D : Type 0} (seen : D → Image) (may_leave : D → Image → Type 0) (honest : D → Type 0) (told_of : D → Option Told) (plan : FreePlan) (book : SharedBook) (who taken : ℕ) (cause : Cause)
     (change : Option Delta) (job : FreeJob D) (stopper : IsStopper seen may_leave honest told_of plan book who taken cause change job) (gone : List BookRow) (others : rows_by who gone ≡ [])
     (state : BookState) (here : IsHere plan (stopper.after ++ gone) state) (rest : state.pending ≡ None) (members : state.members ≡ plan.book.members) where
   abbrev rows_now : List Row
@@ -157,7 +157,7 @@ module _ {D : Type 0} (seen : D → Image) (may_leave : D → Image → Type 0) 
     legal = subst (λ n. IsLegal n plan.table (here.begun ++ (here.more ++ turn.row ∷ []))) members
         (subst (λ all. IsLegal state.members plan.table all) (append_assoc here.begun here.more (turn.row ∷ [])) behind_then.legal);
     turns = here.are.turns;
-    each = zip_join IsBehind (stopper.after ++ gone) (row_now ∷ []) here.more (turn.row ∷ []) here.are.each (turn.is, tt);
+    each = zip_join HasTurnOf (stopper.after ++ gone) (row_now ∷ []) here.more (turn.row ∷ []) here.are.each (turn.is, tt);
   }
 
   -- the replica keeps what the node keeps
@@ -218,9 +218,9 @@ module _ {D : Type 0} (seen : D → Image) (may_leave : D → Image → Type 0) 
         by_numbers : ℕ → Bool
         by_numbers bases = is_kept bases stopper.stop.change stopper.arm.left stopper.arm.image
 
-    pub broken_then : HasBroken plan who more
+    pub broken_then : HasStoppedFreely plan who more
     broken_then =
-        subst (λ rows. HasBroken plan who rows) (sym late.parts)
+        subst (λ rows. HasStoppedFreely plan who rows) (sym late.parts)
         (broken_next plan who taken late.one late.other late.row cause (stopper.gone begun late.one late.first) stopper.left late.others (stopper.cause_is begun late.one late.first) stops)
 
     -- the disk is where the turn leaves it

@@ -17,7 +17,7 @@ use Rattle.world_steps.specs.declared.bundle.Bundle.{Bundle}
 use Rattle.world_free.specs.Ends.{BeginsAt}
 use Rattle.world_free.specs.Jobs.{AreJobsAt, HaveRun}
 use Rattle.world_free.specs.Parts.{AreJobsOf, AreKept, mail_of}
-use Rattle.world_free.specs.Plan.{Plan, Seat, SharedBook, plan_of}
+use Rattle.world_free.specs.Plan.{FreePlan, Seat, SharedBook, plan_of}
 use Rattle.world_free.specs.declared.job.FreeJob.{FreeJob}
 use Rattle.world_free.specs.declared.job.FreeMail.{FreeMail}
 use Rattle.world_free.specs.declared.job.Setting.{Setting}
@@ -78,7 +78,7 @@ module _ {D M : Type 0} (seen : D → Image) (may_leave : D → Image → Type 0
         subst (λ key. AreJobsAt seen may_leave honest told_of (plan_of key book situation setting) book setting.turns after) (sym handed.began.key_is) are
 
     module _ (rows : List Row) (situation : Situation) (at : ArePartsAt seen may_leave honest told_of table rows parts situation) where
-      abbrev plan : Plan
+      abbrev plan : FreePlan
       plan = plan_of table book situation setting
 
       -- the jobs before any turn

@@ -24,7 +24,7 @@ use Rattle.script_semantics.proofs.FreeMailLemmas.{Passes}
 use Rattle.script_semantics.proofs.NextLemmas.{mail_next}
 use Rattle.world_law.specs.Book.{BookState, StandsBehind, posted_as, standing_behind}
 use Rattle.world_law.specs.Replicas.{IsTurnOf, StandsAt}
-use Rattle.world_law.specs.Rows.{IsBehind}
+use Rattle.world_law.specs.Rows.{HasTurnOf}
 use Rattle.world_law.specs.declared.row.BookRow.{BookRow}
 use Rattle.world_law.proofs.Behind.{turn_is_added}
 use Rattle.world_steps.specs.Nodes.{IsDiskAt}
@@ -36,9 +36,9 @@ use Rattle.world_steps.proofs.AfterTurn.{did_arm, did_fate, did_waits}
 use Rattle.world_steps.proofs.Bases.{arm_spent}
 use Rattle.world_steps.proofs.Foreseen.{added, adds}
 use Rattle.world_steps.proofs.Joined.{turn_of_step}
-use Rattle.world_free.specs.Jobs.{HasGone, HasPlayed, IsStepper, situation_in}
+use Rattle.world_free.specs.Jobs.{HasGone, ArePlayedRows, IsStepper, situation_in}
 use Rattle.world_free.specs.Mails.{HasLooked, IsMailIn, IsPostedTo, coming, posted_with}
-use Rattle.world_free.specs.Plan.{ArePlayed, Plan, SharedBook}
+use Rattle.world_free.specs.Plan.{ArePlayed, FreePlan, SharedBook}
 use Rattle.world_free.specs.Ready.{row_of_step}
 use Rattle.world_free.specs.Seats.{rows_by}
 use Rattle.world_free.specs.declared.job.FreeJob.{FreeJob}
@@ -51,7 +51,7 @@ use Rattle.world_free.proofs.Since.{IsHere, Lately, changes_before, changes_seen
 use Rattle.history.proofs.Standings.{fact_here}
 use Rattle.step_spec.proofs.ListLemmas.{found_still as found_more}
 
-module _ {D : Type 0} (seen : D → Image) (may_leave : D → Image → Type 0) (honest : D → Type 0) (told_of : D → Option Told) (plan : Plan) (book : SharedBook) (who taken : ℕ) (step : Taken) (job : FreeJob D)
+module _ {D : Type 0} (seen : D → Image) (may_leave : D → Image → Type 0) (honest : D → Type 0) (told_of : D → Option Told) (plan : FreePlan) (book : SharedBook) (who taken : ℕ) (step : Taken) (job : FreeJob D)
     (stepper : IsStepper seen may_leave honest told_of plan book who taken step job) (gone : List BookRow) (others : rows_by who gone ≡ []) (state : BookState)
     (here : IsHere plan (stepper.after ++ gone) state) (rest : state.pending ≡ None) (members : state.members ≡ plan.book.members) where
   abbrev rows_now : List Row
@@ -118,10 +118,10 @@ module _ {D : Type 0} (seen : D → Image) (may_leave : D → Image → Type 0) 
       legal = subst (λ n. IsLegal n plan.table (here.begun ++ (here.more ++ turn.row ∷ []))) members_then
           (subst (λ all. IsLegal book_then.members plan.table all) (append_assoc here.begun here.more (turn.row ∷ [])) behind_then.legal);
       turns = here.are.turns;
-      each = zip_join IsBehind (stepper.after ++ gone) (row_now ∷ []) here.more (turn.row ∷ []) here.are.each (turn.is, tt);
+      each = zip_join HasTurnOf (stepper.after ++ gone) (row_now ∷ []) here.more (turn.row ∷ []) here.are.each (turn.is, tt);
     }
 
-    pub played_then : HasPlayed plan rows_then
+    pub played_then : ArePlayedRows plan rows_then
     played_then = record {
       begun = here.begun;
       more = here.more ++ turn.row ∷ [];

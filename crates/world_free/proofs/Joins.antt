@@ -10,7 +10,7 @@ use Rattle.history.specs.declared.turn.Turn.{Turn}
 use Rattle.history.proofs.Turns.{legal_push}
 use Rattle.history.proofs.Keeping.{stands_next}
 use Rattle.world_law.specs.Book.{BookState, StandsBehind}
-use Rattle.world_law.specs.Rows.{HasRows, IsBehind}
+use Rattle.world_law.specs.Rows.{HasRows, HasTurnOf}
 use Rattle.world_law.specs.declared.row.BookRow.{BookRow}
 use Rattle.world_law.proofs.Rows.{turns_behind}
 use Rattle.world_law.proofs.Settled.{stand_instead, turns_settle}
@@ -39,14 +39,14 @@ legal_swapped members table one other (row ∷ more) legal lawful same =
 
 pub record Joins (table : Table) (rows : List Row) (after : List BookRow) (new : BookState) : Type 0 where
   pub more : List Row
-  pub each : AllZip IsBehind after more
+  pub each : AllZip HasTurnOf after more
   pub stands : StandsBehind table (rows ++ more) new
 
 pub joins : (table : Table) (rows : List Row) (first after : List BookRow) (old new : BookState) → new.members ≡ old.members → StandsBehind table rows old
     → HasRows table first old
     → HasRows table (first ++ after) new → Joins table rows after new
 joins table rows first after old new members behind began has =
-    let two = zip_split IsBehind first after has.behind has.each in
+    let two = zip_split HasTurnOf first after has.behind has.each in
     let whole : IsLegal new.members table (two.one ++ two.other) = subst (λ all. IsLegal new.members table all) two.parts has.stands.legal in
     let front : IsLegal new.members table two.one = front_legal new.members table two.one two.other whole in
     let here : IsLegal new.members table rows = subst (λ n. IsLegal n table rows) (sym members) behind.legal in

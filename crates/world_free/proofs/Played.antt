@@ -11,12 +11,12 @@ use Rattle.history.specs.declared.turn.Turn.{Turn}
 use Rattle.history.proofs.Turns.{legal_push}
 use Rattle.script_semantics.specs.Free.{after_all_posted, after_posted}
 use Rattle.script_semantics.specs.Situation.{Situation}
-use Rattle.world_law.specs.Rows.{IsBehind}
+use Rattle.world_law.specs.Rows.{HasTurnOf}
 use Rattle.world_law.specs.declared.row.BookRow.{BookRow}
 use Rattle.world_law.proofs.Rows.{turns_behind}
 use Rattle.world_law.proofs.Settled.{turns_settle}
 use Rattle.world_free.specs.Jobs.{IsOfPlan, situation_in}
-use Rattle.world_free.specs.Plan.{ArePlayed, Plan, SharedBook}
+use Rattle.world_free.specs.Plan.{ArePlayed, FreePlan, SharedBook}
 use Rattle.world_free.proofs.Lists.{zip_split}
 use Rattle.history.proofs.FrontLemmas.{follows_there as may_next}
 
@@ -24,7 +24,7 @@ abbrev turns_of : List Row → List Turn
 turns_of rows = map (λ (row : Row). row.turn) rows
 
 -- what stands after rows of a part
-abbrev pub stands_in : Plan → List Row → Standing
+abbrev pub stands_in : FreePlan → List Row → Standing
 stands_in plan rows = standing_after plan.book.members (first_rows plan.table) rows
 
 -- ---- fronts
@@ -40,16 +40,16 @@ front_legal members table front back legal = go [] front back legal (λ number r
         (go (done ++ row ∷ []) front back (subst (λ rows. IsLegal members table rows) (sym (append_assoc done (row ∷ []) (front ++ back))) legal) (legal_push members table done row so_far may))
 
 -- a part that has more is one that has less, and more
-pub record Split (plan : Plan) (after more_rows : List BookRow) (begun more : List Row) : Type 0 where
+pub record Split (plan : FreePlan) (after more_rows : List BookRow) (begun more : List Row) : Type 0 where
   pub one : List Row
   pub other : List Row
   pub parts : more ≡ one ++ other
   pub first : ArePlayed plan after begun one
-  pub second : AllZip IsBehind more_rows other
+  pub second : AllZip HasTurnOf more_rows other
 
-pub split_played : (plan : Plan) (after gone : List BookRow) (begun more : List Row) → ArePlayed plan (after ++ gone) begun more → Split plan after gone begun more
+pub split_played : (plan : FreePlan) (after gone : List BookRow) (begun more : List Row) → ArePlayed plan (after ++ gone) begun more → Split plan after gone begun more
 split_played plan after gone begun more are =
-    let two = zip_split IsBehind after gone more are.each in
+    let two = zip_split HasTurnOf after gone more are.each in
     record {
       one = two.one;
       other = two.other;
@@ -65,11 +65,11 @@ split_played plan after gone begun more are =
 
 -- ---- one standing
 
-pub played_turns : (plan : Plan) (after : List BookRow) (begun more : List Row) → ArePlayed plan after begun more → turns_of (begun ++ more) ≡ plan.book.turns ++ map (λ (row : BookRow). row.turn) after
+pub played_turns : (plan : FreePlan) (after : List BookRow) (begun more : List Row) → ArePlayed plan after begun more → turns_of (begun ++ more) ≡ plan.book.turns ++ map (λ (row : BookRow). row.turn) after
 played_turns plan after begun more are =
     map-append (λ (row : Row). row.turn) begun more ∙ ap (λ l. l ++ turns_of more) (sym are.turns) ∙ ap (λ l. plan.book.turns ++ l) (turns_behind after more are.each)
 
-pub played_stand : (plan : Plan) (after : List BookRow) (begun more first other : List Row) → ArePlayed plan after begun more → ArePlayed plan after first other
+pub played_stand : (plan : FreePlan) (after : List BookRow) (begun more first other : List Row) → ArePlayed plan after begun more → ArePlayed plan after first other
     → stands_in plan (begun ++ more) ≡ stands_in plan (first ++ other)
 played_stand plan after begun more first other are also =
     (turns_settle plan.book.members plan.table (begun ++ more) (first ++ other) are.legal also.legal
@@ -83,13 +83,13 @@ pub posted_stands : (members : ℕ) (situation : Situation) (rows : List Row)
 posted_stands members situation [] = refl
 posted_stands members situation (row ∷ rows) = posted_stands members (after_posted members situation row) rows
 
-pub begun_stands : (plan : Plan) (book : SharedBook) (after : List BookRow) (begun more : List Row) → IsOfPlan plan book → ArePlayed plan after begun more
+pub begun_stands : (plan : FreePlan) (book : SharedBook) (after : List BookRow) (begun more : List Row) → IsOfPlan plan book → ArePlayed plan after begun more
     → plan.situation.standing ≡ stands_in plan begun
 begun_stands plan book after begun more of are =
     of.at.standing
     ∙ (turns_settle plan.book.members plan.table of.rows begun of.at.behind.legal (front_legal plan.book.members plan.table begun more are.legal) (sym of.at.behind.turns ∙ are.turns)).stands
 
-pub situation_stands : (plan : Plan) (book : SharedBook) (after : List BookRow) (begun more : List Row) → IsOfPlan plan book → ArePlayed plan after begun more
+pub situation_stands : (plan : FreePlan) (book : SharedBook) (after : List BookRow) (begun more : List Row) → IsOfPlan plan book → ArePlayed plan after begun more
     → (situation_in plan more).standing ≡ stands_in plan (begun ++ more)
 situation_stands plan book after begun more of are =
     let next = λ (standing : Standing) (row : Row). after_row plan.book.members standing row.turn row.event row.letters in

@@ -4,10 +4,10 @@ use Rattle.std.specs.Prelude.{Option}
 use Rattle.disk_model.specs.Images.{Image}
 use Rattle.disk_model.specs.Told.{Told}
 use Rattle.world_free.specs.Jobs.{IsBroken, IsJobAt, IsRunner}
-use Rattle.world_free.specs.Plan.{Plan, SharedBook}
+use Rattle.world_free.specs.Plan.{FreePlan, SharedBook}
 use Rattle.world_free.specs.declared.job.FreeJob.{FreeJob}
 
-module _ {D : Type 0} (seen : D → Image) (may_leave : D → Image → Type 0) (honest : D → Type 0) (told_of : D → Option Told) (plan : Plan) (book : SharedBook) (who taken : ℕ) where
+module _ {D : Type 0} (seen : D → Image) (may_leave : D → Image → Type 0) (honest : D → Type 0) (told_of : D → Option Told) (plan : FreePlan) (book : SharedBook) (who taken : ℕ) where
   -- a replica that runs has had so many turns
   pub has_run : (job : FreeJob D) → IsRunner seen may_leave honest told_of plan book who taken job → IsJobAt seen may_leave honest told_of plan book who taken job
   has_run job runner = record {

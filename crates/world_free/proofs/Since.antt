@@ -23,7 +23,7 @@ use Rattle.turn_book.specs.Rows.{BeginsWith, is_seat}
 use Rattle.turn_book.specs.Turns.{first_rows_by, own_rows, seen_by}
 use Rattle.world_law.specs.Book.{BookState, StandsBehind, posted_as, standing_behind}
 use Rattle.world_law.specs.Replicas.{IsInputOf, IsLetterInput, StandsAt}
-use Rattle.world_law.specs.Rows.{HasRows, IsBehind, seat_of}
+use Rattle.world_law.specs.Rows.{HasRows, HasTurnOf, seat_of}
 use Rattle.world_law.specs.declared.letter.LetterRow.{LetterRow}
 use Rattle.world_law.specs.declared.row.BookRow.{BookRow}
 use Rattle.world_law.proofs.Rows.{turns_are, turns_behind}
@@ -32,8 +32,8 @@ use Rattle.world_steps.specs.Nodes.{bases_behind}
 use Rattle.world_steps.specs.Steps.{IsToldOf, waits_in}
 use Rattle.world_steps.proofs.Bases.{deltas_at}
 use Rattle.world_steps.proofs.Foreseen.{is_input}
-use Rattle.world_free.specs.Jobs.{HasPlayed, IsOfPlan, situation_in}
-use Rattle.world_free.specs.Plan.{ArePlayed, Plan, Seat, SharedBook}
+use Rattle.world_free.specs.Jobs.{ArePlayedRows, IsOfPlan, situation_in}
+use Rattle.world_free.specs.Plan.{ArePlayed, FreePlan, Seat, SharedBook}
 use Rattle.world_free.specs.Seats.{IsSeatAt, rows_by}
 use Rattle.world_free.proofs.BaseLemmas.{bases_still, situation_bases}
 use Rattle.world_free.proofs.Gone.{others_behind, others_leave_it, situation_more, situation_next}
@@ -77,16 +77,16 @@ since book who first after now seat at same owns begins = go at.seen
 -- ---- the rows behind the book as it is now
 
 -- these rows of the part have what the book has, and stand behind it
-pub record IsHere (plan : Plan) (rows : List BookRow) (state : BookState) : Type 0 where
+pub record IsHere (plan : FreePlan) (rows : List BookRow) (state : BookState) : Type 0 where
   pub begun : List Row
   pub more : List Row
   pub are : ArePlayed plan rows begun more
   pub behind : StandsBehind plan.table (begun ++ more) state
 
-pub is_here : (plan : Plan) (first rows : List BookRow) (state : BookState) → HasRows plan.table first plan.book → HasRows plan.table (first ++ rows) state → state.members ≡ plan.book.members
+pub is_here : (plan : FreePlan) (first rows : List BookRow) (state : BookState) → HasRows plan.table first plan.book → HasRows plan.table (first ++ rows) state → state.members ≡ plan.book.members
     → IsHere plan rows state
 is_here plan first rows state begins has members =
-    let two = zip_split IsBehind first rows has.behind has.each in
+    let two = zip_split HasTurnOf first rows has.behind has.each in
     record {
       begun = two.one;
       more = two.other;
@@ -98,7 +98,7 @@ is_here plan first rows state begins has members =
       behind = subst (λ all. StandsBehind plan.table all state) two.parts has.stands;
     }
 
-pub stands_here : (plan : Plan) (rows : List BookRow) (state : BookState) (here : IsHere plan rows state) → state.members ≡ plan.book.members
+pub stands_here : (plan : FreePlan) (rows : List BookRow) (state : BookState) (here : IsHere plan rows state) → state.members ≡ plan.book.members
     → standing_behind plan.table (here.begun ++ here.more) state ≡ stands_in plan (here.begun ++ here.more)
 stands_here plan rows state here members = rw members refl
 
@@ -137,19 +137,19 @@ told_still old new letters now who (Hear number) input still were are told =
 told_still old new letters now who Answer input still were are told = record { row = told.row; waiting = still.waits ∙ told.waiting; is = told.is }
 
 -- Rows that have what a seat has seen, and rows of others behind that, and then one row, which may follow these rows of the book.
-pub record Lately (plan : Plan) (who : ℕ) (after : List BookRow) (state : BookState) (rows_now : List Row) (row_now : BookRow) (begun more : List Row) : Type 0 where
+pub record Lately (plan : FreePlan) (who : ℕ) (after : List BookRow) (state : BookState) (rows_now : List Row) (row_now : BookRow) (begun more : List Row) : Type 0 where
   pub one : List Row
   pub other : List Row
   pub row : Row
   pub first : ArePlayed plan after begun one
-  pub is : IsBehind row_now row
+  pub is : HasTurnOf row_now row
   pub others : AreOthers who other
   pub parts : more ≡ (one ++ other) ++ row ∷ []
   pub stands : (after_all_posted plan.book.members (situation_in plan one) other).standing ≡ standing_behind plan.table rows_now state
   pub may : MayFollow state.members plan.table (standing_behind plan.table rows_now state) row.turn row
 
 -- What the seat of a replica has seen since the part began; and the book as it is now, where others alone have had turns since.
-module _ (plan : Plan) (book : SharedBook) (who : ℕ) (after : List BookRow) (of_plan : IsOfPlan plan book) (some : HasPlayed plan after) (gone : List BookRow) (others : rows_by who gone ≡ [])
+module _ (plan : FreePlan) (book : SharedBook) (who : ℕ) (after : List BookRow) (of_plan : IsOfPlan plan book) (some : ArePlayedRows plan after) (gone : List BookRow) (others : rows_by who gone ≡ [])
     (state : BookState) (here : IsHere plan (after ++ gone) state) (rest : state.pending ≡ None) (members : state.members ≡ plan.book.members) where
   abbrev pub rows_now : List Row
   rows_now = here.begun ++ here.more
@@ -258,8 +258,8 @@ module _ (plan : Plan) (book : SharedBook) (who : ℕ) (after : List BookRow) (o
       front : Split plan after gone begun last.one
       front = split_played plan after gone begun last.one last.first
 
-      one_row : (row : Row) × (last.other ≡ row ∷ []) × IsBehind row_now row
-      one_row = zip_one IsBehind row_now last.other last.second
+      one_row : (row : Row) × (last.other ≡ row ∷ []) × HasTurnOf row_now row
+      one_row = zip_one HasTurnOf row_now last.other last.second
 
       stands_before : stands_in plan (begun ++ last.one) ≡ standing_behind plan.table rows_now state
       stands_before =
@@ -267,7 +267,7 @@ module _ (plan : Plan) (book : SharedBook) (who : ℕ) (after : List BookRow) (o
 
 -- ---- at the last row
 
-module _ (plan : Plan) (who : ℕ) (after : List BookRow) (state : BookState) (rows_now : List Row) (row_now : BookRow) (begun more : List Row)
+module _ (plan : FreePlan) (who : ℕ) (after : List BookRow) (state : BookState) (rows_now : List Row) (row_now : BookRow) (begun more : List Row)
     (lately : Lately plan who after state rows_now row_now begun more) (members : state.members ≡ plan.book.members) where
   -- the situation that the seat saw last, and the one before the row
   abbrev pub saw : Situation

@@ -39,7 +39,7 @@ use Rattle.world_steps.specs.declared.steps.Taken.{Taken}
 use Rattle.world_free.specs.Jobs.{HasTried, IsRunner, IsStepper, IsStopper, situation_in}
 use Rattle.world_free.specs.Mails.{IsMailIn, IsToldHere}
 use Rattle.world_free.specs.Next.{idle_cause_by}
-use Rattle.world_free.specs.Plan.{ArePlayed, Plan, SharedBook}
+use Rattle.world_free.specs.Plan.{ArePlayed, FreePlan, SharedBook}
 use Rattle.world_free.specs.declared.job.FreeJob.{FreeJob}
 use Rattle.world_free.proofs.BaseLemmas.{bases_still, situation_bases}
 use Rattle.world_free.proofs.Played.{situation_stands}
@@ -78,7 +78,7 @@ posted_row [] number letter is = absurd cc
 posted_row (row ∷ letters) zero letter is = (row, refl, (let same : posted_as row ≡ letter = cc in same))
 posted_row (row ∷ letters) (suc number) letter is = posted_row letters number letter is
 
-module _ {D : Type 0} (seen : D → Image) (may_leave : D → Image → Type 0) (honest : D → Type 0) (told_of : D → Option Told) (plan : Plan) (book : SharedBook) (who taken : ℕ) (job : FreeJob D) (runner : IsRunner seen may_leave honest told_of plan book who taken job) where
+module _ {D : Type 0} (seen : D → Image) (may_leave : D → Image → Type 0) (honest : D → Type 0) (told_of : D → Option Told) (plan : FreePlan) (book : SharedBook) (who taken : ℕ) (job : FreeJob D) (runner : IsRunner seen may_leave honest told_of plan book who taken job) where
   -- the cause by what the thread keeps
   abbrev cause_kept : Cause
   cause_kept = next_cause_by job.mail.mail.waits job.mail.mail.letters.items (idle_cause_by plan.table.window plan.at job.mail.mail.skew who taken (replica_of job.node).state.term)

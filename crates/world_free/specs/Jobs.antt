@@ -26,7 +26,7 @@ use Rattle.world_steps.specs.declared.armed.Outcome.{Outcome}
 use Rattle.world_steps.specs.declared.armed.Outcome.TheVariants.{Taken, Stopped}
 use Rattle.world_steps.specs.declared.steps.Taken.{Taken as Step}
 use Rattle.world_free.specs.Mails.{IsMailIn, IsStoppedMailIn}
-use Rattle.world_free.specs.Plan.{ArePlayed, Plan, SharedBook, course_in, plan_of}
+use Rattle.world_free.specs.Plan.{ArePlayed, FreePlan, SharedBook, course_in, plan_of}
 use Rattle.world_free.specs.Seats.{IsSeatAt}
 use Rattle.world_free.specs.declared.job.FreeJob.{FreeJob}
 use Rattle.world_free.specs.declared.job.Setting.{Setting}
@@ -35,7 +35,7 @@ use Rattle.world_free.specs.declared.job.Setting.{Setting}
 
 -- The shared book is that of the plan: it has its table and began with its book, behind which rows stand in the plan's situation; there
 -- are as many replicas, and letters are lost as there.
-pub record IsOfPlan (plan : Plan) (book : SharedBook) : Type 0 where
+pub record IsOfPlan (plan : FreePlan) (book : SharedBook) : Type 0 where
   pub key : (opening_of book).key.value ≡ plan.table
   pub state : (opening_of book).state.value ≡ plan.book
   pub rows : List Row
@@ -44,7 +44,7 @@ pub record IsOfPlan (plan : Plan) (book : SharedBook) : Type 0 where
   pub members : plan.members ≡ plan.book.members
 
 -- some rows of the part have what these have, and stand behind a book at rest of few turns
-pub record HasPlayed (plan : Plan) (after : List BookRow) : Type 0 where
+pub record ArePlayedRows (plan : FreePlan) (after : List BookRow) : Type 0 where
   pub begun : List Row
   pub more : List Row
   pub are : ArePlayed plan after begun more
@@ -55,18 +55,18 @@ pub record HasPlayed (plan : Plan) (after : List BookRow) : Type 0 where
   pub few : length book.turns < 2 ^ 31
 
 -- the situation after these rows of the part
-abbrev pub situation_in : Plan → List Row → Situation
+abbrev pub situation_in : FreePlan → List Row → Situation
 situation_in plan more = after_all_posted plan.book.members plan.situation more
 
 -- A replica has gone freely by these rows, of which the last is its own, if there are any; it has had so many turns, and runs.
-pub record HasGone (plan : Plan) (who taken : ℕ) (more : List Row) : Type 0 where
+pub record HasGone (plan : FreePlan) (who taken : ℕ) (more : List Row) : Type 0 where
   pub goes : GoesFreely plan.book.members plan.table.window plan.at plan.turns who plan.situation more
   pub taken_is : (course_in plan who more).taken ≡ taken
   pub last : (course_in plan who more).seen ≡ situation_in plan more
   pub runs : (situation_in plan more).standing.runs who ≡ true
 
 -- A replica has gone freely by these rows, and has stopped in the last of its own.
-pub record HasBroken (plan : Plan) (who : ℕ) (more : List Row) : Type 0 where
+pub record HasStoppedFreely (plan : FreePlan) (who : ℕ) (more : List Row) : Type 0 where
   pub goes : GoesFreely plan.book.members plan.table.window plan.at plan.turns who plan.situation more
   pub last : (course_in plan who more).seen ≡ situation_in plan more
   pub stopped : (situation_in plan more).standing.runs who ≡ false
@@ -74,7 +74,7 @@ pub record HasBroken (plan : Plan) (who : ℕ) (more : List Row) : Type 0 where
 -- ---- between two turns
 
 -- the node of a replica
-pub record IsNodeFit {D : Type 0} (seen : D → Image) (may_leave : D → Image → Type 0) (honest : D → Type 0) (plan : Plan) (who : ℕ) (node : Node D) : Type 0 where
+pub record IsNodeFit {D : Type 0} (seen : D → Image) (may_leave : D → Image → Type 0) (honest : D → Type 0) (plan : FreePlan) (who : ℕ) (node : Node D) : Type 0 where
   pub at_rest : IsNodeAtRest seen may_leave honest plan.table node
   pub trusted : honest (disk_of node)
   pub identity : (replica_of node).identity ≡ identity_of plan.book.members who
@@ -82,12 +82,12 @@ pub record IsNodeFit {D : Type 0} (seen : D → Image) (may_leave : D → Image 
 
 -- **What the thread of a replica that runs has, after so many turns**: whatever rows of the part have what its seat has seen, the replica has
 -- gone freely by them, its node and its disk are where they leave them, and its mail is the one that they leave.
-pub record IsRunner {D : Type 0} (seen : D → Image) (may_leave : D → Image → Type 0) (honest : D → Type 0) (told_of : D → Option Told) (plan : Plan) (book : SharedBook) (who taken : ℕ) (job : FreeJob D) : Type 0 where
+pub record IsRunner {D : Type 0} (seen : D → Image) (may_leave : D → Image → Type 0) (honest : D → Type 0) (told_of : D → Option Told) (plan : FreePlan) (book : SharedBook) (who taken : ℕ) (job : FreeJob D) : Type 0 where
   pub of_plan : IsOfPlan plan book
   pub node : IsNodeFit seen may_leave honest plan who job.node
   pub after : List BookRow
   pub seat : IsSeatAt book who after job.seat
-  pub some : HasPlayed plan after
+  pub some : ArePlayedRows plan after
   pub gone : (begun more : List Row) → ArePlayed plan after begun more → HasGone plan who taken more
   pub state : (begun more : List Row) → ArePlayed plan after begun more → (replica_of job.node).state ≡ (situation_in plan more).standing.replicas who
   pub disk : (begun more : List Row) → ArePlayed plan after begun more → IsDiskAt told_of ((situation_in plan more).bases who) job.node
@@ -97,12 +97,12 @@ pub record IsRunner {D : Type 0} (seen : D → Image) (may_leave : D → Image �
 
 -- **The replica has taken a step, for the cause that was next**: the node is one step ahead of all that the seat has seen, and its disk
 -- had calls enough left for the save of the step's change.
-pub record IsStepper {D : Type 0} (seen : D → Image) (may_leave : D → Image → Type 0) (honest : D → Type 0) (told_of : D → Option Told) (plan : Plan) (book : SharedBook) (who taken : ℕ) (step : Step) (job : FreeJob D) : Type 0 where
+pub record IsStepper {D : Type 0} (seen : D → Image) (may_leave : D → Image → Type 0) (honest : D → Type 0) (told_of : D → Option Told) (plan : FreePlan) (book : SharedBook) (who taken : ℕ) (step : Step) (job : FreeJob D) : Type 0 where
   pub of_plan : IsOfPlan plan book
   pub node : IsNodeFit seen may_leave honest plan who job.node
   pub after : List BookRow
   pub seat : IsSeatAt book who after job.seat
-  pub some : HasPlayed plan after
+  pub some : ArePlayedRows plan after
   pub left : taken < plan.turns
   pub old : ReplicaState
   pub next : IsNextStep plan.table (some.begun ++ some.more) some.book who step old (replica_of job.node)
@@ -116,11 +116,11 @@ pub record IsStepper {D : Type 0} (seen : D → Image) (may_leave : D → Image 
 
 -- **The disk of the replica has stopped within the step for the cause that was next**, and the node was attached again; the stop is no turn
 -- yet.
-pub record IsStopper {D : Type 0} (seen : D → Image) (may_leave : D → Image → Type 0) (honest : D → Type 0) (told_of : D → Option Told) (plan : Plan) (book : SharedBook) (who taken : ℕ) (cause : Cause) (change : Option Delta) (job : FreeJob D) : Type 0 where
+pub record IsStopper {D : Type 0} (seen : D → Image) (may_leave : D → Image → Type 0) (honest : D → Type 0) (told_of : D → Option Told) (plan : FreePlan) (book : SharedBook) (who taken : ℕ) (cause : Cause) (change : Option Delta) (job : FreeJob D) : Type 0 where
   pub of_plan : IsOfPlan plan book
   pub after : List BookRow
   pub seat : IsSeatAt book who after job.seat
-  pub some : HasPlayed plan after
+  pub some : ArePlayedRows plan after
   pub left : taken < plan.turns
   pub arm : Arm
   pub armed : job.mail.mail.arm ≡ Some arm
@@ -131,7 +131,7 @@ pub record IsStopper {D : Type 0} (seen : D → Image) (may_leave : D → Image 
   pub mail : (begun more : List Row) → ArePlayed plan after begun more → IsMailIn (situation_in plan more) who job.mail
 
 -- what came of the step for a cause: it was taken, or the disk has stopped within it
-abbrev pub HasTried : {D : Type 0} → (seen : D → Image) → (may_leave : D → Image → Type 0) → (honest : D → Type 0) → (told_of : D → Option Told) → (plan : Plan) → (book : SharedBook) → (who taken : ℕ) → Cause → Outcome → FreeJob D → Type 0
+abbrev pub HasTried : {D : Type 0} → (seen : D → Image) → (may_leave : D → Image → Type 0) → (honest : D → Type 0) → (told_of : D → Option Told) → (plan : FreePlan) → (book : SharedBook) → (who taken : ℕ) → Cause → Outcome → FreeJob D → Type 0
 HasTried seen may_leave honest told_of plan book who taken cause (Taken step) job = IsStepper seen may_leave honest told_of plan book who taken step job
 HasTried seen may_leave honest told_of plan book who taken cause (Stopped change) job = IsStopper seen may_leave honest told_of plan book who taken cause change job
 
@@ -139,20 +139,20 @@ HasTried seen may_leave honest told_of plan book who taken cause (Stopped change
 
 -- **The replica has stopped within the part**: whatever rows of the part have what its seat has seen, the last of its own is the stop; its
 -- node keeps what they leave it, and nothing is on its way to it.
-pub record IsBroken {D : Type 0} (seen : D → Image) (may_leave : D → Image → Type 0) (honest : D → Type 0) (told_of : D → Option Told) (plan : Plan) (book : SharedBook) (who : ℕ) (job : FreeJob D) : Type 0 where
+pub record IsBroken {D : Type 0} (seen : D → Image) (may_leave : D → Image → Type 0) (honest : D → Type 0) (told_of : D → Option Told) (plan : FreePlan) (book : SharedBook) (who : ℕ) (job : FreeJob D) : Type 0 where
   pub of_plan : IsOfPlan plan book
   pub node : IsNodeFit seen may_leave honest plan who job.node
   pub after : List BookRow
   pub seat : IsSeatAt book who after job.seat
   pub halted : job.mail.mail.runs ≡ false
-  pub broken : (begun more : List Row) → ArePlayed plan after begun more → HasBroken plan who more
+  pub broken : (begun more : List Row) → ArePlayed plan after begun more → HasStoppedFreely plan who more
   pub kept : (begun more : List Row) → ArePlayed plan after begun more
       → (situation_in plan more).standing.replicas who ≡ started who (replica_of job.node).state.kept
   pub disk : (begun more : List Row) → ArePlayed plan after begun more → IsDiskAt told_of ((situation_in plan more).bases who) job.node
   pub mail : (begun more : List Row) → ArePlayed plan after begun more → IsStoppedMailIn (situation_in plan more) who job.mail.mail
 
 -- the thread has done nothing: the node and the mail are as the part began
-pub record IsIdle {D : Type 0} (seen : D → Image) (may_leave : D → Image → Type 0) (honest : D → Type 0) (told_of : D → Option Told) (plan : Plan) (book : SharedBook) (who : ℕ) (job : FreeJob D) : Type 0 where
+pub record HasNotBegun {D : Type 0} (seen : D → Image) (may_leave : D → Image → Type 0) (honest : D → Type 0) (told_of : D → Option Told) (plan : FreePlan) (book : SharedBook) (who : ℕ) (job : FreeJob D) : Type 0 where
   pub seat : IsSeatAt book who [] job.seat
   pub node : (rows : List Row) → IsBookAt plan.table rows plan.book plan.situation → IsNodeOf seen may_leave honest told_of plan.table rows plan.book who job.node
   pub mail : IsMailOf plan.book.letters plan.situation who [] job.mail.mail
@@ -161,12 +161,12 @@ pub record IsIdle {D : Type 0} (seen : D → Image) (may_leave : D → Image →
 
 -- **The job of a replica after so many turns, where it runs**; one that is stopped has been so since the part began, or has stopped within
 -- it.
-pub record IsJobAt {D : Type 0} (seen : D → Image) (may_leave : D → Image → Type 0) (honest : D → Type 0) (told_of : D → Option Told) (plan : Plan) (book : SharedBook) (who taken : ℕ) (job : FreeJob D) : Type 0 where
+pub record IsJobAt {D : Type 0} (seen : D → Image) (may_leave : D → Image → Type 0) (honest : D → Type 0) (told_of : D → Option Told) (plan : FreePlan) (book : SharedBook) (who taken : ℕ) (job : FreeJob D) : Type 0 where
   pub running : job.mail.mail.runs ≡ true → IsRunner seen may_leave honest told_of plan book who taken job
-  pub stopped : job.mail.mail.runs ≡ false → IsIdle seen may_leave honest told_of plan book who job ⊎ IsBroken seen may_leave honest told_of plan book who job
+  pub stopped : job.mail.mail.runs ≡ false → HasNotBegun seen may_leave honest told_of plan book who job ⊎ IsBroken seen may_leave honest told_of plan book who job
 
 -- each replica's job is so
-abbrev pub AreJobsAt : {D : Type 0} → (seen : D → Image) → (may_leave : D → Image → Type 0) → (honest : D → Type 0) → (told_of : D → Option Told) → (plan : Plan) → (book : SharedBook) → (taken : ℕ) → List (FreeJob D) → Type 0
+abbrev pub AreJobsAt : {D : Type 0} → (seen : D → Image) → (may_leave : D → Image → Type 0) → (honest : D → Type 0) → (told_of : D → Option Told) → (plan : FreePlan) → (book : SharedBook) → (taken : ℕ) → List (FreeJob D) → Type 0
 AreJobsAt {D = D} seen may_leave honest told_of plan book taken jobs =
     (who : ℕ) (job : FreeJob D) → slice_get jobs who ≡ Some job → IsJobAt seen may_leave honest told_of plan book who taken job
 

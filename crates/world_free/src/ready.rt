@@ -5,7 +5,7 @@ ghost use Rattle.history.specs.Book.{Row};
 ghost use Rattle.history.specs.Legal.{IsMade};
 ghost use Rattle.world_free.specs.Mails.{HasLooked};
 ghost use Rattle.world_free.specs.Ready.{row_of_step};
-ghost use Rattle.world_law.specs.Book.{HasRoom, IsAlike, StandsBehind, standing_behind};
+ghost use Rattle.world_law.specs.Book.{HasRoom, IsSameBook, StandsBehind, standing_behind};
 ghost use Rattle.world_law.specs.Rows.{HasRows, MayComeNext};
 ghost use Rattle.world_law.specs.declared.row.BookRow.{BookRow as Added};
 ghost use Rattle.world_steps.specs.Turns.{MayJoin};
@@ -44,7 +44,7 @@ pub(crate) fn make_ready(
     ensures members { OnOk result (book.new.members ≡ book.old.members) }
     ensures few { OnOk result (length book.old.turns + 1 < 2 ^ 31) }
     ensures looks { OnOk result (HasLooked cuts.now book.old.letters who taken.now mail.old mail.new) }
-    ensures err { OnErr result (IsAlike book.new book.old) }
+    ensures err { OnErr result (IsSameBook book.new book.old) }
 {
     if book.turns().len() >= MOST_TURNS {
         return Err(OutOfMemory);

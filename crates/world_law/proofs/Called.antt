@@ -11,7 +11,7 @@ use Rattle.history.specs.declared.turn.CallRow.{CallRow}
 use Rattle.history.specs.declared.turn.Cause.{Cause}
 use Rattle.history.specs.declared.turn.Turn.{Turn}
 use Rattle.history.specs.declared.turn.Turn.TheVariants.{Did, Stopped, Restarted, Arrived}
-use Rattle.world_law.specs.Book.{BookState, IsAlike, MakesCall, StandsBehind, call_of, standing_behind}
+use Rattle.world_law.specs.Book.{BookState, IsSameBook, MakesCall, StandsBehind, call_of, standing_behind}
 
 -- at rest the ledger holds what the rows hold
 pub held_at_rest : (table : Table) (rows : List Row) (book : BookState) → book.pending ≡ None → StandsBehind table rows book
@@ -37,7 +37,7 @@ call_stands table rows made old new rest makes behind = record {
   arrived = rw makes.members (makes.arrived ∙ behind.arrived);
 }
 
-pub alike_stands : (table : Table) (rows : List Row) (old new : BookState) → IsAlike new old → StandsBehind table rows old → StandsBehind table rows new
+pub alike_stands : (table : Table) (rows : List Row) (old new : BookState) → IsSameBook new old → StandsBehind table rows old → StandsBehind table rows new
 alike_stands table rows old new alike behind = record {
   legal = rw alike.members behind.legal;
   turns = alike.turns ∙ behind.turns;
@@ -50,7 +50,7 @@ alike_stands table rows old new alike behind = record {
 
 -- whether memory was wanting or not
 pub called_stands : (table : Table) (result : Result CallRow OutOfMemory) (old new : BookState) → old.pending ≡ None → IfOk result (λ made. MakesCall made old new)
-    → OnErr result (IsAlike new old) → (rows : List Row) → StandsBehind table rows old → StandsBehind table rows new
+    → OnErr result (IsSameBook new old) → (rows : List Row) → StandsBehind table rows old → StandsBehind table rows new
 called_stands table (Ok made) old new rest makes err rows behind = call_stands table rows made old new rest makes behind
 called_stands table (Err fault) old new rest makes err rows behind = alike_stands table rows old new err behind
 

@@ -24,7 +24,7 @@ use Rattle.replica_core.proofs.OnceLemmas.{read-once}
 use Rattle.replica_core.specs.declared.out.StepOut.{StepOut}
 use Rattle.turn_book.specs.Rows.{HasLawful, IsLawful}
 use Rattle.world_law.specs.Book.{BookState, IsRowOf, StandsBehind}
-use Rattle.world_law.specs.Rows.{HasRows, IsBehind, MayComeNext}
+use Rattle.world_law.specs.Rows.{HasRows, HasTurnOf, MayComeNext}
 use Rattle.world_law.specs.declared.row.BookRow.{BookRow}
 use Rattle.history.proofs.FrontLemmas.{follows_there as may_next}
 
@@ -87,7 +87,7 @@ zip_at R (a ∷ xs) (b ∷ ys) (suc k) x each there = zip_at R xs ys k x each.1 
 -- ---- a legal book
 
 -- of each row of a legal book something came
-listed : (n : ℕ) (table : Table) (front back : List Row) → IsLegal n table (front ++ back) → (rows : List BookRow) × AllZip IsBehind rows back
+listed : (n : ℕ) (table : Table) (front back : List Row) → IsLegal n table (front ++ back) → (rows : List BookRow) × AllZip HasTurnOf rows back
 listed n table front [] legal = ([], tt)
 listed n table front (row ∷ back) legal =
     let one = brought n table (standing_after n (first_rows table) front) row.turn row (may_next n table front back row legal) in
@@ -95,13 +95,13 @@ listed n table front (row ∷ back) legal =
     (record { turn = row.turn; out = one.0 } ∷ rest.0, (one.1, rest.1))
 
 -- rows behind which legal rows are may come one after another
-may_come : (n : ℕ) (table : Table) (rows : List BookRow) (behind : List Row) → IsLegal n table behind → AllZip IsBehind rows behind → IsLawful (λ before row. MayComeNext n table before row) rows
+may_come : (n : ℕ) (table : Table) (rows : List BookRow) (behind : List Row) → IsLegal n table behind → AllZip HasTurnOf rows behind → IsLawful (λ before row. MayComeNext n table before row) rows
 may_come n table rows behind legal each place row is =
-    let found = zip_at IsBehind rows behind place row each is in
+    let found = zip_at HasTurnOf rows behind place row each is in
     record {
       behind = take place behind;
       legal = cut_is_legal n table behind place legal;
-      each = zip_take IsBehind rows behind place each;
+      each = zip_take HasTurnOf rows behind place each;
       next = found.0;
       is = found.2;
       may = legal place found.0 found.1;

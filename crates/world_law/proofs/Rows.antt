@@ -7,8 +7,8 @@ use Rattle.history.specs.Legal.{MayFollow}
 use Rattle.history.specs.declared.turn.Turn.{Turn}
 use Rattle.history.specs.declared.turn.Turn.TheVariants.{Did, Stopped, Restarted, Arrived}
 use Rattle.turn_book.specs.Rows.{MayAdd}
-use Rattle.world_law.specs.Book.{BookState, HasRoom, IsAlike, IsNext, IsRowOf, StandsBehind, standing_behind}
-use Rattle.world_law.specs.Rows.{HasRows, IsBehind, MayComeNext, seat_of}
+use Rattle.world_law.specs.Book.{BookState, HasRoom, IsSameBook, IsNext, IsRowOf, StandsBehind, standing_behind}
+use Rattle.world_law.specs.Rows.{HasRows, HasTurnOf, MayComeNext, seat_of}
 use Rattle.world_law.specs.declared.row.BookRow.{BookRow}
 use Rattle.world_law.proofs.Called.{alike_stands}
 use Rattle.world_law.proofs.Settled.{turns_settle}
@@ -21,7 +21,7 @@ zip_push R [] (b ∷ ys) x y each here = absurd each
 zip_push R (a ∷ xs) [] x y each here = absurd each
 zip_push R (a ∷ xs) (b ∷ ys) x y each here = (each.0, zip_push R xs ys x y each.1 here)
 
-pub turns_behind : (rows : List BookRow) (behind : List Row) → AllZip IsBehind rows behind
+pub turns_behind : (rows : List BookRow) (behind : List Row) → AllZip HasTurnOf rows behind
     → map (λ (row : Row). row.turn) behind ≡ map (λ (row : BookRow). row.turn) rows
 turns_behind [] [] each = refl
 turns_behind [] (next ∷ behind) each = absurd each
@@ -33,7 +33,7 @@ turns_behind (row ∷ rows) (next ∷ behind) each =
 pub turns_are : (table : Table) (rows : List BookRow) (book : BookState) → HasRows table rows book → map (λ (row : BookRow). row.turn) rows ≡ book.turns
 turns_are table rows book has = sym (turns_behind rows has.behind has.each) ∙ sym has.stands.turns
 
-pub rows_stay : (table : Table) (rows : List BookRow) (old new : BookState) → IsAlike new old → HasRows table rows old → HasRows table rows new
+pub rows_stay : (table : Table) (rows : List BookRow) (old new : BookState) → IsSameBook new old → HasRows table rows old → HasRows table rows new
 rows_stay table rows old new alike has = record { behind = has.behind; stands = alike_stands table has.behind old new alike has.stands; each = has.each }
 
 pub room_for_fewer : (fewer more : ℕ) (book : BookState) → fewer ≤ more → HasRoom more book → HasRoom fewer book
@@ -71,7 +71,7 @@ pub row_joins : (table : Table) (before : List BookRow) (row : BookRow) (old new
 row_joins table before row old new added has may = record {
   behind = has.behind ++ may.next ∷ [];
   stands = added has.behind may.next has.stands may.is (may_follow table before row has.behind old has may has.stands);
-  each = zip_push IsBehind before has.behind row may.next has.each may.is;
+  each = zip_push HasTurnOf before has.behind row may.next has.each may.is;
 }
 
 -- ---- the seats of turns

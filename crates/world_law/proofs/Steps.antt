@@ -33,7 +33,7 @@ use Rattle.replica_core.specs.Step.{IsEventOf, IsInputInside, Steps, Takes}
 use Rattle.replica_core.specs.declared.input.Input.{Input}
 use Rattle.replica_core.specs.declared.input.Input.TheVariants as told
 use Rattle.replica_core.specs.declared.out.StepOut.{StepOut}
-use Rattle.world_law.specs.Book.{BookState, HasRoom, MayCall, StandsBehind, posted_as, standing_behind}
+use Rattle.world_law.specs.Book.{BookState, HasRoom, MayTickFor, StandsBehind, posted_as, standing_behind}
 use Rattle.world_law.specs.Replicas.{IsInputOf, IsLetterInput, IsToldLetter, IsTurnOf, StandsAt}
 use Rattle.world_law.specs.declared.letter.LetterRow.{LetterRow}
 
@@ -184,7 +184,7 @@ zip_length P (x ∷ xs) (y ∷ ys) zips = ap suc (zip_length P xs ys zips.1)
 -- a tick that asked for a call may be answered
 pub step_may_call : (table : Table) (rows : List Row) (book : BookState) (now : Minute) (input : Input) (old new : ReplicaState) (out : StepOut) (row : SchedRow)
     → StandsBehind table rows book → StandsAt table rows book old → input ≡ told.Tick now → IsInputInside table input → Steps table input old new out
-    → out.call ≡ Some row → HasRoom (length out.letters) book → MayCall table book row
+    → out.call ≡ Some row → HasRoom (length out.letters) book → MayTickFor table book row
 step_may_call table rows book now input old new out row behind at is inside steps call room =
     let takes = takes_turn table rows book (Tick now) input old steps.event behind at is inside steps.event_is in
     let took = takes_acts table rows book steps.event old new out at steps.took in

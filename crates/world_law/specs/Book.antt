@@ -98,7 +98,7 @@ pub record HasRoom (letters : ℕ) (book : BookState) : Type 0 where
   pub row : book.pending ≡ None → 0 < book.ledger.spare
 
 -- the book stands as it did; its room isn't told
-pub record IsAlike (new old : BookState) : Type 0 where
+pub record IsSameBook (new old : BookState) : Type 0 where
   pub members : new.members ≡ old.members
   pub turns : new.turns ≡ old.turns
   pub letters : new.letters ≡ old.letters
@@ -113,7 +113,7 @@ pub record HasCalled (made : CallRow) (old new : Holdings) : Type 0 where
   pub answer : made.answer ≡ answered (call made.fate made.row (under made.row.name old.held)).answer
 
 -- A tick may come next whose step asks for this row, and for no other; and there is room for its turn.
-pub record MayCall (table : Table) (book : BookState) (row : SchedRow) : Type 0 where
+pub record MayTickFor (table : Table) (book : BookState) (row : SchedRow) : Type 0 where
   pub rows : List Row
   pub behind : StandsBehind table rows book
   pub who : ℕ

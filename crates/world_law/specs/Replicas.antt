@@ -54,7 +54,8 @@ IsInputOf standing book who (Hear number) input = IsToldLetter book who number i
 IsInputOf standing book who Answer input = IsToldAnswer standing who input
 
 -- The step of a replica with this outcome is its turn, which may come next; behind it the replica stands where the step has left it.
-pub record IsTurnOf (table : Table) (rows : List Row) (book : BookState) (who : ℕ) (cause : Cause) (made : Option CallRow) (out : StepOut) (new : ReplicaState) : Type 0 where
+pub record IsTurnOf (table : Table) (rows : List Row) (book : BookState) (who : ℕ) (cause : Cause) (made : Option CallRow) (out : StepOut)
+    (new : ReplicaState) : Type 0 where
   pub row : Row
   pub is : IsRowOf (Did who cause made) out row
   pub may : MayFollow book.members table (standing_behind table rows book) row.turn row
@@ -74,7 +75,8 @@ change_alone change = record { delta = change; letters = []; learnt = []; call =
 
 -- A stop of a replica, within a step or between two, is its turn, which may come next; it has the change that was kept, where one
 -- was, and behind it the replica is stopped and keeps this.
-pub record IsStopOf (table : Table) (rows : List Row) (book : BookState) (who : ℕ) (cause : Option Cause) (change : Option Delta) (kept : Durable) : Type 0 where
+pub record IsStopOf (table : Table) (rows : List Row) (book : BookState) (who : ℕ) (cause : Option Cause) (change : Option Delta)
+    (kept : Durable) : Type 0 where
   pub row : Row
   pub is : IsRowOf (Stopped who cause (is_some change)) (change_alone change) row
   pub may : MayFollow book.members table (standing_behind table rows book) row.turn row

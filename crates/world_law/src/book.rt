@@ -5,7 +5,7 @@ ghost use Rattle.cluster_sched.specs.declared.fate.Fate.TheVariants.{Done};
 ghost use Rattle.due_set.specs.Table.{Table};
 ghost use Rattle.history.specs.Book.{Row, arriving, late_call, turn_of};
 ghost use Rattle.history.specs.Legal.{IsMade, MayFollow};
-ghost use Rattle.world_law.specs.Book.{Commits, HasCalled, HasRoom, IsAlike, IsLegalBook, IsNext, IsRowOf, MakesCall, MayCall, StandsBehind, call_of, letter_rows, standing_behind};
+ghost use Rattle.world_law.specs.Book.{Commits, HasCalled, HasRoom, IsSameBook, IsLegalBook, IsNext, IsRowOf, MakesCall, MayTickFor, StandsBehind, call_of, letter_rows, standing_behind};
 
 use crate::letter::LetterRow;
 use cluster_sched::{CallFault, Fate, Ledger, SchedRow, call_by_name};
@@ -103,7 +103,7 @@ impl Book {
     pub fn reserve(&mut self, out: &StepOut) -> Result<(), OutOfMemory>
         ensures room { OnOk result (HasRoom (length out.now.letters) self.new) }
         ensures had_room { (letters : ℕ) → HasRoom letters self.old → HasRoom letters self.new }
-        ensures same { IsAlike self.new self.old }
+        ensures same { IsSameBook self.new self.old }
     {
         self.turns.reserve(1)?;
         self.letters.reserve(out.letters.items.len())?;
@@ -120,14 +120,14 @@ impl Book {
         fate: Fate,
     ) -> Result<CallRow, OutOfMemory>
         requires rest { self.old.pending ≡ None }
-        requires asks { MayCall table.now self.old row }
+        requires asks { MayTickFor table.now self.old row }
         ensures row { IfOk result (λ made. (made.row ≡ row) × (made.fate ≡ fate)) }
         ensures makes { IfOk result (λ made. MakesCall made self.old self.new) }
         ensures answer { IfOk result (λ made. (rows : List Row) → StandsBehind table.now rows self.old
             → IsMade (standing_behind table.now rows self.old).held (row ∷ []) (Some made)) }
         ensures stands { (rows : List Row) → StandsBehind table.now rows self.old → StandsBehind table.now rows self.new }
         ensures room { (letters : ℕ) → HasRoom letters self.old → HasRoom letters self.new }
-        ensures err { OnErr result (IsAlike self.new self.old) }
+        ensures err { OnErr result (IsSameBook self.new self.old) }
     {
         self.ask(row, fate)
     }
@@ -136,7 +136,7 @@ impl Book {
     fn ask(&mut self, row: SchedRow, fate: Fate) -> Result<CallRow, OutOfMemory>
         ensures row { IfOk result (λ made. (made.row ≡ row) × (made.fate ≡ fate)) }
         ensures makes { IfOk result (λ made. MakesCall made self.old self.new) }
-        ensures err { OnErr result (IsAlike self.new self.old) }
+        ensures err { OnErr result (IsSameBook self.new self.old) }
         ensures room { (letters : ℕ) → HasRoom letters self.old → HasRoom letters self.new }
     {
         let made = call_ledger(&mut self.ledger, row, fate)?;

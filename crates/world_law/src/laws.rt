@@ -23,7 +23,7 @@ ghost use Rattle.replica_core.specs.declared.input.Input.{Input};
 ghost use Rattle.replica_core.specs.declared.input.Input.TheVariants.{Tick};
 ghost use Rattle.replica_core.specs.declared.out.StepOut.{StepOut};
 ghost use Rattle.turn_book.specs.Rows.{HasLawful};
-ghost use Rattle.world_law.specs.Book.{BookState, HasRoom, IsRowOf, MayCall, StandsBehind, call_of, standing_behind};
+ghost use Rattle.world_law.specs.Book.{BookState, HasRoom, IsRowOf, MayTickFor, StandsBehind, call_of, standing_behind};
 ghost use Rattle.world_law.specs.Replicas.{IsInputOf, IsRestartOf, IsStopOf, IsTurnOf, StandsAt, StandsStopped};
 ghost use Rattle.world_law.specs.Rows.{HasRows, MayComeNext, seat_of};
 ghost use Rattle.world_law.specs.declared.row.BookRow.{BookRow};
@@ -66,7 +66,8 @@ pub fn a_turn_names_the_seat_of_its_replica()
 /// A step that a replica takes beside a legal book is a turn that may come next in it, with what came of the step and the call that it
 /// asks for; behind that turn the replica stands where the step has left it.
 pub fn a_step_is_the_next_turn()
-    ensures { (table : Table) (rows : List Row) (book : BookState) (cause : Cause) (made : Option CallRow) (input : Input) (old new : ReplicaState) (out : StepOut)
+    ensures { (table : Table) (rows : List Row) (book : BookState) (cause : Cause) (made : Option CallRow) (input : Input) (old new : ReplicaState)
+        (out : StepOut)
         → book.members ≤ 7 → StandsBehind table rows book → StandsAt table rows book old
         → IsInputOf (standing_behind table rows book) book old.identity.me cause input → IsInputInside table input → Steps table input old new out
         → IsMade (standing_behind table rows book).held (option_to_list out.call) made → IsTurnOf table rows book old.identity.me cause made out new }
@@ -80,7 +81,8 @@ pub fn other_replicas_stand_where_they_did()
         → row.turn ≡ Arrived number → StandsAt table rows book other → StandsAt table (rows ++ row ∷ []) after other }
     ensures stopped { (table : Table) (rows : List Row) (row : Row) (book after : BookState) (who : ℕ) (kept : Durable) → after.members ≡ book.members
         → who ≢ turn_of row.turn → StandsStopped table rows book who kept → StandsStopped table (rows ++ row ∷ []) after who kept }
-    ensures stopped_arrival { (table : Table) (rows : List Row) (row : Row) (number : ℕ) (book after : BookState) (who : ℕ) (kept : Durable) → after.members ≡ book.members
+    ensures stopped_arrival { (table : Table) (rows : List Row) (row : Row) (number : ℕ) (book after : BookState) (who : ℕ) (kept : Durable)
+        → after.members ≡ book.members
         → row.turn ≡ Arrived number → StandsStopped table rows book who kept → StandsStopped table (rows ++ row ∷ []) after who kept }
 {}
 
@@ -88,7 +90,8 @@ pub fn other_replicas_stand_where_they_did()
 /// change where that was kept, or between two steps. Behind it the replica is stopped, and keeps what it kept before the step, with
 /// that change or without.
 pub fn a_stop_is_the_next_turn()
-    ensures within { (table : Table) (rows : List Row) (book : BookState) (cause : Cause) (input : Input) (old : ReplicaState) (event : Event) (change : Delta) (answer : Option Delta)
+    ensures within { (table : Table) (rows : List Row) (book : BookState) (cause : Cause) (input : Input) (old : ReplicaState) (event : Event)
+        (change : Delta) (answer : Option Delta)
         → StandsBehind table rows book → StandsAt table rows book old → IsInputOf (standing_behind table rows book) book old.identity.me cause input
         → IsInputInside table input → IsEventOf table old input event → deltas_of (step old.identity event old.state) ≡ change ∷ []
         → (answer ≡ Some change) ⊎ (answer ≡ None) → IsStopOf table rows book old.identity.me (Some cause) answer (kept_after answer old.state.kept) }
@@ -107,7 +110,7 @@ pub fn a_restart_is_the_next_turn()
 pub fn a_tick_may_be_called_for()
     ensures { (table : Table) (rows : List Row) (book : BookState) (now : Minute) (input : Input) (old new : ReplicaState) (out : StepOut) (row : SchedRow)
         → StandsBehind table rows book → StandsAt table rows book old → input ≡ Tick now → IsInputInside table input → Steps table input old new out
-        → out.call ≡ Some row → HasRoom (length out.letters) book → MayCall table book row }
+        → out.call ≡ Some row → HasRoom (length out.letters) book → MayTickFor table book row }
 {}
 
 /// The turn that ends a pending call is a step, and carries that call.

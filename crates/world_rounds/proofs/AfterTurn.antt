@@ -13,7 +13,7 @@ use Rattle.world_steps.specs.Nodes.{bases_behind}
 use Rattle.world_steps.specs.Parts.{IsBookAt}
 use Rattle.world_steps.proofs.AfterTurn.{Leaves, mail_did, mail_stays, node_did, node_stays, row_runs, next_step, stands_after, stopped_stays}
 use Rattle.world_steps.proofs.Bases.{bases_then, changes_joined}
-use Rattle.world_steps.specs.Steps.{IsNodeAhead, causes_of, heard_in}
+use Rattle.world_steps.specs.Steps.{IsNodeAhead, causes_of, letters_heard_in}
 use Rattle.world_steps.specs.Turns.{HasJoinedAt, HasLetters, noted}
 use Rattle.world_steps.specs.declared.steps.Taken.{Taken}
 use Rattle.world_rounds.specs.World.{IsMemberAhead}
@@ -25,7 +25,7 @@ module _ {D : Type 0} (seen : D → Image) (may_leave : D → Image → Type 0) 
       → IsMemberAhead seen may_leave honest told_of table rows book situation other steps member
       → IsMemberAhead seen may_leave honest told_of table (rows ++ row ∷ []) after (after_turn book.members situation row) other steps member
   member_stays rows row book after situation other steps member at members has leaves ahead = record {
-    mail = mail_stays book.members situation row other (heard_in (causes_of steps)) book.letters after member.mail has leaves ahead.mail;
+    mail = mail_stays book.members situation row other (letters_heard_in (causes_of steps)) book.letters after member.mail has leaves ahead.mail;
     running = λ runs. node_stays seen may_leave honest told_of table rows row book after other steps member.node members has replica runs waits bases (ahead.running (sym running ∙ runs));
     stopped = λ stopped.
         stopped_stays seen may_leave honest told_of table book.members after.members other (standing_behind table rows book) (standing_behind table (rows ++ row ∷ []) after)

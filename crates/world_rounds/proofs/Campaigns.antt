@@ -12,7 +12,7 @@ use Rattle.replica_core.specs.declared.input.Input.TheVariants as told
 use Rattle.script_semantics.specs.Commands.{Plain}
 use Rattle.script_semantics.specs.Situation.{Do, Situation, after_turns, delivered, is_cut}
 use Rattle.world_law.specs.Book.{BookState}
-use Rattle.world_steps.specs.Steps.{IsBeside, WasToldOf, causes_of, heard_in}
+use Rattle.world_steps.specs.Steps.{IsBeside, WasToldOf, causes_of, letters_heard_in}
 use Rattle.world_rounds.proofs.RoundLemmas.{idle_beside}
 use Rattle.world_rounds.proofs.RoundsOfAll.{performed, put_down}
 use Rattle.world_rounds.proofs.StepsAt.{cases_number, get_set_here, get_set_there}
@@ -20,7 +20,7 @@ use Rattle.world_rounds.proofs.Worlds.{set_cases}
 use Rattle.world_rounds.specs.Campaigns.{HasStood, TakesCampaign}
 use Rattle.world_rounds.specs.Mails.{Changes}
 use Rattle.world_rounds.specs.Rounds.{IsMemberIdle}
-use Rattle.world_rounds.specs.Taking.{CommitsOwn, HasTaken, IsAhead, MayCommitOwn, PutsDown, steps_at, steps_of, tasks_by}
+use Rattle.world_rounds.specs.Taking.{CommitsOwn, HasTakenTurns, IsAhead, MayCommitOwn, PutsDown, steps_at, steps_left_to, tasks_by}
 use Rattle.world_steps.specs.Parts.{IsBookAt}
 use Rattle.world_rounds.specs.World.{GoesOnBy, IsMemberAhead, IsWorld, IsWorldAt}
 use Rattle.world_rounds.specs.declared.member.Member.{Member}
@@ -42,7 +42,7 @@ module _ {D : Type 0} (seen : D → Image) (may_leave : D → Image → Type 0) 
     ahead = record {
       mail = rw mail (record {
         runs = idle.ahead.mail.runs;
-        letters_are = idle.ahead.mail.letters_are ∙ sym (ap (λ causes. heard_in causes ++ old.mail.letters.items) own);
+        letters_are = idle.ahead.mail.letters_are ∙ sym (ap (λ causes. letters_heard_in causes ++ old.mail.letters.items) own);
         skew = idle.ahead.mail.skew;
         small = idle.ahead.mail.small;
         fate = idle.ahead.mail.fate;
@@ -64,18 +64,18 @@ module _ {D : Type 0} (seen : D → Image) (may_leave : D → Image → Type 0) 
   pub idle_steps : (rows : List Row) (world : World D) (situation : Situation) (who : ℕ) → IsWorldAt seen may_leave honest told_of table rows world situation → steps_at world who ≡ []
   idle_steps rows world situation who is = go (slice_get world.members.items who) refl
     where
-      go : (found : Option (Member D)) → slice_get world.members.items who ≡ found → steps_of found ≡ []
+      go : (found : Option (Member D)) → slice_get world.members.items who ≡ found → steps_left_to found ≡ []
       go None none = refl
       go (Some member) there = is.idle who member there
 
   own_steps : (world middle : World D) (who : ℕ) (next : Member D) → middle.members.items ≡ set world.members.items who next → who < length world.members.items
       → steps_at middle who ≡ next.steps.items
-  own_steps world middle who next members below = ap (λ members. steps_of (slice_get members who)) members ∙ ap steps_of (get_set_here world.members.items who next below)
+  own_steps world middle who next members below = ap (λ members. steps_left_to (slice_get members who)) members ∙ ap steps_left_to (get_set_here world.members.items who next below)
 
   other_steps : (world middle : World D) (who : ℕ) (next : Member D) (other : ℕ) → middle.members.items ≡ set world.members.items who next → other ≢ who
       → steps_at middle other ≡ steps_at world other
   other_steps world middle who next other members differs =
-      ap (λ members. steps_of (slice_get members other)) members ∙ ap steps_of (get_set_there world.members.items who next other differs)
+      ap (λ members. steps_left_to (slice_get members other)) members ∙ ap steps_left_to (get_set_there world.members.items who next other differs)
 
   stood : (rows : List Row) (world : World D) (situation : Situation) (who : ℕ) (member next : Member D) → IsWorldAt seen may_leave honest told_of table rows world situation
       → slice_get world.members.items who ≡ Some member → TakesCampaign seen may_leave honest told_of table world.book member next
@@ -120,11 +120,11 @@ module _ {D : Type 0} (seen : D → Image) (may_leave : D → Image → Type 0) 
   campaign_taken_on : (rows : List Row) (world middle now : World D) (situation : Situation) (who : ℕ) (member next : Member D) → IsWorldAt seen may_leave honest told_of table rows world situation
       → slice_get world.members.items who ≡ Some member → who < length world.members.items → middle.members.items ≡ set world.members.items who next
       → TakesCampaign seen may_leave honest told_of table world.book member next → middle.book ≡ world.book → middle.cuts ≡ world.cuts → middle.latest ≡ world.latest
-      → CommitsOwn seen may_leave honest told_of table who middle now → HasTaken seen may_leave honest told_of table world.book.members rows situation (Do who Campaign ∷ []) (steps_at now) now
+      → CommitsOwn seen may_leave honest told_of table who middle now → HasTakenTurns seen may_leave honest told_of table world.book.members rows situation (Do who Campaign ∷ []) (steps_at now) now
   campaign_taken_on rows world middle now situation who member next is there below members takes book cuts latest commits =
-      subst (λ causes. HasTaken seen may_leave honest told_of table world.book.members rows situation (tasks_by who causes) (steps_at now) now)
+      subst (λ causes. HasTakenTurns seen may_leave honest told_of table world.book.members rows situation (tasks_by who causes) (steps_at now) now)
       (ap causes_of (own_steps world middle who next members below) ∙ (stood rows world situation who member next is there takes).causes)
-      (subst (λ n. HasTaken seen may_leave honest told_of table n rows situation (tasks_by who (causes_of (steps_at middle who))) (steps_at now) now) (ap (λ (book : BookState). book.members) book)
+      (subst (λ n. HasTakenTurns seen may_leave honest told_of table n rows situation (tasks_by who (causes_of (steps_at middle who))) (steps_at now) now) (ap (λ (book : BookState). book.members) book)
       (commits rows situation (campaign_ahead rows world middle situation who member next is there below members takes book cuts latest)))
 
   campaign_down : (rows : List Row) (world middle now : World D) (situation : Situation) (who : ℕ) (next : Member D) → IsWorldAt seen may_leave honest told_of table rows world situation

@@ -6,7 +6,7 @@ use Rattle.due_set.specs.Table.{Table}
 use Rattle.history.specs.Book.{Row}
 use Rattle.script_semantics.specs.Situation.{AreTurnsFor, Situation, Task, after_turn, after_turns}
 use Rattle.world_steps.specs.declared.steps.Taken.{Taken}
-use Rattle.world_rounds.specs.Taking.{HasTaken}
+use Rattle.world_rounds.specs.Taking.{HasTakenTurns}
 use Rattle.world_rounds.specs.World.{IsWorldAhead, book_of}
 use Rattle.world_rounds.specs.declared.world.World.{World}
 
@@ -24,7 +24,7 @@ turns_append n situation (task ∷ tasks) others (row ∷ rows) more one two = (
 module _ {D : Type 0} (seen : D → Image) (may_leave : D → Image → Type 0) (honest : D → Type 0) (told_of : D → Option Told) (table : Table) where
   -- no turn at all
   pub taken_none : (rows : List Row) (situation : Situation) (left : ℕ → List Taken) (world : World D) → IsWorldAhead seen may_leave honest told_of table rows world situation left
-      → HasTaken seen may_leave honest told_of table (book_of world).members rows situation [] left world
+      → HasTakenTurns seen may_leave honest told_of table (book_of world).members rows situation [] left world
   taken_none rows situation left world ahead = record {
     members_are = refl;
     more = [];
@@ -34,10 +34,10 @@ module _ {D : Type 0} (seen : D → Image) (may_leave : D → Image → Type 0) 
 
   -- some turns and then others
   pub taken_then : (n : ℕ) (rows : List Row) (situation : Situation) (tasks others : List Task) (left later : ℕ → List Taken) (middle world : World D)
-      → HasTaken seen may_leave honest told_of table n rows situation tasks left middle
+      → HasTakenTurns seen may_leave honest told_of table n rows situation tasks left middle
       → ((rows : List Row) (situation : Situation) → IsWorldAhead seen may_leave honest told_of table rows middle situation left
-      → HasTaken seen may_leave honest told_of table (book_of middle).members rows situation others later world)
-      → HasTaken seen may_leave honest told_of table n rows situation (tasks ++ others) later world
+      → HasTakenTurns seen may_leave honest told_of table (book_of middle).members rows situation others later world)
+      → HasTakenTurns seen may_leave honest told_of table n rows situation (tasks ++ others) later world
   taken_then n rows situation tasks others left later middle world one two =
       let next = two (rows ++ one.more) (after_turns n situation one.more) one.ahead in
       record {

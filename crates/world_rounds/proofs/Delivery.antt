@@ -13,7 +13,7 @@ use Rattle.due_set.specs.Table.{Table}
 use Rattle.step_spec.proofs.Lists.{found_in}
 use Rattle.history.specs.Book.{Row, Standing}
 use Rattle.history.proofs.Posted.{posted_to}
-use Rattle.step_spec.proofs.Lists.{cons_cases, in_first, in_rest}
+use Rattle.due_set.proofs.Rising.{Contains-cases as cons_cases, Contains-head as in_first, Contains-tail as in_rest}
 use Rattle.script_semantics.specs.Situation.{Situation, delivered, is_cut, reaches}
 use Rattle.world_law.specs.Book.{BookState, StandsBehind, posted_as, standing_behind}
 use Rattle.world_law.specs.declared.letter.LetterRow.{LetterRow}

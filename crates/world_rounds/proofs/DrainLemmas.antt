@@ -26,7 +26,7 @@ use Rattle.script_text.specs.declared.command.Command.TheVariants as command
 use Rattle.world_rounds.proofs.Delivery.{same_mails}
 use Rattle.world_rounds.proofs.StepsAt.{cases_number}
 use Rattle.world_rounds.specs.Drains.{DrainsOn}
-use Rattle.world_rounds.specs.Quiet.{AllRun, IsIn, Tells}
+use Rattle.world_rounds.specs.Quiet.{AllRun, IsIn, AnswersFor}
 use Rattle.step_spec.specs.May.{IsFollower}
 use Rattle.world_rounds.specs.World.{GoesOnBy, IsWorld, IsWorldAt}
 use Rattle.world_rounds.specs.declared.world.World.{World}
@@ -159,7 +159,7 @@ module _ {D : Type 0} (seen : D → Image) (may_leave : D → Image → Type 0) 
       (part.0, part.1, campaign_plays old.book.members who situation part.1 part.0 (runs_in rows old situation who is run below) part.2, part.3)
 
   -- it follows and stands for leader, and a round comes
-  pub led_round : (who : ℕ) (at : ℤ) (old now new : World D) → Tells seen may_leave honest told_of table (λ situation. IsFollower (situation.standing.replicas who).term) old true
+  pub led_round : (who : ℕ) (at : ℤ) (old now new : World D) → AnswersFor seen may_leave honest told_of table (λ situation. IsFollower (situation.standing.replicas who).term) old true
       → GoesOnBy seen may_leave honest told_of table (Plays old.book.members (λ here. Do who Campaign ∷ [])) old now → now.book.members ≡ old.book.members
       → GoesOnBy seen may_leave honest told_of table (IsRound now.book.members table.window at) now new → GoesOnBy seen may_leave honest told_of table (IsDrainRound old.book.members table who at) old new
   led_round who at old now new follows campaign members round = λ rows situation is.
@@ -180,7 +180,7 @@ module _ {D : Type 0} (seen : D → Image) (may_leave : D → Image → Type 0) 
       )
 
   -- it doesn't follow, and a round comes
-  pub plain_round : (who : ℕ) (at : ℤ) (old new : World D) → Tells seen may_leave honest told_of table (λ situation. IsFollower (situation.standing.replicas who).term) old false
+  pub plain_round : (who : ℕ) (at : ℤ) (old new : World D) → AnswersFor seen may_leave honest told_of table (λ situation. IsFollower (situation.standing.replicas who).term) old false
       → GoesOnBy seen may_leave honest told_of table (IsRound old.book.members table.window at) old new → GoesOnBy seen may_leave honest told_of table (IsDrainRound old.book.members table who at) old new
   plain_round who at old new follows round = λ rows situation is.
       let middle : Situation = delivered (length situation.standing.posted) situation in
@@ -236,7 +236,7 @@ module _ {D : Type 0} (seen : D → Image) (may_leave : D → Image → Type 0) 
     members = refl;
   }
 
-  pub drained_next : (who : ℕ) (at : ℤ) (old now new : World D) → HasDrained who at old now → Tells seen may_leave honest told_of table (IsQuiet now.book.members table who at) now false
+  pub drained_next : (who : ℕ) (at : ℤ) (old now new : World D) → HasDrained who at old now → AnswersFor seen may_leave honest told_of table (IsQuiet now.book.members table who at) now false
       → GoesOnBy seen may_leave honest told_of table (IsDrainRound now.book.members table who at) now new → new.book.members ≡ now.book.members → HasDrained who at old new
   drained_next who at old now new so_far tells goes members = record {
     goes = λ rows situation is.
@@ -254,7 +254,7 @@ module _ {D : Type 0} (seen : D → Image) (may_leave : D → Image → Type 0) 
     members = members ∙ so_far.members;
   }
 
-  pub drained_whole : (who : ℕ) (at : ℤ) (old now : World D) → HasDrained who at old now → Tells seen may_leave honest told_of table (IsQuiet now.book.members table who at) now true
+  pub drained_whole : (who : ℕ) (at : ℤ) (old now : World D) → HasDrained who at old now → AnswersFor seen may_leave honest told_of table (IsQuiet now.book.members table who at) now true
       → GoesOnBy seen may_leave honest told_of table (Drains old.book.members table who at) old now
   drained_whole who at old now so_far tells = λ rows situation is.
       let gone = so_far.goes rows situation is in

@@ -21,7 +21,7 @@ use Rattle.script_semantics.specs.Situation.{IsTurnFor, Situation, arms_after, b
 use Rattle.step_spec.proofs.Lists.{nothing_in}
 use Rattle.world_law.proofs.Stops.{stop_between}
 use Rattle.world_law.proofs.Called.{alike_stands}
-use Rattle.world_law.specs.Book.{BookState, Commits, IsAlike, IsNext, IsRowOf, StandsBehind, letter_rows, standing_behind}
+use Rattle.world_law.specs.Book.{BookState, Commits, IsSameBook, IsNext, IsRowOf, StandsBehind, letter_rows, standing_behind}
 use Rattle.history.specs.Legal.{MayFollow}
 use Rattle.world_law.specs.Replicas.{IsStopOf, change_alone}
 use Rattle.world_steps.specs.Nodes.{IsDiskAt, bases_behind}
@@ -44,7 +44,7 @@ pub has_same : (old new : BookState) → new.letters ≡ old.letters → HasLett
 has_same old new same = λ number letter there. ap (λ letters. slice_get letters number) same ∙ there
 
 -- a turn that may come next in a book may come in the book with more room
-pub next_alone : (table : Table) (rows : List Row) (book during : BookState) (turn : Turn) (change : Option Delta) (row : Row) (out : StepOut) → IsAlike during book
+pub next_alone : (table : Table) (rows : List Row) (book during : BookState) (turn : Turn) (change : Option Delta) (row : Row) (out : StepOut) → IsSameBook during book
     → IsAlone table rows book turn change row → out ≡ change_alone change → IsNext table during turn out
 next_alone table rows book during turn change row out alike alone same = record {
   rows = rows;
@@ -54,7 +54,7 @@ next_alone table rows book during turn change row out alike alone same = record 
   may = rw alike.members alone.may;
 }
 
-pub joined_alone : (table : Table) (rows : List Row) (book during after : BookState) (turn : Turn) (change : Option Delta) (row : Row) (out : StepOut) → IsAlike during book
+pub joined_alone : (table : Table) (rows : List Row) (book during after : BookState) (turn : Turn) (change : Option Delta) (row : Row) (out : StepOut) → IsSameBook during book
     → IsAlone table rows book turn change row → out ≡ change_alone change → Commits turn out.letters during after
     → ((rows : List Row) (row : Row) → StandsBehind table rows during → IsRowOf turn out row
     → MayFollow during.members table (standing_behind table rows during) row.turn row → StandsBehind table (rows ++ row ∷ []) after)

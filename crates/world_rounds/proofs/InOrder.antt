@@ -22,7 +22,7 @@ use Rattle.world_rounds.proofs.Led.{AreLeft, after_both, back_of, leads_end, oth
 use Rattle.world_rounds.proofs.Delivery.{range_next}
 use Rattle.world_rounds.proofs.RoundsOfAll.{posted_so_far}
 use Rattle.world_rounds.specs.Mails.{Changes}
-use Rattle.world_rounds.specs.OneByOne.{AreTasksOf, HasPassed, HasStepped, IsLed, IsLedOn, LeadsOn, MayTake, goes_on}
+use Rattle.world_rounds.specs.OneByOne.{AreTasksOf, HasPassed, HasStepped, IsLed, IsLedOn, LeadsOn, MayStepFor, goes_on}
 use Rattle.world_rounds.specs.World.{GoesOnBy, IsWorld, IsWorldAt}
 use Rattle.world_rounds.specs.declared.member.Member.{Member}
 use Rattle.world_rounds.specs.declared.world.World.{World}
@@ -181,13 +181,13 @@ module _ {D : Type 0} (seen : D → Image) (may_leave : D → Image → Type 0) 
         left ∙ first_of here.mail.letters.items none some
 
     pub may_hear_next : (rows : List Row) (situation : Situation) → (is : IsWorldAt seen may_leave honest told_of table rows old situation) → (runs : situation.standing.runs who ≡ true)
-        → MayTake table.window (after_turns n situation (heard.hears rows situation is runs).0.more) who (Hear number)
+        → MayStepFor table.window (after_turns n situation (heard.hears rows situation is runs).0.more) who (Hear number)
     may_hear_next rows situation is runs =
         let so_far = heard.hears rows situation is runs in
         record { runs = so_far.0.runs refl; next = (drop 1 here.mail.letters.items, so_far.1 ∙ left_first rows situation is runs) }
 
     module _ (new : World D) (goes : Bool)
-        (steps : (rows : List Row) (situation : Situation) → IsWorldAt seen may_leave honest told_of table rows now situation → MayTake table.window situation who (Hear number)
+        (steps : (rows : List Row) (situation : Situation) → IsWorldAt seen may_leave honest told_of table rows now situation → MayStepFor table.window situation who (Hear number)
         → HasStepped seen may_leave honest told_of table now.book.members rows situation who (Hear number) goes new) (same : now.book.members ≡ n) where
       one : (rows : List Row) (situation : Situation) → (is : IsWorldAt seen may_leave honest told_of table rows old situation) → (runs : situation.standing.runs who ≡ true)
           → HasStepped seen may_leave honest told_of table n (rows ++ (heard.hears rows situation is runs).0.more) (after_turns n situation (heard.hears rows situation is runs).0.more) who (Hear number) goes new
@@ -205,7 +205,7 @@ module _ {D : Type 0} (seen : D → Image) (may_leave : D → Image → Type 0) 
 
     -- it goes on
     pub heard_next : (new : World D)
-        → ((rows : List Row) (situation : Situation) → IsWorldAt seen may_leave honest told_of table rows now situation → MayTake table.window situation who (Hear number)
+        → ((rows : List Row) (situation : Situation) → IsWorldAt seen may_leave honest told_of table rows now situation → MayStepFor table.window situation who (Hear number)
         → HasStepped seen may_leave honest told_of table now.book.members rows situation who (Hear number) true new)
         → now.book.members ≡ n → new.book.members ≡ now.book.members → IsWorld seen may_leave honest told_of table new → length new.members.items ≡ length now.members.items
         → HasHeard n who (count + 1) old new
@@ -232,7 +232,7 @@ module _ {D : Type 0} (seen : D → Image) (may_leave : D → Image → Type 0) 
 
     -- or it has stopped within
     pub heard_stop : (new : World D)
-        → ((rows : List Row) (situation : Situation) → IsWorldAt seen may_leave honest told_of table rows now situation → MayTake table.window situation who (Hear number)
+        → ((rows : List Row) (situation : Situation) → IsWorldAt seen may_leave honest told_of table rows now situation → MayStepFor table.window situation who (Hear number)
         → HasStepped seen may_leave honest told_of table now.book.members rows situation who (Hear number) false new)
         → now.book.members ≡ n → (rows : List Row) (situation : Situation) → IsWorldAt seen may_leave honest told_of table rows old situation → situation.standing.runs who ≡ true
         → IsLed seen may_leave honest told_of table n rows situation who (hear_tasks who (situation.mails who)) false new
@@ -403,7 +403,7 @@ module _ {D : Type 0} (seen : D → Image) (may_leave : D → Image → Type 0) 
       (subst (λ (n : ℕ). HasPassed seen may_leave honest told_of table world.book.members rows situation (flat_map (tasks_of table.window at situation) (range_with_len 0 n)) now) whole (passed.passes rows situation is)) changes
 
   pub campaign_passed : (who : ℕ) (goes : Bool) (world now new : World D) (member : Member D) → slice_get world.members.items who ≡ Some member → member.mail.runs ≡ true
-      → ((rows : List Row) (situation : Situation) → IsWorldAt seen may_leave honest told_of table rows world situation → MayTake table.window situation who Campaign
+      → ((rows : List Row) (situation : Situation) → IsWorldAt seen may_leave honest told_of table rows world situation → MayStepFor table.window situation who Campaign
       → HasStepped seen may_leave honest told_of table world.book.members rows situation who Campaign goes now)
       → Changes seen may_leave honest told_of (delivered (length world.book.letters)) now new
       → GoesOnBy seen may_leave honest told_of table (PlaysByArms world.book.members (λ situation. if situation.standing.runs who then Do who Campaign ∷ [] else [])) world new

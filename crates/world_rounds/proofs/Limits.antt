@@ -11,12 +11,12 @@ use Rattle.script_semantics.specs.Situation.{Situation}
 use Rattle.settling.specs.Rounds.{IsWithinBounds}
 use Rattle.world_law.specs.Book.{posted_as}
 use Rattle.world_rounds.proofs.Waiting.{posted_are}
-use Rattle.world_rounds.specs.Bounds.{IsBounded}
+use Rattle.world_rounds.specs.Bounds.{IsBookBounded}
 use Rattle.world_rounds.specs.World.{IsWorldAt}
 use Rattle.world_rounds.specs.declared.world.World.{World}
 
 module _ {D : Type 0} (seen : D → Image) (may_leave : D → Image → Type 0) (honest : D → Type 0) (told_of : D → Option Told) (table : Table) where
-  pub within_bounds : (rows : List Row) (world : World D) (situation : Situation) → IsWorldAt seen may_leave honest told_of table rows world situation → IsBounded world.book
+  pub within_bounds : (rows : List Row) (world : World D) (situation : Situation) → IsWorldAt seen may_leave honest told_of table rows world situation → IsBookBounded world.book
       → IsWithinBounds rows situation.standing.posted
   within_bounds rows world situation is bounded = record {
     turns =

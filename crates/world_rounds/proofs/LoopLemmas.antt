@@ -21,7 +21,7 @@ use Rattle.script_semantics.specs.Round.{round_tasks}
 use Rattle.script_semantics.specs.Settling.{Drains, IsDrainRound, IsQuiet, calmed, campaign_tasks, coordinator, restart_tasks}
 use Rattle.script_semantics.specs.Situation.{Do, Performs, Situation, Task, after_turn, after_turns}
 use Rattle.settling.specs.Leads.{GoesDrainRound}
-use Rattle.settling.specs.Rounds.{GoesOnBy as BookGoesOnBy, IsFaultless}
+use Rattle.settling.specs.Rounds.{GoesOnWithin as BookGoesOnBy, IsFaultless}
 use Rattle.settling.specs.Campaigns.{GoesCampaign}
 use Rattle.settling.specs.Rest.{IsAtRest, left_of}
 use Rattle.settling.specs.Settles.{HasRestedFor, LeadsNow, LeadsSoon}
@@ -33,9 +33,9 @@ use Rattle.world_rounds.proofs.DrainLemmas.{HasDrained, runs_in, same_count}
 use Rattle.world_rounds.proofs.QuietLemmas.{node_state, node_table, node_waits, tells_no_quiet}
 use Rattle.world_rounds.proofs.Limits.{within_bounds}
 use Rattle.world_rounds.proofs.Waiting.{posted_are}
-use Rattle.world_rounds.specs.Bounds.{AreShort, IsBounded, IsGiven, left_in, left_to}
+use Rattle.world_rounds.specs.Bounds.{AreShort, IsBookBounded, IsFaultlessIn, left_in, left_to}
 use Rattle.world_rounds.specs.Drains.{DrainsOn}
-use Rattle.world_rounds.specs.Quiet.{AllRun, IsIn, Tells}
+use Rattle.world_rounds.specs.Quiet.{AllRun, IsIn, AnswersFor}
 use Rattle.world_rounds.specs.World.{GoesOnBy, IsWorld, IsWorldAt}
 use Rattle.world_rounds.specs.declared.member.Member.{Member}
 use Rattle.world_rounds.specs.declared.world.World.{World}
@@ -93,7 +93,7 @@ module _ {D : Type 0} (seen : D → Image) (may_leave : D → Image → Type 0) 
   part_bounded : (part : Situation → List Row → Situation → Type 0) (old new : World D) → IsWorld seen may_leave honest told_of table old
       → ((situation : Situation) (rows : List Row) (after : Situation) → part situation rows after → (more : List PostedLetter) × (after.standing.posted ≡ situation.standing.posted ++ more))
       → GoesOnBy seen may_leave honest told_of table part old new
-      → IsBounded old.book → length new.book.turns < 2 ^ 59 → AreShort (drop (length old.book.letters) new.book.letters) → IsBounded new.book
+      → IsBookBounded old.book → length new.book.turns < 2 ^ 59 → AreShort (drop (length old.book.letters) new.book.letters) → IsBookBounded new.book
   part_bounded part old new world posts goes bounded turns short = record {
     turns = turns;
     letters =
@@ -106,14 +106,14 @@ module _ {D : Type 0} (seen : D → Image) (may_leave : D → Image → Type 0) 
   }
 
   pub round_bounded : (who : ℕ) (at : ℤ) (old new : World D) → IsWorld seen may_leave honest told_of table old → GoesOnBy seen may_leave honest told_of table (IsDrainRound old.book.members table who at) old new
-      → IsBounded old.book → length new.book.turns < 2 ^ 59 → AreShort (drop (length old.book.letters) new.book.letters) → IsBounded new.book
+      → IsBookBounded old.book → length new.book.turns < 2 ^ 59 → AreShort (drop (length old.book.letters) new.book.letters) → IsBookBounded new.book
   round_bounded who at old new world goes bounded turns short =
       part_bounded (IsDrainRound old.book.members table who at) old new world (λ situation rows after part. drained_more old.book.members table who at situation after rows part) goes bounded turns short
 
   -- what a world does is what its book does
   goes_book : (part : Situation → List Row → Situation → Type 0) (at : ℤ) (old new : World D) (rows more : List Row) (situation after : Situation) → IsInWindow table.window at
       → IsWorldAt seen may_leave honest told_of table rows old situation → IsFaultless old.book.members situation → part situation more after
-      → IsWorldAt seen may_leave honest told_of table (rows ++ more) new after → new.book.members ≡ old.book.members → IsBounded new.book
+      → IsWorldAt seen may_leave honest told_of table (rows ++ more) new after → new.book.members ≡ old.book.members → IsBookBounded new.book
       → BookGoesOnBy part old.book.members table at rows more situation after
   goes_book part at old new rows more situation after inside is faultless goes now members bounded = record {
     few = is.ahead.at.few;
@@ -131,8 +131,8 @@ module _ {D : Type 0} (seen : D → Image) (may_leave : D → Image → Type 0) 
   pub given_next : (who : ℕ) (at : ℤ) (holds then_holds : ℕ → Situation → Type 0) (old new : World D)
       → ((book rows : List Row) (situation after : Situation) → holds old.book.members situation → GoesDrainRound old.book.members table who at book rows situation after
       → then_holds old.book.members after × IsFaultless old.book.members after)
-      → IsInWindow table.window at → IsGiven seen may_leave honest told_of table holds old → GoesOnBy seen may_leave honest told_of table (IsDrainRound old.book.members table who at) old new
-      → new.book.members ≡ old.book.members → IsBounded new.book → IsGiven seen may_leave honest told_of table then_holds new
+      → IsInWindow table.window at → IsFaultlessIn seen may_leave honest told_of table holds old → GoesOnBy seen may_leave honest told_of table (IsDrainRound old.book.members table who at) old new
+      → new.book.members ≡ old.book.members → IsBookBounded new.book → IsFaultlessIn seen may_leave honest told_of table then_holds new
   given_next who at holds then_holds old new law inside have goes members bounded =
       let gone = goes have.rows have.situation have.is in
       let both = law have.rows gone.0 have.situation gone.1 have.given
@@ -146,14 +146,14 @@ module _ {D : Type 0} (seen : D → Image) (may_leave : D → Image → Type 0) 
         bounded = bounded;
       }
 
-  pub given_world : (holds : ℕ → Situation → Type 0) (world : World D) → IsGiven seen may_leave honest told_of table holds world → IsWorld seen may_leave honest told_of table world
+  pub given_world : (holds : ℕ → Situation → Type 0) (world : World D) → IsFaultlessIn seen may_leave honest told_of table holds world → IsWorld seen may_leave honest told_of table world
   given_world holds world have = record { rows = have.rows; situation = have.situation; is = have.is }
 
   -- ---- until one leads
 
-  pub leads_soon_next : (who : ℕ) (at : ℤ) (rounds : ℕ) (old new : World D) → IsInWindow table.window at → IsGiven seen may_leave honest told_of table (λ n s. LeadsSoon (suc rounds) n table who s) old
-      → GoesOnBy seen may_leave honest told_of table (IsDrainRound old.book.members table who at) old new → new.book.members ≡ old.book.members → IsBounded new.book
-      → IsGiven seen may_leave honest told_of table (λ n s. LeadsSoon rounds n table who s) new
+  pub leads_soon_next : (who : ℕ) (at : ℤ) (rounds : ℕ) (old new : World D) → IsInWindow table.window at → IsFaultlessIn seen may_leave honest told_of table (λ n s. LeadsSoon (suc rounds) n table who s) old
+      → GoesOnBy seen may_leave honest told_of table (IsDrainRound old.book.members table who at) old new → new.book.members ≡ old.book.members → IsBookBounded new.book
+      → IsFaultlessIn seen may_leave honest told_of table (λ n s. LeadsSoon rounds n table who s) new
   leads_soon_next who at rounds old new inside have goes members bounded =
       given_next who at (λ n s. LeadsSoon (suc rounds) n table who s) (λ n s. LeadsSoon rounds n table who s) old new
       (λ book rows situation after leads goes. (
@@ -162,8 +162,8 @@ module _ {D : Type 0} (seen : D → Image) (may_leave : D → Image → Type 0) 
       ))
       inside have goes members bounded
 
-  pub leads_by_quiet : (who : ℕ) (at : ℤ) (rounds : ℕ) (world : World D) → IsGiven seen may_leave honest told_of table (λ n s. LeadsSoon rounds n table who s) world
-      → Tells seen may_leave honest told_of table (IsQuiet world.book.members table who at) world true → IsGiven seen may_leave honest told_of table (λ n s. LeadsNow n table who s) world
+  pub leads_by_quiet : (who : ℕ) (at : ℤ) (rounds : ℕ) (world : World D) → IsFaultlessIn seen may_leave honest told_of table (λ n s. LeadsSoon rounds n table who s) world
+      → AnswersFor seen may_leave honest told_of table (IsQuiet world.book.members table who at) world true → IsFaultlessIn seen may_leave honest told_of table (λ n s. LeadsNow n table who s) world
   leads_by_quiet who at rounds world have tells = record {
     rows = have.rows;
     situation = have.situation;
@@ -173,8 +173,8 @@ module _ {D : Type 0} (seen : D → Image) (may_leave : D → Image → Type 0) 
     bounded = have.bounded;
   }
 
-  pub leads_at_last : (who : ℕ) (world : World D) → IsGiven seen may_leave honest told_of table (λ n s. LeadsSoon 0 n table who s) world
-      → IsGiven seen may_leave honest told_of table (λ n s. LeadsNow n table who s) world
+  pub leads_at_last : (who : ℕ) (world : World D) → IsFaultlessIn seen may_leave honest told_of table (λ n s. LeadsSoon 0 n table who s) world
+      → IsFaultlessIn seen may_leave honest told_of table (λ n s. LeadsNow n table who s) world
   leads_at_last who world have = record {
     rows = have.rows;
     situation = have.situation;
@@ -186,9 +186,9 @@ module _ {D : Type 0} (seen : D → Image) (may_leave : D → Image → Type 0) 
 
   -- ---- until it rests
 
-  pub leads_next : (who : ℕ) (at : ℤ) (old new : World D) → IsInWindow table.window at → IsGiven seen may_leave honest told_of table (λ n s. LeadsNow n table who s) old
-      → GoesOnBy seen may_leave honest told_of table (IsDrainRound old.book.members table who at) old new → new.book.members ≡ old.book.members → IsBounded new.book
-      → IsGiven seen may_leave honest told_of table (λ n s. LeadsNow n table who s) new
+  pub leads_next : (who : ℕ) (at : ℤ) (old new : World D) → IsInWindow table.window at → IsFaultlessIn seen may_leave honest told_of table (λ n s. LeadsNow n table who s) old
+      → GoesOnBy seen may_leave honest told_of table (IsDrainRound old.book.members table who at) old new → new.book.members ≡ old.book.members → IsBookBounded new.book
+      → IsFaultlessIn seen may_leave honest told_of table (λ n s. LeadsNow n table who s) new
   leads_next who at old new inside have goes members bounded =
       given_next who at (λ n s. LeadsNow n table who s) (λ n s. LeadsNow n table who s) old new
       (λ book rows situation after leads goes. (
@@ -213,9 +213,9 @@ module _ {D : Type 0} (seen : D → Image) (may_leave : D → Image → Type 0) 
       (node_table seen may_leave honest told_of table rows world situation who member is there (run who member there)).rows
 
   -- fewer rounds are left after a round before which it was not at rest
-  pub left_falls : (who : ℕ) (at : ℤ) (old new : World D) → IsInWindow table.window at → IsGiven seen may_leave honest told_of table (λ n s. LeadsNow n table who s) old
-      → Tells seen may_leave honest told_of table (IsAtRest table who at) old false → AllRun old → AllRun new → who < length old.members.items → who < length new.members.items
-      → GoesOnBy seen may_leave honest told_of table (IsDrainRound old.book.members table who at) old new → new.book.members ≡ old.book.members → IsBounded new.book
+  pub left_falls : (who : ℕ) (at : ℤ) (old new : World D) → IsInWindow table.window at → IsFaultlessIn seen may_leave honest told_of table (λ n s. LeadsNow n table who s) old
+      → AnswersFor seen may_leave honest told_of table (IsAtRest table who at) old false → AllRun old → AllRun new → who < length old.members.items → who < length new.members.items
+      → GoesOnBy seen may_leave honest told_of table (IsDrainRound old.book.members table who at) old new → new.book.members ≡ old.book.members → IsBookBounded new.book
       → left_in table who new < left_in table who old
   left_falls who at old new inside have tells run run_new below below_new goes members bounded =
       let gone = goes have.rows have.situation have.is in
@@ -234,8 +234,8 @@ module _ {D : Type 0} (seen : D → Image) (may_leave : D → Image → Type 0) 
 
   -- ---- until all are level
 
-  pub rests_now : (who : ℕ) (at : ℤ) (world : World D) → IsGiven seen may_leave honest told_of table (λ n s. LeadsNow n table who s) world
-      → Tells seen may_leave honest told_of table (IsAtRest table who at) world true → IsGiven seen may_leave honest told_of table (λ n s. HasRestedFor 0 n table who at s) world
+  pub rests_now : (who : ℕ) (at : ℤ) (world : World D) → IsFaultlessIn seen may_leave honest told_of table (λ n s. LeadsNow n table who s) world
+      → AnswersFor seen may_leave honest told_of table (IsAtRest table who at) world true → IsFaultlessIn seen may_leave honest told_of table (λ n s. HasRestedFor 0 n table who at s) world
   rests_now who at world have tells = record {
     rows = have.rows;
     situation = have.situation;
@@ -245,9 +245,9 @@ module _ {D : Type 0} (seen : D → Image) (may_leave : D → Image → Type 0) 
     bounded = have.bounded;
   }
 
-  pub rests_next : (who : ℕ) (at : ℤ) (rounds : ℕ) (old new : World D) → IsInWindow table.window at → IsGiven seen may_leave honest told_of table (λ n s. HasRestedFor rounds n table who at s) old
-      → GoesOnBy seen may_leave honest told_of table (IsDrainRound old.book.members table who at) old new → new.book.members ≡ old.book.members → IsBounded new.book
-      → IsGiven seen may_leave honest told_of table (λ n s. HasRestedFor (suc rounds) n table who at s) new
+  pub rests_next : (who : ℕ) (at : ℤ) (rounds : ℕ) (old new : World D) → IsInWindow table.window at → IsFaultlessIn seen may_leave honest told_of table (λ n s. HasRestedFor rounds n table who at s) old
+      → GoesOnBy seen may_leave honest told_of table (IsDrainRound old.book.members table who at) old new → new.book.members ≡ old.book.members → IsBookBounded new.book
+      → IsFaultlessIn seen may_leave honest told_of table (λ n s. HasRestedFor (suc rounds) n table who at s) new
   rests_next who at rounds old new inside have goes members bounded =
       given_next who at (λ n s. HasRestedFor rounds n table who at s) (λ n s. HasRestedFor (suc rounds) n table who at s) old new
       (λ book rows situation after rests goes. (
@@ -256,8 +256,8 @@ module _ {D : Type 0} (seen : D → Image) (may_leave : D → Image → Type 0) 
       ))
       inside have goes members bounded
 
-  pub rested_gives : (who : ℕ) (at : ℤ) (rounds : ℕ) (world : World D) → IsGiven seen may_leave honest told_of table (λ n s. HasRestedFor rounds n table who at s) world
-      → IsGiven seen may_leave honest told_of table (λ n s. LeadsNow n table who s) world
+  pub rested_gives : (who : ℕ) (at : ℤ) (rounds : ℕ) (world : World D) → IsFaultlessIn seen may_leave honest told_of table (λ n s. HasRestedFor rounds n table who at s) world
+      → IsFaultlessIn seen may_leave honest told_of table (λ n s. LeadsNow n table who s) world
   rested_gives who at rounds world have = record {
     rows = have.rows;
     situation = have.situation;
@@ -267,8 +267,8 @@ module _ {D : Type 0} (seen : D → Image) (may_leave : D → Image → Type 0) 
     bounded = have.bounded;
   }
 
-  pub quiet_at_last : (who : ℕ) (at : ℤ) (world : World D) → IsGiven seen may_leave honest told_of table (λ n s. HasRestedFor 5 n table who at s) world
-      → Tells seen may_leave honest told_of table (IsQuiet world.book.members table who at) world false → ⊥
+  pub quiet_at_last : (who : ℕ) (at : ℤ) (world : World D) → IsFaultlessIn seen may_leave honest told_of table (λ n s. HasRestedFor 5 n table who at s) world
+      → AnswersFor seen may_leave honest told_of table (IsQuiet world.book.members table who at) world false → ⊥
   quiet_at_last who at world have tells =
       let no : false ≡ true = (tells have.rows have.situation have.is).1 (rested_quiet world.book.members table who at have.situation have.given) in absurd cc
 
@@ -277,8 +277,8 @@ module _ {D : Type 0} (seen : D → Image) (may_leave : D → Image → Type 0) 
   pub lead_given : (who : ℕ) (at : ℤ) (old over led : World D) → IsInWindow table.window at → 1 ≤ old.book.members → IsWorld seen may_leave honest told_of table old
       → GoesOnBy seen may_leave honest told_of table (Plain old.book.members (restart_tasks old.book.members) calmed) old over → AllRun over → over.book.members ≡ old.book.members
       → ((situation : Situation) → IsIn seen may_leave honest told_of table over situation → who ≡ coordinator over.book.members situation)
-      → GoesOnBy seen may_leave honest told_of table (Plays over.book.members (λ here. Do who Campaign ∷ [])) over led → led.book.members ≡ over.book.members → IsBounded led.book
-      → IsGiven seen may_leave honest told_of table (λ n s. LeadsSoon 4 n table who s) led
+      → GoesOnBy seen may_leave honest told_of table (Plays over.book.members (λ here. Do who Campaign ∷ [])) over led → led.book.members ≡ over.book.members → IsBookBounded led.book
+      → IsFaultlessIn seen may_leave honest told_of table (λ n s. LeadsSoon 4 n table who s) led
   lead_given who at old over led inside some world start run same leads campaign led_same bounded =
       let one = start world.rows world.situation world.is in
       let two = campaign (world.rows ++ one.0) one.1 one.3 in
@@ -319,8 +319,8 @@ module _ {D : Type 0} (seen : D → Image) (may_leave : D → Image → Type 0) 
         subst (λ rows. IsWorldAt seen may_leave honest told_of table rows new two.1) (append_assoc rows one.0 two.0) two.3,
       )
 
-  pub not_quiet : (who : ℕ) (at : ℤ) (world : World D) → Tells seen may_leave honest told_of table (IsAtRest table who at) world false
-      → Tells seen may_leave honest told_of table (IsQuiet world.book.members table who at) world false
+  pub not_quiet : (who : ℕ) (at : ℤ) (world : World D) → AnswersFor seen may_leave honest told_of table (IsAtRest table who at) world false
+      → AnswersFor seen may_leave honest told_of table (IsQuiet world.book.members table who at) world false
   not_quiet who at world tells = tells_no_quiet seen may_leave honest told_of table world who at tells
 
   pub letters_grow : (who : ℕ) (at : ℤ) (old new : World D) → IsWorld seen may_leave honest told_of table old → GoesOnBy seen may_leave honest told_of table (IsDrainRound old.book.members table who at) old new
@@ -341,16 +341,16 @@ module _ {D : Type 0} (seen : D → Image) (may_leave : D → Image → Type 0) 
       let same = same_count seen may_leave honest told_of table old now was drained.world drained.members in
       omega (arith, same, below)
 
-  pub level_next : (who : ℕ) (at : ℤ) (rounds : ℕ) (now new : World D) → IsInWindow table.window at → rounds ≤ 5 → IsGiven seen may_leave honest told_of table (λ n s. HasRestedFor rounds n table who at s) now
-      → Tells seen may_leave honest told_of table (IsQuiet now.book.members table who at) now false
-      → GoesOnBy seen may_leave honest told_of table (IsDrainRound now.book.members table who at) now new → new.book.members ≡ now.book.members → IsBounded new.book
-      → (rounds + 1 ≤ 5) × IsGiven seen may_leave honest told_of table (λ n s. HasRestedFor (rounds + 1) n table who at s) new
+  pub level_next : (who : ℕ) (at : ℤ) (rounds : ℕ) (now new : World D) → IsInWindow table.window at → rounds ≤ 5 → IsFaultlessIn seen may_leave honest told_of table (λ n s. HasRestedFor rounds n table who at s) now
+      → AnswersFor seen may_leave honest told_of table (IsQuiet now.book.members table who at) now false
+      → GoesOnBy seen may_leave honest told_of table (IsDrainRound now.book.members table who at) now new → new.book.members ≡ now.book.members → IsBookBounded new.book
+      → (rounds + 1 ≤ 5) × IsFaultlessIn seen may_leave honest told_of table (λ n s. HasRestedFor (rounds + 1) n table who at s) new
   level_next who at rounds now new inside few have tells goes members bounded = elim (cases_lt rounds 5) [
     | inl less ↦ (
       omega arith,
-      subst (λ k. IsGiven seen may_leave honest told_of table (λ n s. HasRestedFor k n table who at s) new) (sym (add-one rounds)) (rests_next who at rounds now new inside have goes members bounded),
+      subst (λ k. IsFaultlessIn seen may_leave honest told_of table (λ n s. HasRestedFor k n table who at s) new) (sym (add-one rounds)) (rests_next who at rounds now new inside have goes members bounded),
     )
     | inr last ↦
         let five : rounds ≡ 5 = omega arith in
-        absurd (quiet_at_last who at now (subst (λ k. IsGiven seen may_leave honest told_of table (λ n s. HasRestedFor k n table who at s) now) five have) tells)
+        absurd (quiet_at_last who at now (subst (λ k. IsFaultlessIn seen may_leave honest told_of table (λ n s. HasRestedFor k n table who at s) now) five have) tells)
   ]

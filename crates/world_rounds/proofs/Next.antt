@@ -13,7 +13,7 @@ use Rattle.script_semantics.specs.Round.{answer_tasks, clock_reading, hear_tasks
 use Rattle.script_semantics.specs.Situation.{Do, Situation, after_turn, after_turns}
 use Rattle.world_rounds.proofs.Delivery.{delivered_all, delivered_none}
 use Rattle.world_rounds.proofs.InOrder.{HasHeard, heard_next, heard_stop, left_is, left_over, mail_is, may_hear_next, passed_answer, passed_hear, passed_on, passed_tick, runs_here}
-use Rattle.world_rounds.specs.OneByOne.{HasPassed, HasStepped, IsLed, IsLedOn, MayTake}
+use Rattle.world_rounds.specs.OneByOne.{HasPassed, HasStepped, IsLed, IsLedOn, MayStepFor}
 use Rattle.world_rounds.specs.World.{GoesOnBy, IsWorld, IsWorldAt}
 use Rattle.world_rounds.specs.declared.member.Member.{Member}
 use Rattle.world_rounds.specs.declared.world.World.{World}
@@ -47,29 +47,29 @@ module _ {D : Type 0} (seen : D → Image) (may_leave : D → Image → Type 0) 
       (found : slice_get now.members.items who ≡ Some here) (below : count < length first.mail.letters.items) (letter_is : letter ≡ get_or here.mail.letters.items 0 letter)
       (world : IsWorld seen may_leave honest told_of table old) (runs : first.mail.runs ≡ true) where
     -- the next letter may be heard
-    pub next_may : (rows : List Row) × (situation : Situation) × IsWorldAt seen may_leave honest told_of table rows now situation × MayTake table.window situation who (Hear letter)
+    pub next_may : (rows : List Row) × (situation : Situation) × IsWorldAt seen may_leave honest told_of table rows now situation × MayStepFor table.window situation who (Hear letter)
     next_may =
         let running = runs_here seen may_leave honest told_of table world.rows old world.situation who first world.is there runs in
         let so_far = heard.hears world.rows world.situation world.is running in (
           world.rows ++ so_far.0.more,
           after_turns old.book.members world.situation so_far.0.more,
           so_far.0.at,
-          subst (λ (k : ℕ). MayTake table.window (after_turns old.book.members world.situation so_far.0.more) who (Hear k)) (sym letter_is)
+          subst (λ (k : ℕ). MayStepFor table.window (after_turns old.book.members world.situation so_far.0.more) who (Hear k)) (sym letter_is)
               (may_hear_next seen may_leave honest told_of table old.book.members who count old now first here letter heard there found below world.rows world.situation world.is running),
         )
 
-    module _ (new : World D) (goes : Bool) (steps : (rows : List Row) (situation : Situation) → IsWorldAt seen may_leave honest told_of table rows now situation → MayTake table.window situation who (Hear letter)
+    module _ (new : World D) (goes : Bool) (steps : (rows : List Row) (situation : Situation) → IsWorldAt seen may_leave honest told_of table rows now situation → MayStepFor table.window situation who (Hear letter)
         → HasStepped seen may_leave honest told_of table now.book.members rows situation who (Hear letter) goes new) where
       next_world : IsWorld seen may_leave honest told_of table new
       next_world =
           let stepped = steps next_may.0 next_may.1 next_may.2 next_may.3 in
           record { rows = next_may.0 ++ stepped.row ∷ []; situation = after_turn now.book.members next_may.1 stepped.row; is = stepped.at }
 
-      steps_so : (rows : List Row) (situation : Situation) → IsWorldAt seen may_leave honest told_of table rows now situation → MayTake table.window situation who (Hear (get_or here.mail.letters.items 0 letter))
+      steps_so : (rows : List Row) (situation : Situation) → IsWorldAt seen may_leave honest told_of table rows now situation → MayStepFor table.window situation who (Hear (get_or here.mail.letters.items 0 letter))
           → HasStepped seen may_leave honest told_of table now.book.members rows situation who (Hear (get_or here.mail.letters.items 0 letter)) goes new
       steps_so rows situation is may =
           subst (λ (k : ℕ). HasStepped seen may_leave honest told_of table now.book.members rows situation who (Hear k) goes new) letter_is
-          (steps rows situation is (subst (λ (k : ℕ). MayTake table.window situation who (Hear k)) (sym letter_is) may))
+          (steps rows situation is (subst (λ (k : ℕ). MayStepFor table.window situation who (Hear k)) (sym letter_is) may))
 
       -- it is heard
       pub next_heard : goes ≡ true → new.book.members ≡ now.book.members → HasHeard seen may_leave honest told_of table old.book.members who (count + 1) old new
@@ -157,7 +157,7 @@ module _ {D : Type 0} (seen : D → Image) (may_leave : D → Image → Type 0) 
       }) (delivered_all seen may_leave honest told_of (length world.book.letters) (length world.book.letters) world world (omega arith) (delivered_none seen may_leave honest told_of (length world.book.letters) world) (omega arith))
 
   pub campaign_world : (who : ℕ) (old new : World D) (member : Member D) → slice_get old.members.items who ≡ Some member → member.mail.runs ≡ true → IsWorld seen may_leave honest told_of table old → (goes : Bool)
-      → ((rows : List Row) (situation : Situation) → IsWorldAt seen may_leave honest told_of table rows old situation → MayTake table.window situation who Campaign
+      → ((rows : List Row) (situation : Situation) → IsWorldAt seen may_leave honest told_of table rows old situation → MayStepFor table.window situation who Campaign
       → HasStepped seen may_leave honest told_of table old.book.members rows situation who Campaign goes new) → IsWorld seen may_leave honest told_of table new
   campaign_world who old new member there runs world goes steps =
       let stepped = steps world.rows world.situation world.is (record { runs = runs_here seen may_leave honest told_of table world.rows old world.situation who member world.is there runs; next = tt }) in

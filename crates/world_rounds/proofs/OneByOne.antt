@@ -41,7 +41,7 @@ use Rattle.world_steps.specs.declared.mail.MemberMail.{MemberMail}
 use Rattle.world_steps.proofs.AfterTurn.{leaves_other, next_step}
 use Rattle.world_steps.proofs.Bases.{changes_by, changes_stopped, last_may}
 use Rattle.world_steps.proofs.Stopping.{bases_stopped, kept_is, stop_turn}
-use Rattle.world_steps.specs.Steps.{IsBeside, IsNodeAhead, IsNodeStopped, IsToldOf, WasToldOf, causes_of, heard_in}
+use Rattle.world_steps.specs.Steps.{IsBeside, IsNodeAhead, IsNodeStopped, IsToldOf, WasToldOf, causes_of, letters_heard_in}
 use Rattle.world_steps.specs.Stops.{HasStopped}
 use Rattle.world_steps.specs.Turns.{IsHalted}
 use Rattle.world_steps.specs.declared.armed.Outcome.TheVariants as outcome
@@ -53,9 +53,9 @@ use Rattle.world_rounds.proofs.Campaigns.{idle_steps}
 use Rattle.world_rounds.proofs.StepsAt.{ahead_same, cases_number, get_set_here, get_set_there}
 use Rattle.world_rounds.proofs.Worlds.{set_cases, world_on}
 use Rattle.world_rounds.specs.Alone.{HasJoinedAlone, IsAlone}
-use Rattle.world_rounds.specs.OneByOne.{CanTell, EndsStep, HasStepped, MayBeNext, MayCommitStopped, MayTake, MayTakeBeside, goes_on, letters_behind}
+use Rattle.world_rounds.specs.OneByOne.{CanTell, EndsStep, HasStepped, MayBeNext, MayCommitStopped, MayStepFor, MayTakeBeside, goes_on, letters_behind}
 use Rattle.world_rounds.specs.Rounds.{IsMemberIdle}
-use Rattle.world_rounds.specs.Taking.{Commits, HasTaken, KeepsSteps, MayCommit, steps_at, steps_of, tasks_by}
+use Rattle.world_rounds.specs.Taking.{TakesTurns, HasTakenTurns, KeepsSteps, MayCommit, steps_at, steps_left_to, tasks_by}
 use Rattle.world_rounds.specs.World.{IsMemberAhead, IsWorldAhead, IsWorldAt, none_taken}
 use Rattle.world_rounds.specs.declared.member.Member.{Member}
 use Rattle.world_rounds.specs.declared.world.World.{World}
@@ -79,7 +79,7 @@ inside_of table letters waits who Answer input situation told may = rw told.is t
 
 -- a letter that is heard leaves the mail
 heard_first : (cause : Cause) (mail : List ℕ) (situation : Situation) (window : Window) (who : ℕ) → situation.mails who ≡ mail → MayBeNext window situation who cause
-    → mail ≡ heard_in (cause ∷ []) ++ letters_behind cause mail
+    → mail ≡ letters_heard_in (cause ∷ []) ++ letters_behind cause mail
 heard_first Campaign mail situation window who same may = refl
 heard_first (Tick now) mail situation window who same may = refl
 heard_first (Hear number) mail situation window who same may = let is : mail ≡ number ∷ may.0 = sym same ∙ may.1 in is ∙ ap (λ rest. number ∷ drop 1 rest) (sym is)
@@ -102,7 +102,7 @@ within_waits n s who cause kept event letters = fact_here who None s.waits
 
 module _ {D : Type 0} (seen : D → Image) (may_leave : D → Image → Type 0) (honest : D → Type 0) (told_of : D → Option Told) (table : Table) where
   pub can_tell : (rows : List Row) (book : BookState) (situation : Situation) (who : ℕ) (cause : Cause) (member : Member D) → IsMemberIdle seen may_leave honest told_of table rows book situation who member
-      → MayTake table.window situation who cause → CanTell book.letters member.mail.waits who cause
+      → MayStepFor table.window situation who cause → CanTell book.letters member.mail.waits who cause
   can_tell rows book situation who Campaign member idle may = tt
   can_tell rows book situation who (Tick now) member idle may = tt
   can_tell rows book situation who (Hear number) member idle may =
@@ -110,7 +110,7 @@ module _ {D : Type 0} (seen : D → Image) (may_leave : D → Image → Type 0) 
   can_tell rows book situation who Answer member idle may = subst (λ (waits : Option SchedRow). IsSome waits) (sym idle.ahead.mail.waits) may.next
 
   pub was_told : (rows : List Row) (book : BookState) (situation : Situation) (who : ℕ) (cause : Cause) (input : Input) (member : Member D) → IsMemberIdle seen may_leave honest told_of table rows book situation who member
-      → MayTake table.window situation who cause → IsToldOf book.letters member.mail.waits who cause input → WasToldOf seen may_leave honest told_of table rows book who [] member.node cause input
+      → MayStepFor table.window situation who cause → IsToldOf book.letters member.mail.waits who cause input → WasToldOf seen may_leave honest told_of table rows book who [] member.node cause input
   was_told rows book situation who cause input member idle may told = record {
     beside = idle_beside seen may_leave honest told_of table book rows situation who member idle (idle.ahead.mail.runs ∙ may.runs);
     is_told = subst (λ (waits : Option SchedRow). IsToldOf book.letters waits who cause input) (idle.ahead.mail.waits ∙ ap (λ (s : Standing). s.waits who) idle.at.standing) told;
@@ -119,7 +119,7 @@ module _ {D : Type 0} (seen : D → Image) (may_leave : D → Image → Type 0) 
 
   -- the step is taken
   pub ends_taken : (rows : List Row) (book : BookState) (situation : Situation) (who : ℕ) (cause : Cause) (taken : Taken) (old new : Member D) → IsMemberIdle seen may_leave honest told_of table rows book situation who old
-      → MayTake table.window situation who cause → taken.cause ≡ cause → IsEnough (armed_in old.mail.arm) (option_to_list taken.out.delta)
+      → MayStepFor table.window situation who cause → taken.cause ≡ cause → IsEnough (armed_in old.mail.arm) (option_to_list taken.out.delta)
       → IsBeside seen may_leave honest told_of table rows book who (taken ∷ []) new.node → new.steps ≡ old.steps
       → new.mail ≡ record old.mail { letters = new.mail.letters } → new.mail.letters.items ≡ letters_behind cause old.mail.letters.items
       → EndsStep seen may_leave honest told_of table rows book situation who cause (outcome.Taken taken) old new
@@ -132,7 +132,7 @@ module _ {D : Type 0} (seen : D → Image) (may_leave : D → Image → Type 0) 
         runs = ap (λ (m : MemberMail). m.runs) mail ∙ idle.ahead.mail.runs;
         letters_are =
             idle.ahead.mail.letters_are ∙ heard_first cause old.mail.letters.items situation table.window who idle.ahead.mail.letters_are may.next
-            ∙ ap (λ (c : Cause). heard_in (c ∷ []) ++ letters_behind cause old.mail.letters.items) (sym same) ∙ ap (λ (rest : List ℕ). heard_in (taken.cause ∷ []) ++ rest) (sym letters);
+            ∙ ap (λ (c : Cause). letters_heard_in (c ∷ []) ++ letters_behind cause old.mail.letters.items) (sym same) ∙ ap (λ (rest : List ℕ). letters_heard_in (taken.cause ∷ []) ++ rest) (sym letters);
         skew = ap (λ (m : MemberMail). m.skew) mail ∙ idle.ahead.mail.skew;
         small = subst IsSkew (sym (ap (λ (m : MemberMail). m.skew) mail)) idle.ahead.mail.small;
         fate = ap (λ (m : MemberMail). m.fate) mail ∙ idle.ahead.mail.fate;
@@ -152,7 +152,7 @@ module _ {D : Type 0} (seen : D → Image) (may_leave : D → Image → Type 0) 
   idle_here rows world situation who member is there = record { at = is.ahead.at; ahead = is.ahead.each who member there; none = is.idle who member there }
 
   pub may_take_beside : (rows : List Row) (world : World D) (situation : Situation) (who : ℕ) (cause : Cause) (member : Member D) → IsWorldAt seen may_leave honest told_of table rows world situation
-      → MayTake table.window situation who cause → slice_get world.members.items who ≡ Some member → MayTakeBeside seen may_leave honest told_of table world.book who cause member
+      → MayStepFor table.window situation who cause → slice_get world.members.items who ≡ Some member → MayTakeBeside seen may_leave honest told_of table world.book who cause member
   may_take_beside rows world situation who cause member is may there =
       record { rows = rows; situation = situation; idle = idle_here rows world situation who member is there; may = may }
 
@@ -197,9 +197,9 @@ module _ {D : Type 0} (seen : D → Image) (may_leave : D → Image → Type 0) 
   one_turn n situation who cause (row ∷ rows) turns = (row, ap (λ rest. row ∷ rest) turns.1, turns.0)
 
   pub stepped : (rows : List Row) (world middle new_world : World D) (situation : Situation) (who : ℕ) (cause : Cause) (taken : Taken) (old new : Member D) → IsWorldAt seen may_leave honest told_of table rows world situation
-      → MayTake table.window situation who cause → slice_get world.members.items who ≡ Some old → EndsStep seen may_leave honest told_of table rows world.book situation who cause (outcome.Taken taken) old new
+      → MayStepFor table.window situation who cause → slice_get world.members.items who ≡ Some old → EndsStep seen may_leave honest told_of table rows world.book situation who cause (outcome.Taken taken) old new
       → middle.members.items ≡ set world.members.items who new → middle.book ≡ world.book → middle.cuts ≡ world.cuts → middle.latest ≡ world.latest
-      → Commits seen may_leave honest told_of table who (taken ∷ []) [] middle new_world → KeepsSteps middle new_world
+      → TakesTurns seen may_leave honest told_of table who (taken ∷ []) [] middle new_world → KeepsSteps middle new_world
       → HasStepped seen may_leave honest told_of table world.book.members rows situation who cause true new_world
   stepped rows world middle new_world situation who cause taken old new is may there ends members book cuts latest commits keeps = record {
     row = row;
@@ -208,7 +208,7 @@ module _ {D : Type 0} (seen : D → Image) (may_leave : D → Image → Type 0) 
     at = record { ahead = ahead_same seen may_leave honest told_of table (rows ++ row ∷ []) new_world after (with_fact who [] (with_fact who (taken ∷ []) none_taken)) none_taken none ahead; idle = idle };
   }
     where
-      had : HasTaken seen may_leave honest told_of table middle.book.members rows situation (tasks_by who (causes_of (taken ∷ []))) (with_fact who [] (with_fact who (taken ∷ []) none_taken)) new_world
+      had : HasTakenTurns seen may_leave honest told_of table middle.book.members rows situation (tasks_by who (causes_of (taken ∷ []))) (with_fact who [] (with_fact who (taken ∷ []) none_taken)) new_world
       had = commits rows situation (with_fact who (taken ∷ []) none_taken) (step_ahead rows world middle situation who taken new is ends.3 members book cuts latest) (fact_here who (taken ∷ []) none_taken)
 
       n_is : middle.book.members ≡ world.book.members
@@ -258,13 +258,13 @@ module _ {D : Type 0} (seen : D → Image) (may_leave : D → Image → Type 0) 
       saved = subst (λ (all : List Delta). IsEnough (situation.arms who) all) (sym changes) ends.1
 
       middle_steps : (k : ℕ) → steps_at middle k ≡ []
-      middle_steps k = ap (λ members. steps_of (slice_get members k)) members ∙ elim (cases_number k who) [
-        | inl here ↦ rw here (ap steps_of (get_set_here world.members.items who new (slice_get_within world.members.items who old there)) ∙ ap (λ steps. steps.items) ends.2 ∙ is.idle who old there)
-        | inr other ↦ ap steps_of (get_set_there world.members.items who new k other) ∙ idle_steps seen may_leave honest told_of table rows world situation k is
+      middle_steps k = ap (λ members. steps_left_to (slice_get members k)) members ∙ elim (cases_number k who) [
+        | inl here ↦ rw here (ap steps_left_to (get_set_here world.members.items who new (slice_get_within world.members.items who old there)) ∙ ap (λ steps. steps.items) ends.2 ∙ is.idle who old there)
+        | inr other ↦ ap steps_left_to (get_set_there world.members.items who new k other) ∙ idle_steps seen may_leave honest told_of table rows world situation k is
       ]
 
       idle : (k : ℕ) (x : Member D) → slice_get new_world.members.items k ≡ Some x → x.steps.items ≡ []
-      idle k x found = sym (ap steps_of found) ∙ keeps.each k ∙ middle_steps k
+      idle k x found = sym (ap steps_left_to found) ∙ keeps.each k ∙ middle_steps k
 
   -- ---- a turn within which the disk has stopped
 

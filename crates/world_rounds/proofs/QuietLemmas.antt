@@ -26,7 +26,7 @@ use Rattle.world_steps.specs.Steps.{IsNodeAhead}
 use Rattle.world_rounds.proofs.StepsAt.{cases_number}
 use Rattle.world_rounds.proofs.Worlds.{some_same}
 use Rattle.settling.specs.Rest.{IsAtRest}
-use Rattle.world_rounds.specs.Quiet.{AllRun, Tells}
+use Rattle.world_rounds.specs.Quiet.{AllRun, AnswersFor}
 use Rattle.world_rounds.specs.World.{IsWorld, IsWorldAt}
 use Rattle.world_rounds.specs.declared.member.Member.{Member}
 use Rattle.world_rounds.specs.declared.world.World.{World}
@@ -119,14 +119,14 @@ module _ {D : Type 0} (seen : D → Image) (may_leave : D → Image → Type 0) 
 
   -- what holds of the state of its replica
   pub tells_state : (world : World D) (who : ℕ) (member : Member D) (holds : State → Type 0) (answer : Bool) → AllRun world → slice_get world.members.items who ≡ Some member
-      → IsTrue answer ↔ holds (replica_of member.node).state → Tells seen may_leave honest told_of table (λ situation. holds (situation.standing.replicas who)) world answer
+      → IsTrue answer ↔ holds (replica_of member.node).state → AnswersFor seen may_leave honest told_of table (λ situation. holds (situation.standing.replicas who)) world answer
   tells_state world who member holds answer run there tells = λ rows situation is.
       subst (λ state. IsTrue answer ↔ holds state) (node_state rows world situation who member is there (run who member there)) tells
 
   -- it is at rest
   pub tells_rest : (world : World D) (who : ℕ) (at : ℤ) (member : Member D) (answer : Bool) → AllRun world → slice_get world.members.items who ≡ Some member
       → IsTrue answer ↔ ((member.mail.waits ≡ None) × IsFreeTerm (prefix_of (replica_of member.node).state) (replica_of member.node).state.term × AsksNothing table at (replica_of member.node).state)
-      → Tells seen may_leave honest told_of table (IsAtRest table who at) world answer
+      → AnswersFor seen may_leave honest told_of table (IsAtRest table who at) world answer
   tells_rest world who at member answer run there tells = λ rows situation is.
       let state = node_state rows world situation who member is there (run who member there) in
       let waits = node_waits rows world situation who member is there in (
@@ -150,8 +150,8 @@ module _ {D : Type 0} (seen : D → Image) (may_leave : D → Image → Type 0) 
 
   -- it is quiet where it is at rest and all are level
   pub tells_quiet : (world : World D) (who : ℕ) (at : ℤ) (member : Member D) (answer : Bool) → IsWorld seen may_leave honest told_of table world → AllRun world → slice_get world.members.items who ≡ Some member
-      → Tells seen may_leave honest told_of table (IsAtRest table who at) world true → IsTrue answer ↔ AreLevel world.members.items (prefix_of (replica_of member.node).state)
-      → Tells seen may_leave honest told_of table (IsQuiet world.book.members table who at) world answer
+      → AnswersFor seen may_leave honest told_of table (IsAtRest table who at) world true → IsTrue answer ↔ AreLevel world.members.items (prefix_of (replica_of member.node).state)
+      → AnswersFor seen may_leave honest told_of table (IsQuiet world.book.members table who at) world answer
   tells_quiet world who at member answer some run there rest level = λ rows situation is.
       let state = node_state rows world situation who member is there (run who member there) in
       let count : length world.members.items ≡ world.book.members = is.ahead.count in (
@@ -171,8 +171,8 @@ module _ {D : Type 0} (seen : D → Image) (may_leave : D → Image → Type 0) 
             ap prefix_of (node_state rows world situation other found is there (run other found there)) ∙ (quiet.level other (omega (arith, below, count)) ∙ ap prefix_of (sym state))),
       )
 
-  pub tells_no_quiet : (world : World D) (who : ℕ) (at : ℤ) → Tells seen may_leave honest told_of table (IsAtRest table who at) world false
-      → Tells seen may_leave honest told_of table (IsQuiet world.book.members table who at) world false
+  pub tells_no_quiet : (world : World D) (who : ℕ) (at : ℤ) → AnswersFor seen may_leave honest told_of table (IsAtRest table who at) world false
+      → AnswersFor seen may_leave honest told_of table (IsQuiet world.book.members table who at) world false
   tells_no_quiet world who at rest = λ rows situation is. (
     λ holds. absurd (let no : false ≡ true = holds in cc),
     λ quiet. (rest rows situation is).1 (record { free = quiet.free; answered = quiet.answered; rests = quiet.rests }),

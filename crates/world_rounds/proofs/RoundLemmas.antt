@@ -20,7 +20,7 @@ use Rattle.replica_node.specs.declared.node.Node.{Node}
 use Rattle.script_semantics.specs.Round.{answer_tasks, clock_reading, hear_tasks, tasks_of}
 use Rattle.script_semantics.specs.Situation.{Do, Situation}
 use Rattle.world_law.specs.Book.{BookState, standing_behind}
-use Rattle.world_steps.specs.Steps.{IsBeside, WasToldOf, causes_of, heard_in}
+use Rattle.world_steps.specs.Steps.{IsBeside, WasToldOf, causes_of, letters_heard_in}
 use Rattle.world_steps.specs.declared.steps.Taken.{Taken}
 use Rattle.world_rounds.specs.Rounds.{HasTakenRound, IsMemberIdle}
 use Rattle.world_rounds.specs.Hearing.{MayHear, MayTakeAnswer, answer_causes, hear_causes}
@@ -35,18 +35,18 @@ clock_inside window at skew ordered = record { since = omega (arith, ints, clamp
 
 -- ---- causes and tasks
 
-heard_answers : (waits : Option SchedRow) → heard_in (answer_causes waits) ≡ []
+heard_answers : (waits : Option SchedRow) → letters_heard_in (answer_causes waits) ≡ []
 heard_answers None = refl
 heard_answers (Some row) = refl
 
-heard_hears : (letters : List ℕ) → heard_in (hear_causes letters) ≡ letters
+heard_hears : (letters : List ℕ) → letters_heard_in (hear_causes letters) ≡ letters
 heard_hears [] = refl
 heard_hears (letter ∷ letters) = ap (λ more. letter ∷ more) (heard_hears letters)
 
-heard_all : (waits : Option SchedRow) (letters : List ℕ) (now : Minute) → heard_in ((answer_causes waits ++ hear_causes letters) ++ Tick now ∷ []) ≡ letters
+heard_all : (waits : Option SchedRow) (letters : List ℕ) (now : Minute) → letters_heard_in ((answer_causes waits ++ hear_causes letters) ++ Tick now ∷ []) ≡ letters
 heard_all waits letters now =
-    flat_map-append _ (answer_causes waits ++ hear_causes letters) (Tick now ∷ []) ∙ append_nil (heard_in (answer_causes waits ++ hear_causes letters))
-    ∙ flat_map-append _ (answer_causes waits) (hear_causes letters) ∙ ap (λ front. front ++ heard_in (hear_causes letters)) (heard_answers waits) ∙ heard_hears letters
+    flat_map-append _ (answer_causes waits ++ hear_causes letters) (Tick now ∷ []) ∙ append_nil (letters_heard_in (answer_causes waits ++ hear_causes letters))
+    ∙ flat_map-append _ (answer_causes waits) (hear_causes letters) ∙ ap (λ front. front ++ letters_heard_in (hear_causes letters)) (heard_answers waits) ∙ heard_hears letters
 
 answers_by : (who : ℕ) (waits : Option SchedRow) → tasks_by who (answer_causes waits) ≡ answer_tasks who waits
 answers_by who None = refl
@@ -108,8 +108,8 @@ module _ {D : Type 0} (seen : D → Image) (may_leave : D → Image → Type 0) 
       mail = record {
         runs = running ∙ idle.ahead.mail.runs;
         letters_are =
-            idle.ahead.mail.letters_are ∙ sym (heard_all old.mail.waits old.mail.letters.items now) ∙ ap heard_in (sym causes)
-            ∙ sym (ap (λ letters. heard_in (causes_of new.steps.items) ++ letters) none ∙ append_nil (heard_in (causes_of new.steps.items)));
+            idle.ahead.mail.letters_are ∙ sym (heard_all old.mail.waits old.mail.letters.items now) ∙ ap letters_heard_in (sym causes)
+            ∙ sym (ap (λ letters. letters_heard_in (causes_of new.steps.items) ++ letters) none ∙ append_nil (letters_heard_in (causes_of new.steps.items)));
         skew = skew ∙ idle.ahead.mail.skew;
         small = subst IsSkew (sym skew) idle.ahead.mail.small;
         fate = fate ∙ idle.ahead.mail.fate;

@@ -25,7 +25,7 @@ use Rattle.world_rounds.proofs.StepsAt.{ahead_same, cases_number, get_set_there}
 use Rattle.world_rounds.proofs.Worlds.{set_cases}
 use Rattle.world_rounds.specs.Mails.{Changes}
 use Rattle.world_rounds.specs.Rounds.{AllTakeRounds, CommitsAll, HasTakenRound, MayTakeRound, TakesRound, tasks_at_hand}
-use Rattle.world_rounds.specs.Taking.{CommitsOwn, HasTaken, IsAhead, MayCommitOwn, PutsDown, steps_at, steps_of, tasks_by}
+use Rattle.world_rounds.specs.Taking.{CommitsOwn, HasTakenTurns, IsAhead, MayCommitOwn, PutsDown, steps_at, steps_left_to, tasks_by}
 use Rattle.world_steps.specs.Parts.{IsBookAt}
 use Rattle.world_rounds.specs.World.{GoesOnBy, IsMemberAhead, IsWorld, IsWorldAt, book_of, none_taken}
 use Rattle.world_rounds.specs.declared.member.Member.{Member}
@@ -90,7 +90,7 @@ module _ {D : Type 0} (seen : D → Image) (may_leave : D → Image → Type 0) 
 
   pub record HasCommittedTo (number : ℕ) (old new : World D) : Type 0 where
     pub did : (rows : List Row) (situation : Situation) → IsAhead seen may_leave honest told_of table rows old situation
-        → HasTaken seen may_leave honest told_of table (book_of old).members rows situation (tasks_below old number) (steps_at new) new
+        → HasTakenTurns seen may_leave honest told_of table (book_of old).members rows situation (tasks_below old number) (steps_at new) new
     pub below : (who : ℕ) → who < number → steps_at new who ≡ []
     pub above : (who : ℕ) → number ≤ who → steps_at new who ≡ steps_at old who
     pub count : length new.members.items ≡ length old.members.items
@@ -118,10 +118,10 @@ module _ {D : Type 0} (seen : D → Image) (may_leave : D → Image → Type 0) 
       → HasCommittedTo (number + 1) old new
   committed_one_more number old now new so_far commits puts = record {
     did = λ rows situation ahead.
-        subst (λ tasks. HasTaken seen may_leave honest told_of table (book_of old).members rows situation tasks (steps_at new) new) (sym (tasks_more old number))
+        subst (λ tasks. HasTakenTurns seen may_leave honest told_of table (book_of old).members rows situation tasks (steps_at new) new) (sym (tasks_more old number))
         (taken_then seen may_leave honest told_of table (book_of old).members rows situation (tasks_below old number) (tasks_by number (causes_of (steps_at old number))) (steps_at now) (steps_at new) now new
         (so_far.did rows situation ahead)
-        (λ rows situation here. subst (λ steps. HasTaken seen may_leave honest told_of table (book_of now).members rows situation (tasks_by number (causes_of steps)) (steps_at new) new)
+        (λ rows situation here. subst (λ steps. HasTakenTurns seen may_leave honest told_of table (book_of now).members rows situation (tasks_by number (causes_of steps)) (steps_at new) new)
         (so_far.above number (omega arith)) (commits rows situation here)));
     below = λ who less. elim (cases_number who number) [
       | inl here ↦ ap (steps_at new) here ∙ puts.mine
@@ -133,10 +133,10 @@ module _ {D : Type 0} (seen : D → Image) (may_leave : D → Image → Type 0) 
 
   pub commits_all : (number : ℕ) (old new : World D) → number ≡ length old.members.items → HasCommittedTo number old new → CommitsAll seen may_leave honest told_of table old new
   commits_all number old new whole so_far = record {
-    commits = λ rows situation ahead. subst (λ n. HasTaken seen may_leave honest told_of table (book_of old).members rows situation (tasks_below old n) (steps_at new) new) whole (so_far.did rows situation ahead);
+    commits = λ rows situation ahead. subst (λ n. HasTakenTurns seen may_leave honest told_of table (book_of old).members rows situation (tasks_below old n) (steps_at new) new) whole (so_far.did rows situation ahead);
     down = λ who. elim (cases_lt who number) [
       | inl less ↦ so_far.below who less
-      | inr up ↦ so_far.above who up ∙ ap steps_of (slice_get_past old.members.items who (omega arith))
+      | inr up ↦ so_far.above who up ∙ ap steps_left_to (slice_get_past old.members.items who (omega arith))
     ];
   }
 
@@ -169,7 +169,7 @@ module _ {D : Type 0} (seen : D → Image) (may_leave : D → Image → Type 0) 
         let one = found_below world.members.items who (let within : who < length middle.members.items = slice_get_within middle.members.items who two found in let same = all.count in omega arith) in
         let taken = round_at rows world middle situation at who one.0 two is all one.1 found in
         subst (λ book. IsMemberAhead seen may_leave honest told_of table rows book situation who (steps_at middle who) two) (sym book)
-        (subst (λ steps. IsMemberAhead seen may_leave honest told_of table rows world.book situation who steps two) (sym (ap steps_of found)) taken.ahead);
+        (subst (λ steps. IsMemberAhead seen may_leave honest told_of table rows world.book situation who steps two) (sym (ap steps_left_to found)) taken.ahead);
     cuts = λ from to. ap (λ cuts. is_cut from to cuts.items) cuts ∙ is.ahead.cuts from to;
     latest = ap (λ minute. minute.0) latest ∙ is.ahead.latest;
   }
@@ -185,14 +185,14 @@ module _ {D : Type 0} (seen : D → Image) (may_leave : D → Image → Type 0) 
       let one = found_below world.members.items who (let same = is.ahead.count in omega arith) in
       let two = found_below middle.members.items who (let same = is.ahead.count in let count = all.count in omega arith) in
       let taken = round_at rows world middle situation at who one.0 two.0 is all one.1 two.1 in
-      ap (λ found. tasks_by who (causes_of (steps_of found))) two.1 ∙ taken.tasks)
+      ap (λ found. tasks_by who (causes_of (steps_left_to found))) two.1 ∙ taken.tasks)
 
   -- no step is left
   pub put_down : (rows : List Row) (world : World D) (situation : Situation) → IsAhead seen may_leave honest told_of table rows world situation → ((who : ℕ) → steps_at world who ≡ [])
       → IsWorldAt seen may_leave honest told_of table rows world situation
   put_down rows world situation ahead down = record {
     ahead = ahead_same seen may_leave honest told_of table rows world situation (steps_at world) none_taken down ahead;
-    idle = λ who member found. sym (ap steps_of found) ∙ down who;
+    idle = λ who member found. sym (ap steps_left_to found) ∙ down who;
   }
 
   pub posted_so_far : (rows : List Row) (world : World D) (situation : Situation) → IsWorldAt seen may_leave honest told_of table rows world situation
@@ -202,7 +202,7 @@ module _ {D : Type 0} (seen : D → Image) (may_leave : D → Image → Type 0) 
 
   -- the turns of some tasks are taken, and then the letters join the mails
   pub performed : (rows : List Row) (world middle now new : World D) (situation : Situation) (tasks : List Task) → IsWorldAt seen may_leave honest told_of table rows world situation
-      → HasTaken seen may_leave honest told_of table world.book.members rows situation tasks (steps_at now) now → ((who : ℕ) → steps_at now who ≡ [])
+      → HasTakenTurns seen may_leave honest told_of table world.book.members rows situation tasks (steps_at now) now → ((who : ℕ) → steps_at now who ≡ [])
       → Changes seen may_leave honest told_of (delivered (length world.book.letters)) now new
       → (more : List Row) × (after : Situation) × Performs world.book.members tasks situation more after × IsWorldAt seen may_leave honest told_of table (rows ++ more) new after
   performed rows world middle now new situation tasks is taken down changes = (
@@ -219,8 +219,8 @@ module _ {D : Type 0} (seen : D → Image) (may_leave : D → Image → Type 0) 
       → GoesOnBy seen may_leave honest told_of table (IsRound world.book.members table.window at) world new
   round_goes world middle now new at all book cuts latest commits changes = λ rows situation is.
       performed rows world middle now new situation (round_tasks world.book.members table.window at situation) is
-      (subst (λ tasks. HasTaken seen may_leave honest told_of table world.book.members rows situation tasks (steps_at now) now) (round_at_hand rows world middle situation at is all)
-      (subst (λ n. HasTaken seen may_leave honest told_of table n rows situation (tasks_at_hand middle) (steps_at now) now) (ap (λ (book : BookState). book.members) book)
+      (subst (λ tasks. HasTakenTurns seen may_leave honest told_of table world.book.members rows situation tasks (steps_at now) now) (round_at_hand rows world middle situation at is all)
+      (subst (λ n. HasTakenTurns seen may_leave honest told_of table n rows situation (tasks_at_hand middle) (steps_at now) now) (ap (λ (book : BookState). book.members) book)
       (commits.commits rows situation (rounds_ahead rows world middle situation at is all book cuts latest))))
       commits.down changes
 

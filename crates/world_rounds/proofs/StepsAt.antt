@@ -14,7 +14,7 @@ use Rattle.world_steps.specs.Steps.{causes_of}
 use Rattle.world_steps.specs.declared.steps.Taken.{Taken}
 use Rattle.world_rounds.proofs.Chains.{taken_none, taken_then}
 use Rattle.world_rounds.proofs.Worlds.{set_cases}
-use Rattle.world_rounds.specs.Taking.{Commits, CommitsOwn, HasTaken, KeepsSteps, MayCommit, MayCommitOwn, PutsDown, steps_at, steps_of, tasks_by}
+use Rattle.world_rounds.specs.Taking.{TakesTurns, CommitsOwn, HasTakenTurns, KeepsSteps, MayCommit, MayCommitOwn, PutsDown, steps_at, steps_left_to, tasks_by}
 use Rattle.world_rounds.specs.World.{IsMemberAhead, IsWorldAhead, book_of}
 use Rattle.world_rounds.specs.declared.member.Member.{Member}
 use Rattle.world_rounds.specs.declared.world.World.{World}
@@ -51,9 +51,9 @@ cases_number k i = elim (cases_Bool (eqb k i)) [ inl same ↦ inl (eqb-true k i 
 pub keeps_at : {D : Type 0} (old new : World D) (who : ℕ) (member next : Member D) → slice_get old.members.items who ≡ Some member → who < length old.members.items
     → new.members.items ≡ set old.members.items who next → next.steps.items ≡ member.steps.items → KeepsSteps old new
 keeps_at old new who member next there below members same = record {
-  each = λ k. ap (λ members. steps_of (slice_get members k)) members ∙ elim (cases_number k who) [
-    | inl here ↦ rw here (ap steps_of (get_set_here old.members.items who next below) ∙ same ∙ sym (ap steps_of there))
-    | inr other ↦ ap steps_of (get_set_there old.members.items who next k other)
+  each = λ k. ap (λ members. steps_left_to (slice_get members k)) members ∙ elim (cases_number k who) [
+    | inl here ↦ rw here (ap steps_left_to (get_set_here old.members.items who next below) ∙ same ∙ sym (ap steps_left_to there))
+    | inr other ↦ ap steps_left_to (get_set_there old.members.items who next k other)
   ];
   count = ap length members ∙ length-set old.members.items who next;
 }
@@ -76,7 +76,7 @@ module _ {D : Type 0} (seen : D → Image) (may_leave : D → Image → Type 0) 
   }
 
   pub taken_same : (n : ℕ) (rows : List Row) (situation : Situation) (tasks : List Task) (one other : ℕ → List Taken) (world : World D) → ((who : ℕ) → one who ≡ other who)
-      → HasTaken seen may_leave honest told_of table n rows situation tasks one world → HasTaken seen may_leave honest told_of table n rows situation tasks other world
+      → HasTakenTurns seen may_leave honest told_of table n rows situation tasks one world → HasTakenTurns seen may_leave honest told_of table n rows situation tasks other world
   taken_same n rows situation tasks one other world same taken =
       record { members_are = taken.members_are; more = taken.more; turns = taken.turns; ahead = ahead_same _ world _ one other same taken.ahead }
 
@@ -100,7 +100,7 @@ module _ {D : Type 0} (seen : D → Image) (may_leave : D → Image → Type 0) 
   -- the loop over a replica's steps: so many of them are turns
   pub record HasCommitted (who : ℕ) (steps : List Taken) (count : ℕ) (old new : World D) : Type 0 where
     pub did : (rows : List Row) (situation : Situation) (ahead_by : ℕ → List Taken) → IsWorldAhead seen may_leave honest told_of table rows old situation ahead_by → ahead_by who ≡ steps
-        → HasTaken seen may_leave honest told_of table (book_of old).members rows situation (tasks_by who (causes_of (take count steps))) (with_fact who (drop count steps) ahead_by) new
+        → HasTakenTurns seen may_leave honest told_of table (book_of old).members rows situation (tasks_by who (causes_of (take count steps))) (with_fact who (drop count steps) ahead_by) new
     pub keeps : KeepsSteps old new
 
   pub committed_none : (who : ℕ) (steps : List Taken) (world : World D) → HasCommitted who steps 0 world world
@@ -140,11 +140,11 @@ module _ {D : Type 0} (seen : D → Image) (may_leave : D → Image → Type 0) 
       }
 
   pub committed_next : (who : ℕ) (steps : List Taken) (count : ℕ) (taken : Taken) (first world next : World D) → count < length steps → taken ≡ get_or steps count taken
-      → HasCommitted who steps count first world → Commits seen may_leave honest told_of table who (taken ∷ []) (drop (count + 1) steps) world next → KeepsSteps world next
+      → HasCommitted who steps count first world → TakesTurns seen may_leave honest told_of table who (taken ∷ []) (drop (count + 1) steps) world next → KeepsSteps world next
       → HasCommitted who steps (count + 1) first next
   committed_next who steps count taken first world next below is committed commits keeps = record {
     did = λ rows situation ahead_by ahead mine.
-        subst (λ tasks. HasTaken seen may_leave honest told_of table first.book.members rows situation tasks (with_fact who (drop (count + 1) steps) ahead_by) next) (tasks_next who steps count taken below is)
+        subst (λ tasks. HasTakenTurns seen may_leave honest told_of table first.book.members rows situation tasks (with_fact who (drop (count + 1) steps) ahead_by) next) (tasks_next who steps count taken below is)
         (taken_same first.book.members rows situation _ (with_fact who (drop (count + 1) steps) (with_fact who (drop count steps) ahead_by)) (with_fact who (drop (count + 1) steps) ahead_by) next
         (λ k. elim (cases_number k who) [
           | inl here ↦ rw here (fact_here who (drop (count + 1) steps) (with_fact who (drop count steps) ahead_by) ∙ sym (fact_here who (drop (count + 1) steps) ahead_by))
@@ -160,37 +160,37 @@ module _ {D : Type 0} (seen : D → Image) (may_leave : D → Image → Type 0) 
   }
 
   pub committed_all : (who : ℕ) (steps : List Taken) (count : ℕ) (first world : World D) → count ≡ length steps → HasCommitted who steps count first world
-      → Commits seen may_leave honest told_of table who steps [] first world
+      → TakesTurns seen may_leave honest told_of table who steps [] first world
   committed_all who steps count first world whole committed = λ rows situation ahead_by ahead mine.
-      subst (λ left. HasTaken seen may_leave honest told_of table first.book.members rows situation (tasks_by who (causes_of steps)) (with_fact who left ahead_by) world) (drop_whole steps count whole)
-      (subst (λ front. HasTaken seen may_leave honest told_of table first.book.members rows situation (tasks_by who (causes_of front)) (with_fact who (drop count steps) ahead_by) world) (take_whole steps count whole)
+      subst (λ left. HasTakenTurns seen may_leave honest told_of table first.book.members rows situation (tasks_by who (causes_of steps)) (with_fact who left ahead_by) world) (drop_whole steps count whole)
+      (subst (λ front. HasTakenTurns seen may_leave honest told_of table first.book.members rows situation (tasks_by who (causes_of front)) (with_fact who (drop count steps) ahead_by) world) (take_whole steps count whole)
       (committed.did rows situation ahead_by ahead (mine ∙ append_nil steps)))
 
   -- a replica puts down its steps, and they become turns
   pub commits_own : (who : ℕ) (steps : List Taken) (old middle new : World D) (member next : Member D) → slice_get old.members.items who ≡ Some member → who < length old.members.items
       → middle.members.items ≡ set old.members.items who next → next.node ≡ member.node → next.mail ≡ member.mail → next.steps.items ≡ [] → middle.book ≡ old.book → middle.cuts ≡ old.cuts
-      → middle.latest ≡ old.latest → steps ≡ member.steps.items → Commits seen may_leave honest told_of table who steps [] middle new → KeepsSteps middle new
+      → middle.latest ≡ old.latest → steps ≡ member.steps.items → TakesTurns seen may_leave honest told_of table who steps [] middle new → KeepsSteps middle new
       → CommitsOwn seen may_leave honest told_of table who old new × PutsDown who old new
   commits_own who steps old middle new member next there below members node mail down book cuts latest own commits keeps = (
     λ rows situation ahead.
-        subst (λ steps. HasTaken seen may_leave honest told_of table old.book.members rows situation (tasks_by who (causes_of steps)) (steps_at new) new) mine
+        subst (λ steps. HasTakenTurns seen may_leave honest told_of table old.book.members rows situation (tasks_by who (causes_of steps)) (steps_at new) new) mine
         (taken_same old.book.members rows situation (tasks_by who (causes_of steps)) (with_fact who [] (steps_at old)) (steps_at new) new
         (λ k. elim (cases_number k who) [
           | inl here ↦ rw here (fact_here who [] (steps_at old) ∙ sym puts.mine)
           | inr other ↦ fact_there who [] (steps_at old) k other ∙ sym (puts.others k other)
         ])
-        (subst (λ (members : ℕ). HasTaken seen may_leave honest told_of table members rows situation (tasks_by who (causes_of steps)) (with_fact who [] (steps_at old)) new) (ap (λ book. book.members) book)
+        (subst (λ (members : ℕ). HasTakenTurns seen may_leave honest told_of table members rows situation (tasks_by who (causes_of steps)) (with_fact who [] (steps_at old)) new) (ap (λ book. book.members) book)
         (commits rows situation (steps_at old) (stripped rows old middle situation (steps_at old) who member next there members node mail book cuts latest ahead) (sym mine ∙ sym (append_nil steps))))),
     puts,
   )
     where
       mine : steps ≡ steps_at old who
-      mine = own ∙ sym (ap steps_of there)
+      mine = own ∙ sym (ap steps_left_to there)
 
       puts : PutsDown who old new
       puts = record {
-        mine = keeps.each who ∙ ap (λ members. steps_of (slice_get members who)) members ∙ ap steps_of (get_set_here old.members.items who next below) ∙ down;
-        others = λ other differs. keeps.each other ∙ ap (λ members. steps_of (slice_get members other)) members ∙ ap steps_of (get_set_there old.members.items who next other differs);
+        mine = keeps.each who ∙ ap (λ members. steps_left_to (slice_get members who)) members ∙ ap steps_left_to (get_set_here old.members.items who next below) ∙ down;
+        others = λ other differs. keeps.each other ∙ ap (λ members. steps_left_to (slice_get members other)) members ∙ ap steps_left_to (get_set_there old.members.items who next other differs);
         count = keeps.count ∙ ap length members ∙ length-set old.members.items who next;
       }
 
@@ -203,6 +203,6 @@ module _ {D : Type 0} (seen : D → Image) (may_leave : D → Image → Type 0) 
     situation = may.situation;
     ahead_by = steps_at old;
     ahead = stripped may.rows old middle may.situation (steps_at old) who member next there members node mail book cuts latest may.ahead;
-    mine = ap steps_of there ∙ sym own;
+    mine = ap steps_left_to there ∙ sym own;
     member = rw (ap length members ∙ length-set old.members.items who next) below;
   }

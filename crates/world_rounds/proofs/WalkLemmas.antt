@@ -14,7 +14,7 @@ use Rattle.script_semantics.specs.Settling.{AsksNothing, AsksNothingUntil, Drain
 use Rattle.script_semantics.specs.Situation.{Situation}
 use Rattle.step_spec.specs.State.{State}
 use Rattle.world_rounds.proofs.StepsAt.{cases_number}
-use Rattle.world_rounds.specs.Quiet.{AllRun, IsIn, Tells}
+use Rattle.world_rounds.specs.Quiet.{AllRun, IsIn, AnswersFor}
 use Rattle.world_rounds.specs.Walking.{WalkedOn}
 use Rattle.world_rounds.specs.World.{GoesOnBy, IsWorld, IsWorldAt}
 use Rattle.world_rounds.specs.declared.world.World.{World}
@@ -109,12 +109,12 @@ module _ {D : Type 0} (seen : D → Image) (may_leave : D → Image → Type 0) 
   rests_first world who first = λ situation here minute from below. absurd (omega arith)
 
   pub rests_next : (world : World D) (who first minute : ℕ) → RestsIn world who first minute
-      → Tells seen may_leave honest told_of table (λ situation. AsksNothing table (pos minute) (situation.standing.replicas who)) world true → RestsIn world who first (minute + 1)
+      → AnswersFor seen may_leave honest told_of table (λ situation. AsksNothing table (pos minute) (situation.standing.replicas who)) world true → RestsIn world who first (minute + 1)
   rests_next world who first minute so_far tells = λ situation here.
       asks_none_next table first minute (situation.standing.replicas who) (so_far situation here) ((tells here.0 situation here.1).0 refl)
 
   pub minute_found : (world : World D) (who : ℕ) (above to : ℤ) (first minute : ℕ) → pos first ≡ above +ℤ pos 1 → pos 0 ≤ℤ above → RestsIn world who first minute → first ≤ minute → pos minute ≤ℤ to
-      → Tells seen may_leave honest told_of table (λ situation. AsksNothing table (pos minute) (situation.standing.replicas who)) world false
+      → AnswersFor seen may_leave honest told_of table (λ situation. AsksNothing table (pos minute) (situation.standing.replicas who)) world false
       → (situation : Situation) → IsIn seen may_leave honest told_of table world situation → IsNextMinute table (situation.standing.replicas who) above to (pos minute)
   minute_found world who above to first minute is low so_far from within tells = λ situation here.
       next_found table above to first minute (situation.standing.replicas who) is low (so_far situation here) from within

@@ -23,7 +23,7 @@ use Rattle.world_steps.specs.Steps.{IsNodeAhead, causes_of}
 use Rattle.world_steps.specs.Turns.{HasJoinedAt, IsNextStep, MayJoin, noted}
 use Rattle.world_steps.specs.declared.steps.Taken.{Taken}
 use Rattle.world_rounds.proofs.AfterTurn.{member_did, member_stays, runs_ahead}
-use Rattle.world_rounds.specs.Taking.{HasTaken, tasks_by}
+use Rattle.world_rounds.specs.Taking.{HasTakenTurns, tasks_by}
 use Rattle.world_rounds.specs.World.{IsMemberAhead, IsWorldAhead}
 use Rattle.world_rounds.specs.declared.member.Member.{Member}
 use Rattle.world_rounds.specs.declared.world.World.{World}
@@ -83,7 +83,7 @@ module _ {D : Type 0} (seen : D → Image) (may_leave : D → Image → Type 0) 
       → ((rows : List Row) (old new : ReplicaState) → IsNextStep table rows world.book who taken old new → HasJoinedAt table rows world.book after.book who taken member.mail.fate made new)
       → after.members.items ≡ set world.members.items who (record member { mail = noted made (calls_for (option_to_list taken.out.delta)) member.mail }) → after.cuts ≡ world.cuts
       → after.latest.0 ≡ latest_with taken.cause world.latest.0
-      → HasTaken seen may_leave honest told_of table world.book.members rows situation (tasks_by who (causes_of (taken ∷ []))) (with_fact who more ahead_by) after
+      → HasTakenTurns seen may_leave honest told_of table world.book.members rows situation (tasks_by who (causes_of (taken ∷ []))) (with_fact who more ahead_by) after
   world_did rows world after situation ahead_by who taken more member made ahead mine there joins members cuts latest =
       record {
         members_are = joined.joined.members;

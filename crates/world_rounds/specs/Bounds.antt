@@ -19,18 +19,18 @@ abbrev pub AreShort : List LetterRow → Type 0
 AreShort letters = (letter : LetterRow) → Contains letters letter → length letter.bytes < 56 * 2 ^ 31
 
 -- The book is within the bounds in which each letter is heard whole: it has fewer than 2^59 turns, and its letters are short.
-pub record IsBounded (book : BookState) : Type 0 where
+pub record IsBookBounded (book : BookState) : Type 0 where
   pub turns : length book.turns < 2 ^ 59
   pub letters : AreShort book.letters
 
 -- The world is within the bounds and without a fault, in a situation of which this holds.
-pub record IsGiven {D : Type 0} (seen : D → Image) (may_leave : D → Image → Type 0) (honest : D → Type 0) (told_of : D → Option Told) (table : Table) (holds : ℕ → Situation → Type 0) (world : World D) : Type 0 where
+pub record IsFaultlessIn {D : Type 0} (seen : D → Image) (may_leave : D → Image → Type 0) (honest : D → Type 0) (told_of : D → Option Told) (table : Table) (holds : ℕ → Situation → Type 0) (world : World D) : Type 0 where
   pub rows : List Row
   pub situation : Situation
   pub is : IsWorldAt seen may_leave honest told_of table rows world situation
   pub faultless : IsFaultless world.book.members situation
   pub given : holds world.book.members situation
-  pub bounded : IsBounded world.book
+  pub bounded : IsBookBounded world.book
 
 -- the rounds that are left to a replica until it is at rest, at most
 abbrev pub left_to : {D : Type 0} → Table → Option (Member D) → ℕ

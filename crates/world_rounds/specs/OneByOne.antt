@@ -44,7 +44,7 @@ MayBeNext window situation who (Hear number) = (rest : List ℕ) × (situation.m
 MayBeNext window situation who Answer = IsSome (situation.standing.waits who)
 
 -- a replica that runs may take a step for the cause
-pub record MayTake (window : Window) (situation : Situation) (who : ℕ) (cause : Cause) : Type 0 where
+pub record MayStepFor (window : Window) (situation : Situation) (who : ℕ) (cause : Cause) : Type 0 where
   pub runs : situation.standing.runs who ≡ true
   pub next : MayBeNext window situation who cause
 
@@ -53,7 +53,7 @@ pub record MayTakeBeside {D : Type 0} (seen : D → Image) (may_leave : D → Im
   pub rows : List Row
   pub situation : Situation
   pub idle : IsMemberIdle seen may_leave honest told_of table rows book situation who member
-  pub may : MayTake table.window situation who cause
+  pub may : MayStepFor table.window situation who cause
 
 -- a letter that is heard leaves the mail, as the first of it
 abbrev pub letters_behind : Cause → List ℕ → List ℕ
@@ -80,7 +80,7 @@ EndsStep seen may_leave honest told_of table rows book situation who cause (outc
 pub record MayCommitStopped {D : Type 0} (seen : D → Image) (may_leave : D → Image → Type 0) (honest : D → Type 0) (told_of : D → Option Told) (table : Table) (rows : List Row) (world : World D) (situation : Situation) (who : ℕ) (cause : Cause) (arm : Arm) (answer : Option Delta) : Type 0 where
   pub before : World D
   pub is : IsWorldAt seen may_leave honest told_of table rows before situation
-  pub may : MayTake table.window situation who cause
+  pub may : MayStepFor table.window situation who cause
   pub armed : armed_in (Some arm) ≡ situation.arms who
   pub old : Member D
   pub there : slice_get before.members.items who ≡ Some old

@@ -16,8 +16,8 @@ abbrev pub AllRun : {D : Type 0} → World D → Type 0
 AllRun {D = D} world = (who : ℕ) (member : Member D) → slice_get world.members.items who ≡ Some member → member.mail.runs ≡ true
 
 -- **The answer is true just where this holds of the situation**, whichever the world is in.
-abbrev pub Tells : {D : Type 0} → (seen : D → Image) → (may_leave : D → Image → Type 0) → (honest : D → Type 0) → (told_of : D → Option Told) → Table → (holds : Situation → Type 0) → World D → Bool → Type 0
-Tells seen may_leave honest told_of table holds world answer =
+abbrev pub AnswersFor : {D : Type 0} → (seen : D → Image) → (may_leave : D → Image → Type 0) → (honest : D → Type 0) → (told_of : D → Option Told) → Table → (holds : Situation → Type 0) → World D → Bool → Type 0
+AnswersFor seen may_leave honest told_of table holds world answer =
     (rows : List Row) (situation : Situation) → IsWorldAt seen may_leave honest told_of table rows world situation → IsTrue answer ↔ holds situation
 
 -- the world is in this situation, whatever rows stand behind its book

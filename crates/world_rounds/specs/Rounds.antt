@@ -9,7 +9,7 @@ use Rattle.script_semantics.specs.Round.{tasks_of}
 use Rattle.script_semantics.specs.Situation.{Situation, Task}
 use Rattle.world_law.specs.Book.{BookState}
 use Rattle.world_steps.specs.Steps.{causes_of}
-use Rattle.world_rounds.specs.Taking.{HasTaken, IsAhead, steps_at, tasks_by}
+use Rattle.world_rounds.specs.Taking.{HasTakenTurns, IsAhead, steps_at, tasks_by}
 use Rattle.world_steps.specs.Parts.{IsBookAt}
 use Rattle.world_rounds.specs.World.{IsMemberAhead, book_of}
 use Rattle.world_rounds.specs.declared.member.Member.{Member}
@@ -57,5 +57,5 @@ tasks_at_hand world = flat_map (λ who. tasks_by who (causes_of (steps_at world 
 -- **The world has taken the turns of all steps that its replicas have at hand.**
 pub record CommitsAll {D : Type 0} (seen : D → Image) (may_leave : D → Image → Type 0) (honest : D → Type 0) (told_of : D → Option Told) (table : Table) (old new : World D) : Type 0 where
   pub commits : (rows : List Row) (situation : Situation) → IsAhead seen may_leave honest told_of table rows old situation
-      → HasTaken seen may_leave honest told_of table (book_of old).members rows situation (tasks_at_hand old) (steps_at new) new
+      → HasTakenTurns seen may_leave honest told_of table (book_of old).members rows situation (tasks_at_hand old) (steps_at new) new
   pub down : (who : ℕ) → steps_at new who ≡ []

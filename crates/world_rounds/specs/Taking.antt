@@ -17,7 +17,7 @@ abbrev pub tasks_by : ℕ → List Cause → List Task
 tasks_by who causes = map (Do who) causes
 
 -- the turns of these tasks have been taken, and these steps are left
-pub record HasTaken {D : Type 0} (seen : D → Image) (may_leave : D → Image → Type 0) (honest : D → Type 0) (told_of : D → Option Told) (table : Table) (members : ℕ) (rows : List Row) (situation : Situation) (tasks : List Task) (left : ℕ → List Taken) (world : World D) : Type 0 where
+pub record HasTakenTurns {D : Type 0} (seen : D → Image) (may_leave : D → Image → Type 0) (honest : D → Type 0) (told_of : D → Option Told) (table : Table) (members : ℕ) (rows : List Row) (situation : Situation) (tasks : List Task) (left : ℕ → List Taken) (world : World D) : Type 0 where
   pub members_are : (book_of world).members ≡ members
   pub more : List Row
   pub turns : AreTurnsFor members situation tasks more
@@ -33,21 +33,21 @@ pub record MayCommit {D : Type 0} (seen : D → Image) (may_leave : D → Image 
   pub member : who < length world.members.items
 
 -- **The world has taken some turns of a replica**: whatever it was, the first steps of the replica are turns, and the others are left.
-abbrev pub Commits : {D : Type 0} → (seen : D → Image) → (may_leave : D → Image → Type 0) → (honest : D → Type 0) → (told_of : D → Option Told) → Table → (who : ℕ) → (steps more : List Taken) → (old new : World D) → Type 0
-Commits seen may_leave honest told_of table who steps more old new =
+abbrev pub TakesTurns : {D : Type 0} → (seen : D → Image) → (may_leave : D → Image → Type 0) → (honest : D → Type 0) → (told_of : D → Option Told) → Table → (who : ℕ) → (steps more : List Taken) → (old new : World D) → Type 0
+TakesTurns seen may_leave honest told_of table who steps more old new =
     (rows : List Row) (situation : Situation) (ahead_by : ℕ → List Taken) → IsWorldAhead seen may_leave honest told_of table rows old situation ahead_by
     → ahead_by who ≡ steps ++ more
-    → HasTaken seen may_leave honest told_of table (book_of old).members rows situation (tasks_by who (causes_of steps)) (with_fact who more ahead_by) new
+    → HasTakenTurns seen may_leave honest told_of table (book_of old).members rows situation (tasks_by who (causes_of steps)) (with_fact who more ahead_by) new
 
 -- ---- by the steps that the replicas of a world have at hand
 
 -- the steps of a replica that aren't turns yet
-abbrev pub steps_of : {D : Type 0} → Option (Member D) → List Taken
-steps_of None = []
-steps_of (Some member) = member.steps.items
+abbrev pub steps_left_to : {D : Type 0} → Option (Member D) → List Taken
+steps_left_to None = []
+steps_left_to (Some member) = member.steps.items
 
 abbrev pub steps_at : {D : Type 0} → World D → ℕ → List Taken
-steps_at world who = steps_of (slice_get world.members.items who)
+steps_at world who = steps_left_to (slice_get world.members.items who)
 
 -- each replica of the world is ahead of the book by just those
 abbrev pub IsAhead : {D : Type 0} → (seen : D → Image) → (may_leave : D → Image → Type 0) → (honest : D → Type 0) → (told_of : D → Option Told) → Table → List Row → World D → Situation → Type 0
@@ -63,7 +63,7 @@ pub record MayCommitOwn {D : Type 0} (seen : D → Image) (may_leave : D → Ima
 abbrev pub CommitsOwn : {D : Type 0} → (seen : D → Image) → (may_leave : D → Image → Type 0) → (honest : D → Type 0) → (told_of : D → Option Told) → Table → (who : ℕ) → (old new : World D) → Type 0
 CommitsOwn seen may_leave honest told_of table who old new =
     (rows : List Row) (situation : Situation) → IsAhead seen may_leave honest told_of table rows old situation
-    → HasTaken seen may_leave honest told_of table (book_of old).members rows situation (tasks_by who (causes_of (steps_at old who))) (steps_at new) new
+    → HasTakenTurns seen may_leave honest told_of table (book_of old).members rows situation (tasks_by who (causes_of (steps_at old who))) (steps_at new) new
 
 -- each replica has the steps at hand that it had
 pub record KeepsSteps {D : Type 0} (old new : World D) : Type 0 where

@@ -8,7 +8,7 @@ use Rattle.script_semantics.specs.Situation.{Situation, is_cut}
 use Rattle.world_law.specs.Book.{BookState, standing_behind}
 use Rattle.world_steps.specs.Nodes.{bases_behind}
 use Rattle.world_steps.specs.Parts.{IsBookAt, IsMailOf}
-use Rattle.world_steps.specs.Steps.{IsNodeAhead, IsNodeStopped, causes_of, heard_in}
+use Rattle.world_steps.specs.Steps.{IsNodeAhead, IsNodeStopped, causes_of, letters_heard_in}
 use Rattle.world_steps.specs.declared.steps.Taken.{Taken}
 use Rattle.world_rounds.specs.declared.member.Member.{Member}
 use Rattle.world_rounds.specs.declared.world.World.{World}
@@ -16,7 +16,7 @@ use Rattle.zone_minutes.specs.declared.minute.Minute.{Minute}
 
 -- a replica of the world, which may be some steps ahead of the book
 pub record IsMemberAhead {D : Type 0} (seen : D → Image) (may_leave : D → Image → Type 0) (honest : D → Type 0) (told_of : D → Option Told) (table : Table) (rows : List Row) (book : BookState) (situation : Situation) (who : ℕ) (steps : List Taken) (member : Member D) : Type 0 where
-  pub mail : IsMailOf book.letters situation who (heard_in (causes_of steps)) member.mail
+  pub mail : IsMailOf book.letters situation who (letters_heard_in (causes_of steps)) member.mail
   pub running : (standing_behind table rows book).runs who ≡ true → IsNodeAhead seen may_leave honest told_of table rows book who steps member.node
   pub stopped : (standing_behind table rows book).runs who ≡ false → IsNodeStopped seen may_leave honest told_of table book.members (standing_behind table rows book) (bases_behind table rows book who) who steps member.node
 

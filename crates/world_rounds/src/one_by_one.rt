@@ -12,7 +12,7 @@ ghost use Rattle.script_semantics.specs.Situation.{Do, Situation};
 ghost use Rattle.script_text.specs.declared.command.Command.TheVariants as command;
 ghost use Rattle.world_law.specs.Book.{IsLegalBook};
 ghost use Rattle.world_steps.specs.Steps.{IsToldOf};
-ghost use Rattle.world_rounds.specs.OneByOne.{CanTell, EndsStep, HasPassed, HasStepped, IsLed, IsLedOn, MayCommitStopped, MayTake, MayTakeBeside, letters_behind};
+ghost use Rattle.world_rounds.specs.OneByOne.{CanTell, EndsStep, HasPassed, HasStepped, IsLed, IsLedOn, MayCommitStopped, MayStepFor, MayTakeBeside, letters_behind};
 ghost use Rattle.world_rounds.specs.Rounds.{IsMemberIdle};
 ghost use Rattle.world_rounds.specs.World.{GoesOnBy, IsWorld, IsWorldAt, book_of};
 ghost use Rattle.world_rounds.specs.declared.member.Member.{Member as Seat};
@@ -83,7 +83,7 @@ impl<D: ArmedDisk> Member<D> {
         requires member { who < members }
         requires may { MayTakeBeside D.seen D.may_leave D.honest D.told table.now book.now who cause self.old }
         ensures ends { IfOk result (λ ended. (rows : List Row) (situation : Situation)
-            → IsMemberIdle D.seen D.may_leave D.honest D.told table.now rows book.now situation who self.old → MayTake table.now.window situation who cause
+            → IsMemberIdle D.seen D.may_leave D.honest D.told table.now rows book.now situation who self.old → MayStepFor table.now.window situation who cause
             → EndsStep D.seen D.may_leave D.honest D.told table.now rows book.now situation who cause ended self.old self.new) }
     {
         let input = input_for(book, self.mail.waits, cause);
@@ -139,10 +139,10 @@ impl<D: ArmedDisk> World<D> {
     // A replica takes its step for a cause, and its turn joins the book. Whether the replica goes on.
     fn step_next(&mut self, table: &JobTable, who: u8, cause: Cause) -> Result<bool, OutOfMemory>
         requires may { (rows : List Row) × (situation : Situation) × IsWorldAt D.seen D.may_leave D.honest D.told table.now rows self.old situation
-            × MayTake table.now.window situation who cause }
+            × MayStepFor table.now.window situation who cause }
         requires member { who < length self.old.members.items }
         ensures steps { IfOk result (λ goes. (rows : List Row) (situation : Situation) → IsWorldAt D.seen D.may_leave D.honest D.told table.now rows self.old situation
-            → MayTake table.now.window situation who cause
+            → MayStepFor table.now.window situation who cause
             → HasStepped D.seen D.may_leave D.honest D.told table.now (book_of self.old).members rows situation who cause goes self.new) }
         ensures members { OnOk result ((book_of self.new).members ≡ (book_of self.old).members) }
         ensures legal { OnErr result (IsLegalBook table.now (book_of self.new)) }

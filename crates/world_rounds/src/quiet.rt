@@ -7,7 +7,7 @@ ghost use Rattle.replica_core.specs.Step.{IsOfTable};
 ghost use Rattle.replica_node.specs.Node.{replica_of};
 ghost use Rattle.script_semantics.specs.Settling.{AsksNothing, IsFreeTerm, IsQuiet};
 ghost use Rattle.settling.specs.Rest.{IsAtRest};
-ghost use Rattle.world_rounds.specs.Quiet.{AllRun, Tells};
+ghost use Rattle.world_rounds.specs.Quiet.{AllRun, AnswersFor};
 ghost use Rattle.step_spec.specs.May.{IsFollower};
 ghost use Rattle.world_rounds.specs.World.{IsWorld, book_of};
 ghost use Rattle.world_rounds.specs.declared.member.Member.{Member as Seat};
@@ -76,7 +76,7 @@ impl<D: Disk> World<D> {
         requires run { AllRun self.now }
         requires member { who < length self.now.members.items }
         requires inside { IsInWindow table.now.window at.0 }
-        ensures { Tells D.seen D.may_leave D.honest D.told table.now (λ situation. AsksNothing table.now at.0 (situation.standing.replicas who)) self.now result }
+        ensures { AnswersFor D.seen D.may_leave D.honest D.told table.now (λ situation. AsksNothing table.now at.0 (situation.standing.replicas who)) self.now result }
     {
         asks_nothing(self.members[who as usize].node.replica(), table, at)
     }
@@ -86,7 +86,7 @@ impl<D: Disk> World<D> {
         requires world { IsWorld D.seen D.may_leave D.honest D.told table.now self.now }
         requires run { AllRun self.now }
         requires member { who < length self.now.members.items }
-        ensures { Tells D.seen D.may_leave D.honest D.told table.now (λ situation. IsFollower (situation.standing.replicas who).term) self.now result }
+        ensures { AnswersFor D.seen D.may_leave D.honest D.told table.now (λ situation. IsFollower (situation.standing.replicas who).term) self.now result }
     {
         is_follower(self.members[who as usize].node.replica().term())
     }
@@ -97,7 +97,7 @@ impl<D: Disk> World<D> {
         requires run { AllRun self.now }
         requires member { who < length self.now.members.items }
         requires inside { IsInWindow table.now.window at.0 }
-        ensures { Tells D.seen D.may_leave D.honest D.told table.now (IsAtRest table.now who at.0) self.now result }
+        ensures { AnswersFor D.seen D.may_leave D.honest D.told table.now (IsAtRest table.now who at.0) self.now result }
     {
         let member = &self.members[who as usize];
         if member.mail.waits.is_some() {
@@ -116,7 +116,7 @@ impl<D: Disk> World<D> {
         requires run { AllRun self.now }
         requires member { who < length self.now.members.items }
         requires inside { IsInWindow table.now.window at.0 }
-        ensures { Tells D.seen D.may_leave D.honest D.told table.now (IsQuiet (book_of self.now).members table.now who at.0) self.now result }
+        ensures { AnswersFor D.seen D.may_leave D.honest D.told table.now (IsQuiet (book_of self.now).members table.now who at.0) self.now result }
     {
         let prefix = self.members[who as usize].prefix();
         self.rests(table, who, at) && are_level(&self.members, prefix)

@@ -2,7 +2,7 @@
 ghost use Rattle.std.specs.Prelude.{◌≡◌, ◌<◌, ◌∷◌, List, [], OnOk, OnErr, length};
 ghost use Rattle.world_law.specs.Book.{IsLegalBook};
 ghost use Rattle.world_steps.specs.declared.steps.Taken.{Taken as Step};
-ghost use Rattle.world_rounds.specs.Taking.{Commits, CommitsOwn, KeepsSteps, MayCommit, MayCommitOwn, PutsDown};
+ghost use Rattle.world_rounds.specs.Taking.{TakesTurns, CommitsOwn, KeepsSteps, MayCommit, MayCommitOwn, PutsDown};
 ghost use Rattle.world_rounds.specs.World.{book_of};
 
 use crate::world::World;
@@ -21,7 +21,7 @@ impl<D: Disk> World<D> {
         taken: Taken,
     ) -> Result<(), OutOfMemory>
         requires may { (more : List Step) × MayCommit D.seen D.may_leave D.honest D.told table.now self.old who (taken ∷ more) }
-        ensures did { OnOk result ((more : List Step) → Commits D.seen D.may_leave D.honest D.told table.now who (taken ∷ []) more self.old self.new) }
+        ensures did { OnOk result ((more : List Step) → TakesTurns D.seen D.may_leave D.honest D.told table.now who (taken ∷ []) more self.old self.new) }
         ensures steps { OnOk result (KeepsSteps self.old self.new) }
         ensures legal { OnErr result (IsLegalBook table.now (book_of self.new)) }
     {
@@ -42,7 +42,7 @@ impl<D: Disk> World<D> {
         steps: Vec<Taken>,
     ) -> Result<(), OutOfMemory>
         requires may { MayCommit D.seen D.may_leave D.honest D.told table.now self.old who steps.items }
-        ensures did { OnOk result (Commits D.seen D.may_leave D.honest D.told table.now who steps.items [] self.old self.new) }
+        ensures did { OnOk result (TakesTurns D.seen D.may_leave D.honest D.told table.now who steps.items [] self.old self.new) }
         ensures steps { OnOk result (KeepsSteps self.old self.new) }
         ensures legal { OnErr result (IsLegalBook table.now (book_of self.new)) }
     {

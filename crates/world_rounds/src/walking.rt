@@ -5,7 +5,7 @@ ghost use Rattle.zone_minutes.specs.Window.{IsInWindow};
 ghost use Rattle.script_semantics.specs.Settling.{AsksNothingUntil, IsNextMinute, Walks, WalksOn};
 ghost use Rattle.script_semantics.specs.Situation.{Situation};
 ghost use Rattle.settling.specs.Settles.{LeadsNow};
-ghost use Rattle.world_rounds.specs.Bounds.{IsBounded, IsGiven};
+ghost use Rattle.world_rounds.specs.Bounds.{IsBookBounded, IsFaultlessIn};
 ghost use Rattle.world_law.specs.Book.{IsLegalBook};
 ghost use Rattle.world_rounds.specs.Quiet.{AllRun, IsIn};
 ghost use Rattle.world_rounds.specs.World.{GoesOnBy, IsWorld, book_of};
@@ -65,13 +65,13 @@ impl<D: Disk> World<D> {
         to: Minute,
     ) -> Result<(), OutOfMemory>
         requires world { IsWorld D.seen D.may_leave D.honest D.told table.now self.old }
-        requires given { IsGiven D.seen D.may_leave D.honest D.told table.now (λ members situation. LeadsNow members table.now who situation) self.old }
+        requires given { IsFaultlessIn D.seen D.may_leave D.honest D.told table.now (λ members situation. LeadsNow members table.now who situation) self.old }
         requires run { AllRun self.old }
         requires member { who < length self.old.members.items }
         requires inside { IsInWindow table.now.window at.0 }
         requires within { IsInWindow table.now.window to.0 }
         ensures goes { OnOk result (GoesOnBy D.seen D.may_leave D.honest D.told table.now (WalksOn (book_of self.old).members table.now who at.0 to.0) self.old self.new) }
-        ensures bounded { OnOk result (IsBounded (book_of self.new)) }
+        ensures bounded { OnOk result (IsBookBounded (book_of self.new)) }
         ensures members { OnOk result ((book_of self.new).members ≡ (book_of self.old).members) }
         ensures legal { OnErr result (IsLegalBook table.now (book_of self.new)) }
     {
@@ -94,7 +94,7 @@ impl<D: Disk> World<D> {
         requires some { 0 < (book_of self.old).members }
         requires inside { IsInWindow table.now.window to.0 }
         ensures goes { OnOk result (GoesOnBy D.seen D.may_leave D.honest D.told table.now (Walks (book_of self.old).members table.now to.0) self.old self.new) }
-        ensures bounded { OnOk result (IsBounded (book_of self.new)) }
+        ensures bounded { OnOk result (IsBookBounded (book_of self.new)) }
         ensures members { OnOk result ((book_of self.new).members ≡ (book_of self.old).members) }
         ensures legal { OnErr result (IsLegalBook table.now (book_of self.new)) }
     {

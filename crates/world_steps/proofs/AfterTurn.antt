@@ -31,7 +31,7 @@ use Rattle.world_steps.specs.Nodes.{IsDiskAt, bases_behind}
 use Rattle.world_steps.specs.Parts.{IsBookAt, IsMailOf, IsSentTo, armed_in}
 use Rattle.world_steps.specs.declared.mail.MemberMail.{MemberMail}
 use Rattle.world_steps.proofs.Bases.{arm_spent, bases_here, bases_more, others_armed, others_keep}
-use Rattle.world_steps.specs.Steps.{IsNodeAhead, IsNodeStopped, IsToldOf, TookSteps, causes_of, changes_of, heard_for, heard_in, waits_in}
+use Rattle.world_steps.specs.Steps.{IsNodeAhead, IsNodeStopped, IsToldOf, TookSteps, causes_of, changes_of, heard_for, letters_heard_in, waits_in}
 use Rattle.world_steps.specs.Turns.{HasJoinedAt, HasLetters, IsNextStep, arm_then, fate_then, noted}
 use Rattle.world_steps.specs.declared.steps.Taken.{Taken}
 use Rattle.history.proofs.FrontLemmas.{replica_there}
@@ -203,14 +203,14 @@ did_mail who Answer made mails rest is = is
 -- its mail has lost the letter that it heard, and an answer of its call waits for it
 pub mail_did : (n : ℕ) (situation : Situation) (row : Row) (who : ℕ) (taken : Taken) (more : List Taken) (made : Option CallRow) (letters : List LetterRow) (after : BookState) (mail : MemberMail)
     → row.turn ≡ Did who taken.cause made → changes_in n situation.standing row.turn row.event ≡ option_to_list taken.out.delta
-    → HasLetters letters after → IsMailOf letters situation who (heard_in (causes_of (taken ∷ more))) mail
-    → IsMailOf after.letters (after_turn n situation row) who (heard_in (causes_of more)) (noted made (calls_for (option_to_list taken.out.delta)) mail)
+    → HasLetters letters after → IsMailOf letters situation who (letters_heard_in (causes_of (taken ∷ more))) mail
+    → IsMailOf after.letters (after_turn n situation row) who (letters_heard_in (causes_of more)) (noted made (calls_for (option_to_list taken.out.delta)) mail)
 mail_did n situation row who taken more made letters after mail turn changes has is = record {
   runs = is.runs ∙ sym (ap (λ (runs : ℕ → Bool). runs who) (row_runs n situation.standing row who taken.cause made turn));
   letters_are =
       ap (λ turn. mails_after turn situation.mails who) turn
-      ∙ did_mail who taken.cause made situation.mails (heard_in (causes_of more) ++ mail.letters.items)
-      (is.letters_are ∙ append_assoc (heard_for taken.cause) (heard_in (causes_of more)) mail.letters.items);
+      ∙ did_mail who taken.cause made situation.mails (letters_heard_in (causes_of more) ++ mail.letters.items)
+      (is.letters_are ∙ append_assoc (heard_for taken.cause) (letters_heard_in (causes_of more)) mail.letters.items);
   skew = is.skew;
   small = is.small;
   fate = ap (fate_then made) is.fate ∙ sym (did_fate who taken.cause made situation.fates) ∙ sym (ap (λ turn. fates_after turn situation.fates who) turn);

@@ -17,7 +17,7 @@ use Rattle.replica_core.specs.Step.{IsEventOf, Steps}
 use Rattle.replica_core.specs.declared.input.Input.{Input}
 use Rattle.replica_core.specs.declared.input.Input.TheVariants as told
 use Rattle.replica_core.specs.declared.out.StepOut.{StepOut}
-use Rattle.world_law.specs.Book.{BookState, Commits, HasRoom, IsAlike, IsNext, IsRowOf, MayCall, StandsBehind, standing_behind}
+use Rattle.world_law.specs.Book.{BookState, Commits, HasRoom, IsSameBook, IsNext, IsRowOf, MayTickFor, StandsBehind, standing_behind}
 use Rattle.world_law.specs.Replicas.{IsInputOf, IsLetterInput, IsTurnOf, StandsAt}
 use Rattle.world_law.proofs.Called.{alike_stands}
 use Rattle.world_law.proofs.Steps.{step_is_turn, step_may_call}
@@ -40,7 +40,7 @@ at_alike table rows book other replica same at = record {
 }
 
 -- a step beside a book is one beside the book with more room
-pub next_alike : (table : Table) (rows : List Row) (book during : BookState) (who : ℕ) (taken : Taken) (old new : ReplicaState) → IsAlike during book
+pub next_alike : (table : Table) (rows : List Row) (book during : BookState) (who : ℕ) (taken : Taken) (old new : ReplicaState) → IsSameBook during book
     → IsNextStep table rows book who taken old new → IsNextStep table rows during who taken old new
 next_alike table rows book during who taken old new alike next = record {
   behind = alike_stands table rows book during alike next.behind;
@@ -74,7 +74,7 @@ no_some (Some other) row none is = cc
 
 -- the call that it asks for may be made
 pub may_call : (table : Table) (rows : List Row) (book : BookState) (who : ℕ) (taken : Taken) (old new : ReplicaState) → IsNextStep table rows book who taken old new
-    → HasRoom (length taken.out.letters) book → (asked : Option SchedRow) → taken.out.call ≡ asked → IfSome asked (λ row. MayCall table book row)
+    → HasRoom (length taken.out.letters) book → (asked : Option SchedRow) → taken.out.call ≡ asked → IfSome asked (λ row. MayTickFor table book row)
 may_call table rows book who taken old new next room None is = tt
 may_call table rows book who taken old new next room (Some row) is = go taken.cause refl
   where
@@ -84,7 +84,7 @@ may_call table rows book who taken old new next room (Some row) is = go taken.ca
     no : IsNoTick step.steps.event → ⊥
     no no_tick = no_some taken.out.call row (none_called table old new step.input taken.out step.steps no_tick) is
 
-    go : (cause : Cause) → taken.cause ≡ cause → MayCall table book row
+    go : (cause : Cause) → taken.cause ≡ cause → MayTickFor table book row
     go Campaign of =
         let told : step.input ≡ told.Campaign = subst (λ cause. IsToldOf book.letters (waits_in table rows book who) who cause step.input) of step.is_told in
         let event : step.steps.event ≡ event.Campaign = subst (λ input. IsEventOf table old input step.steps.event) told step.steps.event_is in
@@ -119,7 +119,7 @@ turn_may_come table rows book during who taken old new made next members behind 
 
 -- and joins it: the book was `book`, `ready` with more room, `during` with the call, and is `after`
 pub has_joined : (table : Table) (rows : List Row) (book ready during after : BookState) (who : ℕ) (taken : Taken) (old new : ReplicaState) (becomes : Fate) (made : Option CallRow)
-    → IsNextStep table rows book who taken old new → IsAlike ready book → during.members ≡ ready.members → during.letters ≡ ready.letters → StandsBehind table rows during
+    → IsNextStep table rows book who taken old new → IsSameBook ready book → during.members ≡ ready.members → during.letters ≡ ready.letters → StandsBehind table rows during
     → IsMade (standing_behind table rows ready).held (option_to_list taken.out.call) made → IfSome made (λ call. call.fate ≡ becomes)
     → Commits (Did who taken.cause made) taken.out.letters during after
     → ((rows : List Row) (row : Row) → StandsBehind table rows during → IsRowOf (Did who taken.cause made) taken.out row

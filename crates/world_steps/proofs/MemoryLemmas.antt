@@ -5,7 +5,7 @@ use Rattle.cluster_sched.specs.declared.row.SchedRow.{SchedRow}
 use Rattle.disk_model.specs.Images.{Image}
 use Rattle.disk_model.specs.Told.{Told}
 use Rattle.due_set.specs.Table.{Table}
-use Rattle.paxos_letter.specs.Letters.{fault_of}
+use Rattle.paxos_letter.specs.Letters.{letter_fault_of}
 use Rattle.paxos_letter.specs.declared.fault.LetterFault.{LetterFault}
 use Rattle.step_spec.specs.State.{Identity}
 use Rattle.step_spec.proofs.Lists.{found_in}
@@ -57,15 +57,15 @@ no_letter answer none letter is =
 -- ---- a letter of a book breaks no rule
 
 letter_breaks_none : (table : Table) (rows : List Row) (book : BookState) (number : ℕ) (letter : LetterRow) → StandsBehind table rows book → slice_get book.letters number ≡ Some letter
-    → fault_of book.members letter.bytes ≡ None
+    → letter_fault_of book.members letter.bytes ≡ None
 letter_breaks_none table rows book number letter behind there =
     posted_breaks_none book.members table rows (posted_as letter) behind.legal
     (subst (λ (posted : List PostedLetter). Contains posted (posted_as letter)) behind.letters (in_map posted_as book.letters letter (found_in book.letters number letter there)))
 
-heard_breaks_none : (members : ℕ) (told : Input) (bytes : List ℕ) → fault_of members bytes ≡ None → IsLetterInput told bytes → fault_in members told ≡ None
+heard_breaks_none : (members : ℕ) (told : Input) (bytes : List ℕ) → letter_fault_of members bytes ≡ None → IsLetterInput told bytes → fault_in members told ≡ None
 heard_breaks_none members input.Campaign bytes none is = absurd is
 heard_breaks_none members (input.Tick now) bytes none is = absurd is
-heard_breaks_none members (input.Hear heard) bytes none is = subst (λ (b : List ℕ). fault_of members b ≡ None) (sym is) none
+heard_breaks_none members (input.Hear heard) bytes none is = subst (λ (b : List ℕ). letter_fault_of members b ≡ None) (sym is) none
 heard_breaks_none members (input.Answer job at kind) bytes none is = absurd is
 
 told_breaks_none : (table : Table) (rows : List Row) (book : BookState) (waits : Option SchedRow) (who : ℕ) (cause : Cause) (told : Input) → StandsBehind table rows book → IsToldOf book.letters waits who cause told

@@ -51,7 +51,7 @@ pub cant_fail : {T : Type 0} (answer : Result T NodeFault) (told : Option Told) 
 cant_fail {T} answer told stopped after = subst (λ (r : Result T NodeFault). IsUnfailingAfter r told) stopped after
 
 -- the calls that save the change of a step
-pub calls_same : (change : Option Delta) → calls_for (option_to_list change) ≡ saved.calls_of change
+pub calls_same : (change : Option Delta) → calls_for (option_to_list change) ≡ saved.calls_of_change change
 calls_same None = refl
 calls_same (Some change) = omega arith
 
@@ -76,7 +76,7 @@ module _ {D : Type 0} (seen : D → Image) (may_leave : D → Image → Type 0) 
   stands_beside rows book who node cause input told = subst (λ (replica : ReplicaState). StandsAt table rows book replica) (sym told.beside.ahead.took) told.beside.ahead.stands
 
   pub has_stopped : (rows : List Row) (book : BookState) (who members : ℕ) (node new : Node D) (cause : Cause) (input : Input) (arm : Arm) (answer : Option Delta) (change : Delta)
-      → WasToldOf seen may_leave honest told_of table rows book who [] node cause input → IsChangeOf table input (replica_of node) (Some change) → arm.left < saved.calls_of (Some change)
+      → WasToldOf seen may_leave honest told_of table rows book who [] node cause input → IsChangeOf table input (replica_of node) (Some change) → arm.left < saved.calls_of_change (Some change)
       → IsAnsweredByArm (area_of (store_of node)) (replica_of node).state.kept change arm answer
       → ((KeepsChange (area_of (store_of node)) change arm → ⊥) → answer ≡ None)
       → IsNodeAtRest seen may_leave honest table new → honest (disk_of new) → IsReliable (told_of (disk_of new)) → IsNodeClean told_of new

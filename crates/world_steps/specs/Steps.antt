@@ -126,5 +126,5 @@ heard_for (Hear number) = number ∷ []
 heard_for cause = []
 
 -- the letters that are heard for some causes
-abbrev pub heard_in : List Cause → List ℕ
-heard_in causes = flat_map heard_for causes
+abbrev pub letters_heard_in : List Cause → List ℕ
+letters_heard_in causes = flat_map heard_for causes

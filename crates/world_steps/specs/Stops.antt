@@ -7,7 +7,7 @@ use Rattle.disk_model.specs.Told.{Told}
 use Rattle.disk_model.specs.declared.armed.Arm.{Arm}
 use Rattle.due_set.specs.Table.{Table}
 use Rattle.paxos_base.specs.declared.durable.Delta.{Delta}
-use Rattle.save_calls.specs.Save.{calls_of, is_kept}
+use Rattle.save_calls.specs.Save.{calls_of_delta, is_kept}
 use Rattle.step_spec.specs.Folds.{deltas_of}
 use Rattle.step_spec.specs.State.{started}
 use Rattle.step_spec.specs.Step.{Event, step}
@@ -68,7 +68,7 @@ pub record HasStopped {D : Type 0} (seen : D → Image) (may_leave : D → Image
   pub old : ReplicaState
   pub change : Delta
   pub next : IsNextStop table rows book who cause old change
-  pub few : arm.left < calls_of change
+  pub few : arm.left < calls_of_delta change
   pub is_kept : answer ≡ change_kept (is_kept (bases_behind table rows book who) change arm.left arm.image) change
   pub attached : IsAttached seen may_leave honest told_of table book.members who (bases_with (option_to_list answer) (bases_behind table rows book who)) node
   pub keeps : (replica_of node).state.kept ≡ kept_after answer old.state.kept

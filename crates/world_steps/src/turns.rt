@@ -5,7 +5,7 @@ ghost use Rattle.history.specs.Book.{Row};
 ghost use Rattle.history.specs.Legal.{IsMade};
 ghost use Rattle.replica_core.specs.Replica.{ReplicaState};
 ghost use Rattle.script_semantics.specs.Situation.{latest_with};
-ghost use Rattle.world_law.specs.Book.{HasRoom, IsAlike, IsLegalBook, MayCall, StandsBehind, standing_behind};
+ghost use Rattle.world_law.specs.Book.{HasRoom, IsSameBook, IsLegalBook, MayTickFor, StandsBehind, standing_behind};
 ghost use Rattle.world_law.specs.Replicas.{change_alone};
 ghost use Rattle.world_steps.specs.Turns.{HasJoinedAt, IsNextStep, MayJoin};
 
@@ -33,7 +33,7 @@ pub fn call_for(
     fate: Fate,
 ) -> Result<Option<CallRow>, OutOfMemory>
     requires rest { book.old.pending ≡ None }
-    requires asks { IfSome call (λ row. MayCall table.now book.old row) }
+    requires asks { IfSome call (λ row. MayTickFor table.now book.old row) }
     ensures pending { IfOk result (λ made. book.new.pending ≡ made) }
     ensures fate { IfOk result (λ made. IfSome made (λ call. call.fate ≡ fate)) }
     ensures made { IfOk result (λ made. (rows : List Row) → StandsBehind table.now rows book.old
@@ -42,7 +42,7 @@ pub fn call_for(
     ensures room { (letters : ℕ) → HasRoom letters book.old → HasRoom letters book.new }
     ensures members { OnOk result (book.new.members ≡ book.old.members) }
     ensures letters { OnOk result (book.new.letters ≡ book.old.letters) }
-    ensures err { OnErr result (IsAlike book.new book.old) }
+    ensures err { OnErr result (IsSameBook book.new book.old) }
 {
     match call {
         None => Ok(None),

@@ -22,12 +22,12 @@ use Rattle.history.specs.declared.turn.Turn.TheVariants.{Did, Stopped, Restarted
 use Rattle.history.proofs.Acts.{with_here}
 use Rattle.replica_core.specs.Replica.{ReplicaState}
 use Rattle.replica_core.specs.declared.out.StepOut.{StepOut}
-use Rattle.world_law.specs.Book.{BookState, Commits, HasRoom, IsAlike, IsNext, IsRowOf, MayCall, StandsBehind, standing_behind}
+use Rattle.world_law.specs.Book.{BookState, Commits, HasRoom, IsSameBook, IsNext, IsRowOf, MayTickFor, StandsBehind, standing_behind}
 use Rattle.world_law.specs.Replicas.{IsInputOf, IsTurnOf, StandsAt}
 use Rattle.world_law.proofs.Called.{alike_stands, late_at_rest}
 use Rattle.world_law.proofs.Steps.{step_is_turn, step_may_call}
 use Rattle.world_tests.specs.Scene.{HasArrived}
-use Rattle.world_tests.specs.Seat.{GoesOn, HasTaken, IsAtRest, IsDown, IsIn, IsLeft, IsNothing, IsRunning, IsSeated, IsStarted, SeatState}
+use Rattle.world_tests.specs.Seat.{GoesOnByTurn, HasTakenStep, IsBookAtRest, IsDown, IsInBook, IsWhereLeft, IsNothing, RunsThere, IsSeated, IsStarted, SeatState}
 use Rattle.world_tests.proofs.Kept.{kept_after}
 use Rattle.world_tests.proofs.Left.{next_stands}
 
@@ -41,8 +41,8 @@ pub record Joins (table : Table) (book during after : BookState) (turn : Turn) (
 
 -- the book is at rest with the row of the turn
 rests_next : (table : Table) (book during after : BookState) (turn : Turn) (out : StepOut) (rows : List Row) (row : Row) → Joins table book during after turn out
-    → IsAtRest table rows book → IsRowOf turn out row → MayFollow book.members table (standing_behind table rows book) row.turn row
-    → IsAtRest table (rows ++ row ∷ []) after
+    → IsBookAtRest table rows book → IsRowOf turn out row → MayFollow book.members table (standing_behind table rows book) row.turn row
+    → IsBookAtRest table (rows ++ row ∷ []) after
 rests_next table book during after turn out rows row joins rests is may = record {
   behind = joins.added rows row (joins.stands rows rests.behind) is (rw joins.members may);
   few = rw (joins.commits.members ∙ joins.members) rests.few;
@@ -57,12 +57,12 @@ next_of table book during turn out rows row members behind is may = record { row
 
 -- a replica that runs is as the rows leave it
 running_left : (table : Table) (rows : List Row) (book : BookState) (who : ℕ) (durable : Durable) (running : Option ReplicaState) (replica : ReplicaState)
-    → running ≡ Some replica → IsLeft table rows book who durable running → IsRunning table rows book who replica
-running_left table rows book who durable running replica is left = subst (IsLeft table rows book who durable) is left
+    → running ≡ Some replica → IsWhereLeft table rows book who durable running → RunsThere table rows book who replica
+running_left table rows book who durable running replica is left = subst (IsWhereLeft table rows book who durable) is left
 
 -- the turn of a step
 turn_of_step : (table : Table) (rows : List Row) (book : BookState) (who : ℕ) (cause : Cause) (made : Option CallRow) (old new : SeatState) (out : StepOut)
-    → IsAtRest table rows book → IsSeated table rows book who old → (taken : HasTaken table book who cause old new out)
+    → IsBookAtRest table rows book → IsSeated table rows book who old → (taken : HasTakenStep table book who cause old new out)
     → IsMade (standing_behind table rows book).held (option_to_list out.call) made → IsTurnOf table rows book who cause made out taken.steps.after
 turn_of_step table rows book who cause made old new out rests seated taken call =
     let left = running_left table rows book who old.durable old.running taken.steps.before taken.steps.was seated.left in
@@ -73,7 +73,7 @@ turn_of_step table rows book who cause made old new out rests seated taken call 
 
 -- it may come next
 pub step_may_come : (table : Table) (book during : BookState) (who : ℕ) (cause : Cause) (made : Option CallRow) (old new : SeatState) (out : StepOut)
-    → (given : IsIn table book who old) → HasTaken table book who cause old new out → during.members ≡ book.members
+    → (given : IsInBook table book who old) → HasTakenStep table book who cause old new out → during.members ≡ book.members
     → ((rows : List Row) → StandsBehind table rows book → StandsBehind table rows during)
     → ((rows : List Row) → StandsBehind table rows book → IsMade (standing_behind table rows book).held (option_to_list out.call) made)
     → IsNext table during (Did who cause made) out
@@ -89,7 +89,7 @@ answer_waits n s turn who cause made event letters is = rw (is, eq-eqb who who r
 
 -- what is kept after a step is on the disk
 kept_stored : (table : Table) (rows : List Row) (book : BookState) (who : ℕ) (cause : Cause) (old new : SeatState) (out : StepOut) → IsSeated table rows book who old
-    → (taken : HasTaken table book who cause old new out) → taken.steps.after.state.kept ≡ new.durable
+    → (taken : HasTakenStep table book who cause old new out) → taken.steps.after.state.kept ≡ new.durable
 kept_stored table rows book who cause old new out seated taken =
     let left = running_left table rows book who old.durable old.running taken.steps.before taken.steps.was seated.left in
     let acts : List Act = step taken.steps.before.identity taken.steps.steps.event taken.steps.before.state in
@@ -101,10 +101,10 @@ kept_stored table rows book who cause old new out seated taken =
 
 -- and the book goes on by it
 pub step_goes_on : (table : Table) (book during after : BookState) (who : ℕ) (cause : Cause) (made : Option CallRow) (old new : SeatState) (out : StepOut)
-    → HasTaken table book who cause old new out → Joins table book during after (Did who cause made) out
+    → HasTakenStep table book who cause old new out → Joins table book during after (Did who cause made) out
     → ((rows : List Row) → StandsBehind table rows book → IsMade (standing_behind table rows book).held (option_to_list out.call) made)
-    → (rows : List Row) → IsAtRest table rows book → IsSeated table rows book who old
-    → GoesOn table rows book after who (record { members = new.members; running = new.running; durable = new.durable; waits = answer_to made })
+    → (rows : List Row) → IsBookAtRest table rows book → IsSeated table rows book who old
+    → GoesOnByTurn table rows book after who (record { members = new.members; running = new.running; durable = new.durable; waits = answer_to made })
 step_goes_on table book during after who cause made old new out taken joins call rows rests seated =
     let turn = turn_of_step table rows book who cause made old new out rests seated taken (call rows rests.behind) in
     let left = running_left table rows book who old.durable old.running taken.steps.before taken.steps.was seated.left in
@@ -126,14 +126,14 @@ step_goes_on table book during after who cause made old new out taken joins call
             ap (λ (s : Standing). s.waits who) (next_stands table rows turn.row book after same)
             ∙ answer_waits book.members (standing_behind table rows book) turn.row.turn who cause made turn.row.event turn.row.letters turn.is.turn_is;
         left =
-            subst (IsLeft table (rows ++ turn.row ∷ []) after who new.durable) (sym taken.steps.is) (record { me = me; stands = at });
+            subst (IsWhereLeft table (rows ++ turn.row ∷ []) after who new.durable) (sym taken.steps.is) (record { me = me; stands = at });
       };
     }
 
 -- the call of a tick may be made, once there is room for its turn
 pub step_may_ask : (table : Table) (book during : BookState) (who : ℕ) (cause : Cause) (now : Minute) (old new : SeatState) (out : StepOut) (row : SchedRow)
-    → (given : IsIn table book who old) → HasTaken table book who cause old new out → IsAlike during book → HasRoom (length out.letters) during
-    → out.call ≡ Some row → cause ≡ Tick now → MayCall table during row
+    → (given : IsInBook table book who old) → HasTakenStep table book who cause old new out → IsSameBook during book → HasRoom (length out.letters) during
+    → out.call ≡ Some row → cause ≡ Tick now → MayTickFor table during row
 step_may_ask table book during who cause now old new out row given taken alike room call is =
     let left = running_left table given.rows book who old.durable old.running taken.steps.before taken.steps.was given.seated.left in
     step_may_call table given.rows during now taken.input taken.steps.before taken.steps.after out row
@@ -149,7 +149,7 @@ step_may_ask table book during who cause now old new out row given taken alike r
     (taken.told (standing_behind table given.rows book) given.seated.waits)) taken.inside taken.steps.steps call room
 
 -- a call that was made once there was room for the turn
-pub made_before : (table : Table) (book during : BookState) (calls : List SchedRow) (made : Option CallRow) → IsAlike during book
+pub made_before : (table : Table) (book during : BookState) (calls : List SchedRow) (made : Option CallRow) → IsSameBook during book
     → ((rows : List Row) → StandsBehind table rows during → IsMade (standing_behind table rows during).held calls made)
     → (rows : List Row) → StandsBehind table rows book → IsMade (standing_behind table rows book).held calls made
 made_before table book during calls made alike call rows behind =
@@ -167,12 +167,12 @@ still_is turn out nothing = record { turn_is = refl; letters = sym nothing.lette
 still_brings : (turn : Turn) → BringsNothing (still_row turn)
 still_brings turn = record { letters = refl; votes = refl; learnt = refl }
 
-still_next : (table : Table) (book during : BookState) (turn : Turn) (out : StepOut) (rows : List Row) → IsAtRest table rows book → IsAlike during book → IsNothing out
+still_next : (table : Table) (book during : BookState) (turn : Turn) (out : StepOut) (rows : List Row) → IsBookAtRest table rows book → IsSameBook during book → IsNothing out
     → MayFollow book.members table (standing_behind table rows book) turn (still_row turn) → IsNext table during turn out
 still_next table book during turn out rows rests alike nothing may =
     next_of table book during turn out rows (still_row turn) alike.members (alike_stands table rows book during alike rests.behind) (still_is turn out nothing) may
 
-still_joins : (table : Table) (book during after : BookState) (turn : Turn) (out : StepOut) → IsAlike during book → Commits turn out.letters during after
+still_joins : (table : Table) (book during after : BookState) (turn : Turn) (out : StepOut) → IsSameBook during book → Commits turn out.letters during after
     → ((rows : List Row) (row : Row) → StandsBehind table rows during → IsRowOf turn out row
     → MayFollow during.members table (standing_behind table rows during) row.turn row → StandsBehind table (rows ++ row ∷ []) after)
     → Joins table book during after turn out
@@ -198,8 +198,8 @@ stop_may table rows book who seat replica seated is =
     let left = running_left table rows book who seat.durable seat.running replica is seated.left in
     (seated.member, sym (ap (standing_behind table rows book).runs left.me) ∙ left.stands.runs, refl, still_brings (Stopped who None false))
 
-pub stop_may_come : (table : Table) (book during : BookState) (who : ℕ) (seat : SeatState) (out : StepOut) → IsIn table book who seat
-    → IsSome seat.running → IsAlike during book → IsNothing out → IsNext table during (Stopped who None false) out
+pub stop_may_come : (table : Table) (book during : BookState) (who : ℕ) (seat : SeatState) (out : StepOut) → IsInBook table book who seat
+    → IsSome seat.running → IsSameBook during book → IsNothing out → IsNext table during (Stopped who None false) out
 stop_may_come table book during who seat out given is alike nothing =
     let found = some_of seat.running is in
     still_next table book during (Stopped who None false) out given.rows given.rests alike nothing (stop_may table given.rows book who seat found.0 given.seated found.1)
@@ -218,11 +218,11 @@ stopped_there n s who event letters = record {
 }
 
 pub stop_goes_on : (table : Table) (book during after : BookState) (who : ℕ) (seat : SeatState) (out : StepOut) → IsSome seat.running
-    → IsAlike during book → IsNothing out → Commits (Stopped who None false) out.letters during after
+    → IsSameBook during book → IsNothing out → Commits (Stopped who None false) out.letters during after
     → ((rows : List Row) (row : Row) → StandsBehind table rows during → IsRowOf (Stopped who None false) out row
     → MayFollow during.members table (standing_behind table rows during) row.turn row → StandsBehind table (rows ++ row ∷ []) after)
-    → (rows : List Row) → IsAtRest table rows book → IsSeated table rows book who seat
-    → GoesOn table rows book after who (record { members = seat.members; running = None; durable = seat.durable; waits = None })
+    → (rows : List Row) → IsBookAtRest table rows book → IsSeated table rows book who seat
+    → GoesOnByTurn table rows book after who (record { members = seat.members; running = None; durable = seat.durable; waits = None })
 stop_goes_on table book during after who seat out is alike nothing commits added rows rests seated =
     let found = some_of seat.running is in
     let turn : Turn = Stopped who None false in
@@ -249,16 +249,16 @@ stop_goes_on table book during after who seat out is alike nothing commits added
 
 -- a start after a stop
 down_left : (table : Table) (rows : List Row) (book : BookState) (who : ℕ) (durable : Durable) (running : Option ReplicaState)
-    → running ≡ None → IsLeft table rows book who durable running → IsDown (standing_behind table rows book) who durable
-down_left table rows book who durable running is left = subst (IsLeft table rows book who durable) is left
+    → running ≡ None → IsWhereLeft table rows book who durable running → IsDown (standing_behind table rows book) who durable
+down_left table rows book who durable running is left = subst (IsWhereLeft table rows book who durable) is left
 
 restart_may : (table : Table) (rows : List Row) (book : BookState) (who : ℕ) (seat : SeatState) → IsSeated table rows book who seat → seat.running ≡ None
     → MayFollow book.members table (standing_behind table rows book) (Restarted who) (still_row (Restarted who))
 restart_may table rows book who seat seated is =
     (seated.member, (down_left table rows book who seat.durable seat.running is seated.left).runs, still_brings (Restarted who))
 
-pub restart_may_come : (table : Table) (book during : BookState) (who : ℕ) (seat : SeatState) (out : StepOut) → IsIn table book who seat → IsNone seat.running
-    → IsAlike during book → IsNothing out → IsNext table during (Restarted who) out
+pub restart_may_come : (table : Table) (book during : BookState) (who : ℕ) (seat : SeatState) (out : StepOut) → IsInBook table book who seat → IsNone seat.running
+    → IsSameBook during book → IsNothing out → IsNext table during (Restarted who) out
 restart_may_come table book during who seat out given is alike nothing =
     still_next table book during (Restarted who) out given.rows given.rests alike nothing
     (restart_may table given.rows book who seat given.seated (none_of seat.running is))
@@ -273,11 +273,11 @@ unfolding after_row
 restarted_there n s who event letters = record { runs = rw (eq-eqb who who refl) refl; waits = refl; state = refl }
 
 pub restart_goes_on : (table : Table) (book during after : BookState) (who : ℕ) (seat : SeatState) (replica : ReplicaState) (out : StepOut) → IsNone seat.running
-    → IsStarted table who seat.members seat.durable replica → IsAlike during book → IsNothing out → Commits (Restarted who) out.letters during after
+    → IsStarted table who seat.members seat.durable replica → IsSameBook during book → IsNothing out → Commits (Restarted who) out.letters during after
     → ((rows : List Row) (row : Row) → StandsBehind table rows during → IsRowOf (Restarted who) out row
     → MayFollow during.members table (standing_behind table rows during) row.turn row → StandsBehind table (rows ++ row ∷ []) after)
-    → (rows : List Row) → IsAtRest table rows book → IsSeated table rows book who seat
-    → GoesOn table rows book after who (record { members = seat.members; running = Some replica; durable = seat.durable; waits = seat.waits })
+    → (rows : List Row) → IsBookAtRest table rows book → IsSeated table rows book who seat
+    → GoesOnByTurn table rows book after who (record { members = seat.members; running = Some replica; durable = seat.durable; waits = seat.waits })
 restart_goes_on table book during after who seat replica out is begun alike nothing commits added rows rests seated =
     let turn : Turn = Restarted who in
     let same : after.members ≡ book.members = commits.members ∙ alike.members in
@@ -319,7 +319,7 @@ pub record IsAwaited (book : BookState) (late : ℕ) : Type 0 where
   pub there : IsSome (late_call late book.ledger.late)
   pub first : Contains book.arrived late → ⊥
 
-arrival_may : (table : Table) (rows : List Row) (book : BookState) (late : ℕ) → IsAtRest table rows book → IsAwaited book late
+arrival_may : (table : Table) (rows : List Row) (book : BookState) (late : ℕ) → IsBookAtRest table rows book → IsAwaited book late
     → MayFollow book.members table (standing_behind table rows book) (Arrived late) (still_row (Arrived late))
 arrival_may table rows book late rests awaited =
     let found = some_of (late_call late book.ledger.late) awaited.there in (
@@ -331,16 +331,16 @@ arrival_may table rows book late rests awaited =
       still_brings (Arrived late),
     )
 
-pub arrival_may_come : (table : Table) (rows : List Row) (book during : BookState) (late : ℕ) (out : StepOut) → IsAtRest table rows book → IsAwaited book late
-    → IsAlike during book → IsNothing out → IsNext table during (Arrived late) out
+pub arrival_may_come : (table : Table) (rows : List Row) (book during : BookState) (late : ℕ) (out : StepOut) → IsBookAtRest table rows book → IsAwaited book late
+    → IsSameBook during book → IsNothing out → IsNext table during (Arrived late) out
 arrival_may_come table rows book during late out rests awaited alike nothing =
     still_next table book during (Arrived late) out rows rests alike nothing (arrival_may table rows book late rests awaited)
 
-pub arrival_goes_on : (table : Table) (book during after : BookState) (late : ℕ) (out : StepOut) → IsAwaited book late → IsAlike during book → IsNothing out
+pub arrival_goes_on : (table : Table) (book during after : BookState) (late : ℕ) (out : StepOut) → IsAwaited book late → IsSameBook during book → IsNothing out
     → Commits (Arrived late) out.letters during after
     → ((rows : List Row) (row : Row) → StandsBehind table rows during → IsRowOf (Arrived late) out row
     → MayFollow during.members table (standing_behind table rows during) row.turn row → StandsBehind table (rows ++ row ∷ []) after)
-    → (rows : List Row) → IsAtRest table rows book → HasArrived table rows book after late
+    → (rows : List Row) → IsBookAtRest table rows book → HasArrived table rows book after late
 arrival_goes_on table book during after late out awaited alike nothing commits added rows rests = record {
   row = still_row (Arrived late);
   turn = refl;

@@ -14,7 +14,7 @@ use Rattle.history.specs.declared.turn.Turn.TheVariants.{Did, Stopped, Restarted
 use Rattle.history.proofs.Keeping.{stands_next}
 use Rattle.replica_core.specs.Replica.{ReplicaState}
 use Rattle.world_law.specs.Book.{BookState, standing_behind}
-use Rattle.world_tests.specs.Seat.{IsLeft, IsSeated, SeatState}
+use Rattle.world_tests.specs.Seat.{IsWhereLeft, IsSeated, SeatState}
 use Rattle.history.proofs.FrontLemmas.{replica_there}
 use Rattle.history.proofs.Standings.{fact_there}
 
@@ -62,7 +62,7 @@ seated_on table rows later book after who seat members unmoved seated = record {
   left = go seat.durable seat.running seated.left;
 }
   where
-    go : (durable : Durable) (running : Option ReplicaState) → IsLeft table rows book who durable running → IsLeft table later after who durable running
+    go : (durable : Durable) (running : Option ReplicaState) → IsWhereLeft table rows book who durable running → IsWhereLeft table later after who durable running
     go durable (Some replica) left = record {
       me = left.me;
       stands = record {

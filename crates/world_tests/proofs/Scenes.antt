@@ -8,12 +8,12 @@ use Rattle.launch_machine.proofs.MachineLemmas.{push_before, push_last, same_or_
 use Rattle.step_spec.specs.State.{Identity, started}
 use Rattle.world_law.specs.Book.{BookState, StandsBehind}
 use Rattle.world_tests.specs.Scene.{AreNew, HasArrived, IsLegalScene}
-use Rattle.world_tests.specs.Seat.{GoesOn, IsLeft, IsNew, IsSeated, SeatState}
+use Rattle.world_tests.specs.Seat.{GoesOnByTurn, IsWhereLeft, IsNew, IsSeated, SeatState}
 use Rattle.world_tests.proofs.Left.{all_seated, others_seated}
 
 -- one of them takes a turn, and the others are as they were
 pub scene_goes_on : (table : Table) (book after : BookState) (seats new : List SeatState) (who : ℕ) (seat : SeatState) (scene : IsLegalScene table book seats)
-    → GoesOn table scene.rows book after who seat → ((found : SeatState) → slice_get new who ≡ Some found → found ≡ seat)
+    → GoesOnByTurn table scene.rows book after who seat → ((found : SeatState) → slice_get new who ≡ Some found → found ≡ seat)
     → ((other : ℕ) → other ≢ who → slice_get new other ≡ slice_get seats other) → IsLegalScene table after new
 scene_goes_on table book after seats new who seat scene goes here there = record {
   rows = scene.rows ++ goes.row ∷ [];
@@ -69,7 +69,7 @@ new_seated table book who members seat same new =
       kept = sym new.durable;
       waits = sym new.waits;
       left =
-          subst (IsLeft table [] book who seat.durable) (sym new.running) (record {
+          subst (IsWhereLeft table [] book who seat.durable) (sym new.running) (record {
             me = me;
             stands = record {
               identity = new.started.identity ∙ rw (me, same) refl;

@@ -4,7 +4,7 @@ use Rattle.due_set.specs.Table.{Table}
 use Rattle.history.specs.Book.{Row}
 use Rattle.history.specs.declared.turn.Turn.TheVariants.{Arrived}
 use Rattle.world_law.specs.Book.{BookState}
-use Rattle.world_tests.specs.Seat.{IsAtRest, IsNew, IsSeated, SeatState}
+use Rattle.world_tests.specs.Seat.{IsBookAtRest, IsNew, IsSeated, SeatState}
 
 -- each of them has started for the first time
 abbrev pub AreNew : Table → (members : ℕ) → List SeatState → Type 0
@@ -17,12 +17,12 @@ AreSeated table rows book seats = (who : ℕ) (seat : SeatState) → slice_get s
 -- the book is legal, and each of them is as its rows leave it
 pub record IsLegalScene (table : Table) (book : BookState) (seats : List SeatState) : Type 0 where
   pub rows : List Row
-  pub rests : IsAtRest table rows book
+  pub rests : IsBookAtRest table rows book
   pub seated : AreSeated table rows book seats
 
 -- one row more stands behind the book, that of an arrival
 pub record HasArrived (table : Table) (rows : List Row) (old new : BookState) (late : ℕ) : Type 0 where
   pub row : Row
   pub turn : row.turn ≡ Arrived late
-  pub rests : IsAtRest table (rows ++ row ∷ []) new
+  pub rests : IsBookAtRest table (rows ++ row ∷ []) new
   pub members : new.members ≡ old.members

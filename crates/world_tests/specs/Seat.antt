@@ -52,7 +52,7 @@ pub record StepsSeat (table : Table) (input : Input) (old new : SeatState) (out 
   pub members : new.members ≡ old.members
 
 -- the replica runs where these rows leave it
-pub record IsRunning (table : Table) (rows : List Row) (book : BookState) (who : ℕ) (replica : ReplicaState) : Type 0 where
+pub record RunsThere (table : Table) (rows : List Row) (book : BookState) (who : ℕ) (replica : ReplicaState) : Type 0 where
   pub me : replica.identity.me ≡ who
   pub stands : StandsAt table rows book replica
 
@@ -62,9 +62,9 @@ pub record IsDown (standing : Standing) (who : ℕ) (durable : Durable) : Type 0
   pub state : standing.replicas who ≡ started who durable
 
 -- a replica that runs is where these rows leave it, and one that doesn't is stopped there
-abbrev pub IsLeft : Table → List Row → BookState → ℕ → Durable → Option ReplicaState → Type 0
-IsLeft table rows book who durable (Some replica) = IsRunning table rows book who replica
-IsLeft table rows book who durable None = IsDown (standing_behind table rows book) who durable
+abbrev pub IsWhereLeft : Table → List Row → BookState → ℕ → Durable → Option ReplicaState → Type 0
+IsWhereLeft table rows book who durable (Some replica) = RunsThere table rows book who replica
+IsWhereLeft table rows book who durable None = IsDown (standing_behind table rows book) who durable
 
 -- The replica is as these rows leave it, what it keeps is on its disk, and the answer that waits for it is the one that it has.
 pub record IsSeated (table : Table) (rows : List Row) (book : BookState) (who : ℕ) (seat : SeatState) : Type 0 where
@@ -72,32 +72,32 @@ pub record IsSeated (table : Table) (rows : List Row) (book : BookState) (who : 
   pub members : seat.members ≡ book.members
   pub kept : ((standing_behind table rows book).replicas who).kept ≡ seat.durable
   pub waits : (standing_behind table rows book).waits who ≡ seat.waits
-  pub left : IsLeft table rows book who seat.durable seat.running
+  pub left : IsWhereLeft table rows book who seat.durable seat.running
 
 -- these rows stand behind a book of at most seven replicas, in which no call is pending
-pub record IsAtRest (table : Table) (rows : List Row) (book : BookState) : Type 0 where
+pub record IsBookAtRest (table : Table) (rows : List Row) (book : BookState) : Type 0 where
   pub behind : StandsBehind table rows book
   pub few : book.members ≤ 7
   pub rest : book.pending ≡ None
 
 -- legal rows stand behind the book, and the replica is as they leave it
-pub record IsIn (table : Table) (book : BookState) (who : ℕ) (seat : SeatState) : Type 0 where
+pub record IsInBook (table : Table) (book : BookState) (who : ℕ) (seat : SeatState) : Type 0 where
   pub rows : List Row
-  pub rests : IsAtRest table rows book
+  pub rests : IsBookAtRest table rows book
   pub seated : IsSeated table rows book who seat
 
 -- the replica took a step at what the book has for the cause
-pub record HasTaken (table : Table) (book : BookState) (who : ℕ) (cause : Cause) (old new : SeatState) (out : StepOut) : Type 0 where
+pub record HasTakenStep (table : Table) (book : BookState) (who : ℕ) (cause : Cause) (old new : SeatState) (out : StepOut) : Type 0 where
   pub input : Input
   pub told : (standing : Standing) → standing.waits who ≡ old.waits → IsInputOf standing book who cause input
   pub inside : IsInputInside table input
   pub steps : StepsSeat table input old new out
 
 -- one row more stands behind the book, that of a turn of this replica, which is as the rows leave it from then on
-pub record GoesOn (table : Table) (rows : List Row) (old new : BookState) (who : ℕ) (seat : SeatState) : Type 0 where
+pub record GoesOnByTurn (table : Table) (rows : List Row) (old new : BookState) (who : ℕ) (seat : SeatState) : Type 0 where
   pub row : Row
   pub whose : turn_of row.turn ≡ who
-  pub rests : IsAtRest table (rows ++ row ∷ []) new
+  pub rests : IsBookAtRest table (rows ++ row ∷ []) new
   pub members : new.members ≡ old.members
   pub seated : IsSeated table (rows ++ row ∷ []) new who seat
 

@@ -6,10 +6,10 @@ ghost use Rattle.history.specs.declared.turn.Cause.TheVariants as told;
 ghost use Rattle.history.specs.Book.{Row, Standing, answer_to, late_call, turn_of};
 ghost use Rattle.history.specs.Legal.{IsMade};
 ghost use Rattle.replica_core.specs.Step.{IsInputInside};
-ghost use Rattle.world_law.specs.Book.{HasRoom, MayCall, StandsBehind, standing_behind};
+ghost use Rattle.world_law.specs.Book.{HasRoom, MayTickFor, StandsBehind, standing_behind};
 ghost use Rattle.world_law.specs.Replicas.{IsInputOf, IsToldLetter};
 ghost use Rattle.world_tests.specs.Scene.{HasArrived};
-ghost use Rattle.world_tests.specs.Seat.{GoesOn, HasTaken, IsAtRest, IsIn, IsNothing, IsSeated};
+ghost use Rattle.world_tests.specs.Seat.{GoesOnByTurn, HasTakenStep, IsBookAtRest, IsInBook, IsNothing, IsSeated};
 
 use crate::seat::{Seat, start, step_seat};
 use cluster_sched::{Fate, SchedRow};
@@ -71,8 +71,8 @@ fn take(
     who: u8,
     cause: Cause,
 ) -> Result<StepOut, Fail>
-    requires { IsIn table.now book.now who seat.old }
-    ensures { IfOk result (λ out. HasTaken table.now book.now who cause seat.old seat.new out) }
+    requires { IsInBook table.now book.now who seat.old }
+    ensures { IfOk result (λ out. HasTakenStep table.now book.now who cause seat.old seat.new out) }
 {
     let input = input_of(rt, table, book, who, seat.waits, cause)?;
     step_seat(rt, table, seat, input)
@@ -87,7 +87,7 @@ fn call_at(
     fate: Fate,
 ) -> Result<CallRow, Fail>
     requires rest { book.old.pending ≡ None }
-    requires asks { (now : Minute) → cause ≡ told.Tick now → MayCall table.now book.old row }
+    requires asks { (now : Minute) → cause ≡ told.Tick now → MayTickFor table.now book.old row }
     ensures pending { IfOk result (λ made. book.new.pending ≡ Some made) }
     ensures made { IfOk result (λ made. (rows : List Row) → StandsBehind table.now rows book.old
         → IsMade (standing_behind table.now rows book.old).held (row ∷ []) (Some made)) }
@@ -110,7 +110,7 @@ fn call_for(
     fate: Fate,
 ) -> Result<Option<CallRow>, Fail>
     requires rest { book.old.pending ≡ None }
-    requires asks { (row : SchedRow) (now : Minute) → call ≡ Some row → cause ≡ told.Tick now → MayCall table.now book.old row }
+    requires asks { (row : SchedRow) (now : Minute) → call ≡ Some row → cause ≡ told.Tick now → MayTickFor table.now book.old row }
     ensures pending { IfOk result (λ made. book.new.pending ≡ made) }
     ensures made { IfOk result (λ made. (rows : List Row) → StandsBehind table.now rows book.old
         → IsMade (standing_behind table.now rows book.old).held (option_to_list call) made) }
@@ -141,9 +141,9 @@ fn step(
     cause: Cause,
     fate: Fate,
 ) -> Result<(), Fail>
-    requires { IsIn table.now book.old who seat.old }
-    ensures { OnOk result ((rows : List Row) → IsAtRest table.now rows book.old → IsSeated table.now rows book.old who seat.old
-        → GoesOn table.now rows book.old book.new who seat.new) }
+    requires { IsInBook table.now book.old who seat.old }
+    ensures { OnOk result ((rows : List Row) → IsBookAtRest table.now rows book.old → IsSeated table.now rows book.old who seat.old
+        → GoesOnByTurn table.now rows book.old book.new who seat.new) }
 {
     let out = take(rt, table, book, seat, who, cause)?;
     book.reserve(&out)?;
@@ -178,9 +178,9 @@ fn stop(
     seat: &mut Seat,
     who: u8,
 ) -> Result<(), Fail>
-    requires { IsIn table.now book.old who seat.old }
-    ensures { OnOk result ((rows : List Row) → IsAtRest table.now rows book.old → IsSeated table.now rows book.old who seat.old
-        → GoesOn table.now rows book.old book.new who seat.new) }
+    requires { IsInBook table.now book.old who seat.old }
+    ensures { OnOk result ((rows : List Row) → IsBookAtRest table.now rows book.old → IsSeated table.now rows book.old who seat.old
+        → GoesOnByTurn table.now rows book.old book.new who seat.new) }
 {
     assert!(rt; seat.running.is_some());
     seat.running = None;
@@ -206,9 +206,9 @@ fn restart(
     seat: &mut Seat,
     who: u8,
 ) -> Result<(), Fail>
-    requires { IsIn table.now book.old who seat.old }
-    ensures { OnOk result ((rows : List Row) → IsAtRest table.now rows book.old → IsSeated table.now rows book.old who seat.old
-        → GoesOn table.now rows book.old book.new who seat.new) }
+    requires { IsInBook table.now book.old who seat.old }
+    ensures { OnOk result ((rows : List Row) → IsBookAtRest table.now rows book.old → IsSeated table.now rows book.old who seat.old
+        → GoesOnByTurn table.now rows book.old book.new who seat.new) }
 {
     assert!(rt; seat.running.is_none());
     seat.running = Some(start(rt, table, who, seat.members, &seat.durable)?);
@@ -233,8 +233,8 @@ pub fn arrive(
     book: &mut Book,
     late: u32,
 ) -> Result<(), Fail>
-    requires { (rows : List Row) × IsAtRest table.now rows book.old }
-    ensures { OnOk result ((rows : List Row) → IsAtRest table.now rows book.old → HasArrived table.now rows book.old book.new late) }
+    requires { (rows : List Row) × IsBookAtRest table.now rows book.old }
+    ensures { OnOk result ((rows : List Row) → IsBookAtRest table.now rows book.old → HasArrived table.now rows book.old book.new late) }
 {
     assert!(rt; late_call(book, late).is_some());
     assert!(rt; !book.arrived().contains(&late));
@@ -259,9 +259,9 @@ pub fn take_turn(
     seat: &mut Seat,
     turn: Turn,
 ) -> Result<(), Fail>
-    requires { IsIn table.now book.old (turn_of turn) seat.old }
-    ensures { OnOk result ((rows : List Row) → IsAtRest table.now rows book.old → IsSeated table.now rows book.old (turn_of turn) seat.old
-        → GoesOn table.now rows book.old book.new (turn_of turn) seat.new) }
+    requires { IsInBook table.now book.old (turn_of turn) seat.old }
+    ensures { OnOk result ((rows : List Row) → IsBookAtRest table.now rows book.old → IsSeated table.now rows book.old (turn_of turn) seat.old
+        → GoesOnByTurn table.now rows book.old book.new (turn_of turn) seat.new) }
 {
     match turn {
         Turn::Did { who, cause, call } => step(rt, table, book, seat, who, cause, fate_of(call)),

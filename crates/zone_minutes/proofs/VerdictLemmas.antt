@@ -14,7 +14,7 @@ use Rattle.jiff_tz.specs.declared.info.OffsetInfo.{OffsetInfo}
 use Rattle.jiff_tz.specs.declared.posix.Dst.{Dst}
 use Rattle.jiff_tz.specs.declared.posix.TimeZone.{TimeZone as PosixZone}
 use Rattle.jiff_tz.specs.declared.tzif.Tzif.{Tzif as Table}
-use Rattle.zone_minutes.specs.Zone.{Source, FixedOffset, PosixRule, TzifFile, IsReadable, IsRefused, IsTable, IsTableZone}
+use Rattle.zone_minutes.specs.Zone.{Source, FixedOffset, PosixRule, TzifFile, IsReadable, IsSourceRefused, IsTable, IsTableZone}
 use Rattle.zone_minutes.proofs.SameZone.{utc_window-same}
 
 -- the same offset, flag and abbreviation
@@ -69,7 +69,7 @@ footer_stands rows (Some kept) rule is agrees =
     let says : tz_view kept ≡ tz_view rule = cc in
     FooterAgrees-same rows kept rule says agrees
 
-table_not_refused : (bytes : List ℕ) (table : Table) → IsTable bytes table → IsRefused (TzifFile bytes) → ⊥
+table_not_refused : (bytes : List ℕ) (table : Table) → IsTable bytes table → IsSourceRefused (TzifFile bytes) → ⊥
 table_not_refused bytes table is (inl (fault, refused)) =
     let read = is.read in
     absurd cc
@@ -82,14 +82,14 @@ table_not_refused bytes table is (inr bad) =
     (rw (← ap (λ (x : TzifText). x.transitions) same)
     (footer_stands (map transition_text table.transitions.items) table.posix_tz bad.rule rule is.agrees))
 
-rule_not_refused : (text : List ℕ) (zone : TimeZone) → IsPosixZone text zone → IsRefused (PosixRule text) → ⊥
+rule_not_refused : (text : List ℕ) (zone : TimeZone) → IsPosixZone text zone → IsSourceRefused (PosixRule text) → ⊥
 rule_not_refused text (Posix rule) is refused = absurd cc
 rule_not_refused text UTC is refused = absurd is
 rule_not_refused text Unknown is refused = absurd is
 rule_not_refused text (Fixed o) is refused = absurd is
 rule_not_refused text (Tzif t) is refused = absurd is
 
-file_not_refused : (bytes : List ℕ) (zone : TimeZone) → IsTableZone bytes zone → IsRefused (TzifFile bytes) → ⊥
+file_not_refused : (bytes : List ℕ) (zone : TimeZone) → IsTableZone bytes zone → IsSourceRefused (TzifFile bytes) → ⊥
 file_not_refused bytes (Tzif table) is refused = table_not_refused bytes table.now is refused
 file_not_refused bytes UTC is refused = absurd is
 file_not_refused bytes Unknown is refused = absurd is
@@ -97,7 +97,7 @@ file_not_refused bytes (Fixed o) is refused = absurd is
 file_not_refused bytes (Posix p) is refused = absurd is
 
 -- no source is both read and refused
-pub not_refused : (source : Source) → IsReadable source → IsRefused source → ⊥
+pub not_refused : (source : Source) → IsReadable source → IsSourceRefused source → ⊥
 not_refused (FixedOffset minutes) read refused = absurd refused
 not_refused (PosixRule text) (zone, is) refused = rule_not_refused text zone is refused
 not_refused (TzifFile bytes) (zone, is) refused = file_not_refused bytes zone is refused

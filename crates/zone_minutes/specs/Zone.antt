@@ -87,10 +87,10 @@ abbrev pub IsReadable : Source → Type 0
 IsReadable source = (zone : TimeZone) × IsReadAs source zone
 
 -- `jiff` refuses the source, and not for want of memory
-abbrev pub IsRefused : Source → Type 0
-IsRefused (FixedOffset minutes) = ⊥
-IsRefused (PosixRule text) = IsNone (read_whole text)
-IsRefused (TzifFile bytes) = ((fault : TzifFault) × (read_tzif bytes ≡ Err fault)) ⊎ HasBadRule (read_tzif bytes)
+abbrev pub IsSourceRefused : Source → Type 0
+IsSourceRefused (FixedOffset minutes) = ⊥
+IsSourceRefused (PosixRule text) = IsNone (read_whole text)
+IsSourceRefused (TzifFile bytes) = ((fault : TzifFault) × (read_tzif bytes ≡ Err fault)) ⊎ HasBadRule (read_tzif bytes)
 
 -- `jiff` doesn't get through the source as it reads it, before it wants memory
 abbrev pub IsUnread : Source → Type 0

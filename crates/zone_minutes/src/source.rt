@@ -2,7 +2,7 @@
 ghost use Rattle.std.specs.Prelude.{◌≡◌, ◌↔◌, IsTrue, IsNone, IsErrOf, IfOk, Some};
 ghost use Rattle.jiff.specs.Placed.{IsPosixZone};
 ghost use Rattle.jiff.specs.Words.{plain_zone, read_whole};
-ghost use Rattle.zone_minutes.specs.Zone.{PosixRule, TzifFile, source_of, kept_source, fault_text, IsOffsetInRange, IsRefused, IsTable, IsUnread};
+ghost use Rattle.zone_minutes.specs.Zone.{PosixRule, TzifFile, source_of, kept_source, fault_text, IsOffsetInRange, IsSourceRefused, IsTable, IsUnread};
 
 use jiff::Error as JiffError;
 use jiff::tz::{TimeZone, Tzif};
@@ -116,7 +116,7 @@ pub(crate) fn read_rule(text: &str) -> Result<TimeZone<'static>, ZoneFault>
 /// The table of a file.
 pub(crate) fn read_table(alloc: Global, bytes: &[u8]) -> Result<Tzif, ZoneFault>
     ensures table { IfOk result (IsTable bytes.now) }
-    ensures refused { IsErrOf result ZoneFault.BadZone → IsRefused (TzifFile bytes.now) }
+    ensures refused { IsErrOf result ZoneFault.BadZone → IsSourceRefused (TzifFile bytes.now) }
     ensures unread { IsUnread (TzifFile bytes.now) → IsErrOf result ZoneFault.BadZone }
 {
     match Tzif::parse(alloc, None, bytes) {

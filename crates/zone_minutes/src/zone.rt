@@ -3,7 +3,7 @@ ghost use Rattle.jiff.specs.Types.{TimeZone, UTC};
 ghost use Rattle.zone_minutes.specs.Civil.{IsCalendarMinute};
 ghost use Rattle.zone_minutes.specs.Run.{AreRunsOver, IsRunAt, first_known};
 ghost use Rattle.zone_minutes.specs.Window.{IsWithinLimits};
-ghost use Rattle.zone_minutes.specs.Zone.{Source, FixedOffset, source_of, local_of, IsLocal, IsReadable, IsReadAs, IsOffsetInRange, IsRefused, IsUnread};
+ghost use Rattle.zone_minutes.specs.Zone.{Source, FixedOffset, source_of, local_of, IsLocal, IsReadable, IsReadAs, IsOffsetInRange, IsSourceRefused, IsUnread};
 
 use crate::listing::{list_runs, make_run};
 use crate::minute::{Minute, Window};
@@ -54,7 +54,7 @@ impl ZoneRuns {
         ensures read { OnOk result (IsReadable (source_of zone.now)) }
         ensures built { IfOk result (λ runs. runs
             ≡ record { source = source_of zone.now; from = window.from.0; until = window.until.0 }) }
-        ensures refused { IsErrOf result ZoneFault.BadZone → IsRefused (source_of zone.now) }
+        ensures refused { IsErrOf result ZoneFault.BadZone → IsSourceRefused (source_of zone.now) }
         ensures unread { IsUnread (source_of zone.now) → IsErrOf result ZoneFault.BadZone }
     {
         // It is read before memory is wanted.
@@ -100,7 +100,7 @@ fn runs_over(alloc: Global, zone: &ZoneSource<'_>, window: Window) -> Result<Vec
     requires window { IsWithinLimits window }
     requires offset { IsOffsetInRange zone.now }
     ensures built { IfOk result (λ runs. AreRunsOver (source_of zone.now) window runs.items) }
-    ensures refused { IsErrOf result ZoneFault.BadZone → IsRefused (source_of zone.now) }
+    ensures refused { IsErrOf result ZoneFault.BadZone → IsSourceRefused (source_of zone.now) }
     ensures unread { IsUnread (source_of zone.now) → IsErrOf result ZoneFault.BadZone }
 {
     let from = first_known(window);
@@ -152,5 +152,5 @@ pub fn utc_is_its_own_local_time()
 
 /// No source is one that `jiff` reads and also one that it refuses.
 pub fn no_source_is_read_and_refused()
-    ensures { (source : Source) → IsReadable source → IsRefused source → ⊥ }
+    ensures { (source : Source) → IsReadable source → IsSourceRefused source → ⊥ }
 {}

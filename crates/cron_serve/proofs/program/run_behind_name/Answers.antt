@@ -1,6 +1,6 @@
 use Rattle.std.proofs.Common.{◌≡◌, ◌↔◌, refl, subst, sym}
 use Rattle.cron_serve.specs.Serve.{IsNoted, note_text}
-use Rattle.cron_serve.specs.Words.{Asks, AsksNothing}
+use Rattle.cron_serve.specs.Words.{Asks, HasNoOptions}
 use Rattle.cron_serve.proofs.WordLemmas.{behind_first}
 use Rattle.cron_serve.proofs.program.run_behind_name.Goals as goal
 
@@ -14,7 +14,7 @@ returns-clause-ends g c = λ asked asks. record {
 
 pub returns-clause-words : goal.returns-clause-words
 returns-clause-words g c =
-    subst (λ words. (c.cron_cluster.result.status ≡ 1) ↔ AsksNothing words) (behind_first c.args.args c.next-name.new.self c.next-name.result c.next-name.ensures.cases)
+    subst (λ words. (c.cron_cluster.result.status ≡ 1) ↔ HasNoOptions words) (behind_first c.args.args c.next-name.new.self c.next-name.result c.next-name.ensures.cases)
     c.cron_cluster.ensures.usage
 
 pub returns-clause-usage : goal.returns-clause-usage

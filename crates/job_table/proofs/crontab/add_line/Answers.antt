@@ -5,7 +5,7 @@ use Rattle.due_set.specs.declared.job.JobKind.TheVariants.{Crontab}
 use Rattle.run_text.specs.Run.{zone_of}
 use Rattle.job_table.specs.Collect.{RefusesMarks, AddsMarks, line_marks}
 use Rattle.job_table.specs.Jobs.{named_job, HasJob}
-use Rattle.job_table.specs.Marks.{job_name, kind_of}
+use Rattle.job_table.specs.Marks.{crontab_job_name, kind_of}
 use Rattle.job_table.specs.Table.{at_line}
 use Rattle.job_table.proofs.MarkLemmas.{adds_job, refuses_job}
 use Rattle.job_table.proofs.VariantLemmas.{both_lead, err_leads}
@@ -30,7 +30,7 @@ returns-in_ok-zone-in-Assign-clause-added c =
 pub returns-in-Entry-clause-added : goal.returns-in-Entry-clause-added
 returns-in-Entry-clause-added c =
     let zones = map zone_of c.args.zones.now in
-    let name = job_name c.args.label.now (c.args.above.entries + 1) in
+    let name = crontab_job_name c.args.label.now (c.args.above.entries + 1) in
     both_lead c.add_entry.result
     (λ added none.
     subst (λ b. AddsMarks zones c.args.jobs.now c.add_entry.new.jobs (line_marks zones c.args.label.now c.args.above.zone c.args.at (c.args.above.entries + 1) (body_of b))) (sym c.in-Entry.is)
@@ -41,7 +41,7 @@ returns-in-Entry-clause-added c =
 pub returns-in-Entry-clause-refused : goal.returns-in-Entry-clause-refused
 returns-in-Entry-clause-refused c =
     let zones = map zone_of c.args.zones.now in
-    let name = job_name c.args.label.now (c.args.above.entries + 1) in
+    let name = crontab_job_name c.args.label.now (c.args.above.entries + 1) in
     err_leads c.add_entry.result (λ refusal. HasJob name c.args.jobs.now × (refusal ≡ at_line c.args.at DuplicateJob))
     (RefusesMarks zones c.args.jobs.now (line_marks zones c.args.label.now c.args.above.zone c.args.at (c.args.above.entries + 1) (body_of c.args.body)))
     (λ refusal fault.
@@ -52,7 +52,7 @@ returns-in-Entry-clause-refused c =
 pub returns-in-Nick-clause-added : goal.returns-in-Nick-clause-added
 returns-in-Nick-clause-added c =
     let zones = map zone_of c.args.zones.now in
-    let name = job_name c.args.label.now (c.args.above.entries + 1) in
+    let name = crontab_job_name c.args.label.now (c.args.above.entries + 1) in
     both_lead c.add_entry-in-Nick.result
     (λ added none.
     subst (λ b. AddsMarks zones c.args.jobs.now c.add_entry-in-Nick.new.jobs (line_marks zones c.args.label.now c.args.above.zone c.args.at (c.args.above.entries + 1) (body_of b))) (sym c.in-Nick.is)
@@ -64,7 +64,7 @@ returns-in-Nick-clause-added c =
 pub returns-in-Nick-clause-refused : goal.returns-in-Nick-clause-refused
 returns-in-Nick-clause-refused c =
     let zones = map zone_of c.args.zones.now in
-    let name = job_name c.args.label.now (c.args.above.entries + 1) in
+    let name = crontab_job_name c.args.label.now (c.args.above.entries + 1) in
     err_leads c.add_entry-in-Nick.result (λ refusal. HasJob name c.args.jobs.now × (refusal ≡ at_line c.args.at DuplicateJob))
     (RefusesMarks zones c.args.jobs.now (line_marks zones c.args.label.now c.args.above.zone c.args.at (c.args.above.entries + 1) (body_of c.args.body)))
     (λ refusal fault.

@@ -3,7 +3,7 @@ use Rattle.std.proofs.lemmas.Grind.{common_steps}
 use Rattle.crontab_text.specs.Lines.{lines_of}
 use Rattle.run_text.specs.Follow.{Sections}
 use Rattle.run_text.specs.Run.{Run}
-use Rattle.run_text.specs.Steps.{place_of, RefusedFrom, HasNames, texts_of}
+use Rattle.run_text.specs.Steps.{place_of, RefusedFrom, HasNames, texts_of_names}
 use Rattle.run_text.proofs.PartLemmas.{part_refused}
 use Rattle.run_text.proofs.SectionLemmas.{PassesOpening, opening_leads, opening_refused}
 use Rattle.run_text.proofs.StepLemmas.{goes_on, missing_line}
@@ -34,7 +34,7 @@ returns-in_err-opening-clause-refused c =
     c.from_residual-in_err-opening.ensures.1
     (part_refused c.args.tables c.args.reader.now c.next_line.new.self c.args.names.now.items c.in-Some.line.now c.in_err-opening.field-0.0
     c.in-Some.ensures.number c.in-Some.ensures.line refused.line
-    (refused.refused (length (lines_of c.next_line.new.self.rest.now)) (texts_of c.args.names.now.items)
+    (refused.refused (length (lines_of c.next_line.new.self.rest.now)) (texts_of_names c.args.names.now.items)
     (λ word. let yes = c.has_zone_word.ensures.1 word in cc (yes, c.if-has_zone_word.false)) no_script))
 
 pub returns-in_err-section-clause-refused : goal.returns-in_err-section-clause-refused

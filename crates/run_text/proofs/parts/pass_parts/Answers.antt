@@ -1,7 +1,7 @@
 use Rattle.std.proofs.Common.{◌≡◌, []}
 use Rattle.run_text.specs.Follow.{Sections, Script}
 use Rattle.run_text.specs.Run.{Run}
-use Rattle.run_text.specs.Steps.{place_of, LeadsTo, RefusedFrom, PassesPart}
+use Rattle.run_text.specs.Steps.{place_of, CarriesBack, RefusedFrom, PassesPart}
 use Rattle.run_text.proofs.PartLemmas.{reads_none, reads_all, reads_refused, reads_next, zones_with, sections_with, less}
 use Rattle.run_text.proofs.VariantLemmas.{at_some, at_none}
 use Rattle.run_text.proofs.parts.pass_parts.Goals as goal
@@ -29,6 +29,6 @@ returns-clause-read c = (
   c.parts.invariant.0,
   c.parts.invariant.1,
   reads_all _ _ c.read_part.new.reader _ _ _ c.parts.invariant.2
-      (at_none c.in_ok-_part.field-0 {P = (run : Run) → LeadsTo c.args.tables (place_of c.parts.reader (Sections run)) (place_of c.read_part.new.reader (Script run))}
+      (at_none c.in_ok-_part.field-0 {P = (run : Run) → CarriesBack c.args.tables (place_of c.parts.reader (Sections run)) (place_of c.read_part.new.reader (Script run))}
       c.in_default.is c.in_ok-_part.ensures.script),
 )

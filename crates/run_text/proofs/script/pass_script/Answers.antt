@@ -1,7 +1,7 @@
 use Rattle.std.proofs.Common.{◌∷◌, ◌++◌, []}
 use Rattle.run_text.specs.Follow.{Script, End}
 use Rattle.run_text.specs.Run.{Run}
-use Rattle.run_text.specs.Steps.{place_of, LeadsTo, RefusedFrom, BeginsScript, PassesCommand}
+use Rattle.run_text.specs.Steps.{place_of, CarriesBack, RefusedFrom, BeginsScript, PassesCommand}
 use Rattle.run_text.specs.declared.table.Tables.{Tables}
 use Rattle.run_text.proofs.ScriptLemmas.{commands_none, commands_next, commands_refused, script_ends}
 use Rattle.run_text.proofs.VariantLemmas.{at_some, at_none, ok_so, err_so}
@@ -24,13 +24,13 @@ commands-preserved c =
 
 pub returns-clause-read : goal.returns-clause-read
 returns-clause-read c =
-    let last = at_none c.in_ok-_command.field-0 {P = (tables : Tables) (run : Run) → LeadsTo tables (place_of c.commands.reader (Script run)) (place_of c.read_line.new.reader (End run))} c.in_default.is c.in_ok-_command.ensures.end in
+    let last = at_none c.in_ok-_command.field-0 {P = (tables : Tables) (run : Run) → CarriesBack tables (place_of c.commands.reader (Script run)) (place_of c.read_line.new.reader (End run))} c.in_default.is c.in_ok-_command.ensures.end in
     ok_so c.read_end.result c.read_end.ensures.read
     (λ reads. (c.commands.invariant.0, λ tables run begins. (script_ends _ _ _ c.read_line.new.reader _ _ c.commands.invariant.1 last tables run begins).reads _ (reads tables _)))
 
 pub returns-clause-refused : goal.returns-clause-refused
 returns-clause-refused c =
-    let last = at_none c.in_ok-_command.field-0 {P = (tables : Tables) (run : Run) → LeadsTo tables (place_of c.commands.reader (Script run)) (place_of c.read_line.new.reader (End run))} c.in_default.is c.in_ok-_command.ensures.end in
+    let last = at_none c.in_ok-_command.field-0 {P = (tables : Tables) (run : Run) → CarriesBack tables (place_of c.commands.reader (Script run)) (place_of c.read_line.new.reader (End run))} c.in_default.is c.in_ok-_command.ensures.end in
     err_so c.read_end.result (λ refusal. (tables : Tables) (run : Run) → RefusedFrom tables (place_of c.read_line.new.reader (End run)) refusal)
     (λ refusal. (tables : Tables) (run : Run) → BeginsScript c.args.head run → RefusedFrom tables (place_of c.args.reader.now (Script run)) refusal) c.read_end.ensures.refused
     (λ refusal refused tables run begins. (script_ends _ _ _ c.read_line.new.reader _ _ c.commands.invariant.1 last tables run begins).refuses refusal (refused tables _))

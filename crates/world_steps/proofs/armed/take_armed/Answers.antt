@@ -7,7 +7,7 @@ use Rattle.paxos_base.specs.declared.durable.Durable.{Durable}
 use Rattle.replica_core.specs.Replica.{IsSmall, ReplicaState}
 use Rattle.durable_changes.specs.Anew.{ProposesAnew}
 use Rattle.replica_core.specs.Commit.{kept_after}
-use Rattle.replica_core.specs.Step.{IsAlike, Steps, fault_in}
+use Rattle.replica_core.specs.Step.{IsSameReplica, Steps, fault_in}
 use Rattle.replica_core.specs.declared.out.StepOut.{StepOut}
 use Rattle.replica_node.specs.declared.fault.NodeFault.{NodeFault}
 use Rattle.replica_node.specs.declared.fault.NodeFault.TheVariants.{Stopped}
@@ -74,7 +74,7 @@ returns-in-Ok-attach_again g c = record {
       subst (λ (replica : ReplicaState). IsChangeOf c.args.table.now c.args.input replica (Some stop.change)) c.arm.ensures.replica within.change_of in
       let few = c.handle.ensures.too_few (Some stop.change) c.args.arm within.change_of stopped clean armed in
       let honest = c.handle.ensures.answer.honest_still.1 (c.arm.ensures.honest.1 told.beside.ahead.trusted) in
-      let alike : IsAlike (replica_of c.handle.new.self) (replica_of c.arm.new.self) = c.in-Err.ensures.alike in
+      let alike : IsSameReplica (replica_of c.handle.new.self) (replica_of c.arm.new.self) = c.in-Err.ensures.alike in
       let left = c.handle.ensures.kept_by_arm stop.change c.args.arm within.change_of stopped clean armed in
       let leaves : LeavesByArm (length c.args.table.now.jobs) (area_of (store_of c.arm.new.self)) (replica_of c.handle.new.self).state.kept stop.change c.args.arm (g.D.Disk.told (disk_of c.handle.new.self)) =
       subst (λ (state : State). LeavesByArm (length c.args.table.now.jobs) (area_of (store_of c.arm.new.self)) state.kept stop.change c.args.arm (g.D.Disk.told (disk_of c.handle.new.self))) (sym alike.state) left in

@@ -4,7 +4,7 @@ use Rattle.std.proofs.lemmas.Option.{slice_get_read}
 use Rattle.std.proofs.lemmas.Result.{on_ok_weaker}
 use Rattle.launch_machine.proofs.MachineLemmas.{set_here, set_there}
 use Rattle.history.specs.Book.{turn_of}
-use Rattle.world_tests.specs.Seat.{GoesOn, IsSeated}
+use Rattle.world_tests.specs.Seat.{GoesOnByTurn, IsSeated}
 use Rattle.world_tests.proofs.Scenes.{scene_arrives, scene_goes_on}
 use Rattle.world_tests.proofs.scene.play_turn.Goals as goal
 
@@ -27,7 +27,7 @@ returns-in-Some g c =
     (λ goes.
     scene_goes_on c.args.table.now c.args.scene.now.book c.take_turn.new.book c.args.scene.now.seats.items
     (slice_set c.args.scene.now.seats.items c.in-Did.who c.take_turn.new.seat) c.in-Did.who c.take_turn.new.seat c.requires
-    (subst (λ who. GoesOn c.args.table.now c.requires.rows c.args.scene.now.book c.take_turn.new.book who c.take_turn.new.seat) whose
+    (subst (λ who. GoesOnByTurn c.args.table.now c.requires.rows c.args.scene.now.book c.take_turn.new.book who c.take_turn.new.seat) whose
     (goes c.requires.rows c.requires.rests
     (subst (λ who. IsSeated c.args.table.now c.requires.rows c.args.scene.now.book who c.in-Some.seat.now) (sym whose)
     (c.requires.seated c.in-Did.who c.in-Some.seat.now there))))

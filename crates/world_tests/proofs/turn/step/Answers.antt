@@ -2,7 +2,7 @@ use Rattle.std.proofs.Common.{sym, subst, ◌∙◌}
 use Rattle.std.specs.Option.{option_to_list}
 use Rattle.history.specs.Book.{answer_to}
 use Rattle.world_law.proofs.Called.{alike_stands}
-use Rattle.world_tests.specs.Seat.{GoesOn, SeatState}
+use Rattle.world_tests.specs.Seat.{GoesOnByTurn, SeatState}
 use Rattle.world_tests.proofs.Goes.{made_before, step_goes_on, step_may_ask, step_may_come}
 use Rattle.world_tests.proofs.turn.step.Goals as goal
 
@@ -26,7 +26,7 @@ pub returns : goal.returns
 returns g c =
     λ rows rests seated.
     rw c.answer_of-seat-inside.ensures
-    (subst (λ (s : SeatState). GoesOn c.args.table.now rows c.args.book.now c.commit.new.self c.args.who (record {
+    (subst (λ (s : SeatState). GoesOnByTurn c.args.table.now rows c.args.book.now c.commit.new.self c.args.who (record {
       members = s.members;
       running = s.running;
       durable = s.durable;

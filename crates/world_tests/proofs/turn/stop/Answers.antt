@@ -1,5 +1,5 @@
 use Rattle.std.proofs.Common.{rules, None, sym, subst}
-use Rattle.world_tests.specs.Seat.{GoesOn, SeatState}
+use Rattle.world_tests.specs.Seat.{GoesOnByTurn, SeatState}
 use Rattle.world_tests.proofs.Goes.{stop_goes_on, stop_may_come}
 use Rattle.world_tests.proofs.turn.stop.Goals as goal
 
@@ -11,7 +11,7 @@ commit-requires-clause-next g c =
 pub returns : goal.returns
 returns g c =
     λ rows rests seated.
-    subst (λ (s : SeatState). GoesOn c.args.table.now rows c.args.book.now c.commit.new.self c.args.who (record {
+    subst (λ (s : SeatState). GoesOnByTurn c.args.table.now rows c.args.book.now c.commit.new.self c.args.who (record {
       members = s.members;
       running = None;
       durable = s.durable;

@@ -1,7 +1,7 @@
 use Rattle.std.proofs.Common.{◌≡◌, ◌++◌, ◌∷◌, [], ◌+◌, ◌*◌, length, Some, Ok, Err, refl, sym, subst, arith, rules}
 use Rattle.disk_model.specs.Images.{file_of, HoldsPiece, Torn, LeavesOnly, InFileOnly}
 use Rattle.gate_file.specs.File.{bodies_of, file_no}
-use Rattle.gate_file.specs.Gates.{IsAtRest, IsStaged}
+use Rattle.gate_file.specs.Gates.{HasRestingGate, IsStaged}
 use Rattle.gate_file.proofs.AppendLemmas.{mid_behind, mid_open, mid_at_rest, new_at_rest, body_leaves, write_after}
 use Rattle.gate_file.proofs.FaultLemmas.{handed_on}
 use Rattle.gate_file.proofs.GateLemmas.{torn_gate}
@@ -79,7 +79,7 @@ returns-in_err-write_synced-2-clause-memory g c memory =
     let is = handed_on c.in_err-write_synced-2.field-0.0 c.write_synced-2.result c.from_residual-in_err-write_synced-2.result c.in_err-write_synced-2.was c.from_residual-in_err-write_synced-2.ensures.1 memory in
     let same = c.write_synced-2.ensures.unchanged is in
     record {
-      at_rest = subst (λ image. IsAtRest (file_of (file_no gates) image) (c.reserve.new.self.items)) (sym same) (subst (IsAtRest (file_of (file_no gates) (g.D.Disk.seen c.write_synced.new.disk))) (sym c.reserve.ensures.items) rest);
+      at_rest = subst (λ image. HasRestingGate (file_of (file_no gates) image) (c.reserve.new.self.items)) (sym same) (subst (HasRestingGate (file_of (file_no gates) (g.D.Disk.seen c.write_synced.new.disk))) (sym c.reserve.ensures.items) rest);
       durable = c.write_synced-2.ensures.still_durable is;
     }
 
@@ -94,7 +94,7 @@ returns-clause-settled g c =
     subst (λ at. HoldsPiece at (1 ∷ []) (file_of (file_no gates) (g.D.Disk.seen c.write_synced.new.disk)) (file_of (file_no gates) (g.D.Disk.seen c.write_synced-2.new.disk))) place c.in_ok-write_synced-2.ensures.written.step in
     let rest = new_at_rest (file_of (file_no gates) (g.D.Disk.seen c.args.disk.now)) c.args.body.now (bodies_of gates) c.requires.at_rest c.told-body (file_of (file_no gates) (g.D.Disk.seen c.write_synced.new.disk)) holds (file_of (file_no gates) (g.D.Disk.seen c.write_synced-2.new.disk)) opened in
     let more : c.push.new.self.items ≡ bodies_of gates ++ c.args.body.now ∷ [] = search rules in
-    record { at_rest = subst (IsAtRest (file_of (file_no gates) (g.D.Disk.seen c.write_synced-2.new.disk))) (sym more) rest; durable = c.in_ok-write_synced-2.ensures.durable }
+    record { at_rest = subst (HasRestingGate (file_of (file_no gates) (g.D.Disk.seen c.write_synced-2.new.disk))) (sym more) rest; durable = c.in_ok-write_synced-2.ensures.durable }
 
 -- ---- which of its calls were done
 

@@ -6,9 +6,9 @@ use Rattle.gate_file.specs.Gates.{IsStaged}
 use Rattle.gate_file.proofs.AppendLemmas.{write_after}
 use Rattle.disk_model.specs.Images.{file_of}
 use Rattle.disk_model.specs.Made.{MadeCalls}
-use Rattle.disk_model.specs.Told.{Tells}
+use Rattle.disk_model.specs.Told.{TellsThen}
 use Rattle.disk_model.proofs.MadeLemmas.{handed, made_after, made_done, made_sooner, tells_then, tells_weaker}
-use Rattle.gate_file.specs.Faults.{fault_of}
+use Rattle.gate_file.specs.Faults.{gate_fault_of}
 use Rattle.gate_file.specs.Made.{close_calls, read_calls}
 use Rattle.gate_file.specs.ReadFile.{bodies_read}
 use Rattle.gate_file.proofs.GateLemmas.{one_list}
@@ -32,8 +32,8 @@ returns-in_err-read-clause-told g c bodies has =
     let file = c.args.file in
     let given = c.in_err-read.field-0.0 in
     let gives = c.from_residual.ensures.1 in
-    tells_weaker (made_sooner fault_of fault_of (read_calls file) (close_calls file (file_of file (g.D.Disk.seen c.args.disk.now)) (length bodies)) (Err given) c.from_residual.result c.from_residual.ensures.0
-    (λ fault is. handed c.from_residual.result given gives (fault_of fault) is)) (g.D.Disk.told c.args.disk.now) (g.D.Disk.told c.read.new.disk) c.in_err-read.ensures.told
+    tells_weaker (made_sooner gate_fault_of gate_fault_of (read_calls file) (close_calls file (file_of file (g.D.Disk.seen c.args.disk.now)) (length bodies)) (Err given) c.from_residual.result c.from_residual.ensures.0
+    (λ fault is. handed c.from_residual.result given gives (gate_fault_of fault) is)) (g.D.Disk.told c.args.disk.now) (g.D.Disk.told c.read.new.disk) c.in_err-read.ensures.told
 
 pub returns-clause-told : goal.returns-clause-told
 returns-clause-told g c bodies has =
@@ -43,10 +43,10 @@ returns-clause-told g c bodies has =
     let old = g.D.Disk.told c.args.disk.now in
     let mid = g.D.Disk.told c.read.new.disk in
     let new = g.D.Disk.told c.close.new.disk in
-    let first = tells_weaker (made_done fault_of (read_calls file) gates) old mid c.in_ok-read.ensures.told in
+    let first = tells_weaker (made_done gate_fault_of (read_calls file) gates) old mid c.in_ok-read.ensures.told in
     let same : bodies_read gates ≡ bodies = one_list found (bodies_read gates) bodies c.in_ok-read.ensures.bodies has in
-    let second : Tells (MadeCalls fault_of (close_calls file found (length bodies)) c.close.result) mid new =
-    subst (λ list. Tells (MadeCalls fault_of (close_calls file found (length list)) c.close.result) mid new) same
-    (subst (λ image. Tells (MadeCalls fault_of (close_calls file (file_of file image) (length (bodies_read gates))) c.close.result) mid new) c.read.ensures.seen
-    (subst (λ no. Tells (MadeCalls fault_of (close_calls no (file_of no (g.D.Disk.seen c.read.new.disk)) (length (bodies_read gates))) c.close.result) mid new) c.in_ok-read.ensures.file c.close.ensures.told)) in
-    tells_then (made_after fault_of (read_calls file) (close_calls file found (length bodies)) c.close.result) old mid new first second
+    let second : TellsThen (MadeCalls gate_fault_of (close_calls file found (length bodies)) c.close.result) mid new =
+    subst (λ list. TellsThen (MadeCalls gate_fault_of (close_calls file found (length list)) c.close.result) mid new) same
+    (subst (λ image. TellsThen (MadeCalls gate_fault_of (close_calls file (file_of file image) (length (bodies_read gates))) c.close.result) mid new) c.read.ensures.seen
+    (subst (λ no. TellsThen (MadeCalls gate_fault_of (close_calls no (file_of no (g.D.Disk.seen c.read.new.disk)) (length (bodies_read gates))) c.close.result) mid new) c.in_ok-read.ensures.file c.close.ensures.told)) in
+    tells_then (made_after gate_fault_of (read_calls file) (close_calls file found (length bodies)) c.close.result) old mid new first second

@@ -1,11 +1,11 @@
 use Rattle.std.proofs.Common.{◌≡◌, ◌∷◌, [], sym, ap, ◌∙◌, subst}
 use Rattle.disk_model.specs.Images.{file_of, Cut, Torn}
-use Rattle.gate_file.specs.Gates.{IsAtRest, AreWhole, gated}
+use Rattle.gate_file.specs.Gates.{HasRestingGate, AreWhole, gated}
 use Rattle.gate_file.proofs.GateLemmas.{gated_rest}
 use Rattle.disk_model.proofs.RunLemmas.{in_file_still}
 use Rattle.gate_file.proofs.RewriteLemmas.{Any, at_first, none_yet, next, next_leaves, written_alone}
 use Rattle.disk_model.specs.Made.{WriteAt, CutTo, SyncOf, AllDone, BreaksOff}
-use Rattle.disk_model.specs.Told.{Tells}
+use Rattle.disk_model.specs.Told.{TellsThen}
 use Rattle.disk_model.proofs.MadeLemmas.{tells_then, tells_weaker, all_then, breaks_here, breaks_later, one_done}
 use Rattle.gate_file.specs.Made.{rewrite_calls}
 use Rattle.gate_file.proofs.MadeLemmas.{told_some}
@@ -67,7 +67,7 @@ returns-clause-settled g c =
     ap (file_of file) c.sync.ensures.seen ∙ alone ∙ c.deref-2.ensures.value ∙ c.in_ok-bytes.ensures.bytes ∙ ap gated c.deref.ensures.value in
     let whole : AreWhole c.args.bodies.items = subst AreWhole c.deref.ensures.value c.in_ok-bytes.ensures.whole in
     record {
-      at_rest = subst (λ now. IsAtRest now c.args.bodies.items) (sym is) (gated_rest c.args.bodies.items whole);
+      at_rest = subst (λ now. HasRestingGate now c.args.bodies.items) (sym is) (gated_rest c.args.bodies.items whole);
       durable = λ honest. c.in_ok-sync.ensures.durable (c.sync.ensures.honest.0 honest);
     }
 
@@ -88,9 +88,9 @@ returns-in_err-write_at-clause-told g c =
     let mid = g.D.Disk.told c.cut.new.self in
     let new = g.D.Disk.told c.write_at.new.self in
     let fault = c.in_err-write_at.field-0.0 in
-    let first : Tells (AllDone (CutTo file 0 ∷ [])) old mid = tells_weaker (one_done (CutTo file 0)) old mid c.in_ok-cut.ensures.told in
-    let second : Tells (BreaksOff fault (WriteAt file 0 bytes ∷ SyncOf file ∷ [])) mid new =
-    subst (λ piece. Tells (BreaksOff fault (WriteAt file 0 piece ∷ SyncOf file ∷ [])) mid new) is (tells_weaker (breaks_here fault (WriteAt file 0 c.deref-2.result.now) (SyncOf file ∷ [])) mid new c.in_err-write_at.ensures.told) in
+    let first : TellsThen (AllDone (CutTo file 0 ∷ [])) old mid = tells_weaker (one_done (CutTo file 0)) old mid c.in_ok-cut.ensures.told in
+    let second : TellsThen (BreaksOff fault (WriteAt file 0 bytes ∷ SyncOf file ∷ [])) mid new =
+    subst (λ piece. TellsThen (BreaksOff fault (WriteAt file 0 piece ∷ SyncOf file ∷ [])) mid new) is (tells_weaker (breaks_here fault (WriteAt file 0 c.deref-2.result.now) (SyncOf file ∷ [])) mid new c.in_err-write_at.ensures.told) in
     told_some (rewrite_calls file c.args.bodies.items) fault c.from_residual-in_err-write_at.result c.from_residual-in_err-write_at.ensures.1 old new
     (tells_then (breaks_later fault (CutTo file 0 ∷ []) (WriteAt file 0 bytes ∷ SyncOf file ∷ [])) old mid new first second)
 
@@ -104,9 +104,9 @@ returns-in_err-sync-clause-told g c =
     let last = g.D.Disk.told c.write_at.new.self in
     let new = g.D.Disk.told c.sync.new.self in
     let fault = c.in_err-sync.field-0.0 in
-    let first : Tells (AllDone (CutTo file 0 ∷ [])) old mid = tells_weaker (one_done (CutTo file 0)) old mid c.in_ok-cut.ensures.told in
-    let second : Tells (AllDone (WriteAt file 0 bytes ∷ [])) mid last =
-    subst (λ piece. Tells (AllDone (WriteAt file 0 piece ∷ [])) mid last) is (tells_weaker (one_done (WriteAt file 0 c.deref-2.result.now)) mid last c.in_ok-write_at.ensures.told) in
+    let first : TellsThen (AllDone (CutTo file 0 ∷ [])) old mid = tells_weaker (one_done (CutTo file 0)) old mid c.in_ok-cut.ensures.told in
+    let second : TellsThen (AllDone (WriteAt file 0 bytes ∷ [])) mid last =
+    subst (λ piece. TellsThen (AllDone (WriteAt file 0 piece ∷ [])) mid last) is (tells_weaker (one_done (WriteAt file 0 c.deref-2.result.now)) mid last c.in_ok-write_at.ensures.told) in
     let third = tells_weaker (breaks_here fault (SyncOf file) []) last new c.in_err-sync.ensures.told in
     told_some (rewrite_calls file c.args.bodies.items) fault c.from_residual-in_err-sync.result c.from_residual-in_err-sync.ensures.1 old new
     (tells_then (breaks_later fault (CutTo file 0 ∷ WriteAt file 0 bytes ∷ []) (SyncOf file ∷ [])) old last new

@@ -10,7 +10,7 @@ use Rattle.gate_file.proofs.RewriteLemmas.{leaves_any}
 use Rattle.gate_file.proofs.MadeLemmas.{closes, told_some, written_as}
 use Rattle.disk_model.proofs.MadeLemmas.{tells_weaker, write_breaks}
 use Rattle.disk_model.specs.Made.{BreaksOff}
-use Rattle.disk_model.specs.Told.{Tells}
+use Rattle.disk_model.specs.Told.{TellsThen}
 use Rattle.gate_file.specs.Made.{close_calls}
 use Rattle.gate_file.proofs.read_gates.ReadGates.close.Goals as goal
 
@@ -79,4 +79,4 @@ returns-in_err-write_synced-clause-told g c =
     let written = written_as file (c.len.result * 57) (57 * count) (0 ∷ []) (0 ∷ []) (Err fault) old new place refl c.in_err-write_synced.ensures.told in
     let broken = tells_weaker (write_breaks fault file (57 * count) (0 ∷ []) []) old new written in
     told_some (close_calls file bytes count) fault c.from_residual.result c.from_residual.ensures.1 old new
-    (subst (λ calls. Tells (BreaksOff fault calls) old new) (sym (closes file bytes count (c.requires.not_closed c.if-closed.false))) broken)
+    (subst (λ calls. TellsThen (BreaksOff fault calls) old new) (sym (closes file bytes count (c.requires.not_closed c.if-closed.false))) broken)

@@ -3,7 +3,7 @@ use Rattle.std.proofs.lemmas.List.FromFn.{length-map-range_with_len}
 use Rattle.paxos_base.specs.Rows.{RowsStand}
 use Rattle.paxos_base.specs.declared.rows.JobRow.{JobRow}
 use Rattle.paxos_base.specs.Rows.{fresh_row}
-use Rattle.launch_machine.specs.Machine.{AreCalls, AreStarts}
+use Rattle.launch_machine.specs.Machine.{AreCalls, AreNextStarts}
 use Rattle.launch_machine.proofs.MachineLemmas.{fresh_open, fresh_stand}
 use Rattle.launch_machine.proofs.machine.Machine.new.Goals as goal
 
@@ -21,6 +21,6 @@ invariant_of-result c = fresh_open c.in_ok-rows.rows.items c.jobs.result c.in_ok
 pub returns-clause-stands : goal.returns-clause-stands
 returns-clause-stands c = record {
   rows = subst (RowsStand c.in_ok-rows.rows.items) c.jobs.ensures.count (fresh_stand c.in_ok-rows.rows.items c.jobs.result c.in_ok-rows.ensures);
-  starts = subst (λ (r : List JobRow). AreStarts c.args.table.now r c.in_ok-starts.starts) c.deref.ensures.value c.in_ok-starts.ensures;
+  starts = subst (λ (r : List JobRow). AreNextStarts c.args.table.now r c.in_ok-starts.starts) c.deref.ensures.value c.in_ok-starts.ensures;
   calls = subst (λ (r : List JobRow). AreCalls c.args.table.now r c.in_ok-calls.calls) c.deref-2.ensures.value c.in_ok-calls.ensures;
 }

@@ -2,7 +2,7 @@ use Rattle.std.proofs.Common.{length, sym, subst}
 use Rattle.std.specs.Prelude.{slice_set}
 use Rattle.std.proofs.lemmas.List.Elements.{All-set}
 use Rattle.paxos_base.specs.Rows.{OpenHasCursor}
-use Rattle.launch_machine.specs.Machine.{AreCalls, AreStarts, IsCallBeside, IsStartBeside, Launches, StandsFor}
+use Rattle.launch_machine.specs.Machine.{AreCalls, AreNextStarts, IsCallBeside, IsStartBeside, Launches, StandsFor}
 use Rattle.launch_machine.proofs.MachineLemmas.{beside_set, row_put}
 use Rattle.launch_machine.proofs.machine.Machine.put.Goals as goal
 
@@ -15,7 +15,7 @@ returns-clause-stands c =
     let stands : StandsFor c.args.table.now old = subst (StandsFor c.args.table.now) (sym c.self.view_is) c.requires.stands in
     record {
       rows = row_put old.rows (length c.args.table.now.jobs) c.args.job c.args.row stands.rows c.requires.number;
-      starts = subst (AreStarts c.args.table.now (slice_set old.rows c.args.job c.args.row)) (sym c.set.ensures)
+      starts = subst (AreNextStarts c.args.table.now (slice_set old.rows c.args.job c.args.row)) (sym c.set.ensures)
           (beside_set (IsStartBeside c.args.table.now) old.rows old.starts c.args.job c.args.row c.start_beside.result stands.starts c.start_beside.ensures);
       calls = subst (AreCalls c.args.table.now (slice_set old.rows c.args.job c.args.row)) (sym c.set-2.ensures)
           (beside_set (IsCallBeside c.args.table.now) old.rows old.calls c.args.job c.args.row c.call_beside.result stands.calls c.call_beside.ensures);

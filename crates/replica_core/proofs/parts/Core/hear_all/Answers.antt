@@ -7,7 +7,7 @@ use Rattle.replica_core.proofs.LeadLemmas.{begun-ready, own-prefix}
 use Rattle.replica_core.proofs.OnceLemmas.{read-once}
 use Rattle.replica_core.proofs.PlanLemmas.{read-from}
 use Rattle.replica_core.proofs.TableLemmas.{all-rows-heard}
-use Rattle.replica_core.specs.Replica.{changes_in}
+use Rattle.replica_core.specs.Replica.{changes_of_draft}
 use Rattle.replica_core.proofs.parts.Core.hear_all.Goals as goal
 
 pub loop-packet-init : goal.loop-packet-init
@@ -36,7 +36,7 @@ hear-requires c =
       member = rw c.from-from.ensures (read-from c.args.self.now.members c.args.letter.now.from c.args.letter.now.packets c.requires.letter.0 c.requires.letter.1);
       small = (and_parts _ _ hearing.small).0;
       rows = (first-rows (length c.args.table.now.jobs) c.in-Some.packet c.next.new.self hearing.rows).0;
-      once = once-now c.in-Some.packet c.next.new.self (changes_in c.loop-packet.draft.change) hearing.once;
+      once = once-now c.in-Some.packet c.next.new.self (changes_of_draft c.loop-packet.draft.change) hearing.once;
       steady = hearing.steady;
       short = omega (arith, few, past);
     }

@@ -1,5 +1,5 @@
 use Rattle.std.proofs.Common.{◌∙◌, Some, None, refl, sym}
-use Rattle.replica_core.specs.Replica.{identity_of, state_of}
+use Rattle.replica_core.specs.Replica.{own_identity, state_of}
 use Rattle.replica_core.proofs.LeadLemmas.{begun-ready, leads_with, makes_as, makes_nothing, tick-leads, tick-long, tick-rests, tick-waits}
 use Rattle.replica_core.proofs.SteadyLemmas.{on_ok_so}
 use Rattle.replica_core.proofs.parts.Core.tick.Goals as goal
@@ -11,7 +11,7 @@ returns-then-is_long c =
           (λ made. (
             c.choose-intent.result,
             c.choose-intent.ensures,
-            makes_as c.args.self.now c.compact.new.draft _ _ (tick-long (identity_of c.args.self.now) c.args.now.0 c.args.self.now.machine.rows c.choose-intent.result (state_of c.args.self.now) (sym c.is_long.ensures ∙ c.if-is_long.true)) made,
+            makes_as c.args.self.now c.compact.new.draft _ _ (tick-long (own_identity c.args.self.now) c.args.now.0 c.args.self.now.machine.rows c.choose-intent.result (state_of c.args.self.now) (sym c.is_long.ensures ∙ c.if-is_long.true)) made,
           ))
           c.compact.ensures.makes;
       ready = on_ok_so c.compact.result _ _ (λ ready. ready c.args.table.now c.requires.stands) c.compact.ensures.ready;
@@ -24,7 +24,7 @@ returns-in-Some-clause-makes c =
       c.choose-intent.result,
       c.choose-intent.ensures,
       makes_as c.args.self.now c.wait.new.draft _ _
-          (tick-waits (identity_of c.args.self.now) c.args.now.0 c.args.self.now.machine.rows c.choose-intent.result (state_of c.args.self.now) c.in-Leader.ballot c.in-Leader.best c.in-Some.flight (sym c.is_long.ensures ∙ c.if-is_long.false)
+          (tick-waits (own_identity c.args.self.now) c.args.now.0 c.args.self.now.machine.rows c.choose-intent.result (state_of c.args.self.now) c.in-Leader.ballot c.in-Leader.best c.in-Some.flight (sym c.is_long.ensures ∙ c.if-is_long.false)
           (leads_with c.args.self.now.term c.in-Leader.ballot c.in-Leader.best c.in-Leader.best c.in-Leader.flight (Some c.in-Some.flight) c.in-Leader.is c.in-Some.is refl))
           made,
     ))
@@ -40,7 +40,7 @@ returns-in-None-clause-makes c =
       c.choose-intent.result,
       c.choose-intent.ensures,
       makes_as c.args.self.now c.lead_on.new.draft _ _
-          (tick-leads (identity_of c.args.self.now) c.args.now.0 c.args.self.now.machine.rows c.choose-intent.result (state_of c.args.self.now) c.in-Leader.ballot c.deref.result.now (sym c.is_long.ensures ∙ c.if-is_long.false)
+          (tick-leads (own_identity c.args.self.now) c.args.now.0 c.args.self.now.machine.rows c.choose-intent.result (state_of c.args.self.now) c.in-Leader.ballot c.deref.result.now (sym c.is_long.ensures ∙ c.if-is_long.false)
           (leads_with c.args.self.now.term c.in-Leader.ballot c.in-Leader.best c.deref.result.now c.in-Leader.flight None c.in-Leader.is c.in-None.is (c.deref.ensures.value ∙ c.best.view_is)))
           made,
     ))
@@ -56,7 +56,7 @@ returns-in_default c =
         c.choose-intent.result,
         c.choose-intent.ensures,
         makes_as c.args.self.now c.args.draft.now _ _
-            (tick-rests (identity_of c.args.self.now) c.args.now.0 c.args.self.now.machine.rows c.choose-intent.result (state_of c.args.self.now) c.args.self.now.term (sym c.is_long.ensures ∙ c.if-is_long.false) c.in_default.not-Leader refl)
+            (tick-rests (own_identity c.args.self.now) c.args.now.0 c.args.self.now.machine.rows c.choose-intent.result (state_of c.args.self.now) c.args.self.now.term (sym c.is_long.ensures ∙ c.if-is_long.false) c.in_default.not-Leader refl)
             (makes_nothing c.args.self.now c.args.draft.now c.requires.idle.stands),
       );
       ready = begun-ready c.args.self.now c.args.draft.now c.requires.whole c.requires.idle.term c.requires.idle.change c.requires.idle.learnt c.args.table.now;

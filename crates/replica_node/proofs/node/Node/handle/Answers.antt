@@ -4,18 +4,18 @@ use Rattle.step_spec.specs.Step.{step}
 use Rattle.store_format.specs.Order.{ChangeMayFollow}
 use Rattle.replica_core.specs.Commit.{kept_after}
 use Rattle.replica_core.specs.Replica.{ReplicaState}
-use Rattle.replica_core.specs.Step.{IsAlike, CanTake}
+use Rattle.replica_core.specs.Step.{IsSameReplica, CanTake}
 use Rattle.replica_store.specs.Files.{FilesStandForEither, IsRecoverable}
 use Rattle.replica_core.specs.declared.out.StepOut.{StepOut}
-use Rattle.replica_node.specs.Faults.{of_disk, EndsRun}
+use Rattle.replica_node.specs.Faults.{of_disk_answer, EndsRun}
 use Rattle.replica_node.specs.declared.fault.NodeFault.TheVariants as Node
 use Rattle.paxos_base.specs.declared.durable.Delta.{Delta}
 use Rattle.step_spec.specs.State.{State}
 use Rattle.std.specs.Prelude.{Option, IsErrOf}
 use Rattle.replica_store.specs.Store.{area_of, records_of}
-use Rattle.replica_node.specs.Kept.{LeavesByArm, area_for, calls_of}
+use Rattle.replica_node.specs.Kept.{LeavesByArm, area_for, calls_of_change}
 use Rattle.replica_node.proofs.KeptLemmas.{count_calls, tells_counted, tells_too_few}
-use Rattle.replica_node.specs.Node.{FilesStandAround, calls_for}
+use Rattle.replica_node.specs.Node.{FilesStandAround, disk_calls_for}
 use Rattle.replica_node.proofs.FaultLemmas.{memory_below}
 use Rattle.replica_node.proofs.RestLemmas.{at_rest_after, at_rest_still, either_around, few_members, leaves_weaker, recoverable_around, stands_at_rest}
 use Rattle.replica_node.proofs.StepLemmas.{change_follows, planned_alters, plans_alike}
@@ -24,7 +24,7 @@ use Rattle.replica_node.proofs.ReliableLemmas.{ends_by_arm, no_fault_in, planned
 use Rattle.replica_node.proofs.StoppedLemmas.{stopped_within, tells_stopped}
 use Rattle.replica_node.specs.Reliable.{IsUnfailingAfter}
 use Rattle.disk_model.specs.Made.{MadeCalls}
-use Rattle.disk_model.specs.Told.{Tells}
+use Rattle.disk_model.specs.Told.{TellsThen}
 use Rattle.store_format.specs.Area.{StandFor}
 use Rattle.replica_node.specs.declared.fault.NodeFault.{NodeFault}
 use Rattle.replica_node.proofs.node.Node.handle.Goals as goal
@@ -51,7 +51,7 @@ returns-in-Ok-clause-at_rest g c =
     let plans = c.in_ok-planned.ensures.planned in
     let acts = step old.replica.identity plans.event old.replica.state in
     let told = c.delta.ensures old.replica acts plans.plans in
-    let alike : IsAlike kept.replica old.replica = subst (λ (now : ReplicaState). IsAlike now old.replica) (sym c.keep.ensures.replica) c.plan.ensures.alike in
+    let alike : IsSameReplica kept.replica old.replica = subst (λ (now : ReplicaState). IsSameReplica now old.replica) (sym c.keep.ensures.replica) c.plan.ensures.alike in
     let takes = c.complete.ensures acts (plans_alike old.replica kept.replica acts planned alike plans.plans) in
     at_rest_after g.D.Disk.seen g.D.Disk.may_leave g.D.Disk.honest table c.args.input old (record { replica = c.complete.new.self; store = kept.store; disk = kept.disk; running = kept.running; stopped = kept.stopped }) kept.replica planned (option_copied c.delta.result)
     c.complete.result c.requires.at_rest alike plans takes told c.in-Ok.ensures.runs c.keep.ensures.jobs c.in-Ok.ensures.settled (rw c.keep.ensures.replica c.in-Ok.ensures.keeps)
@@ -82,7 +82,7 @@ returns-in-Ok-clause-told g c =
     let plans = c.in_ok-planned.ensures.planned in
     let told = c.delta.ensures old.replica (step old.replica.identity plans.event old.replica.state) plans.plans in
     told_of_step c.args.table.now c.args.input old now plans.event delta (Ok c.complete.result) (g.D.Disk.told old.disk) (g.D.Disk.told c.keep.new.self.disk) plans.event_is told c.plan.ensures.alike refl
-    (λ own stand. told_done of_disk of_disk (calls_for now own delta) tt c.complete.result (g.D.Disk.told old.disk) (g.D.Disk.told c.keep.new.self.disk) (c.in-Ok.ensures.told own stand))
+    (λ own stand. told_done of_disk_answer of_disk_answer (disk_calls_for now own delta) tt c.complete.result (g.D.Disk.told old.disk) (g.D.Disk.told c.keep.new.self.disk) (c.in-Ok.ensures.told own stand))
 
 pub returns-in-Ok-clause-area : goal.returns-in-Ok-clause-area
 returns-in-Ok-clause-area g c change of =
@@ -97,7 +97,7 @@ pub returns-in-Ok-clause-armed : goal.returns-in-Ok-clause-armed
 returns-in-Ok-clause-armed g c change arm of armed =
     let old = c.args.self.now in
     let own = c.requires.at_rest.keeps in
-    tells_counted (calls_for old own.0 change) (calls_of change) c.complete.result arm (g.D.Disk.told old.disk) (g.D.Disk.told c.keep.new.self.disk) (count_calls old own.0 change) armed
+    tells_counted (disk_calls_for old own.0 change) (calls_of_change change) c.complete.result arm (g.D.Disk.told old.disk) (g.D.Disk.told c.keep.new.self.disk) (count_calls old own.0 change) armed
     (returns-in-Ok-clause-told g c own.0 change own.1 of)
 
 pub returns-in-Ok-clause-ends_by_arm : goal.returns-in-Ok-clause-ends_by_arm
@@ -131,7 +131,7 @@ returns-in-Err-Stopped-clause-stopped g c some is =
     let plans = c.in_ok-planned.ensures.planned in
     let changes = c.delta.ensures old.replica (step old.replica.identity plans.event old.replica.state) plans.plans in
     let node = record c.keep.new.self { stopped = Some planned } in
-    let alike : IsAlike node.replica old.replica = subst (λ (r : ReplicaState). IsAlike r old.replica) (sym c.keep.ensures.replica) c.plan.ensures.alike in
+    let alike : IsSameReplica node.replica old.replica = subst (λ (r : ReplicaState). IsSameReplica r old.replica) (sym c.keep.ensures.replica) c.plan.ensures.alike in
     let failed : c.keep.result ≡ Err Node.Stopped = c.in-Err-Stopped.is ∙ ap Err c.in-Err-Stopped.field-0-is in
     let stops : IsErrOf c.keep.result Node.Stopped = subst (λ (r : Result Unit NodeFault). IsErrOf r Node.Stopped) (sym failed) refl in
     let own = rest.keeps in
@@ -143,7 +143,7 @@ returns-in-Err-Stopped-clause-stopped g c some is =
     (λ change is_change. subst (λ (r : ReplicaState). ChangeMayFollow (length table.jobs) r.state.kept change) (sym c.keep.ensures.replica)
     (change_follows table c.args.input old.replica now planned delta change (few_members old.replica.identity.me old.replica.identity.members rest.member rest.few) rest.coherent rest.of_table c.plan.ensures.alike plans c.in_ok-planned.ensures.can changes is_change))
     (λ change is_change. planned_alters old.replica node.replica plans.event delta change (few_members old.replica.identity.me old.replica.identity.members rest.member rest.few) alike changes is_change)
-    (tells_stopped (calls_for mid own.0 delta) c.keep.result (g.D.Disk.told old.disk) (g.D.Disk.told node.disk) some stops (c.keep.ensures.told own.0 stand))
+    (tells_stopped (disk_calls_for mid own.0 delta) c.keep.result (g.D.Disk.told old.disk) (g.D.Disk.told node.disk) some stops (c.keep.ensures.told own.0 stand))
     (λ honest. subst (λ (r : ReplicaState). IsRecoverable (length table.jobs) r.state.kept (kept_after delta r.state.kept) (g.D.Disk.may_leave node.disk)) (sym c.keep.ensures.replica)
     (subst (λ (jobs : ℕ). IsRecoverable jobs now.state.kept (kept_after delta now.state.kept) (g.D.Disk.may_leave node.disk)) rest.jobs (c.keep.ensures.recoverable (c.keep.ensures.answer.honest_still.0 honest))))
 
@@ -175,14 +175,14 @@ returns-in-Err-Stopped-clause-told g c =
     let plans = c.in_ok-planned.ensures.planned in
     let told = c.delta.ensures old.replica (step old.replica.identity plans.event old.replica.state) plans.plans in
     told_of_step c.args.table.now c.args.input old now plans.event delta (Err Node.Stopped) (g.D.Disk.told old.disk) (g.D.Disk.told c.keep.new.self.disk) plans.event_is told c.plan.ensures.alike refl
-    (λ own stand. told_failed {U = StepOut} (calls_for now own delta) Node.Stopped c.keep.result (Err Node.Stopped) (c.in-Err-Stopped.is ∙ ap Err c.in-Err-Stopped.field-0-is) refl (g.D.Disk.told old.disk) (g.D.Disk.told c.keep.new.self.disk)
+    (λ own stand. told_failed {U = StepOut} (disk_calls_for now own delta) Node.Stopped c.keep.result (Err Node.Stopped) (c.in-Err-Stopped.is ∙ ap Err c.in-Err-Stopped.field-0-is) refl (g.D.Disk.told old.disk) (g.D.Disk.told c.keep.new.self.disk)
     (c.keep.ensures.told own stand))
 
 pub returns-in-Err-Stopped-clause-too_few : goal.returns-in-Err-Stopped-clause-too_few
 returns-in-Err-Stopped-clause-too_few g c change arm of is clean armed =
     let old = c.args.self.now in
     let own = c.requires.at_rest.keeps in
-    tells_too_few StepOut (area_of old.store) (calls_for old own.0 change) (calls_of change) arm (g.D.Disk.told old.disk) (g.D.Disk.told c.keep.new.self.disk) (count_calls old own.0 change) clean armed
+    tells_too_few StepOut (area_of old.store) (disk_calls_for old own.0 change) (calls_of_change change) arm (g.D.Disk.told old.disk) (g.D.Disk.told c.keep.new.self.disk) (count_calls old own.0 change) clean armed
     (returns-in-Err-Stopped-clause-told g c own.0 change own.1 of)
 
 pub returns-in-Err-Stopped-clause-unfailing : goal.returns-in-Err-Stopped-clause-unfailing
@@ -218,7 +218,7 @@ pub returns-in-Err-clause-refused : goal.returns-in-Err-clause-refused
 returns-in-Err-clause-refused g c refused =
     let old = c.args.self.now in
     let new = c.keep.new.self in
-    let alike : IsAlike new.replica old.replica = subst (λ (now : ReplicaState). IsAlike now old.replica) (sym c.keep.ensures.replica) c.plan.ensures.alike in
+    let alike : IsSameReplica new.replica old.replica = subst (λ (now : ReplicaState). IsSameReplica now old.replica) (sym c.keep.ensures.replica) c.plan.ensures.alike in
     let memory = c.keep.ensures.memory (memory_below {U = StepOut} c.in-Err.fault c.keep.result (Err c.in-Err.fault) c.in-Err.is refl c.keep.ensures.no_letter refused) in
     at_rest_still g.D.Disk.seen g.D.Disk.may_leave g.D.Disk.honest c.args.table.now old new c.requires.at_rest alike memory.0 c.keep.ensures.jobs memory.1 (rw c.keep.ensures.replica memory.2)
 
@@ -230,7 +230,7 @@ returns-in-Err-clause-told g c =
     let plans = c.in_ok-planned.ensures.planned in
     let told = c.delta.ensures old.replica (step old.replica.identity plans.event old.replica.state) plans.plans in
     told_of_step c.args.table.now c.args.input old now plans.event delta (Err c.in-Err.fault) (g.D.Disk.told old.disk) (g.D.Disk.told c.keep.new.self.disk) plans.event_is told c.plan.ensures.alike refl
-    (λ own stand. told_failed {U = StepOut} (calls_for now own delta) c.in-Err.fault c.keep.result (Err c.in-Err.fault) c.in-Err.is refl (g.D.Disk.told old.disk) (g.D.Disk.told c.keep.new.self.disk)
+    (λ own stand. told_failed {U = StepOut} (disk_calls_for now own delta) c.in-Err.fault c.keep.result (Err c.in-Err.fault) c.in-Err.is refl (g.D.Disk.told old.disk) (g.D.Disk.told c.keep.new.self.disk)
     (c.keep.ensures.told own stand))
 
 pub returns-in-Err-clause-unfailing : goal.returns-in-Err-clause-unfailing
@@ -242,11 +242,11 @@ returns-in-Err-clause-ends_by_arm g c change arm of sure clean armed =
     let old = c.args.self.now in
     let own = c.requires.at_rest.keeps in
     let told = g.D.Disk.told c.keep.new.self.disk in
-    let calls = calls_for old own.0 change in
+    let calls = disk_calls_for old own.0 change in
     let made = returns-in-Err-clause-told g c own.0 change own.1 of in
-    ends_by_arm StepOut (calls_of change) arm.left c.in-Err.fault told (returns-in-Err-clause-unfailing g c sure)
-    (λ is. tells_too_few StepOut (area_of old.store) calls (calls_of change) arm (g.D.Disk.told old.disk) told (count_calls old own.0 change) clean armed
-    (subst (λ (f : NodeFault). Tells (MadeCalls {T = StepOut} of_disk calls (Err f)) (g.D.Disk.told old.disk) told) is made))
+    ends_by_arm StepOut (calls_of_change change) arm.left c.in-Err.fault told (returns-in-Err-clause-unfailing g c sure)
+    (λ is. tells_too_few StepOut (area_of old.store) calls (calls_of_change change) arm (g.D.Disk.told old.disk) told (count_calls old own.0 change) clean armed
+    (subst (λ (f : NodeFault). TellsThen (MadeCalls {T = StepOut} of_disk_answer calls (Err f)) (g.D.Disk.told old.disk) told) is made))
     (λ gate is. c.keep.ensures.undamaged gate (c.in-Err.is ∙ ap Err is))
     (λ letter is. c.keep.ensures.no_letter letter (c.in-Err.is ∙ ap Err is))
 
@@ -259,5 +259,5 @@ returns-in_err-planned-clause-unfailing g c sure =
 pub returns-in_err-planned-clause-ends_by_arm : goal.returns-in_err-planned-clause-ends_by_arm
 returns-in_err-planned-clause-ends_by_arm g c change arm of sure clean armed =
     let old = c.args.self.now.replica in
-    planned_ends (calls_of change) arm.left old.identity.members c.args.input c.in_err-planned.field-0.0 c.plan.result c.from_residual.result c.in_err-planned.was c.from_residual.ensures.1 c.plan.ensures.fault
+    planned_ends (calls_of_change change) arm.left old.identity.members c.args.input c.in_err-planned.field-0.0 c.plan.result c.from_residual.result c.in_err-planned.was c.from_residual.ensures.1 c.plan.ensures.fault
     (no_fault_in c.args.table.now old c.args.input of.event of.event_is)

@@ -8,11 +8,11 @@ use Rattle.paxos_base.specs.declared.durable.Durable.{Durable}
 use Rattle.store_format.specs.Order.{ChangeMayFollow}
 use Rattle.replica_store.specs.Faults as stored
 use Rattle.replica_store.specs.Made.{save_calls}
-use Rattle.replica_store.specs.Store.{area_of, jobs_of, records_of}
+use Rattle.replica_store.specs.Store.{area_of, jobs_of_store, records_of}
 use Rattle.replica_store.specs.declared.fault.StoreFault.TheVariants as Store
 use Rattle.replica_store.proofs.FileLemmas.{bodies_stand_for_one}
 use Rattle.replica_store.proofs.SaveLemmas.{settled_recoverable}
-use Rattle.replica_node.specs.Faults.{of_disk}
+use Rattle.replica_node.specs.Faults.{of_disk_answer}
 use Rattle.replica_node.proofs.KeptLemmas.{tells_by_arm, tells_saved}
 use Rattle.replica_node.proofs.ReliableLemmas.{reliable_done, reliable_never, unfailing_done, unfailing_saved}
 use Rattle.replica_node.proofs.ToldLemmas.{told_done, told_stored}
@@ -27,7 +27,7 @@ pub save-requires-clause-follows : goal.save-requires-clause-follows
 save-requires-clause-follows g c kept keeps =
     let node = c.args.self.now in
     let same : kept ≡ node.replica.state.kept = bodies_stand_for_one node.store.jobs (bodies_of node.store.gates) kept node.replica.state.kept keeps c.requires.keeps in
-    subst (λ (k : Durable). ChangeMayFollow (jobs_of node.store) k c.in-Some.delta.now) (sym same) (c.requires.follows c.in-Some.delta.now (ap option_copied c.in-Some.is))
+    subst (λ (k : Durable). ChangeMayFollow (jobs_of_store node.store) k c.in-Some.delta.now) (sym same) (c.requires.follows c.in-Some.delta.now (ap option_copied c.in-Some.is))
 
 pub returns-in-Ok-clause-keeps : goal.returns-in-Ok-clause-keeps
 returns-in-Ok-clause-keeps g c = rw c.in-Some.is (c.in-Ok.ensures.keeps c.args.self.now.replica.state.kept c.requires.keeps)
@@ -47,7 +47,7 @@ returns-in-Err-DiskFault-clause-images g c honest = rw c.in-Some.is (c.save.ensu
 pub returns-in-Ok-clause-told : goal.returns-in-Ok-clause-told
 returns-in-Ok-clause-told g c own stand =
     let node = c.args.self.now in
-    rw c.in-Some.is (told_done stored.of_disk of_disk (save_calls (area_of node.store) (length (records_of node.store)) node.replica.state.kept own c.in-Some.delta.now) tt tt (g.D.Disk.told node.disk) (g.D.Disk.told c.save.new.disk) (c.in-Ok.ensures.told node.replica.state.kept own stand))
+    rw c.in-Some.is (told_done stored.of_disk of_disk_answer (save_calls (area_of node.store) (length (records_of node.store)) node.replica.state.kept own c.in-Some.delta.now) tt tt (g.D.Disk.told node.disk) (g.D.Disk.told c.save.new.disk) (c.in-Ok.ensures.told node.replica.state.kept own stand))
 
 pub returns-in-Err-OutOfMemory-clause-told : goal.returns-in-Err-OutOfMemory-clause-told
 returns-in-Err-OutOfMemory-clause-told g c own stand =
@@ -78,7 +78,7 @@ returns-in-Err-Stopped-clause-kept_by_arm g c change arm is stopped clean armed 
     let own = c.requires.keeps in
     let here = ap option_copied c.in-Some.is in
     let same : c.in-Some.delta.now ≡ change = same_Some c.in-Some.delta.now change (sym here ∙ is) in
-    let jobs = jobs_of node.store in
+    let jobs = jobs_of_store node.store in
     subst (λ (d : Delta). LeavesByArm jobs (area_of node.store) kept d arm (g.D.Disk.told c.save.new.disk)) same
     (tells_by_arm g.D.Disk.seen g.D.Disk.may_leave g.D.Disk.honest node.disk node.store kept own.0 c.in-Some.delta.now c.requires.settled arm (g.D.Disk.told node.disk) (g.D.Disk.told c.save.new.disk)
     (g.met.D.Disk.done_is_seen node.disk) clean armed own.1 (c.requires.follows c.in-Some.delta.now here) c.in-Err-Stopped.field-0 c.in-Err-Stopped.field-0-is

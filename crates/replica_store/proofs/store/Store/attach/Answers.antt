@@ -13,9 +13,9 @@ use Rattle.replica_store.proofs.FileLemmas.{selects_area, same_chooser, recovera
 use Rattle.replica_store.proofs.ImageLemmas.{stays_durable}
 use Rattle.replica_store.proofs.SaveLemmas.{run_stands, run_recoverable, two_runs}
 use Rattle.disk_model.specs.Made.{SyncOf, AllDone, MadeCalls}
-use Rattle.disk_model.specs.Told.{Tells}
+use Rattle.disk_model.specs.Told.{TellsThen}
 use Rattle.disk_model.proofs.MadeLemmas.{all_then, made_all, made_done, made_later, made_sooner, tells_then, tells_weaker}
-use Rattle.gate_file.specs.Faults.{fault_of}
+use Rattle.gate_file.specs.Faults.{gate_fault_of}
 use Rattle.gate_file.specs.Made.{close_calls, read_calls}
 use Rattle.gate_file.specs.ReadFile.{bodies_read}
 use Rattle.replica_store.specs.Faults.{of_disk}
@@ -269,9 +269,9 @@ returns-in_err-read-clause-told g c records has =
     let area = c.in_ok-area.area in
     let rest = close_calls (selected seen) (file_of (selected seen) seen) (length records) in
     let chooser = tells_weaker (made_done (λ f. f) (SyncOf Chooser ∷ []) area) old mid c.in_ok-area.ensures.told in
-    subst (λ no. Tells (MadeCalls of_disk (SyncOf Chooser ∷ (read_calls no ++ rest)) result) old new) c.in_ok-area.ensures.selected
+    subst (λ no. TellsThen (MadeCalls of_disk (SyncOf Chooser ∷ (read_calls no ++ rest)) result) old new) c.in_ok-area.ensures.selected
     (tells_then (λ one two three first made. made_later of_disk of_disk (SyncOf Chooser ∷ []) (read_calls area ++ rest) result result fails (λ fault is. is) one two three first
-    (made_sooner fault_of of_disk (read_calls area) rest (Err given) result fails (gates_handed result given c.from_residual-in_err-read.ensures.1) two three made)) old mid new chooser c.in_err-read.ensures.told)
+    (made_sooner gate_fault_of of_disk (read_calls area) rest (Err given) result fails (gates_handed result given c.from_residual-in_err-read.ensures.1) two three made)) old mid new chooser c.in_err-read.ensures.told)
 
 pub returns-in_err-kept-clause-told : goal.returns-in_err-kept-clause-told
 returns-in_err-kept-clause-told g c records has =
@@ -280,9 +280,9 @@ returns-in_err-kept-clause-told g c records has =
     let chosen = g.D.Disk.told c.select.new.disk in
     let looked = g.D.Disk.told c.read.new.disk in
     let chooser = tells_weaker (made_done (λ f. f) (SyncOf Chooser ∷ []) c.in_ok-area.area) old chosen c.in_ok-area.ensures.told in
-    let area = tells_weaker (made_done fault_of (read_calls c.in_ok-area.area) c.in_ok-read.read) chosen looked c.in_ok-read.ensures.told in
-    let both : Tells (AllDone (look_calls seen)) old looked =
-    subst (λ no. Tells (AllDone (SyncOf Chooser ∷ read_calls no)) old looked) c.in_ok-area.ensures.selected (tells_then (all_then (SyncOf Chooser ∷ []) (read_calls c.in_ok-area.area)) old chosen looked chooser area) in
+    let area = tells_weaker (made_done gate_fault_of (read_calls c.in_ok-area.area) c.in_ok-read.read) chosen looked c.in_ok-read.ensures.told in
+    let both : TellsThen (AllDone (look_calls seen)) old looked =
+    subst (λ no. TellsThen (AllDone (SyncOf Chooser ∷ read_calls no)) old looked) c.in_ok-area.ensures.selected (tells_then (all_then (SyncOf Chooser ∷ []) (read_calls c.in_ok-area.area)) old chosen looked chooser area) in
     tells_weaker (records_made (look_calls seen) (close_calls (selected seen) (file_of (selected seen) seen) (length records)) c.in_err-kept.field-0.0 c.from_residual-in_err-kept.result c.from_residual-in_err-kept.ensures.1) old looked both
 
 pub returns-in_err-kept-clause-told_damaged : goal.returns-in_err-kept-clause-told_damaged
@@ -292,9 +292,9 @@ returns-in_err-kept-clause-told_damaged g c gate is =
     let chosen = g.D.Disk.told c.select.new.disk in
     let looked = g.D.Disk.told c.read.new.disk in
     let chooser = tells_weaker (made_done (λ f. f) (SyncOf Chooser ∷ []) c.in_ok-area.area) old chosen c.in_ok-area.ensures.told in
-    let area = tells_weaker (made_done fault_of (read_calls c.in_ok-area.area) c.in_ok-read.read) chosen looked c.in_ok-read.ensures.told in
-    let both : Tells (AllDone (look_calls seen)) old looked =
-    subst (λ no. Tells (AllDone (SyncOf Chooser ∷ read_calls no)) old looked) c.in_ok-area.ensures.selected (tells_then (all_then (SyncOf Chooser ∷ []) (read_calls c.in_ok-area.area)) old chosen looked chooser area) in
+    let area = tells_weaker (made_done gate_fault_of (read_calls c.in_ok-area.area) c.in_ok-read.read) chosen looked c.in_ok-read.ensures.told in
+    let both : TellsThen (AllDone (look_calls seen)) old looked =
+    subst (λ no. TellsThen (AllDone (SyncOf Chooser ∷ read_calls no)) old looked) c.in_ok-area.ensures.selected (tells_then (all_then (SyncOf Chooser ∷ []) (read_calls c.in_ok-area.area)) old chosen looked chooser area) in
     both
 
 pub returns-in_err-gates-clause-told : goal.returns-in_err-gates-clause-told
@@ -304,21 +304,21 @@ returns-in_err-gates-clause-told g c records has =
     let chosen = g.D.Disk.told c.select.new.disk in
     let looked = g.D.Disk.told c.read.new.disk in
     let chooser = tells_weaker (made_done (λ f. f) (SyncOf Chooser ∷ []) c.in_ok-area.area) old chosen c.in_ok-area.ensures.told in
-    let area = tells_weaker (made_done fault_of (read_calls c.in_ok-area.area) c.in_ok-read.read) chosen looked c.in_ok-read.ensures.told in
-    let both : Tells (AllDone (look_calls seen)) old looked =
-    subst (λ no. Tells (AllDone (SyncOf Chooser ∷ read_calls no)) old looked) c.in_ok-area.ensures.selected (tells_then (all_then (SyncOf Chooser ∷ []) (read_calls c.in_ok-area.area)) old chosen looked chooser area) in
+    let area = tells_weaker (made_done gate_fault_of (read_calls c.in_ok-area.area) c.in_ok-read.read) chosen looked c.in_ok-read.ensures.told in
+    let both : TellsThen (AllDone (look_calls seen)) old looked =
+    subst (λ no. TellsThen (AllDone (SyncOf Chooser ∷ read_calls no)) old looked) c.in_ok-area.ensures.selected (tells_then (all_then (SyncOf Chooser ∷ []) (read_calls c.in_ok-area.area)) old chosen looked chooser area) in
     let new = g.D.Disk.told c.close.new.disk in
     let has-0 = subst (λ image. HasBodies (file_of c.in_ok-area.area image) c.in_ok-read.read.bodies.items) c.select.ensures.seen c.in_ok-read.ensures.bodies in
     let has-1 = subst (λ no. HasBodies (file_of no seen) c.in_ok-read.read.bodies.items) c.in_ok-area.ensures.selected has-0 in
     let found : bodies_read c.in_ok-read.read ≡ records = one_list (file_of (selected seen) seen) (bodies_read c.in_ok-read.read) records has-1 has in
-    let closing : Tells (MadeCalls fault_of (close_calls (selected seen) (file_of (selected seen) seen) (length records)) c.close.result) looked new =
-    subst (λ list. Tells (MadeCalls fault_of (close_calls (selected seen) (file_of (selected seen) seen) (length list)) c.close.result) looked new) found
-    (subst (λ image. Tells (MadeCalls fault_of (close_calls (selected seen) (file_of (selected seen) image) (length (bodies_read c.in_ok-read.read))) c.close.result) looked new) (c.read.ensures.seen ∙ c.select.ensures.seen)
-    (subst (λ no. Tells (MadeCalls fault_of (close_calls no (file_of no (g.D.Disk.seen c.read.new.disk)) (length (bodies_read c.in_ok-read.read))) c.close.result) looked new) (c.in_ok-read.ensures.file ∙ c.in_ok-area.ensures.selected) c.close.ensures.told)) in
+    let closing : TellsThen (MadeCalls gate_fault_of (close_calls (selected seen) (file_of (selected seen) seen) (length records)) c.close.result) looked new =
+    subst (λ list. TellsThen (MadeCalls gate_fault_of (close_calls (selected seen) (file_of (selected seen) seen) (length list)) c.close.result) looked new) found
+    (subst (λ image. TellsThen (MadeCalls gate_fault_of (close_calls (selected seen) (file_of (selected seen) image) (length (bodies_read c.in_ok-read.read))) c.close.result) looked new) (c.read.ensures.seen ∙ c.select.ensures.seen)
+    (subst (λ no. TellsThen (MadeCalls gate_fault_of (close_calls no (file_of no (g.D.Disk.seen c.read.new.disk)) (length (bodies_read c.in_ok-read.read))) c.close.result) looked new) (c.in_ok-read.ensures.file ∙ c.in_ok-area.ensures.selected) c.close.ensures.told)) in
     let rest = close_calls (selected seen) (file_of (selected seen) seen) (length records) in
     let given = c.in_err-gates.field-0.0 in
     let result = c.from_residual-in_err-gates.result in
-    tells_then (λ one two three first made. made_later fault_of of_disk (look_calls seen) rest c.close.result result c.from_residual-in_err-gates.ensures.0
+    tells_then (λ one two three first made. made_later gate_fault_of of_disk (look_calls seen) rest c.close.result result c.from_residual-in_err-gates.ensures.0
     (λ fault is. c.in_err-gates.was ∙ gates_handed result given c.from_residual-in_err-gates.ensures.1 fault is) one two three first made) old looked new both closing
 
 pub returns-clause-told : goal.returns-clause-told
@@ -328,19 +328,19 @@ returns-clause-told g c records has =
     let chosen = g.D.Disk.told c.select.new.disk in
     let looked = g.D.Disk.told c.read.new.disk in
     let chooser = tells_weaker (made_done (λ f. f) (SyncOf Chooser ∷ []) c.in_ok-area.area) old chosen c.in_ok-area.ensures.told in
-    let area = tells_weaker (made_done fault_of (read_calls c.in_ok-area.area) c.in_ok-read.read) chosen looked c.in_ok-read.ensures.told in
-    let both : Tells (AllDone (look_calls seen)) old looked =
-    subst (λ no. Tells (AllDone (SyncOf Chooser ∷ read_calls no)) old looked) c.in_ok-area.ensures.selected (tells_then (all_then (SyncOf Chooser ∷ []) (read_calls c.in_ok-area.area)) old chosen looked chooser area) in
+    let area = tells_weaker (made_done gate_fault_of (read_calls c.in_ok-area.area) c.in_ok-read.read) chosen looked c.in_ok-read.ensures.told in
+    let both : TellsThen (AllDone (look_calls seen)) old looked =
+    subst (λ no. TellsThen (AllDone (SyncOf Chooser ∷ read_calls no)) old looked) c.in_ok-area.ensures.selected (tells_then (all_then (SyncOf Chooser ∷ []) (read_calls c.in_ok-area.area)) old chosen looked chooser area) in
     let new = g.D.Disk.told c.close.new.disk in
     let has-0 = subst (λ image. HasBodies (file_of c.in_ok-area.area image) c.in_ok-read.read.bodies.items) c.select.ensures.seen c.in_ok-read.ensures.bodies in
     let has-1 = subst (λ no. HasBodies (file_of no seen) c.in_ok-read.read.bodies.items) c.in_ok-area.ensures.selected has-0 in
     let found : bodies_read c.in_ok-read.read ≡ records = one_list (file_of (selected seen) seen) (bodies_read c.in_ok-read.read) records has-1 has in
-    let closing : Tells (MadeCalls fault_of (close_calls (selected seen) (file_of (selected seen) seen) (length records)) c.close.result) looked new =
-    subst (λ list. Tells (MadeCalls fault_of (close_calls (selected seen) (file_of (selected seen) seen) (length list)) c.close.result) looked new) found
-    (subst (λ image. Tells (MadeCalls fault_of (close_calls (selected seen) (file_of (selected seen) image) (length (bodies_read c.in_ok-read.read))) c.close.result) looked new) (c.read.ensures.seen ∙ c.select.ensures.seen)
-    (subst (λ no. Tells (MadeCalls fault_of (close_calls no (file_of no (g.D.Disk.seen c.read.new.disk)) (length (bodies_read c.in_ok-read.read))) c.close.result) looked new) (c.in_ok-read.ensures.file ∙ c.in_ok-area.ensures.selected) c.close.ensures.told)) in
+    let closing : TellsThen (MadeCalls gate_fault_of (close_calls (selected seen) (file_of (selected seen) seen) (length records)) c.close.result) looked new =
+    subst (λ list. TellsThen (MadeCalls gate_fault_of (close_calls (selected seen) (file_of (selected seen) seen) (length list)) c.close.result) looked new) found
+    (subst (λ image. TellsThen (MadeCalls gate_fault_of (close_calls (selected seen) (file_of (selected seen) image) (length (bodies_read c.in_ok-read.read))) c.close.result) looked new) (c.read.ensures.seen ∙ c.select.ensures.seen)
+    (subst (λ no. TellsThen (MadeCalls gate_fault_of (close_calls no (file_of no (g.D.Disk.seen c.read.new.disk)) (length (bodies_read c.in_ok-read.read))) c.close.result) looked new) (c.in_ok-read.ensures.file ∙ c.in_ok-area.ensures.selected) c.close.ensures.told)) in
     let rest = close_calls (selected seen) (file_of (selected seen) seen) (length records) in
-    let closed = tells_weaker (all_of fault_of rest c.close.result c.in_ok-gates.gates c.in_ok-gates.was) looked new closing in
+    let closed = tells_weaker (all_of gate_fault_of rest c.close.result c.in_ok-gates.gates c.in_ok-gates.was) looked new closing in
     tells_weaker (λ one two all. made_all of_disk (attach_calls seen (length records)) _ one two all) old new (tells_then (all_then (look_calls seen) rest) old looked new both closed)
 
 pub returns-clause-area : goal.returns-clause-area

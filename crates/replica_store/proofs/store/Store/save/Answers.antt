@@ -15,10 +15,10 @@ use Rattle.replica_store.proofs.FileLemmas.{other_is_area}
 use Rattle.replica_store.proofs.ImageLemmas.{stays_durable}
 use Rattle.replica_store.proofs.SaveLemmas.{change_stands, run_stands, run_recoverable, two_runs, append_recoverable, other_recoverable, chooser_recoverable, settled_in_area, settled_in_other, settled_in_chooser, settled_by_chooser}
 use Rattle.disk_model.specs.Made.{MadeCalls}
-use Rattle.disk_model.specs.Told.{Tells}
+use Rattle.disk_model.specs.Told.{TellsThen}
 use Rattle.disk_model.proofs.MadeLemmas.{all_then, handed, made_all, made_done, made_later, made_sooner, tells_then, tells_weaker, write_breaks, write_done, made_some}
 use Rattle.disk_model.specs.Told.{AfterWriteSynced}
-use Rattle.gate_file.specs.Faults.{fault_of}
+use Rattle.gate_file.specs.Faults.{gate_fault_of}
 use Rattle.gate_file.specs.Made.{append_calls, rewrite_calls}
 use Rattle.store_format.specs.Area.{base_records}
 use Rattle.store_format.specs.Records.{record_bytes}
@@ -282,7 +282,7 @@ returns-in_err-gates-clause-told g c kept own stand =
     let given = c.in_err-gates.field-0.0 in
     let result = c.from_residual.result in
     let records = rewrite_calls other (map record_bytes (base_records kept own c.in-Base.slot c.in-Base.rows)) in
-    subst (λ delta. Tells (MadeCalls of_disk (save_calls area count kept own delta) result) old new) (sym c.in-Base.is)
+    subst (λ delta. TellsThen (MadeCalls of_disk (save_calls area count kept own delta) result) old new) (sym c.in-Base.is)
     (tells_weaker (made_sooner of_disk of_disk records (choose_calls other) (Err given) result c.from_residual.ensures.0
     (λ fault is. handed result given c.from_residual.ensures.1 (of_disk fault) is)) old new (c.in_err-gates.ensures.told kept own stand))
 
@@ -300,9 +300,9 @@ returns-in_err-write_synced-clause-told g c kept own stand =
     let bit = c.bit_of.ensures ∙ ap bit_of (c.file.ensures ∙ c.in_ok-gates.ensures.file) in
     let given = c.in_err-write_synced.field-0.0 in
     let result = c.from_residual-in_err-write_synced.result in
-    let chosen : Tells (AfterWriteSynced Chooser 0 (bit_of other ∷ []) (Err given)) mid new =
-    subst (λ b. Tells (AfterWriteSynced Chooser 0 (b ∷ []) (Err given)) mid new) bit c.in_err-write_synced.ensures.told in
-    subst (λ delta. Tells (MadeCalls of_disk (save_calls area count kept own delta) result) old new) (sym c.in-Base.is)
+    let chosen : TellsThen (AfterWriteSynced Chooser 0 (bit_of other ∷ []) (Err given)) mid new =
+    subst (λ b. TellsThen (AfterWriteSynced Chooser 0 (b ∷ []) (Err given)) mid new) bit c.in_err-write_synced.ensures.told in
+    subst (λ delta. TellsThen (MadeCalls of_disk (save_calls area count kept own delta) result) old new) (sym c.in-Base.is)
     (tells_then (λ one two three first broken. made_later of_disk of_disk records (choose_calls other) result result c.from_residual-in_err-write_synced.ensures.0 (λ fault is. is) one two three first
     (made_some of_disk (choose_calls other) given result disk_apart c.from_residual-in_err-write_synced.ensures.1 two three (write_breaks given Chooser 0 (bit_of other ∷ []) [] two three broken))) old mid new written chosen)
 
@@ -318,9 +318,9 @@ returns-in-Base-clause-told g c kept own stand =
     let new = g.D.Disk.told c.write_synced.new.disk in
     let written = tells_weaker (made_done of_disk records c.in_ok-gates.gates) old mid (c.in_ok-gates.ensures.told kept own stand) in
     let bit = c.bit_of.ensures ∙ ap bit_of (c.file.ensures ∙ c.in_ok-gates.ensures.file) in
-    let chosen : Tells (AfterWriteSynced Chooser 0 (bit_of other ∷ []) (Ok tt)) mid new =
-    subst (λ b. Tells (AfterWriteSynced Chooser 0 (b ∷ []) (Ok tt)) mid new) bit c.in_ok-write_synced.ensures.told in
-    subst (λ delta. Tells (MadeCalls of_disk (save_calls area count kept own delta) (Ok tt)) old new) (sym c.in-Base.is)
+    let chosen : TellsThen (AfterWriteSynced Chooser 0 (bit_of other ∷ []) (Ok tt)) mid new =
+    subst (λ b. TellsThen (AfterWriteSynced Chooser 0 (b ∷ []) (Ok tt)) mid new) bit c.in_ok-write_synced.ensures.told in
+    subst (λ delta. TellsThen (MadeCalls of_disk (save_calls area count kept own delta) (Ok tt)) old new) (sym c.in-Base.is)
     (tells_then (λ one two three first last. made_all of_disk (records ++ choose_calls other) tt one three (all_then records (choose_calls other) one two three first (write_done Chooser 0 (bit_of other ∷ []) two three last))) old mid new written chosen)
 
 pub returns-in_err-append-clause-told : goal.returns-in_err-append-clause-told
@@ -334,9 +334,9 @@ returns-in_err-append-clause-told g c kept own stand =
     let calls = saves_record area count kept own c.args.delta.now item (sym c.delta_record.ensures ∙ c.in-Some.is) in
     let given = c.in_err-append.field-0.0 in
     let result = c.from_residual-in_err-append.result in
-    subst (λ list. Tells (MadeCalls of_disk list result) old new) (sym calls)
-    (subst (λ body. Tells (MadeCalls of_disk (append_calls area count body) result) old new) c.record_bytes.ensures.spelled
-    (tells_weaker (made_sooner fault_of of_disk (append_calls area count c.record_bytes.result) [] (Err given) result c.from_residual-in_err-append.ensures.0
+    subst (λ list. TellsThen (MadeCalls of_disk list result) old new) (sym calls)
+    (subst (λ body. TellsThen (MadeCalls of_disk (append_calls area count body) result) old new) c.record_bytes.ensures.spelled
+    (tells_weaker (made_sooner gate_fault_of of_disk (append_calls area count c.record_bytes.result) [] (Err given) result c.from_residual-in_err-append.ensures.0
     (gates_handed result given c.from_residual-in_err-append.ensures.1)) old new c.in_err-append.ensures.told))
 
 pub returns-clause-told : goal.returns-clause-told
@@ -348,9 +348,9 @@ returns-clause-told g c kept own stand =
     let new = g.D.Disk.told c.append.new.disk in
     let item = c.in-Some.item in
     let calls = saves_record area count kept own c.args.delta.now item (sym c.delta_record.ensures ∙ c.in-Some.is) in
-    subst (λ list. Tells (MadeCalls of_disk list (Ok tt)) old new) (sym calls)
-    (subst (λ body. Tells (MadeCalls of_disk (append_calls area count body) (Ok tt)) old new) c.record_bytes.ensures.spelled
-    (tells_weaker (λ one two made. made_all of_disk (append_calls area count c.record_bytes.result) tt one two (made_done fault_of (append_calls area count c.record_bytes.result) tt one two made)) old new c.in_ok-append.ensures.told))
+    subst (λ list. TellsThen (MadeCalls of_disk list (Ok tt)) old new) (sym calls)
+    (subst (λ body. TellsThen (MadeCalls of_disk (append_calls area count body) (Ok tt)) old new) c.record_bytes.ensures.spelled
+    (tells_weaker (λ one two made. made_all of_disk (append_calls area count c.record_bytes.result) tt one two (made_done gate_fault_of (append_calls area count c.record_bytes.result) tt one two made)) old new c.in_ok-append.ensures.told))
 
 -- ---- the area that it goes on in
 

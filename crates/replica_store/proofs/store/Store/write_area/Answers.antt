@@ -2,9 +2,9 @@ use Rattle.replica_store.proofs.FaultLemmas.{damaged_below, not_memory}
 use Rattle.store_format.specs.Area.{StandFor}
 use Rattle.std.proofs.Common.{◌≡◌, [], map, Ok, Err, sym, ap, ◌∙◌, subst}
 use Rattle.disk_model.specs.Made.{MadeCalls}
-use Rattle.disk_model.specs.Told.{Tells}
+use Rattle.disk_model.specs.Told.{TellsThen}
 use Rattle.disk_model.proofs.MadeLemmas.{made_all, made_done, made_sooner, tells_weaker}
-use Rattle.gate_file.specs.Faults.{fault_of}
+use Rattle.gate_file.specs.Faults.{gate_fault_of}
 use Rattle.gate_file.specs.Made.{rewrite_calls}
 use Rattle.store_format.specs.Area.{base_records}
 use Rattle.store_format.specs.Records.{record_bytes}
@@ -37,9 +37,9 @@ returns-in_err-rewrite-clause-told g c kept own stand =
     c.in_ok-bodies.ensures.bodies ∙ ap (λ k. map record_bytes (base_records k c.in_ok-kept.own slot rows)) same.0 ∙ ap (λ o. map record_bytes (base_records kept o slot rows)) same.1 in
     let given = c.in_err-rewrite.field-0.0 in
     let result = c.from_residual-in_err-rewrite.result in
-    subst (λ no. Tells (MadeCalls of_disk (rewrite_calls no (map record_bytes (base_records kept own slot rows))) result) old new) other
-    (subst (λ bodies. Tells (MadeCalls of_disk (rewrite_calls c.other_area-other.result bodies) result) old new) items
-    (tells_weaker (made_sooner fault_of of_disk (rewrite_calls c.other_area-other.result c.in_ok-bodies.bodies.items) [] (Err given) result c.from_residual-in_err-rewrite.ensures.0
+    subst (λ no. TellsThen (MadeCalls of_disk (rewrite_calls no (map record_bytes (base_records kept own slot rows))) result) old new) other
+    (subst (λ bodies. TellsThen (MadeCalls of_disk (rewrite_calls c.other_area-other.result bodies) result) old new) items
+    (tells_weaker (made_sooner gate_fault_of of_disk (rewrite_calls c.other_area-other.result c.in_ok-bodies.bodies.items) [] (Err given) result c.from_residual-in_err-rewrite.ensures.0
     (gates_handed result given c.from_residual-in_err-rewrite.ensures.1)) old new c.in_err-rewrite.ensures.told))
 
 pub returns-clause-told : goal.returns-clause-told
@@ -53,9 +53,9 @@ returns-clause-told g c kept own stand =
     let other : c.other_area-other.result ≡ other_area (area_of store) = c.other_area-other.ensures ∙ ap other_area c.file.ensures in
     let items : c.in_ok-bodies.bodies.items ≡ map record_bytes (base_records kept own slot rows) =
     c.in_ok-bodies.ensures.bodies ∙ ap (λ k. map record_bytes (base_records k c.in_ok-kept.own slot rows)) same.0 ∙ ap (λ o. map record_bytes (base_records kept o slot rows)) same.1 in
-    let all = tells_weaker (made_done fault_of (rewrite_calls c.other_area-other.result c.in_ok-bodies.bodies.items) c.in_ok-rewrite.field-0) old new c.in_ok-rewrite.ensures.told in
-    subst (λ no. Tells (MadeCalls of_disk (rewrite_calls no (map record_bytes (base_records kept own slot rows))) (Ok c.in_ok-rewrite.field-0)) old new) other
-    (subst (λ bodies. Tells (MadeCalls of_disk (rewrite_calls c.other_area-other.result bodies) (Ok c.in_ok-rewrite.field-0)) old new) items
+    let all = tells_weaker (made_done gate_fault_of (rewrite_calls c.other_area-other.result c.in_ok-bodies.bodies.items) c.in_ok-rewrite.field-0) old new c.in_ok-rewrite.ensures.told in
+    subst (λ no. TellsThen (MadeCalls of_disk (rewrite_calls no (map record_bytes (base_records kept own slot rows))) (Ok c.in_ok-rewrite.field-0)) old new) other
+    (subst (λ bodies. TellsThen (MadeCalls of_disk (rewrite_calls c.other_area-other.result bodies) (Ok c.in_ok-rewrite.field-0)) old new) items
     (tells_weaker (made_all of_disk (rewrite_calls c.other_area-other.result c.in_ok-bodies.bodies.items) c.in_ok-rewrite.field-0) old new all))
 
 -- ---- what is spelled

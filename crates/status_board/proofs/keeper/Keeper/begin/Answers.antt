@@ -6,7 +6,7 @@ use Rattle.paxos_base.specs.Rows.{fresh_rows}
 use Rattle.status_board.specs.declared.change.Change.{Change}
 use Rattle.status_board.specs.declared.shown.Shown.{Shown}
 use Rattle.status_board.specs.Change.{changed}
-use Rattle.status_board.specs.Naming.{IsShown, ShowsIt, name_of}
+use Rattle.status_board.specs.Naming.{IsShown, ShowsIt, board_name_of}
 use Rattle.status_board.specs.Posted.{Posted}
 use Rattle.status_board.proofs.Beginnings.{prefix_self}
 use Rattle.status_board.proofs.NamingLemmas.{shows}
@@ -48,7 +48,7 @@ returns-clause-kept g c =
     let shown : next.desk.shown.value ≡ latest =
     values.0 ∙ (ap (λ (l : List Change). fold changed old.desk.shown.value l) c.in_ok-shower.ensures.1 ∙ (c.in_ok-shower.ensures.0 ∙ same)) in record {
       word = c.begin-past.ensures.word;
-      named = rule ∙ ap (λ (p : Posted). Some (name_of p.board)) shown;
+      named = rule ∙ ap (λ (p : Posted). Some (board_name_of p.board)) shown;
       board = ap (λ (p : Posted). p.board) shown;
       begins = subst (λ (l : List Shown). IsPrefix l latest.states) (sym (ap (λ (p : Posted). p.states) shown)) (prefix_self latest.states);
       history = c.begin-past.ensures.history;

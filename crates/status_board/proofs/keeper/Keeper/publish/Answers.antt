@@ -5,7 +5,7 @@ use mathlib.Core.List.{IsPrefix}
 use Rattle.status_board.specs.declared.change.Change.{Change}
 use Rattle.status_board.specs.declared.shown.Shown.{Shown}
 use Rattle.status_board.specs.Change.{changed}
-use Rattle.status_board.specs.Naming.{IsShown, ShowsIt, name_of}
+use Rattle.status_board.specs.Naming.{IsShown, ShowsIt, board_name_of}
 use Rattle.status_board.specs.Posted.{Posted}
 use Rattle.status_board.proofs.Beginnings.{prefix_self}
 use Rattle.status_board.proofs.NamingLemmas.{shows}
@@ -25,7 +25,7 @@ returns-clause-kept g c table kept =
     let rule = matched_ok (λ _. ShowsIt (view old.desk.place) old.desk.shown.value next.desk.shown.value (view next.desk.place)) _ _ _ c.in-Ok.is c.publish_as-shower.ensures.rule in
     let shown = values.0 ∙ kept.changes refl in record {
       word = kept.word;
-      named = rule ∙ ap (λ (p : Posted). Some (name_of p.board)) shown;
+      named = rule ∙ ap (λ (p : Posted). Some (board_name_of p.board)) shown;
       board = ap (λ (p : Posted). p.board) shown;
       begins = subst (λ (l : List Shown). IsPrefix l c.args.self.past.log) (sym (ap (λ (p : Posted). p.states) shown)) (prefix_self c.args.self.past.log);
       history = kept.history;

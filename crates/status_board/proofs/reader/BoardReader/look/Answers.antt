@@ -2,7 +2,7 @@ use Rattle.std.proofs.Common.{◌≡◌, ◌≤◌, List, Some, ap, sym, ◌∙�
 use mathlib.Core.List.{IsPrefix}
 use Rattle.logbook.specs.Pages.{Book}
 use Rattle.status_board.specs.declared.shown.Shown.{Shown}
-use Rattle.status_board.specs.Naming.{name_of}
+use Rattle.status_board.specs.Naming.{board_name_of}
 use Rattle.status_board.specs.Posted.{Posted}
 use Rattle.status_board.specs.Shown.{IsHistory}
 use Rattle.status_board.specs.Sight.{Sight}
@@ -25,7 +25,7 @@ invariant_of-result-2 c =
       others_begin = subst (λ (l : List Shown). IsPrefix l c.learn.new.self.log) found c.learn.ensures.3;
       kept = c.learn.ensures.4;
     } in (
-      saw.0 ∙ (c.self.invariant.0 ∙ ap (λ (b : Book). Some (name_of b)) (sym board)),
+      saw.0 ∙ (c.self.invariant.0 ∙ ap (λ (b : Book). Some (board_name_of b)) (sym board)),
       saw.1,
       front_history _ mine posted.states c.learn.new.self.log posted.prefix fronts c.self.invariant.2 (posted.rows, saw.1),
     )

@@ -1,9 +1,9 @@
 use Rattle.std.proofs.Common.{◌≡◌, ◌≤◌, List, Some, length, ap, sym, ◌∙◌, subst, arith}
 use Rattle.logbook.specs.Pages.{Book}
 use Rattle.status_board.specs.declared.shown.Shown.{Shown}
-use Rattle.status_board.specs.Naming.{name_of}
+use Rattle.status_board.specs.Naming.{board_name_of}
 use Rattle.status_board.specs.Shown.{IsHistory}
-use Rattle.status_board.specs.Sight.{EndsAt, Marked, Sight}
+use Rattle.status_board.specs.Sight.{HasLastPrefix, Marked, Sight}
 use Rattle.status_board.proofs.ReaderLemmas.{AreFronts, front_history, mine_first, others_first}
 use Rattle.status_board.proofs.reader.BoardReader.told.Goals as goal
 
@@ -33,8 +33,8 @@ invariant_of-result-2 c =
     let board : c.mark.inside.past.book ≡ c.self.inside.past.book =
     ap (λ (m : Marked). m.board) c.mark.view_is ∙ (c.requires ∙ sym (ap (λ (r : Sight). r.board) c.self.view_is)) in
     let same = c.again.ensures in (
-      c.self.invariant.0 ∙ ap (λ (b : Book). Some (name_of b)) (sym board ∙ sym (ap (λ s. s.book) same)),
-      subst (λ (l : List Shown). EndsAt l c.mark.inside.prefix) (sym (ap (λ s. s.log) same)) c.mark.invariant,
+      c.self.invariant.0 ∙ ap (λ (b : Book). Some (board_name_of b)) (sym board ∙ sym (ap (λ s. s.book) same)),
+      subst (λ (l : List Shown). HasLastPrefix l c.mark.inside.prefix) (sym (ap (λ s. s.log) same)) c.mark.invariant,
       subst (λ (l : List Shown). IsHistory c.self.inside.jobs l) (sym (ap (λ s. s.log) same))
           (front_history _ mine others c.learn.new.self.log _ fronts c.self.invariant.2 c.mark.invariant),
     )

@@ -1,5 +1,5 @@
 use Rattle.std.proofs.Common.{◌≡◌, ℕ, ◌∷◌, ◌++◌, [], refl, ap, ◌∙◌}
-use Rattle.status_board.specs.Shown.{state_of}
+use Rattle.status_board.specs.Shown.{shown_state_of}
 use Rattle.status_board.specs.Writing.{HasNext, Learns}
 use Rattle.status_board.proofs.writer.BoardWriter.learn.Goals as goal
 
@@ -10,7 +10,7 @@ returns-clause-learned c same =
     rw (← c.self.view_is) (record {
       applies = c.learn.ensures.applies;
       next = record {
-        states = c.in_ok-learn.ensures.states ∙ ap (λ (n : ℕ). old.past.log ++ state_of n new.latest.machine.rows ∷ []) c.learn.ensures.prefix;
+        states = c.in_ok-learn.ensures.states ∙ ap (λ (n : ℕ). old.past.log ++ shown_state_of n new.latest.machine.rows ∷ []) c.learn.ensures.prefix;
         prefix_is = c.learn.ensures.prefix;
         rows_are = refl;
       };

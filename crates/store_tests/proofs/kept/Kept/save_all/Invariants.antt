@@ -1,5 +1,5 @@
 use Rattle.std.proofs.Common.{◌≡◌}
-use Rattle.replica_store.specs.Store.{jobs_of, StoreKeeps, IsStoreSettled}
+use Rattle.replica_store.specs.Store.{jobs_of_store, StoreKeeps, IsStoreSettled}
 use Rattle.store_tests.proofs.kept.Kept.save_all.Given as goal
 
 abbrev pub invariant-loop-change : goal.invariant-loop-change
@@ -7,5 +7,5 @@ invariant-loop-change g l =
     record {
       settled : IsStoreSettled g.D.Disk.seen g.D.Disk.may_leave g.D.Disk.honest l.disk l.self.store;
       keeps : StoreKeeps l.self.store l.self.durable;
-      jobs : jobs_of l.self.store ≡ 2;
+      jobs : jobs_of_store l.self.store ≡ 2;
     }

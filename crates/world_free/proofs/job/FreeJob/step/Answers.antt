@@ -1,5 +1,5 @@
 use Rattle.std.proofs.Common.{◌∙◌, refl}
-use Rattle.world_free.specs.Plan.{Plan, plan_of}
+use Rattle.world_free.specs.Plan.{FreePlan, plan_of}
 use Rattle.world_free.proofs.Stepping.{few_members, is_member, may_step, members_then, tried, was_told}
 use Rattle.world_free.proofs.job.FreeJob.step.Goals as goal
 
@@ -8,7 +8,7 @@ next_cause-cause-requires-clause-small g c = let runner = c.requires.may.2 in (r
 
 pub take_by_arm-requires : goal.take_by_arm-requires
 take_by_arm-requires g c =
-    let plan : Plan = plan_of c.args.table.now c.requires.may.0 c.requires.may.1 c.args.setting.now in
+    let plan : FreePlan = plan_of c.args.table.now c.requires.may.0 c.requires.may.1 c.args.setting.now in
     record {
       me = is_member g.D.Disk.seen g.D.Disk.may_leave g.D.Disk.honest g.D.Disk.told plan c.requires.may.0 c.args.who c.args.turn c.args.self.now c.requires.may.2;
       few = few_members g.D.Disk.seen g.D.Disk.may_leave g.D.Disk.honest g.D.Disk.told plan c.requires.may.0 c.args.who c.args.turn c.args.self.now c.requires.may.2;
@@ -20,7 +20,7 @@ take_by_arm-requires g c =
 pub returns : goal.returns
 returns g c = record {
   steps = λ book situation runner.
-      let plan : Plan = plan_of c.args.table.now book situation c.args.setting.now in
+      let plan : FreePlan = plan_of c.args.table.now book situation c.args.setting.now in
       let is = c.next_cause-cause.ensures.cause ∙ rw (c.window.ensures.window, c.term.ensures, c.replica.ensures) refl in
       tried g.D.Disk.seen g.D.Disk.may_leave g.D.Disk.honest g.D.Disk.told plan book c.args.who c.args.turn c.args.self.now runner c.next_cause-cause.result c.in_ok-ended.ended _ is
       c.requires.left

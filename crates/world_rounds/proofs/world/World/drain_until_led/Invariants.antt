@@ -1,10 +1,10 @@
 use Rattle.std.proofs.Common.{◌-◌}
 use Rattle.settling.specs.Settles.{LeadsSoon}
-use Rattle.world_rounds.specs.Bounds.{IsGiven}
+use Rattle.world_rounds.specs.Bounds.{IsFaultlessIn}
 use Rattle.world_rounds.proofs.DrainLemmas.{HasDrained}
 use Rattle.world_rounds.proofs.world.World.drain_until_led.Given as goal
 
 abbrev pub invariant-rounds : goal.invariant-rounds
 invariant-rounds g l =
     HasDrained g.D.Disk.seen g.D.Disk.may_leave g.D.Disk.honest g.D.Disk.told l.table l.who l.at.0 l.fn.self l.self
-    × IsGiven g.D.Disk.seen g.D.Disk.may_leave g.D.Disk.honest g.D.Disk.told l.table (λ n s. LeadsSoon (4 - l._round) n l.table l.who s) l.self
+    × IsFaultlessIn g.D.Disk.seen g.D.Disk.may_leave g.D.Disk.honest g.D.Disk.told l.table (λ n s. LeadsSoon (4 - l._round) n l.table l.who s) l.self

@@ -1,7 +1,7 @@
 use Rattle.std.proofs.Common.{arith, subst}
 use Rattle.script_semantics.specs.Settling.{IsQuiet}
 use Rattle.settling.specs.Settles.{HasRestedFor}
-use Rattle.world_rounds.specs.Quiet.{Tells}
+use Rattle.world_rounds.specs.Quiet.{AnswersFor}
 use Rattle.world_rounds.proofs.DrainLemmas.{drained_next, drained_none, drained_whole}
 use Rattle.world_rounds.proofs.LoopLemmas.{below_in, given_world, level_next, rested_gives}
 use Rattle.world_rounds.proofs.world.World.drain_until_level.Goals as goal
@@ -32,14 +32,14 @@ drain_round-requires-clause-bounded g c = c.rounds.invariant.2.bounded
 
 pub rounds-preserved : goal.rounds-preserved
 rounds-preserved g c =
-    let next = level_next g.D.Disk.seen g.D.Disk.may_leave g.D.Disk.honest g.D.Disk.told c.args.table.now c.args.who c.args.at.0 c.rounds._round c.rounds.self c.drain_round.new.self c.requires.inside c.rounds.invariant.1 c.rounds.invariant.2 (subst (λ answer. Tells g.D.Disk.seen g.D.Disk.may_leave g.D.Disk.honest g.D.Disk.told c.args.table.now (IsQuiet c.rounds.self.book.members c.args.table.now c.args.who c.args.at.0) c.rounds.self answer) c.if-is_quiet.false c.is_quiet.ensures) c.in_ok-drain_round.ensures.goes c.in_ok-drain_round.ensures.members c.in_ok-drain_round.ensures.bounded in (
-      drained_next g.D.Disk.seen g.D.Disk.may_leave g.D.Disk.honest g.D.Disk.told c.args.table.now c.args.who c.args.at.0 c.args.self.now c.rounds.self c.drain_round.new.self c.rounds.invariant.0 (subst (λ answer. Tells g.D.Disk.seen g.D.Disk.may_leave g.D.Disk.honest g.D.Disk.told c.args.table.now (IsQuiet c.rounds.self.book.members c.args.table.now c.args.who c.args.at.0) c.rounds.self answer) c.if-is_quiet.false c.is_quiet.ensures) c.in_ok-drain_round.ensures.goes c.in_ok-drain_round.ensures.members,
+    let next = level_next g.D.Disk.seen g.D.Disk.may_leave g.D.Disk.honest g.D.Disk.told c.args.table.now c.args.who c.args.at.0 c.rounds._round c.rounds.self c.drain_round.new.self c.requires.inside c.rounds.invariant.1 c.rounds.invariant.2 (subst (λ answer. AnswersFor g.D.Disk.seen g.D.Disk.may_leave g.D.Disk.honest g.D.Disk.told c.args.table.now (IsQuiet c.rounds.self.book.members c.args.table.now c.args.who c.args.at.0) c.rounds.self answer) c.if-is_quiet.false c.is_quiet.ensures) c.in_ok-drain_round.ensures.goes c.in_ok-drain_round.ensures.members c.in_ok-drain_round.ensures.bounded in (
+      drained_next g.D.Disk.seen g.D.Disk.may_leave g.D.Disk.honest g.D.Disk.told c.args.table.now c.args.who c.args.at.0 c.args.self.now c.rounds.self c.drain_round.new.self c.rounds.invariant.0 (subst (λ answer. AnswersFor g.D.Disk.seen g.D.Disk.may_leave g.D.Disk.honest g.D.Disk.told c.args.table.now (IsQuiet c.rounds.self.book.members c.args.table.now c.args.who c.args.at.0) c.rounds.self answer) c.if-is_quiet.false c.is_quiet.ensures) c.in_ok-drain_round.ensures.goes c.in_ok-drain_round.ensures.members,
       next.0,
       next.1,
     )
 
 pub returns-then-is_quiet-clause-goes : goal.returns-then-is_quiet-clause-goes
-returns-then-is_quiet-clause-goes g c = drained_whole g.D.Disk.seen g.D.Disk.may_leave g.D.Disk.honest g.D.Disk.told c.args.table.now c.args.who c.args.at.0 c.args.self.now c.rounds.self c.rounds.invariant.0 (subst (λ answer. Tells g.D.Disk.seen g.D.Disk.may_leave g.D.Disk.honest g.D.Disk.told c.args.table.now (IsQuiet c.rounds.self.book.members c.args.table.now c.args.who c.args.at.0) c.rounds.self answer) c.if-is_quiet.true c.is_quiet.ensures)
+returns-then-is_quiet-clause-goes g c = drained_whole g.D.Disk.seen g.D.Disk.may_leave g.D.Disk.honest g.D.Disk.told c.args.table.now c.args.who c.args.at.0 c.args.self.now c.rounds.self c.rounds.invariant.0 (subst (λ answer. AnswersFor g.D.Disk.seen g.D.Disk.may_leave g.D.Disk.honest g.D.Disk.told c.args.table.now (IsQuiet c.rounds.self.book.members c.args.table.now c.args.who c.args.at.0) c.rounds.self answer) c.if-is_quiet.true c.is_quiet.ensures)
 
 pub returns-then-is_quiet-clause-given : goal.returns-then-is_quiet-clause-given
 returns-then-is_quiet-clause-given g c = rested_gives g.D.Disk.seen g.D.Disk.may_leave g.D.Disk.honest g.D.Disk.told c.args.table.now c.args.who c.args.at.0 c.rounds._round c.rounds.self c.rounds.invariant.2

@@ -3,7 +3,7 @@ use Rattle.history.specs.declared.turn.Cause.TheVariants.{Campaign}
 use Rattle.script_semantics.specs.Parts.{Plays}
 use Rattle.script_semantics.specs.Round.{IsRound}
 use Rattle.script_semantics.specs.Situation.{Do}
-use Rattle.world_rounds.specs.Quiet.{Tells}
+use Rattle.world_rounds.specs.Quiet.{AnswersFor}
 use Rattle.step_spec.specs.May.{IsFollower}
 use Rattle.world_rounds.specs.World.{GoesOnBy, IsWorld}
 use Rattle.world_rounds.specs.declared.world.World.{World}
@@ -24,12 +24,12 @@ returns-clause-goes g c = elim c.if-follows.branch [
   | then-follows+in_ok-lead w ↦
       on_ok c.round_once.result _ _
       (led_round g.D.Disk.seen g.D.Disk.may_leave g.D.Disk.honest g.D.Disk.told c.args.table.now c.args.who c.args.at.0 c.args.self.now w.lead.new.self c.round_once.new.self
-      (subst (λ answer. Tells g.D.Disk.seen g.D.Disk.may_leave g.D.Disk.honest g.D.Disk.told c.args.table.now (λ situation. IsFollower (situation.standing.replicas c.args.who).term) c.args.self.now answer) w.if-follows.true c.follows.ensures)
+      (subst (λ answer. AnswersFor g.D.Disk.seen g.D.Disk.may_leave g.D.Disk.honest g.D.Disk.told c.args.table.now (λ situation. IsFollower (situation.standing.replicas c.args.who).term) c.args.self.now answer) w.if-follows.true c.follows.ensures)
       w.in_ok-lead.ensures.goes w.in_ok-lead.ensures.members)
       (subst (λ (now : World g.row.D.Denot). OnOk c.round_once.result (GoesOnBy g.D.Disk.seen g.D.Disk.may_leave g.D.Disk.honest g.D.Disk.told c.args.table.now (IsRound now.book.members c.args.table.now.window c.args.at.0) now c.round_once.new.self)) w.self-is c.round_once.ensures.goes)
   | else-follows w ↦
       on_ok c.round_once.result _ _
       (plain_round g.D.Disk.seen g.D.Disk.may_leave g.D.Disk.honest g.D.Disk.told c.args.table.now c.args.who c.args.at.0 c.args.self.now c.round_once.new.self
-      (subst (λ answer. Tells g.D.Disk.seen g.D.Disk.may_leave g.D.Disk.honest g.D.Disk.told c.args.table.now (λ situation. IsFollower (situation.standing.replicas c.args.who).term) c.args.self.now answer) w.if-follows.false c.follows.ensures))
+      (subst (λ answer. AnswersFor g.D.Disk.seen g.D.Disk.may_leave g.D.Disk.honest g.D.Disk.told c.args.table.now (λ situation. IsFollower (situation.standing.replicas c.args.who).term) c.args.self.now answer) w.if-follows.false c.follows.ensures))
       (subst (λ (now : World g.row.D.Denot). OnOk c.round_once.result (GoesOnBy g.D.Disk.seen g.D.Disk.may_leave g.D.Disk.honest g.D.Disk.told c.args.table.now (IsRound now.book.members c.args.table.now.window c.args.at.0) now c.round_once.new.self)) w.self-is c.round_once.ensures.goes)
 ]

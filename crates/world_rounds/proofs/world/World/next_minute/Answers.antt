@@ -2,7 +2,7 @@ use Rattle.std.proofs.Common.{◌≡◌, ◌<◌, pos, ◌+ℤ◌, ◌≤ℤ◌,
 use Rattle.std.specs.Prelude.{FitsSigned}
 use Rattle.std.proofs.lemmas.Int.{ints, to_z-of_z}
 use Rattle.script_semantics.specs.Settling.{AsksNothing, IsNextMinute}
-use Rattle.world_rounds.specs.Quiet.{Tells}
+use Rattle.world_rounds.specs.Quiet.{AnswersFor}
 use Rattle.world_rounds.proofs.WalkLemmas.{minute_found, rests_next}
 use Rattle.world_rounds.proofs.world.World.next_minute.Goals as goal
 
@@ -14,9 +14,9 @@ returns-then-not-asks_nothing-clause-found g c =
     let within : pos c.minutes.minute ≤ℤ c.args.to.0 = omega (arith, ints, end, below) in
     let fits : FitsSigned w64 c.from.result = omega (arith, ints, c.from.ensures, within, c.requires.within.before, limits.until) in
     let value : to_z w64 (of_z w64 c.from.result) ≡ pos c.minutes.minute = to_z-of_z w64 c.from.result fits ∙ c.from.ensures in
-    let tells : Tells g.D.Disk.seen g.D.Disk.may_leave g.D.Disk.honest g.D.Disk.told c.args.table.now (λ situation. AsksNothing c.args.table.now (pos c.minutes.minute) (situation.standing.replicas c.args.who)) c.args.self.now false =
-    subst (λ answer. Tells g.D.Disk.seen g.D.Disk.may_leave g.D.Disk.honest g.D.Disk.told c.args.table.now (λ situation. AsksNothing c.args.table.now (pos c.minutes.minute) (situation.standing.replicas c.args.who)) c.args.self.now answer) c.if-not-asks_nothing.true
-    (subst (λ at. Tells g.D.Disk.seen g.D.Disk.may_leave g.D.Disk.honest g.D.Disk.told c.args.table.now (λ situation. AsksNothing c.args.table.now at (situation.standing.replicas c.args.who)) c.args.self.now c.asks_nothing.result) value c.asks_nothing.ensures) in
+    let tells : AnswersFor g.D.Disk.seen g.D.Disk.may_leave g.D.Disk.honest g.D.Disk.told c.args.table.now (λ situation. AsksNothing c.args.table.now (pos c.minutes.minute) (situation.standing.replicas c.args.who)) c.args.self.now false =
+    subst (λ answer. AnswersFor g.D.Disk.seen g.D.Disk.may_leave g.D.Disk.honest g.D.Disk.told c.args.table.now (λ situation. AsksNothing c.args.table.now (pos c.minutes.minute) (situation.standing.replicas c.args.who)) c.args.self.now answer) c.if-not-asks_nothing.true
+    (subst (λ at. AnswersFor g.D.Disk.seen g.D.Disk.may_leave g.D.Disk.honest g.D.Disk.told c.args.table.now (λ situation. AsksNothing c.args.table.now at (situation.standing.replicas c.args.who)) c.args.self.now c.asks_nothing.result) value c.asks_nothing.ensures) in
     let low : pos 0 ≤ℤ c.args.above.0 = omega (arith, ints, limits.since, c.requires.inside.since) in
     λ situation here.
     subst (λ minute. IsNextMinute c.args.table.now (situation.standing.replicas c.args.who) c.args.above.0 c.args.to.0 minute) (sym value)
@@ -31,7 +31,7 @@ minutes-preserved g c =
     let within : pos c.minutes.minute ≤ℤ c.args.to.0 = omega (arith, ints, end, below) in
     let fits : FitsSigned w64 c.from.result = omega (arith, ints, c.from.ensures, within, c.requires.within.before, limits.until) in
     let value : to_z w64 (of_z w64 c.from.result) ≡ pos c.minutes.minute = to_z-of_z w64 c.from.result fits ∙ c.from.ensures in
-    let tells : Tells g.D.Disk.seen g.D.Disk.may_leave g.D.Disk.honest g.D.Disk.told c.args.table.now (λ situation. AsksNothing c.args.table.now (pos c.minutes.minute) (situation.standing.replicas c.args.who)) c.args.self.now true =
-    subst (λ answer. Tells g.D.Disk.seen g.D.Disk.may_leave g.D.Disk.honest g.D.Disk.told c.args.table.now (λ situation. AsksNothing c.args.table.now (pos c.minutes.minute) (situation.standing.replicas c.args.who)) c.args.self.now answer) c.if-not-asks_nothing.false
-    (subst (λ at. Tells g.D.Disk.seen g.D.Disk.may_leave g.D.Disk.honest g.D.Disk.told c.args.table.now (λ situation. AsksNothing c.args.table.now at (situation.standing.replicas c.args.who)) c.args.self.now c.asks_nothing.result) value c.asks_nothing.ensures) in
+    let tells : AnswersFor g.D.Disk.seen g.D.Disk.may_leave g.D.Disk.honest g.D.Disk.told c.args.table.now (λ situation. AsksNothing c.args.table.now (pos c.minutes.minute) (situation.standing.replicas c.args.who)) c.args.self.now true =
+    subst (λ answer. AnswersFor g.D.Disk.seen g.D.Disk.may_leave g.D.Disk.honest g.D.Disk.told c.args.table.now (λ situation. AsksNothing c.args.table.now (pos c.minutes.minute) (situation.standing.replicas c.args.who)) c.args.self.now answer) c.if-not-asks_nothing.false
+    (subst (λ at. AnswersFor g.D.Disk.seen g.D.Disk.may_leave g.D.Disk.honest g.D.Disk.told c.args.table.now (λ situation. AsksNothing c.args.table.now at (situation.standing.replicas c.args.who)) c.args.self.now c.asks_nothing.result) value c.asks_nothing.ensures) in
     rests_next g.D.Disk.seen g.D.Disk.may_leave g.D.Disk.honest g.D.Disk.told c.args.table.now c.args.self.now c.args.who c.number_behind-first.result c.minutes.minute c.minutes.invariant tells
