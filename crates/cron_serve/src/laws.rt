@@ -98,7 +98,8 @@ pub fn a_run_holds_each_launch_once()
         → Contains book.ledger.held a → Contains book.ledger.held b → a.name.job ≡ b.name.job → a.name.at ≡ b.name.at → a ≡ b }
     ensures started { (bytes : List ℕ) (table : Table) (book : BookState) (nodes : List (Node MemDisk)) (run : IsRunOf bytes table book nodes) (row : SchedRow)
         → Contains book.ledger.held row → IsBacked table run.whole.log row }
-    ensures ended { (bytes : List ℕ) (table : Table) (book : BookState) (nodes : List (Node MemDisk)) (run : IsRunOf bytes table book nodes) (job : ℕ) (at : ℤ) (kind : Kind)
+    ensures ended { (bytes : List ℕ) (table : Table) (book : BookState) (nodes : List (Node MemDisk))
+        (run : IsRunOf bytes table book nodes) (job : ℕ) (at : ℤ) (kind : Kind)
         → HasEnd table run.whole.log job at kind → IsHeld book.ledger.held job at kind }
     ensures effective { (bytes : List ℕ) (table : Table) (book : BookState) (nodes : List (Node MemDisk)) (run : IsRunOf bytes table book nodes) (entry : Entry)
         → Contains run.whole.log entry → entry ≢ Noop → IsEffective table run.whole.log entry }
@@ -109,7 +110,8 @@ pub fn a_run_holds_each_launch_once()
 /// launched.
 pub fn a_run_ends_each_due_instant()
     ensures ended { (bytes : List ℕ) (table : Table) (book : BookState) (nodes : List (Node MemDisk)) (run : IsRunOf bytes table book nodes) (job : ℕ) (at : ℤ)
-        → IsJobDue table job at → HasStart table run.whole.log job at × (kind : Kind) × HasEnd table run.whole.log job at kind × IsHeld book.ledger.held job at kind }
+        → IsJobDue table job at → HasStart table run.whole.log job at × (kind : Kind) × HasEnd table run.whole.log job at kind
+        × IsHeld book.ledger.held job at kind }
     ensures later { (bytes : List ℕ) (table : Table) (book : BookState) (nodes : List (Node MemDisk)) (run : IsRunOf bytes table book nodes) (job : ℕ) (at : ℤ)
         → IsJobDue table job at → AreTurnsBy at (script_turns run.whole.obeyed) → IsCalledAt book.ledger.held job at Launch at }
     ensures all { (bytes : List ℕ) (table : Table) (book : BookState) (nodes : List (Node MemDisk)) (job : ℕ) (at : ℤ) → IsRunOf bytes table book nodes
@@ -122,7 +124,8 @@ pub fn a_run_ends_each_due_instant()
 pub fn a_run_without_commands_launches_each_due_instant()
     ensures each { (bytes : List ℕ) (table : Table) (book : BookState) (nodes : List (Node MemDisk)) (run : IsRunOf bytes table book nodes) (job : ℕ) (at : ℤ)
         → run.run.commands ≡ [] → IsJobDue table job at → IsCalledAt book.ledger.held job at Launch at }
-    ensures each_date { (bytes : List ℕ) (table : Table) (book : BookState) (nodes : List (Node MemDisk)) (run : IsRunOf bytes table book nodes) (job : ℕ) (now date : ℤ)
+    ensures each_date { (bytes : List ℕ) (table : Table) (book : BookState) (nodes : List (Node MemDisk))
+        (run : IsRunOf bytes table book nodes) (job : ℕ) (now date : ℤ)
         → run.run.commands ≡ [] → OpensBy table book.ledger.held job now date → IsCalledAt book.ledger.held job date Launch now }
     ensures no_other { (bytes : List ℕ) (table : Table) (book : BookState) (nodes : List (Node MemDisk)) (run : IsRunOf bytes table book nodes) (row : SchedRow)
         → run.run.commands ≡ [] → Contains book.ledger.held row → IsWanted table book.ledger.held row × (row.kind ≡ Launch) }
@@ -135,12 +138,14 @@ pub fn a_run_without_commands_launches_each_due_instant()
 /// were called before, and no clock reading of the script's turns has passed it, the job is launched on that date and called at that
 /// instant, unless at an earlier instant it was started on a later date, or its launch on the date or a later one was called too late.
 pub fn a_run_keeps_dates_apart()
-    ensures opened { (bytes : List ℕ) (table : Table) (book : BookState) (nodes : List (Node MemDisk)) (run : IsRunOf bytes table book nodes) (job : ℕ) (now date : ℤ)
+    ensures opened { (bytes : List ℕ) (table : Table) (book : BookState) (nodes : List (Node MemDisk))
+        (run : IsRunOf bytes table book nodes) (job : ℕ) (now date : ℤ)
         → OpensBy table book.ledger.held job now date → AreTurnsBy now (script_turns run.whole.obeyed)
         → IsCalledAt book.ledger.held job date Launch now ⊎ IsBarred run.run.members table run.rows job now date }
     ensures rise { (bytes : List ℕ) (table : Table) (book : BookState) (nodes : List (Node MemDisk)) (run : IsRunOf bytes table book nodes) (job : ℕ)
         → (dates : List ℤ) × StartsOf table run.whole.log job dates × IsRising dates }
-    ensures apart { (bytes : List ℕ) (table : Table) (book : BookState) (nodes : List (Node MemDisk)) (a b : SchedRow) (job : Job) (period : Period) (first last : ℕ)
+    ensures apart { (bytes : List ℕ) (table : Table) (book : BookState) (nodes : List (Node MemDisk))
+        (a b : SchedRow) (job : Job) (period : Period) (first last : ℕ)
         → IsRunOf bytes table book nodes → Contains book.ledger.held a → Contains book.ledger.held b → a.name.job ≡ b.name.job
         → a.kind ≡ Launch → b.kind ≡ Launch → a.name.at <ℤ b.name.at
         → slice_get table.jobs a.name.job ≡ Some job → job.kind ≡ Anacron period first last

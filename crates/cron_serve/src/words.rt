@@ -52,7 +52,8 @@ impl Choice {
     // The option that begins with this word. Its value may be the next word, which is taken then.
     fn read(word: &str, words: &mut Args) -> Option<Choice>
         ensures found { IfSome result (λ choice. BeginsWith choice (word.now ∷ texts_of (into_iter_items words.old)) (texts_of (into_iter_items words.new))) }
-        ensures none { IfNone result ((choice : Choice) (others : List (List ℕ)) → BeginsWith choice (word.now ∷ texts_of (into_iter_items words.old)) others → ⊥) }
+        ensures none { IfNone result ((choice : Choice) (others : List (List ℕ))
+            → BeginsWith choice (word.now ∷ texts_of (into_iter_items words.old)) others → ⊥) }
         ensures fewer { into_iter_len words.new ≤ into_iter_len words.old }
     {
         match word {

@@ -1,7 +1,8 @@
 -- What calls on one file leave of a disk's images.
 use Rattle.std.proofs.Common.{◌≡◌, ℕ, ◌≤◌, List, refl, sym, ◌∙◌, subst, arith}
 use Rattle.disk_model.specs.declared.fault.FileNo.{FileNo}
-use Rattle.disk_model.specs.Images.{Image, file_of, InFile, Torn, ImagesFollow, IsDurable, NoNewImage, Elapses, LeavesOnly, InFileOnly}
+use Rattle.disk_model.specs.Images.{Image, file_of, InFile, Torn, ImagesFollow, IsDurable, NoNewImage, Elapses, InFileOnly}
+use Rattle.disk_model.specs.View.{DiskView, LeavesOnly}
 use Rattle.disk_model.proofs.CallerLemmas.{started, goes_on}
 
 -- the images of one disk, in terms of those of an earlier one
@@ -42,31 +43,31 @@ not_torn at count bytes = record { before = refl; after = refl; no_shorter = ome
 
 -- ---- whole calls
 
-module _ {D : Type 0} (moment : D → ℕ) (left_since : D → ℕ → Image → Type 0) (may_leave : D → Image → Type 0) where
+module _ {D : Type 0} (view : DiskView D) where
   -- a write to a file that was synced: whatever is left of it is what it was, torn where the write went
-  pub torn_images : (old mid : D) (seen : Image) (file : FileNo) (at count : ℕ) → IsDurable file seen (may_leave old) → ImagesFollow (InFile file (Torn at count)) (may_leave old) (may_leave mid)
-      → AllInFile file (may_leave old) (may_leave mid) (Torn at count (file_of file seen))
+  pub torn_images : (old mid : D) (seen : Image) (file : FileNo) (at count : ℕ) → IsDurable file seen (view.may_leave old) → ImagesFollow (InFile file (Torn at count)) (view.may_leave old) (view.may_leave mid)
+      → AllInFile file (view.may_leave old) (view.may_leave mid) (Torn at count (file_of file seen))
   torn_images old mid seen file at count durable follows =
-      in_file_next file (may_leave old) (may_leave old) (may_leave mid) (λ bytes. bytes ≡ file_of file seen) (Torn at count (file_of file seen)) (Torn at count)
-      (in_file_at_first file (may_leave old) (λ bytes. bytes ≡ file_of file seen) durable) follows
+      in_file_next file (view.may_leave old) (view.may_leave old) (view.may_leave mid) (λ bytes. bytes ≡ file_of file seen) (Torn at count (file_of file seen)) (Torn at count)
+      (in_file_at_first file (view.may_leave old) (λ bytes. bytes ≡ file_of file seen) durable) follows
       (λ before after is step. subst (λ bytes. Torn at count bytes after) is step)
 
-  pub write_leaves : (old mid : D) (seen : Image) (file : FileNo) (at count : ℕ) → ((image : Image) → left_since old (moment old) image → may_leave old image) → IsDurable file seen (may_leave old) → ImagesFollow (InFile file (Torn at count)) (may_leave old) (may_leave mid)
-      → Elapses (moment old) (moment mid) (left_since old) (left_since mid) (may_leave mid)
-      → LeavesOnly moment left_since old mid (InFileOnly file (may_leave old) (Torn at count (file_of file seen)))
+  pub write_leaves : (old mid : D) (seen : Image) (file : FileNo) (at count : ℕ) → ((image : Image) → view.left_since old (view.moment old) image → view.may_leave old image) → IsDurable file seen (view.may_leave old) → ImagesFollow (InFile file (Torn at count)) (view.may_leave old) (view.may_leave mid)
+      → Elapses (view.moment old) (view.moment mid) (view.left_since old) (view.left_since mid) (view.may_leave mid)
+      → LeavesOnly view old mid (InFileOnly file (view.may_leave old) (Torn at count (file_of file seen)))
   write_leaves old mid seen file at count only durable follows time =
-      let first = in_file_at_first file (may_leave old) (Torn at count (file_of file seen)) (λ image left. subst (Torn at count (file_of file seen)) (sym (durable image left)) (not_torn at count (file_of file seen))) in
-      goes_on moment left_since old old mid (InFileOnly file (may_leave old) (Torn at count (file_of file seen))) (may_leave mid)
-      (started moment left_since old (InFileOnly file (may_leave old) (Torn at count (file_of file seen))) (λ image left. first image (only image left)))
+      let first = in_file_at_first file (view.may_leave old) (Torn at count (file_of file seen)) (λ image left. subst (Torn at count (file_of file seen)) (sym (durable image left)) (not_torn at count (file_of file seen))) in
+      goes_on view old old mid (InFileOnly file (view.may_leave old) (Torn at count (file_of file seen))) (view.may_leave mid)
+      (started view old (InFileOnly file (view.may_leave old) (Torn at count (file_of file seen))) (λ image left. first image (only image left)))
       time (torn_images old mid seen file at count durable follows)
 
   -- and then a call that leaves no new image
-  pub still_leaves : (old mid new : D) (file : FileNo) (P : List ℕ → Type 0) → LeavesOnly moment left_since old mid (InFileOnly file (may_leave old) P) → AllInFile file (may_leave old) (may_leave mid) P → NoNewImage (may_leave mid) (may_leave new)
-      → Elapses (moment mid) (moment new) (left_since mid) (left_since new) (may_leave new) → LeavesOnly moment left_since old new (InFileOnly file (may_leave old) P)
+  pub still_leaves : (old mid new : D) (file : FileNo) (P : List ℕ → Type 0) → LeavesOnly view old mid (InFileOnly file (view.may_leave old) P) → AllInFile file (view.may_leave old) (view.may_leave mid) P → NoNewImage (view.may_leave mid) (view.may_leave new)
+      → Elapses (view.moment mid) (view.moment new) (view.left_since mid) (view.left_since new) (view.may_leave new) → LeavesOnly view old new (InFileOnly file (view.may_leave old) P)
   still_leaves old mid new file P so_far all none time =
-      goes_on moment left_since old mid new (InFileOnly file (may_leave old) P) (may_leave new) so_far time (in_file_still file (may_leave old) (may_leave mid) (may_leave new) P all none)
+      goes_on view old mid new (InFileOnly file (view.may_leave old) P) (view.may_leave new) so_far time (in_file_still file (view.may_leave old) (view.may_leave mid) (view.may_leave new) P all none)
 
 -- what a disk leaves now, in terms of what it left before a run
-pub now_in_run : {D : Type 0} (moment : D → ℕ) (left_since : D → ℕ → Image → Type 0) (may_leave : D → Image → Type 0) (old mid : D) (P : Image → Type 0) → ((start : ℕ) (image : Image) → start ≤ moment mid → may_leave mid image → left_since mid start image)
-    → LeavesOnly moment left_since old mid P → (image : Image) → may_leave mid image → P image
-now_in_run moment left_since may_leave old mid P counts_now run image left = run.each image (counts_now (moment old) image run.later left)
+pub now_in_run : {D : Type 0} (view : DiskView D) (old mid : D) (P : Image → Type 0) → ((start : ℕ) (image : Image) → start ≤ view.moment mid → view.may_leave mid image → view.left_since mid start image)
+    → LeavesOnly view old mid P → (image : Image) → view.may_leave mid image → P image
+now_in_run view old mid P counts_now run image left = run.each image (counts_now (view.moment old) image run.later left)

@@ -79,10 +79,3 @@ pub record Elapses (before now : ℕ) (past since : ℕ → Image → Type 0) (m
   pub later : before ≤ now
   pub nothing_else : (moment : ℕ) (image : Image) → moment ≤ before → since moment image → past moment image ⊎ may_leave image
   pub keeps : (moment : ℕ) (image : Image) → moment ≤ before → past moment image → since moment image
-
--- Each image that a stop might have left since the old moment has P.
-pub record LeavesOnly {D : Type 0} (moment : D → ℕ) (left_since : D → ℕ → Image → Type 0) (old new : D) (P : Image → Type 0) : Type 0 where
-  pub later : moment old ≤ moment new
-  pub each : (image : Image) → left_since new (moment old) image → P image
-  -- for a run of calls that began earlier
-  pub before : (start : ℕ) (image : Image) → start ≤ moment old → left_since new start image → left_since old start image ⊎ P image

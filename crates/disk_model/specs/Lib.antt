@@ -9,3 +9,4 @@ pub mod Memory
 pub mod Past
 pub mod Told
 pub mod Touched
+pub mod View

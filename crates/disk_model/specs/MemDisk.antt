@@ -1,11 +1,12 @@
 -- A disk in memory, as contracts see it.
-use Rattle.std.specs.Prelude.{ℕ, Bool, false, [], length, Option, None, Some}
+use Rattle.std.specs.Prelude.{⊤, ℕ, Bool, false, [], length, Option, None, Some}
 use Rattle.disk_model.specs.declared.mem_disk.MemDisk.{MemDisk}
 use Rattle.disk_model.specs.Calls.{call_counts, told_by}
 use Rattle.disk_model.specs.Faults.{Counts}
 use Rattle.disk_model.specs.Files.{seen_in, IsImageIn, LeftSince}
 use Rattle.disk_model.specs.Images.{Image}
 use Rattle.disk_model.specs.Told.{Told}
+use Rattle.disk_model.specs.View.{DiskView}
 
 abbrev pub seen_of : MemDisk → Image
 seen_of disk = seen_in disk.files
@@ -24,6 +25,19 @@ counts_by disk = call_counts disk.calls
 
 abbrev pub told_of : MemDisk → Option Told
 told_of disk = Some (told_by disk.calls disk.files)
+
+-- what it says of itself
+abbrev pub view_of : DiskView MemDisk
+view_of =
+    record {
+      seen = seen_of;
+      may_leave = left_by;
+      moment = moment_of;
+      left_since = left_since_by;
+      honest = λ disk. ⊤;
+      counts = counts_by;
+      told = told_of;
+    }
 
 -- what it tells of its bytes
 abbrev pub done_in : Option Told → Image → Image

@@ -20,37 +20,37 @@ pub trait ArmedDisk: Disk {
     /// Lets `pass` more calls of `write_at`, `cut` and `sync` succeed, and the next one stop within and leave the image of
     /// that number. Every call after it is stopped too. A disk that has stopped stays as it is.
     fn arm(&mut self, pass: u32, image: u32)
-        ensures told { TellsThen (λ old new. new ≡ after_arm pass image old) (Self.told self.old) (Self.told self.new) }
-        ensures seen { Self.seen self.new ≡ Self.seen self.old }
-        ensures images { (image : Image) → Self.may_leave self.new image ↔ Self.may_leave self.old image }
-        ensures moment { Self.moment self.new ≡ Self.moment self.old }
-        ensures time { (start : ℕ) (image : Image) → Self.left_since self.new start image ↔ Self.left_since self.old start image }
-        ensures honest { Self.honest self.new ↔ Self.honest self.old }
-        ensures counts { Self.counts self.new ≡ Self.counts self.old };
+        ensures told { TellsThen (λ old new. new ≡ after_arm pass image old) (Self.view.told self.old) (Self.view.told self.new) }
+        ensures seen { Self.view.seen self.new ≡ Self.view.seen self.old }
+        ensures images { (image : Image) → Self.view.may_leave self.new image ↔ Self.view.may_leave self.old image }
+        ensures moment { Self.view.moment self.new ≡ Self.view.moment self.old }
+        ensures time { (start : ℕ) (image : Image) → Self.view.left_since self.new start image ↔ Self.view.left_since self.old start image }
+        ensures honest { Self.view.honest self.new ↔ Self.view.honest self.old }
+        ensures counts { Self.view.counts self.new ≡ Self.view.counts self.old };
 
     /// Takes [`ArmedDisk::arm`] back, where no stop has come.
     fn disarm(&mut self)
-        ensures told { TellsThen (λ old new. new ≡ after_disarm old) (Self.told self.old) (Self.told self.new) }
-        ensures seen { Self.seen self.new ≡ Self.seen self.old }
-        ensures images { (image : Image) → Self.may_leave self.new image ↔ Self.may_leave self.old image }
-        ensures moment { Self.moment self.new ≡ Self.moment self.old }
-        ensures time { (start : ℕ) (image : Image) → Self.left_since self.new start image ↔ Self.left_since self.old start image }
-        ensures honest { Self.honest self.new ↔ Self.honest self.old }
-        ensures counts { Self.counts self.new ≡ Self.counts self.old };
+        ensures told { TellsThen (λ old new. new ≡ after_disarm old) (Self.view.told self.old) (Self.view.told self.new) }
+        ensures seen { Self.view.seen self.new ≡ Self.view.seen self.old }
+        ensures images { (image : Image) → Self.view.may_leave self.new image ↔ Self.view.may_leave self.old image }
+        ensures moment { Self.view.moment self.new ≡ Self.view.moment self.old }
+        ensures time { (start : ℕ) (image : Image) → Self.view.left_since self.new start image ↔ Self.view.left_since self.old start image }
+        ensures honest { Self.view.honest self.new ↔ Self.view.honest self.old }
+        ensures counts { Self.view.counts self.new ≡ Self.view.counts self.old };
 
     /// After a stop, makes the files the image that the stop leaves, all of it synced, and takes calls again. Without a
     /// stop nothing changes.
     fn revive(&mut self)
-        ensures told { TellsThen (λ old new. new ≡ after_revive old) (Self.told self.old) (Self.told self.new) }
+        ensures told { TellsThen (λ old new. new ≡ after_revive old) (Self.view.told self.old) (Self.view.told self.new) }
         // The files are an image that the stop may leave.
-        ensures left { Self.honest self.old → Self.may_leave self.old (Self.seen self.new) }
-        ensures no_new_image { Self.honest self.old → NoNewImage (Self.may_leave self.old) (Self.may_leave self.new) }
-        ensures synced { Self.honest self.old → TellsStop (Self.told self.old)
-            → (file : FileNo) → IsDurable file (Self.seen self.new) (Self.may_leave self.new) }
-        ensures running { IsRunning (Self.told self.old) → self.new ≡ self.old }
-        ensures honest { Self.honest self.new ↔ Self.honest self.old }
-        ensures counts { Self.counts self.new ≡ Self.counts self.old };
+        ensures left { Self.view.honest self.old → Self.view.may_leave self.old (Self.view.seen self.new) }
+        ensures no_new_image { Self.view.honest self.old → NoNewImage (Self.view.may_leave self.old) (Self.view.may_leave self.new) }
+        ensures synced { Self.view.honest self.old → TellsStop (Self.view.told self.old)
+            → (file : FileNo) → IsDurable file (Self.view.seen self.new) (Self.view.may_leave self.new) }
+        ensures running { IsRunning (Self.view.told self.old) → self.new ≡ self.old }
+        ensures honest { Self.view.honest self.new ↔ Self.view.honest self.old }
+        ensures counts { Self.view.counts self.new ≡ Self.view.counts self.old };
 
     /// It tells when it will stop.
-    ghost tells: { (disk : Self) → IsSome (Self.Disk.told disk) };
+    ghost tells: { (disk : Self) → IsSome (Self.Disk.view.told disk) };
 }

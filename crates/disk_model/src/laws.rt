@@ -5,10 +5,11 @@ ghost use Rattle.disk_model.specs.declared.fault.DiskFault.{DiskFault};
 ghost use Rattle.disk_model.specs.declared.fault.DiskFault.TheVariants.{Stopped, Failed};
 ghost use Rattle.disk_model.specs.declared.mem_disk.MemDisk.{MemDisk};
 ghost use Rattle.disk_model.specs.Faults.{Counts, CountsDiskAnswer};
-ghost use Rattle.disk_model.specs.Images.{Image, Cut, Elapses};
+ghost use Rattle.disk_model.specs.Images.{Image, Cut};
 ghost use Rattle.disk_model.specs.Made.{DiskCall, AllDone, BreaksOff, StopsAt};
 ghost use Rattle.disk_model.specs.MemDisk.{told_of, left_by};
 ghost use Rattle.disk_model.specs.Told.{Told, MayBeLeft};
+ghost use Rattle.disk_model.specs.View.{HasElapsed};
 
 use crate::disk::Disk;
 
@@ -34,9 +35,9 @@ pub fn a_cut_leaves_a_front()
 /// What a stop since a moment might have left stays so over the calls that follow.
 pub fn time_keeps_what_was_left<D: Disk>()
     ensures { (one two three : D) (start : ℕ) (image : Image)
-        → Elapses (D.moment one) (D.moment two) (D.left_since one) (D.left_since two) (D.may_leave two)
-        → Elapses (D.moment two) (D.moment three) (D.left_since two) (D.left_since three) (D.may_leave three)
-        → start ≤ D.moment one → D.left_since one start image → D.left_since three start image }
+        → HasElapsed D.view one two
+        → HasElapsed D.view two three
+        → start ≤ D.view.moment one → D.view.left_since one start image → D.view.left_since three start image }
 {}
 
 /// Within which call an armed disk stops. Calls that are done are no more than those that were to succeed, and leave so

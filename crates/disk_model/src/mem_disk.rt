@@ -53,25 +53,13 @@ impl MemDisk {
 }
 
 impl Disk for MemDisk {
-    ghost use Rattle.std.specs.Prelude.{◌≡◌, ⊤};
+    ghost use Rattle.std.specs.Prelude.{◌≡◌};
     ghost use Rattle.std.proofs.Common.{inl, sym, ap};
     ghost use Rattle.disk_model.specs.Left.{seen_left};
-    ghost use Rattle.disk_model.specs.MemDisk.{told_of, seen_of, left_by, left_since_by, moment_of, counts_by, done_in};
+    ghost use Rattle.disk_model.specs.MemDisk.{seen_of, view_of, done_in};
     ghost use Rattle.disk_model.specs.Past.{only_now};
 
-    ghost seen = { seen_of };
-
-    ghost may_leave = { left_by };
-
-    ghost moment = { moment_of };
-
-    ghost left_since = { left_since_by };
-
-    ghost honest = { λ disk. ⊤ };
-
-    ghost counts = { counts_by };
-
-    ghost told = { told_of };
+    ghost view = { view_of };
 
     ghost counts_now = { λ disk start image honest le now. inl now };
 

@@ -1,8 +1,9 @@
 ghost use Rattle.std.specs.Prelude.{◌≡◌, ◌↔◌, ◌≤◌, length, IfOk, OnOk, IsErrOf};
 ghost use Rattle.disk_model.specs.declared.fault.DiskFault.TheVariants.{OutOfMemory};
 ghost use Rattle.disk_model.specs.Faults.{CountsDiskAnswer};
-ghost use Rattle.disk_model.specs.Images.{file_of, InFile, HoldsPiece, Torn, IsDurable, NoNewImage, LeavesOnly, InFileOnly};
+ghost use Rattle.disk_model.specs.Images.{file_of, InFile, HoldsPiece, Torn, IsDurable, NoNewImage, InFileOnly};
 ghost use Rattle.disk_model.specs.Told.{TellsThen, AfterLooks, AfterWriteSynced};
+ghost use Rattle.disk_model.specs.View.{LeavesOnly};
 
 use crate::disk::Disk;
 use crate::fault::{DiskFault, FileNo};
@@ -19,18 +20,18 @@ pub fn write_synced<D: Disk>(
     at: u64,
     bytes: &[u8],
 ) -> Result<(), DiskFault>
-    requires within { at ≤ length (file_of file (D.seen disk.old)) }
-    requires durable { D.honest disk.old → IsDurable file (D.seen disk.old) (D.may_leave disk.old) }
-    ensures written { OnOk result (InFile file (HoldsPiece at bytes.now) (D.seen disk.old) (D.seen disk.new)) }
-    ensures durable { OnOk result (D.honest disk.new → IsDurable file (D.seen disk.new) (D.may_leave disk.new)) }
-    ensures images { D.honest disk.old → LeavesOnly D.moment D.left_since disk.old disk.new
-        (InFileOnly file (D.may_leave disk.old) (Torn at (length bytes.now) (file_of file (D.seen disk.old)))) }
-    ensures unchanged { IsErrOf result OutOfMemory → D.seen disk.new ≡ D.seen disk.old }
-    ensures still_durable { IsErrOf result OutOfMemory → D.honest disk.new → IsDurable file (D.seen disk.new) (D.may_leave disk.new) }
-    ensures no_new_image { IsErrOf result OutOfMemory → D.honest disk.old → NoNewImage (D.may_leave disk.old) (D.may_leave disk.new) }
-    ensures honest { D.honest disk.new ↔ D.honest disk.old }
-    ensures counts { CountsDiskAnswer (D.counts disk.old) (D.counts disk.new) result }
-    ensures told { TellsThen (AfterWriteSynced file at bytes.now result) (D.told disk.old) (D.told disk.new) }
+    requires within { at ≤ length (file_of file (D.view.seen disk.old)) }
+    requires durable { D.view.honest disk.old → IsDurable file (D.view.seen disk.old) (D.view.may_leave disk.old) }
+    ensures written { OnOk result (InFile file (HoldsPiece at bytes.now) (D.view.seen disk.old) (D.view.seen disk.new)) }
+    ensures durable { OnOk result (D.view.honest disk.new → IsDurable file (D.view.seen disk.new) (D.view.may_leave disk.new)) }
+    ensures images { D.view.honest disk.old → LeavesOnly D.view disk.old disk.new
+        (InFileOnly file (D.view.may_leave disk.old) (Torn at (length bytes.now) (file_of file (D.view.seen disk.old)))) }
+    ensures unchanged { IsErrOf result OutOfMemory → D.view.seen disk.new ≡ D.view.seen disk.old }
+    ensures still_durable { IsErrOf result OutOfMemory → D.view.honest disk.new → IsDurable file (D.view.seen disk.new) (D.view.may_leave disk.new) }
+    ensures no_new_image { IsErrOf result OutOfMemory → D.view.honest disk.old → NoNewImage (D.view.may_leave disk.old) (D.view.may_leave disk.new) }
+    ensures honest { D.view.honest disk.new ↔ D.view.honest disk.old }
+    ensures counts { CountsDiskAnswer (D.view.counts disk.old) (D.view.counts disk.new) result }
+    ensures told { TellsThen (AfterWriteSynced file at bytes.now result) (D.view.told disk.old) (D.view.told disk.new) }
 {
     disk.write_at(file, at, bytes)?;
     disk.sync(file)
@@ -42,15 +43,15 @@ pub fn write_synced<D: Disk>(
 ///
 /// Those of the disk, and want of memory for the bytes.
 pub fn read_file<D: Disk>(alloc: Global, disk: &mut D, file: FileNo) -> Result<Vec<u8>, DiskFault>
-    ensures bytes { IfOk result (λ bytes. bytes.items ≡ file_of file (D.seen disk.old)) }
-    ensures seen { D.seen disk.new ≡ D.seen disk.old }
-    ensures durable { (D.honest disk.old → IsDurable file (D.seen disk.old) (D.may_leave disk.old))
-        → D.honest disk.new → IsDurable file (D.seen disk.new) (D.may_leave disk.new) }
-    ensures no_new_image { D.honest disk.old → NoNewImage (D.may_leave disk.old) (D.may_leave disk.new) }
-    ensures images { D.honest disk.old → LeavesOnly D.moment D.left_since disk.old disk.new (D.may_leave disk.old) }
-    ensures honest { D.honest disk.new ↔ D.honest disk.old }
-    ensures counts { CountsDiskAnswer (D.counts disk.old) (D.counts disk.new) result }
-    ensures told { TellsThen (AfterLooks result) (D.told disk.old) (D.told disk.new) }
+    ensures bytes { IfOk result (λ bytes. bytes.items ≡ file_of file (D.view.seen disk.old)) }
+    ensures seen { D.view.seen disk.new ≡ D.view.seen disk.old }
+    ensures durable { (D.view.honest disk.old → IsDurable file (D.view.seen disk.old) (D.view.may_leave disk.old))
+        → D.view.honest disk.new → IsDurable file (D.view.seen disk.new) (D.view.may_leave disk.new) }
+    ensures no_new_image { D.view.honest disk.old → NoNewImage (D.view.may_leave disk.old) (D.view.may_leave disk.new) }
+    ensures images { D.view.honest disk.old → LeavesOnly D.view disk.old disk.new (D.view.may_leave disk.old) }
+    ensures honest { D.view.honest disk.new ↔ D.view.honest disk.old }
+    ensures counts { CountsDiskAnswer (D.view.counts disk.old) (D.view.counts disk.new) result }
+    ensures told { TellsThen (AfterLooks result) (D.view.told disk.old) (D.view.told disk.new) }
 {
     let size = disk.length(file)? as usize;
     let mut bytes = vec![in alloc; 0; size]?;

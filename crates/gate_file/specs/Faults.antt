@@ -4,6 +4,7 @@ use Rattle.disk_model.specs.declared.fault.DiskFault.{DiskFault}
 use Rattle.disk_model.specs.declared.fault.DiskFault.TheVariants.{Failed}
 use Rattle.disk_model.specs.declared.fault.DiskFault.TheVariants as Disk
 use Rattle.disk_model.specs.Faults.{Counts, CountsAnswer}
+use Rattle.disk_model.specs.View.{DiskView}
 use Rattle.gate_file.specs.declared.fault.GateFault.{GateFault}
 use Rattle.gate_file.specs.declared.fault.GateFault.TheVariants as Gate
 
@@ -17,6 +18,6 @@ CountsGateAnswer old new result = CountsAnswer Gate.Stopped Gate.DiskFault Gate.
 
 -- What each call of a gated file says of its disk whatever it answers: it is as honest as it was, and its counts rose where the
 -- answer tells of it, and nowhere else.
-pub record HasGateAnswer {D T : Type 0} (honest : D → Type 0) (counts : D → Counts) (old new : D) (result : Result T GateFault) : Type 0 where
-  pub honest_still : honest new ↔ honest old
-  pub counted : CountsGateAnswer (counts old) (counts new) result
+pub record HasGateAnswer {D T : Type 0} (view : DiskView D) (old new : D) (result : Result T GateFault) : Type 0 where
+  pub honest_still : view.honest new ↔ view.honest old
+  pub counted : CountsGateAnswer (view.counts old) (view.counts new) result

@@ -1,7 +1,8 @@
 -- A gated file that was read, and its disk.
 use Rattle.std.specs.Prelude.{◌≡◌, ℕ, ◌*◌, ◌≤◌, true, false, List, length}
 use Rattle.disk_model.specs.declared.fault.FileNo.{FileNo}
-use Rattle.disk_model.specs.Images.{Image, file_of, IsDurable}
+use Rattle.disk_model.specs.Images.{file_of, IsDurable}
+use Rattle.disk_model.specs.View.{DiskView}
 use Rattle.gate_file.specs.declared.read_gates.ReadGates.{ReadGates}
 use Rattle.gate_file.specs.Gates.{HasBodies, IsClosedAt, IsNotClosedAt}
 
@@ -12,9 +13,9 @@ abbrev pub bodies_read : ReadGates → List (List ℕ)
 bodies_read gates = gates.bodies.items
 
 -- The disk's file is as it was read: it has the bodies, whatever a stop does.
-pub record IsRead {D : Type 0} (seen : D → Image) (may_leave : D → Image → Type 0) (honest : D → Type 0) (disk : D) (gates : ReadGates) : Type 0 where
-  pub has : HasBodies (file_of (file_read gates) (seen disk)) (bodies_read gates)
-  pub closed : gates.closed ≡ true → IsClosedAt (file_of (file_read gates) (seen disk)) (57 * length (bodies_read gates))
-  pub not_closed : gates.closed ≡ false → IsNotClosedAt (file_of (file_read gates) (seen disk)) (57 * length (bodies_read gates))
-  pub within : 57 * length (bodies_read gates) ≤ length (file_of (file_read gates) (seen disk))
-  pub durable : honest disk → IsDurable (file_read gates) (seen disk) (may_leave disk)
+pub record IsRead {D : Type 0} (view : DiskView D) (disk : D) (gates : ReadGates) : Type 0 where
+  pub has : HasBodies (file_of (file_read gates) (view.seen disk)) (bodies_read gates)
+  pub closed : gates.closed ≡ true → IsClosedAt (file_of (file_read gates) (view.seen disk)) (57 * length (bodies_read gates))
+  pub not_closed : gates.closed ≡ false → IsNotClosedAt (file_of (file_read gates) (view.seen disk)) (57 * length (bodies_read gates))
+  pub within : 57 * length (bodies_read gates) ≤ length (file_of (file_read gates) (view.seen disk))
+  pub durable : view.honest disk → IsDurable (file_read gates) (view.seen disk) (view.may_leave disk)

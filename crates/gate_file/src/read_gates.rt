@@ -1,7 +1,8 @@
 ghost use Rattle.std.specs.Prelude.{◌≡◌, ◌↔◌, ⊤, ℕ, List, length, Option, IfOk, OnOk, IsErrOf};
-ghost use Rattle.disk_model.specs.Images.{file_of, OthersStay, NoNewImage, LeavesOnly, InFileOnly, AllHave};
+ghost use Rattle.disk_model.specs.Images.{file_of, OthersStay, NoNewImage, InFileOnly, AllHave};
 ghost use Rattle.disk_model.specs.Made.{MadeCalls};
 ghost use Rattle.disk_model.specs.Told.{TellsThen};
+ghost use Rattle.disk_model.specs.View.{LeavesOnly};
 ghost use Rattle.gate_file.specs.declared.fault.GateFault.TheVariants.{OutOfMemory};
 ghost use Rattle.gate_file.specs.Faults.{HasGateAnswer, gate_fault_of};
 ghost use Rattle.gate_file.specs.Made.{read_calls, close_calls};
@@ -41,14 +42,14 @@ impl ReadGates {
     /// `Stopped` and `DiskFault` where the disk stopped or failed, and `OutOfMemory` for the bytes and the bodies. Then
     /// nothing was written.
     pub fn read<D: Disk>(alloc: Global, disk: &mut D, file: FileNo) -> Result<ReadGates, GateFault>
-        ensures read { IfOk result (λ gates. IsRead D.seen D.may_leave D.honest disk.new gates) }
+        ensures read { IfOk result (λ gates. IsRead D.view disk.new gates) }
         ensures file { IfOk result (λ gates. file_read gates ≡ file) }
-        ensures bodies { IfOk result (λ gates. HasBodies (file_of file (D.seen disk.old)) (bodies_read gates)) }
-        ensures seen { D.seen disk.new ≡ D.seen disk.old }
-        ensures no_new_image { D.honest disk.old → NoNewImage (D.may_leave disk.old) (D.may_leave disk.new) }
-        ensures images { D.honest disk.old → LeavesOnly D.moment D.left_since disk.old disk.new (D.may_leave disk.old) }
-        ensures answer { HasGateAnswer D.honest D.counts disk.old disk.new result }
-        ensures told { TellsThen (MadeCalls gate_fault_of (read_calls file) result) (D.told disk.old) (D.told disk.new) }
+        ensures bodies { IfOk result (λ gates. HasBodies (file_of file (D.view.seen disk.old)) (bodies_read gates)) }
+        ensures seen { D.view.seen disk.new ≡ D.view.seen disk.old }
+        ensures no_new_image { D.view.honest disk.old → NoNewImage (D.view.may_leave disk.old) (D.view.may_leave disk.new) }
+        ensures images { D.view.honest disk.old → LeavesOnly D.view disk.old disk.new (D.view.may_leave disk.old) }
+        ensures answer { HasGateAnswer D.view disk.old disk.new result }
+        ensures told { TellsThen (MadeCalls gate_fault_of (read_calls file) result) (D.view.told disk.old) (D.view.told disk.new) }
     {
         disk.sync(file)?;
         let bytes = read_file(alloc, disk, file)?;
@@ -67,26 +68,27 @@ impl ReadGates {
     ///
     /// `Stopped` and `DiskFault` where the disk stopped or failed, and `OutOfMemory`. Then the file is to be read again.
     pub fn close<D: Disk>(self, disk: &mut D) -> Result<GateFile, GateFault>
-        requires { IsRead D.seen D.may_leave D.honest disk.old self }
-        ensures settled { IfOk result (λ gates. IsFileSettled D.seen D.may_leave D.honest disk.new gates) }
+        requires { IsRead D.view disk.old self }
+        ensures settled { IfOk result (λ gates. IsFileSettled D.view disk.new gates) }
         ensures file { IfOk result (λ gates. file_no gates ≡ file_read self) }
         ensures bodies { IfOk result (λ gates. bodies_of gates ≡ bodies_read self) }
-        ensures others { OnOk result (OthersStay (file_read self) (D.seen disk.old) (D.seen disk.new)) }
+        ensures others { OnOk result (OthersStay (file_read self) (D.view.seen disk.old) (D.view.seen disk.new)) }
 
         // Where an append was cut short, whatever a stop within this call leaves has the bodies from before it, with its body
         // or without.
-        ensures images { (bodies : List (List ℕ)) (pending : Option (List ℕ)) → D.honest disk.old
-            → AllHave (file_read self) (IsStaged bodies pending) (D.may_leave disk.old)
-            → LeavesOnly D.moment D.left_since disk.old disk.new
-            (InFileOnly (file_read self) (D.may_leave disk.old) (IsStaged bodies pending)) }
+        ensures images { (bodies : List (List ℕ)) (pending : Option (List ℕ)) → D.view.honest disk.old
+            → AllHave (file_read self) (IsStaged bodies pending) (D.view.may_leave disk.old)
+            → LeavesOnly D.view disk.old disk.new
+            (InFileOnly (file_read self) (D.view.may_leave disk.old) (IsStaged bodies pending)) }
 
         // And whatever the file had, the other files are as they were.
-        ensures elsewhere { D.honest disk.old → LeavesOnly D.moment D.left_since disk.old disk.new
-            (InFileOnly (file_read self) (D.may_leave disk.old) (λ bytes. ⊤)) }
-        ensures memory_image { IsErrOf result OutOfMemory → D.honest disk.old → NoNewImage (D.may_leave disk.old) (D.may_leave disk.new) }
-        ensures answer { HasGateAnswer D.honest D.counts disk.old disk.new result }
-        ensures told { TellsThen (MadeCalls gate_fault_of (close_calls (file_read self) (file_of (file_read self) (D.seen disk.old)) (length (bodies_read self))) result)
-            (D.told disk.old) (D.told disk.new) }
+        ensures elsewhere { D.view.honest disk.old → LeavesOnly D.view disk.old disk.new
+            (InFileOnly (file_read self) (D.view.may_leave disk.old) (λ bytes. ⊤)) }
+        ensures memory_image { IsErrOf result OutOfMemory → D.view.honest disk.old → NoNewImage (D.view.may_leave disk.old) (D.view.may_leave disk.new) }
+        ensures answer { HasGateAnswer D.view disk.old disk.new result }
+        ensures told { TellsThen (MadeCalls gate_fault_of
+            (close_calls (file_read self) (file_of (file_read self) (D.view.seen disk.old)) (length (bodies_read self))) result)
+            (D.view.told disk.old) (D.view.told disk.new) }
     {
         let ReadGates {
             file,

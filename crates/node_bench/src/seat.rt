@@ -78,8 +78,7 @@ pub struct OnDisk<'a> {
 
 impl<'a> Model for OnDisk<'a> {
     ghost use Rattle.std.specs.Prelude.{◌≡◌, true};
-    ghost use Rattle.std.specs.Bool.{⊤};
-    ghost use Rattle.disk_model.specs.MemDisk.{left_by, seen_of};
+    ghost use Rattle.disk_model.specs.MemDisk.{view_of};
     ghost use Rattle.disk_model.specs.declared.mem_disk.MemDisk.{MemDisk};
     ghost use Rattle.due_set.specs.Table.{Table};
     ghost use Rattle.replica_node.specs.Node.{runs_in, IsNodeAtRest};
@@ -89,7 +88,7 @@ impl<'a> Model for OnDisk<'a> {
 
     ghost view = { λ seat. (seat.table.now, seat.node) };
 
-    ghost invariant = { λ seat. runs_in seat.node ≡ true → IsNodeAtRest seen_of left_by (λ disk. ⊤) seat.table.now seat.node };
+    ghost invariant = { λ seat. runs_in seat.node ≡ true → IsNodeAtRest view_of seat.table.now seat.node };
 }
 
 impl<'a> OnDisk<'a> {

@@ -1,9 +1,8 @@
 //! A leader that another asks for a vote in its own ballot, and that casts this vote again as its proposal. What it keeps is the
 //! same with that change and without it, so a node whose disk stopped within the save answers it, however the disk was armed.
-ghost use Rattle.disk_model.specs.MemDisk.{left_by, seen_of};
+ghost use Rattle.disk_model.specs.MemDisk.{view_of};
 ghost use Rattle.replica_core.specs.Step.{IsInputInside};
 ghost use Rattle.replica_node.specs.Node.{IsNodeAtRest};
-ghost use Rattle.std.specs.Bool.{⊤};
 ghost use Rattle.std.specs.Prelude.{IfOk};
 
 use crate::arms::{handle_armed, kept_on};
@@ -45,9 +44,9 @@ fn tell(
     mut node: Node<MemDisk>,
     input: Input<'_>,
 ) -> Result<Node<MemDisk>, Fail>
-    requires at_rest { IsNodeAtRest seen_of left_by (λ disk. ⊤) table.now node }
+    requires at_rest { IsNodeAtRest view_of table.now node }
     requires inside { IsInputInside table.now input }
-    ensures { IfOk result (IsNodeAtRest seen_of left_by (λ disk. ⊤) table.now) }
+    ensures { IfOk result (IsNodeAtRest view_of table.now) }
 {
     assert!(rt; node.replica().is_small());
     match node.handle(table, input) {
@@ -61,7 +60,7 @@ fn tell(
 
 // A node that leads in the ballot of round 2, and has voted there at slot 0, as replica 1 asked it to.
 fn leader(rt: &impl Abort, alloc: Global, table: &JobTable) -> Result<Node<MemDisk>, Fail>
-    ensures { IfOk result (IsNodeAtRest seen_of left_by (λ disk. ⊤) table.now) }
+    ensures { IfOk result (IsNodeAtRest view_of table.now) }
 {
     match Node::recover(alloc, 0, 3, table, empty_disk(alloc, &[])?) {
         Ok(node) => {

@@ -1,10 +1,9 @@
 //! A node that arms its disk between two of its calls, so that the disk stops within the save of a step, and is reopened
 //! then; or that takes the arming back.
-ghost use Rattle.disk_model.specs.MemDisk.{left_by, seen_of, told_of};
+ghost use Rattle.disk_model.specs.MemDisk.{view_of};
 ghost use Rattle.replica_core.specs.Step.{IsInputInside};
 ghost use Rattle.replica_node.specs.Node.{IsNodeAtRest};
 ghost use Rattle.replica_node.specs.Stopped.{IsStopped};
-ghost use Rattle.std.specs.Bool.{⊤};
 
 use crate::nodes::{
     End, Told, empty_disk, empty_table, end_with, found_on, input_of, packet_of, play,
@@ -137,7 +136,7 @@ pub fn handle_armed(
     mut node: Node<MemDisk>,
     input: Input<'_>,
 ) -> (MemDisk, End)
-    requires at_rest { IsNodeAtRest seen_of left_by (λ disk. ⊤) table.now node }
+    requires at_rest { IsNodeAtRest view_of table.now node }
     requires inside { IsInputInside table.now input }
 {
     assert!(rt; node.replica().is_small());
@@ -149,7 +148,7 @@ pub fn handle_armed(
 }
 
 fn reopen(alloc: Global, table: &JobTable, node: Node<MemDisk>) -> (MemDisk, End)
-    requires { IsStopped left_by (λ disk. ⊤) told_of table.now node }
+    requires { IsStopped view_of table.now node }
 {
     match node.reopen(alloc, table) {
         Ok((node, Some(_))) => (node.into_disk(), End::Kept),

@@ -94,7 +94,7 @@ pub fn end_with<D: Disk>(
     mut node: Node<D>,
     input: Input<'_>,
 ) -> (D, End)
-    requires at_rest { IsNodeAtRest D.seen D.may_leave D.honest table.now node }
+    requires at_rest { IsNodeAtRest D.view table.now node }
     requires inside { IsInputInside table.now input }
 {
     assert!(rt; node.replica().is_small());

@@ -1,9 +1,9 @@
 -- Faults of a node by those of what it stands on.
 use Rattle.std.proofs.Common.{◌≡◌, ◌⊎◌, ℕ, Result, Err, IsErrAnd, refl, ap, ◌∙◌, subst, inl, inr}
 use Rattle.std.proofs.lemmas.Result.{err_from_is_err_and}
-use Rattle.disk_model.specs.Faults.{Counts}
 use Rattle.disk_model.specs.declared.fault.DiskFault.{DiskFault}
 use Rattle.disk_model.specs.declared.fault.DiskFault.TheVariants as Disk
+use Rattle.disk_model.specs.View.{DiskView}
 use Rattle.paxos_letter.specs.declared.fault.LetterFault.{LetterFault}
 use Rattle.replica_store.specs.Faults.{HasStoreAnswer}
 use Rattle.replica_store.specs.Faults as stored
@@ -69,9 +69,9 @@ pub no_letter_below : {U : Type 0} (fault : StoreFault) (letter : LetterFault) (
 no_letter_below fault letter result gives is = no_letter_of fault letter (handed_on fault (Node.Letter letter) result gives is)
 
 -- what the store says of the disk then holds of the node's answer
-pub answer_on : {D T U : Type 0} (honest : D → Type 0) (counts : D → Counts) (old new : D) (fault : StoreFault) (below : Result T StoreFault) (result : Result U NodeFault) → below ≡ Err fault
-    → IsErrAnd result (λ e. e ≡ of_store fault) → HasStoreAnswer honest counts old new below → HasNodeAnswer honest counts old new result
-answer_on honest counts old new fault below result was gives answer =
+pub answer_on : {D T U : Type 0} (view : DiskView D) (old new : D) (fault : StoreFault) (below : Result T StoreFault) (result : Result U NodeFault) → below ≡ Err fault
+    → IsErrAnd result (λ e. e ≡ of_store fault) → HasStoreAnswer view old new below → HasNodeAnswer view old new result
+answer_on view old new fault below result was gives answer =
     let found = err_from_is_err_and result gives in
     record {
       honest_still = answer.honest_still;

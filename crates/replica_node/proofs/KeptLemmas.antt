@@ -10,6 +10,7 @@ use Rattle.disk_model.specs.declared.fault.FileNo.TheVariants.{AreaA, AreaB, Cho
 use Rattle.disk_model.specs.Images.{Image}
 use Rattle.disk_model.specs.Made.{AllDone, DiskCall, MadeCalls}
 use Rattle.disk_model.specs.Told.{TellsThen, Told, after_arm, after_disarm, image_left}
+use Rattle.disk_model.specs.View.{DiskView}
 use Rattle.disk_model.proofs.StopLemmas.{all_pass, all_run, stops_at}
 use Rattle.paxos_base.specs.Durable.{after_delta}
 use Rattle.paxos_base.specs.declared.durable.Delta.{Delta}
@@ -84,25 +85,25 @@ module _ (jobs : ℕ) (area : FileNo) (kept : Durable) (own : Option ℕ) (arm :
 
 -- ---- between two calls
 
-module _ {D : Type 0} (seen : D → Image) (may_leave : D → Image → Type 0) (honest : D → Type 0) (disk : D) (store : AStore) (kept : Durable) (own : Option ℕ) (change : Delta) (settled : IsStoreSettled seen may_leave honest disk store) where
+module _ {D : Type 0} (view : DiskView D) (disk : D) (store : AStore) (kept : Durable) (own : Option ℕ) (change : Delta) (settled : IsStoreSettled view disk store) where
   abbrev calls : List DiskCall
   calls = save_calls (area_of store) (length (records_of store)) kept own change
 
-  ready : (old : Told) → old.done ≡ seen disk → IsAreaSynced (area_of store) old → IsReady (area_of store) (records_of store) old
-  ready old done synced = settled_ready seen may_leave honest disk store old settled done synced.runs synced.chooser synced.area_clean
+  ready : (old : Told) → old.done ≡ view.seen disk → IsAreaSynced (area_of store) old → IsReady (area_of store) (records_of store) old
+  ready old done synced = settled_ready view disk store old settled done synced.runs synced.chooser synced.area_clean
 
-  saved_synced : (old new : Told) → old.done ≡ seen disk → IsAreaSynced (area_of store) old → AllDone calls old new → IsAreaSynced (area_after change (area_of store)) new
+  saved_synced : (old new : Told) → old.done ≡ view.seen disk → IsAreaSynced (area_of store) old → AllDone calls old new → IsAreaSynced (area_after change (area_of store)) new
   saved_synced old new done synced made =
       let clean = ready_clean (area_of store) (records_of store) kept own change old new (ready old done synced) made in
       record { runs = all_run calls old new synced.runs made; chooser = clean.0; area_clean = clean.1 }
 
-  pub tells_saved : (after : AStore) (old new : Option Told) → ((now : Told) → old ≡ Some now → now.done ≡ seen disk) → IsSomeAnd old (IsAreaSynced (area_of store)) → area_of after ≡ area_after change (area_of store)
+  pub tells_saved : (after : AStore) (old new : Option Told) → ((now : Told) → old ≡ Some now → now.done ≡ view.seen disk) → IsSomeAnd old (IsAreaSynced (area_of store)) → area_of after ≡ area_after change (area_of store)
       → TellsThen (MadeCalls {T = Unit} stored.of_disk calls (Ok tt)) old new → IsSomeAnd new (IsAreaSynced (area_of after))
   tells_saved after None new done clean area tells = absurd clean
   tells_saved after (Some old) None done clean area tells = absurd tells
   tells_saved after (Some old) (Some new) done clean area tells = subst (λ (file : FileNo). IsAreaSynced file new) (sym area) (saved_synced old new (done old refl) clean tells.all)
 
-  stops_in_save : (arm : Arm) (old new : Told) → old.done ≡ seen disk → IsAreaSynced (area_of store) old → old.arm ≡ Some arm → StandFor (jobs_of_store store) (records_of store) kept own → ChangeMayFollow (jobs_of_store store) kept change
+  stops_in_save : (arm : Arm) (old new : Told) → old.done ≡ view.seen disk → IsAreaSynced (area_of store) old → old.arm ≡ Some arm → StandFor (jobs_of_store store) (records_of store) kept own → ChangeMayFollow (jobs_of_store store) kept change
       → MadeCalls {T = Unit} stored.of_disk calls (Err Store.Stopped) old new → StopsInSave (jobs_of_store store) (area_of store) kept own change arm old new
   stops_in_save arm old new done synced armed stand follows made =
       record {
@@ -114,7 +115,7 @@ module _ {D : Type 0} (seen : D → Image) (may_leave : D → Image → Type 0) 
         stops = made.broken Disk.Stopped refl;
       }
 
-  pub tells_by_arm : (arm : Arm) (old new : Option Told) → ((now : Told) → old ≡ Some now → now.done ≡ seen disk) → IsSomeAnd old (IsAreaSynced (area_of store)) → IsSomeAnd old (λ now. now.arm ≡ Some arm)
+  pub tells_by_arm : (arm : Arm) (old new : Option Told) → ((now : Told) → old ≡ Some now → now.done ≡ view.seen disk) → IsSomeAnd old (IsAreaSynced (area_of store)) → IsSomeAnd old (λ now. now.arm ≡ Some arm)
       → StandFor (jobs_of_store store) (records_of store) kept own → ChangeMayFollow (jobs_of_store store) kept change → (fault : StoreFault) → fault ≡ Store.Stopped → TellsThen (MadeCalls {T = Unit} stored.of_disk calls (Err fault)) old new
       → ((item : Record) → delta_record change ≡ Some item → IsRecord (record_bytes item) item)
       → ((slot : ℕ) (rows : List JobRow) → change ≡ Base slot rows → AreRecords (map record_bytes (base_records kept own slot rows)) (base_records kept own slot rows))

@@ -7,6 +7,7 @@ use Rattle.disk_model.specs.declared.armed.Arm.{Arm}
 use Rattle.disk_model.specs.declared.fault.FileNo.{FileNo}
 use Rattle.disk_model.specs.Images.{Image}
 use Rattle.disk_model.specs.Told.{Told, image_left}
+use Rattle.disk_model.specs.View.{DiskView}
 use Rattle.paxos_base.specs.Durable.{after_delta}
 use Rattle.paxos_base.specs.declared.durable.Delta.{Delta}
 use Rattle.paxos_base.specs.declared.durable.Delta.TheVariants.{Tried, Promised, Voted, Base}
@@ -52,11 +53,11 @@ reopens jobs before found now change answer store keeps follows either decided k
     }
 
 -- a replica can go on from the disk with what its replica keeps
-pub found_recoverable : {D : Type 0} (seen : D → Image) (may_leave : D → Image → Type 0) (honest : D → Type 0) (disk : D) (store : Store) (jobs : ℕ) (found now : Durable) → IsStoreSettled seen may_leave honest disk store → StoreKeeps store found
-    → jobs_of_store store ≡ jobs → now ≡ found → honest disk → IsRecoverable jobs now now (may_leave disk)
-found_recoverable seen may_leave honest disk store jobs found now settled keeps count same is =
-    subst (λ (k : Durable). IsRecoverable jobs k k (may_leave disk)) (sym same)
-    (subst (λ (n : ℕ). IsRecoverable n found found (may_leave disk)) count (settled_recoverable seen may_leave honest disk store settled found keeps is))
+pub found_recoverable : {D : Type 0} (view : DiskView D) (disk : D) (store : Store) (jobs : ℕ) (found now : Durable) → IsStoreSettled view disk store → StoreKeeps store found
+    → jobs_of_store store ≡ jobs → now ≡ found → view.honest disk → IsRecoverable jobs now now (view.may_leave disk)
+found_recoverable view disk store jobs found now settled keeps count same is =
+    subst (λ (k : Durable). IsRecoverable jobs k k (view.may_leave disk)) (sym same)
+    (subst (λ (n : ℕ). IsRecoverable n found found (view.may_leave disk)) count (settled_recoverable view disk store settled found keeps is))
 
 pub found_stands : (jobs : ℕ) (now : Durable) (may_leave : Image → Type 0) (image : Image) → IsRecoverable jobs now now may_leave → may_leave image → FilesStand jobs now image
 found_stands jobs now may_leave image recoverable left =

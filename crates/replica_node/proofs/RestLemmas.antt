@@ -1,7 +1,8 @@
 -- A node between two calls, and what a stop leaves within one.
 use Rattle.std.proofs.Common.{◌≡◌, ℕ, ◌<◌, ◌≤◌, Option, length, refl, sym, ap, ◌∙◌, subst, inl, inr, arith}
 use Rattle.std.specs.Option.{option_to_list}
-use Rattle.disk_model.specs.Images.{Image, LeavesOnly}
+use Rattle.disk_model.specs.Images.{Image}
+use Rattle.disk_model.specs.View.{DiskView, LeavesOnly}
 use Rattle.due_set.specs.Table.{Table}
 use Rattle.launch_machine.specs.Machine.{Launches, StandsFor}
 use Rattle.paxos_base.specs.declared.durable.Delta.{Delta}
@@ -32,18 +33,18 @@ pub few_members : (me members : ℕ) → me < members → members ≤ 7 → me <
 few_members me members member few = omega (arith, member, few)
 
 -- a replica can go on from the disk with what it keeps
-pub recoverable_at_rest : {D : Type 0} (seen : D → Image) (may_leave : D → Image → Type 0) (honest : D → Type 0) (table : Table) (node : Node D) → IsNodeAtRest seen may_leave honest table node → honest (disk_of node)
-    → IsRecoverable (length table.jobs) (replica_of node).state.kept (replica_of node).state.kept (may_leave (disk_of node))
-recoverable_at_rest seen may_leave honest table node rest is =
+pub recoverable_at_rest : {D : Type 0} (view : DiskView D) (table : Table) (node : Node D) → IsNodeAtRest view table node → view.honest (disk_of node)
+    → IsRecoverable (length table.jobs) (replica_of node).state.kept (replica_of node).state.kept (view.may_leave (disk_of node))
+recoverable_at_rest view table node rest is =
     let kept = (replica_of node).state.kept in
-    subst (λ (jobs : ℕ). IsRecoverable jobs kept kept (may_leave (disk_of node))) rest.jobs (settled_recoverable seen may_leave honest (disk_of node) (store_of node) rest.settled kept rest.keeps is)
+    subst (λ (jobs : ℕ). IsRecoverable jobs kept kept (view.may_leave (disk_of node))) rest.jobs (settled_recoverable view (disk_of node) (store_of node) rest.settled kept rest.keeps is)
 
 -- whatever a stop leaves between two calls stands for what the replica keeps
-pub stands_at_rest : {D : Type 0} (seen : D → Image) (may_leave : D → Image → Type 0) (honest : D → Type 0) (table : Table) (node : Node D) → IsNodeAtRest seen may_leave honest table node → honest (disk_of node) → (image : Image)
-    → may_leave (disk_of node) image → FilesStand (length table.jobs) (replica_of node).state.kept image
-stands_at_rest seen may_leave honest table node rest is image left =
+pub stands_at_rest : {D : Type 0} (view : DiskView D) (table : Table) (node : Node D) → IsNodeAtRest view table node → view.honest (disk_of node) → (image : Image)
+    → view.may_leave (disk_of node) image → FilesStand (length table.jobs) (replica_of node).state.kept image
+stands_at_rest view table node rest is image left =
     let kept = (replica_of node).state.kept in
-    elim (recoverable_stands (length table.jobs) kept kept (may_leave (disk_of node)) (recoverable_at_rest seen may_leave honest table node rest is) image left) [ inl before ↦ before | inr after ↦ after ]
+    elim (recoverable_stands (length table.jobs) kept kept (view.may_leave (disk_of node)) (recoverable_at_rest view table node rest is) image left) [ inl before ↦ before | inr after ↦ after ]
 
 pub of_table_alike : (table : Table) (old now : ReplicaState) → IsSameReplica now old → IsOfTable table old → IsOfTable table now
 of_table_alike table old now alike of_table =
@@ -53,10 +54,10 @@ of_table_alike table old now alike of_table =
     }
 
 -- a node whose replica is alike, and whose store keeps the same, is at rest as it was
-pub at_rest_still : {D : Type 0} (seen : D → Image) (may_leave : D → Image → Type 0) (honest : D → Type 0) (table : Table) (old new : Node D) → IsNodeAtRest seen may_leave honest table old → IsSameReplica (replica_of new) (replica_of old)
-    → runs_in new ≡ runs_in old → jobs_of_store (store_of new) ≡ jobs_of_store (store_of old) → IsStoreSettled seen may_leave honest (disk_of new) (store_of new) → StoreKeeps (store_of new) (replica_of new).state.kept
-    → IsNodeAtRest seen may_leave honest table new
-at_rest_still seen may_leave honest table old new rest alike runs jobs settled keeps =
+pub at_rest_still : {D : Type 0} (view : DiskView D) (table : Table) (old new : Node D) → IsNodeAtRest view table old → IsSameReplica (replica_of new) (replica_of old)
+    → runs_in new ≡ runs_in old → jobs_of_store (store_of new) ≡ jobs_of_store (store_of old) → IsStoreSettled view (disk_of new) (store_of new) → StoreKeeps (store_of new) (replica_of new).state.kept
+    → IsNodeAtRest view table new
+at_rest_still view table old new rest alike runs jobs settled keeps =
     record {
       runs = runs ∙ rest.runs;
       member = rw alike.identity rest.member;
@@ -75,11 +76,11 @@ step_coherent table input old new event few coherent of_table is identity state 
     rw (identity, state) (stays_coherent old.identity table event old.state few coherent (event_planned table old input event of_table is))
 
 -- a node that has saved a change and taken its step is at rest
-pub at_rest_after : {D : Type 0} (seen : D → Image) (may_leave : D → Image → Type 0) (honest : D → Type 0) (table : Table) (input : Input) (old new : Node D) (now : ReplicaState) (planned : Planned) (delta : Option Delta) (out : StepOut)
-    → IsNodeAtRest seen may_leave honest table old → IsSameReplica now (replica_of old) → (plans : PlansStep table input (replica_of old) planned) → Takes table now (replica_of new) (step (replica_of old).identity plans.event (replica_of old).state) out
+pub at_rest_after : {D : Type 0} (view : DiskView D) (table : Table) (input : Input) (old new : Node D) (now : ReplicaState) (planned : Planned) (delta : Option Delta) (out : StepOut)
+    → IsNodeAtRest view table old → IsSameReplica now (replica_of old) → (plans : PlansStep table input (replica_of old) planned) → Takes table now (replica_of new) (step (replica_of old).identity plans.event (replica_of old).state) out
     → deltas_of (step (replica_of old).identity plans.event (replica_of old).state) ≡ option_to_list delta → runs_in new ≡ runs_in old → jobs_of_store (store_of new) ≡ jobs_of_store (store_of old)
-    → IsStoreSettled seen may_leave honest (disk_of new) (store_of new) → StoreKeeps (store_of new) (kept_after delta now.state.kept) → IsNodeAtRest seen may_leave honest table new
-at_rest_after seen may_leave honest table input old new now planned delta out rest alike plans takes told runs jobs settled keeps =
+    → IsStoreSettled view (disk_of new) (store_of new) → StoreKeeps (store_of new) (kept_after delta now.state.kept) → IsNodeAtRest view table new
+at_rest_after view table input old new now planned delta out rest alike plans takes told runs jobs settled keeps =
     let acts = step (replica_of old).identity plans.event (replica_of old).state in
     let identity : (replica_of new).identity ≡ (replica_of old).identity = takes.identity ∙ alike.identity in
     let state : (replica_of new).state ≡ after_acts acts (replica_of old).state = takes.state ∙ ap (after_acts acts) alike.state in
@@ -98,8 +99,8 @@ at_rest_after seen may_leave honest table input old new now planned delta out re
 -- ---- images
 
 -- of a weaker fact
-pub leaves_weaker : {D : Type 0} (moment : D → ℕ) (left_since : D → ℕ → Image → Type 0) (old new : D) (P Q : Image → Type 0) → ((image : Image) → P image → Q image) → LeavesOnly moment left_since old new P → LeavesOnly moment left_since old new Q
-leaves_weaker moment left_since old new P Q weaker leaves =
+pub leaves_weaker : {D : Type 0} (view : DiskView D) (old new : D) (P Q : Image → Type 0) → ((image : Image) → P image → Q image) → LeavesOnly view old new P → LeavesOnly view old new Q
+leaves_weaker view old new P Q weaker leaves =
     record {
       later = leaves.later;
       each = λ image left. weaker image (leaves.each image left);

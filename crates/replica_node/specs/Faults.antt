@@ -1,7 +1,8 @@
 -- The answers of a node by those of what it stands on.
 use Rattle.std.specs.Prelude.{◌≡◌, ◌↔◌, ⊤, ℕ, Option, None, Some, Result, Ok, Err}
-use Rattle.disk_model.specs.Faults.{Counts, CountsAnswer}
+use Rattle.disk_model.specs.Faults.{CountsAnswer}
 use Rattle.disk_model.specs.declared.fault.DiskFault.{DiskFault as DiskAnswer}
+use Rattle.disk_model.specs.View.{DiskView}
 use Rattle.paxos_letter.specs.declared.fault.LetterFault.{LetterFault}
 use Rattle.replica_core.specs.declared.input.StepFault.{StepFault}
 use Rattle.replica_core.specs.declared.input.StepFault.TheVariants as Step
@@ -53,8 +54,8 @@ IsStepRefused (Err (Letter letter)) = ⊤
 
 -- What each call of a node says of its disk whatever it answers: it is as honest as it was, and its counts rose where the
 -- answer tells of it, and nowhere else.
-pub record HasNodeAnswer {D T : Type 0} (honest : D → Type 0) (counts : D → Counts) (old new : D) (result : Result T NodeFault) : Type 0 where
-  pub honest_still : honest new ↔ honest old
-  pub counted : CountsAnswer Stopped DiskFault OutOfMemory (counts old) (counts new) result
-  pub damaged : (gate : ℕ) → result ≡ Err (Damaged gate) → counts new ≡ counts old
-  pub letter : (fault : LetterFault) → result ≡ Err (Letter fault) → counts new ≡ counts old
+pub record HasNodeAnswer {D T : Type 0} (view : DiskView D) (old new : D) (result : Result T NodeFault) : Type 0 where
+  pub honest_still : view.honest new ↔ view.honest old
+  pub counted : CountsAnswer Stopped DiskFault OutOfMemory (view.counts old) (view.counts new) result
+  pub damaged : (gate : ℕ) → result ≡ Err (Damaged gate) → view.counts new ≡ view.counts old
+  pub letter : (fault : LetterFault) → result ≡ Err (Letter fault) → view.counts new ≡ view.counts old

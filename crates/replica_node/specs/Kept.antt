@@ -5,6 +5,7 @@ use Rattle.disk_model.specs.declared.fault.FileNo.{FileNo}
 use Rattle.disk_model.specs.declared.fault.FileNo.TheVariants.{Chooser}
 use Rattle.disk_model.specs.Images.{Image}
 use Rattle.disk_model.specs.Told.{Told, image_left}
+use Rattle.disk_model.specs.View.{DiskView}
 use Rattle.paxos_base.specs.Durable.{after_delta}
 use Rattle.paxos_base.specs.declared.durable.Delta.{Delta}
 use Rattle.paxos_base.specs.declared.durable.Delta.TheVariants.{Tried, Promised, Voted, Base}
@@ -29,12 +30,12 @@ pub record IsAreaSynced (area : FileNo) (now : Told) : Type 0 where
   pub area_clean : IsClean area now
 
 -- a node's disk tells so, of the area of the node's store
-abbrev pub IsNodeClean : {D : Type 0} → (D → Option Told) → Node D → Type 0
-IsNodeClean told node = IsSomeAnd (told (disk_of node)) (IsAreaSynced (area_of (store_of node)))
+abbrev pub IsNodeClean : {D : Type 0} → DiskView D → Node D → Type 0
+IsNodeClean view node = IsSomeAnd (view.told (disk_of node)) (IsAreaSynced (area_of (store_of node)))
 
 -- it tells that it is armed so
-abbrev pub IsNodeArmed : {D : Type 0} → (D → Option Told) → Node D → Arm → Type 0
-IsNodeArmed told node arm = IsSomeAnd (told (disk_of node)) (λ now. now.arm ≡ Some arm)
+abbrev pub IsNodeArmed : {D : Type 0} → DiskView D → Node D → Arm → Type 0
+IsNodeArmed view node arm = IsSomeAnd (view.told (disk_of node)) (λ now. now.arm ≡ Some arm)
 
 -- the area after the change of a step, where it has one
 abbrev pub area_for : Option Delta → FileNo → FileNo

@@ -3,6 +3,7 @@ use Rattle.std.specs.Prelude.{◌≡◌, ◌<◌, ◌≤◌, ◌⊎◌, ℕ, Boo
 use Rattle.std.specs.Option.{option_to_list}
 use Rattle.disk_model.specs.Images.{Image}
 use Rattle.disk_model.specs.Made.{DiskCall}
+use Rattle.disk_model.specs.View.{DiskView}
 use Rattle.due_set.specs.Table.{Table}
 use Rattle.paxos_base.specs.declared.durable.Delta.{Delta}
 use Rattle.step_spec.specs.Coherent.{IsCoherent}
@@ -46,13 +47,13 @@ fault_of (Err refused) = Err refused.1
 
 -- What holds of a node that runs, between two of its calls. Its replica is one of at most seven and of this table of jobs, and is
 -- coherent. Its store is settled on its disk, is one of that table, and keeps what the replica keeps.
-pub record IsNodeAtRest {D : Type 0} (seen : D → Image) (may_leave : D → Image → Type 0) (honest : D → Type 0) (table : Table) (node : Node D) : Type 0 where
+pub record IsNodeAtRest {D : Type 0} (view : DiskView D) (table : Table) (node : Node D) : Type 0 where
   pub runs : runs_in node ≡ true
   pub member : (replica_of node).identity.me < (replica_of node).identity.members
   pub few : (replica_of node).identity.members ≤ 7
   pub of_table : IsOfTable table (replica_of node)
   pub coherent : IsCoherent (replica_of node).identity (replica_of node).state
-  pub settled : IsStoreSettled seen may_leave honest (disk_of node) (store_of node)
+  pub settled : IsStoreSettled view (disk_of node) (store_of node)
   pub jobs : jobs_of_store (store_of node) ≡ length table.jobs
   pub keeps : StoreKeeps (store_of node) (replica_of node).state.kept
 

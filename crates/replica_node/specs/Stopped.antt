@@ -1,7 +1,7 @@
 -- A node that was stopped within the save of a step's change, and what a node that is reopened says of it.
 use Rattle.std.specs.Prelude.{◌≡◌, ◌≢◌, false, Option, None, Some, Result, Ok, Err, List, [], ◌∷◌, length, IfSome}
-use Rattle.disk_model.specs.Images.{Image}
 use Rattle.disk_model.specs.Told.{Told, TellsStop}
+use Rattle.disk_model.specs.View.{DiskView}
 use Rattle.due_set.specs.Table.{Table}
 use Rattle.paxos_base.specs.Durable.{after_delta}
 use Rattle.paxos_base.specs.declared.durable.Delta.{Delta}
@@ -36,19 +36,19 @@ pub record HasPlanned (table : Table) (replica : ReplicaState) (planned : Planne
 
 -- A node was stopped within the save of a step's change: it doesn't run, its replica is as before the step, its disk tells that it
 -- has stopped, and a replica can go on from there with what is kept before the change or after it.
-pub record IsStopped {D : Type 0} (may_leave : D → Image → Type 0) (honest : D → Type 0) (told : D → Option Told) (table : Table) (node : Node D) : Type 0 where
+pub record IsStopped {D : Type 0} (view : DiskView D) (table : Table) (node : Node D) : Type 0 where
   pub ended : runs_in node ≡ false
   pub change : Delta
   pub planned : Planned
   pub is_cut_short : cut_short node ≡ Some planned
   pub has_planned : HasPlanned table (replica_of node) planned change
-  pub stopped : TellsStop (told (disk_of node))
-  pub recoverable : honest (disk_of node)
-      → IsRecoverable (length table.jobs) (replica_of node).state.kept (after_delta change (replica_of node).state.kept) (may_leave (disk_of node))
+  pub stopped : TellsStop (view.told (disk_of node))
+  pub recoverable : view.honest (disk_of node)
+      → IsRecoverable (length table.jobs) (replica_of node).state.kept (after_delta change (replica_of node).state.kept) (view.may_leave (disk_of node))
 
 -- a node was stopped within the save of a replica's step at an input
-pub record IsStoppedWithin {D : Type 0} (may_leave : D → Image → Type 0) (honest : D → Type 0) (told : D → Option Told) (table : Table) (input : Input) (replica : ReplicaState) (node : Node D) : Type 0 where
-  pub stop : IsStopped may_leave honest told table node
+pub record IsStoppedWithin {D : Type 0} (view : DiskView D) (table : Table) (input : Input) (replica : ReplicaState) (node : Node D) : Type 0 where
+  pub stop : IsStopped view table node
   pub change_of : IsChangeOf table input replica (Some stop.change)
 
 -- a disk that tells of itself is neither armed nor stopped

@@ -25,10 +25,10 @@ use disk_model::Disk;
 /// Whatever a stop leaves of a node between two of its calls stands for what its replica keeps, and a replica can go on from
 /// there with that.
 pub fn a_node_at_rest_is_recoverable<D: Disk>()
-    ensures stands { (table : Table) (node : Node D) (image : Image) → IsNodeAtRest D.seen D.may_leave D.honest table node
-        → D.honest (disk_of node) → D.may_leave (disk_of node) image → FilesStand (length table.jobs) (replica_of node).state.kept image }
-    ensures recoverable { (table : Table) (node : Node D) → IsNodeAtRest D.seen D.may_leave D.honest table node → D.honest (disk_of node)
-        → IsRecoverable (length table.jobs) (replica_of node).state.kept (replica_of node).state.kept (D.may_leave (disk_of node)) }
+    ensures stands { (table : Table) (node : Node D) (image : Image) → IsNodeAtRest D.view table node
+        → D.view.honest (disk_of node) → D.view.may_leave (disk_of node) image → FilesStand (length table.jobs) (replica_of node).state.kept image }
+    ensures recoverable { (table : Table) (node : Node D) → IsNodeAtRest D.view table node → D.view.honest (disk_of node)
+        → IsRecoverable (length table.jobs) (replica_of node).state.kept (replica_of node).state.kept (D.view.may_leave (disk_of node)) }
 {}
 
 /// A disk is reliable exactly where it is unfailing and not armed.

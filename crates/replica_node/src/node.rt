@@ -2,9 +2,10 @@ ghost use Rattle.std.specs.Prelude.{◌≡◌, ◌↔◌, ◌<◌, ◌≤◌, �
 ghost use Rattle.std.specs.Option.{option_copied};
 ghost use Rattle.disk_model.specs.declared.armed.Arm.{Arm};
 ghost use Rattle.disk_model.specs.declared.fault.FileNo.{FileNo};
-ghost use Rattle.disk_model.specs.Images.{Image, file_of, LeavesOnly};
+ghost use Rattle.disk_model.specs.Images.{Image, file_of};
 ghost use Rattle.disk_model.specs.Made.{MadeCalls};
 ghost use Rattle.disk_model.specs.Told.{TellsThen, Told, after_arm, after_disarm, image_left};
+ghost use Rattle.disk_model.specs.View.{LeavesOnly};
 ghost use Rattle.due_set.specs.Table.{Table};
 ghost use Rattle.gate_file.specs.Gates.{HasBodies};
 ghost use Rattle.paxos_base.specs.Durable.{after_delta};
@@ -85,35 +86,36 @@ impl<D: Disk> Node<D> {
     ) -> Result<Node<D>, (D, NodeFault)>
         requires me { me < members }
         requires few { members ≤ 7 }
-        ensures at_rest { IfOk result (λ node. IsNodeAtRest D.seen D.may_leave D.honest table.now node) }
+        ensures at_rest { IfOk result (λ node. IsNodeAtRest D.view table.now node) }
         ensures identity { IfOk result (λ node. (replica_of node).identity ≡ record { me = me; members = members }) }
         ensures started { IfOk result (λ node. (replica_of node).state ≡ started me (replica_of node).state.kept) }
-        ensures stand { IfOk result (λ node. FilesStand (length table.now.jobs) (replica_of node).state.kept (D.seen disk)) }
+        ensures stand { IfOk result (λ node. FilesStand (length table.now.jobs) (replica_of node).state.kept (D.view.seen disk)) }
         // Its store goes on in the area that the chooser selects.
-        ensures area { IfOk result (λ node. area_of (store_of node) ≡ selected (D.seen disk)) }
-        ensures clean { IsSome (D.told disk) → IfOk result (IsNodeClean D.told) }
+        ensures area { IfOk result (λ node. area_of (store_of node) ≡ selected (D.view.seen disk)) }
+        ensures clean { IsSome (D.view.told disk) → IfOk result (IsNodeClean D.view) }
         // From a disk that is reliable, want of memory and files at fault are the only faults, and the node's disk is so.
-        ensures reliable { IsReliable (D.told disk) → IfOk result (λ node. IsReliable (D.told (disk_of node))) }
-        ensures unended { IsReliable (D.told disk) → EndsRun (fault_of result) → ⊥ }
+        ensures reliable { IsReliable (D.view.told disk) → IfOk result (λ node. IsReliable (D.view.told (disk_of node))) }
+        ensures unended { IsReliable (D.view.told disk) → EndsRun (fault_of result) → ⊥ }
         // One that can't fail doesn't, whether it is armed or not.
-        ensures unfailing { IsUnfailing (D.told disk) → IsUnfailingAfter (fault_of result) (D.told (disk_after result)) }
+        ensures unfailing { IsUnfailing (D.view.told disk) → IsUnfailingAfter (fault_of result) (D.view.told (disk_after result)) }
 
         // From a disk that was recoverable, with the state before a change or after it, one of the two is found; whatever a
         // stop within this call leaves stands for one of them, and the disk stays recoverable.
-        ensures either { (before after : Durable) → D.honest disk → IsRecoverable (length table.now.jobs) before after (D.may_leave disk)
+        ensures either { (before after : Durable) → D.view.honest disk → IsRecoverable (length table.now.jobs) before after (D.view.may_leave disk)
             → IfOk result (λ node. ((replica_of node).state.kept ≡ before) ⊎ ((replica_of node).state.kept ≡ after)) }
-        ensures sound { (before after : Durable) (gate : ℕ) → D.honest disk → IsRecoverable (length table.now.jobs) before after (D.may_leave disk)
+        ensures sound { (before after : Durable) (gate : ℕ) → D.view.honest disk → IsRecoverable (length table.now.jobs) before after (D.view.may_leave disk)
             → fault_of result ≡ Err (Damaged gate) → ⊥ }
-        ensures images { (before after : Durable) → D.honest disk → IsRecoverable (length table.now.jobs) before after (D.may_leave disk)
-            → LeavesOnly D.moment D.left_since disk (disk_after result) (FilesStandForEither (length table.now.jobs) before after) }
-        ensures recoverable { (before after : Durable) → D.honest disk → IsRecoverable (length table.now.jobs) before after (D.may_leave disk)
-            → IsRecoverable (length table.now.jobs) before after (D.may_leave (disk_after result)) }
+        ensures images { (before after : Durable) → D.view.honest disk → IsRecoverable (length table.now.jobs) before after (D.view.may_leave disk)
+            → LeavesOnly D.view disk (disk_after result) (FilesStandForEither (length table.now.jobs) before after) }
+        ensures recoverable { (before after : Durable) → D.view.honest disk → IsRecoverable (length table.now.jobs) before after (D.view.may_leave disk)
+            → IsRecoverable (length table.now.jobs) before after (D.view.may_leave (disk_after result)) }
 
-        ensures damaged { (gate : ℕ) (bodies : List (List ℕ)) → fault_of result ≡ Err (Damaged gate) → HasBodies (file_of (selected (D.seen disk)) (D.seen disk)) bodies
+        ensures damaged { (gate : ℕ) (bodies : List (List ℕ)) → fault_of result ≡ Err (Damaged gate)
+            → HasBodies (file_of (selected (D.view.seen disk)) (D.view.seen disk)) bodies
             → IsFirstRecordAtFault (length table.now.jobs) bodies gate }
-        ensures unwritten { (gate : ℕ) → fault_of result ≡ Err (Damaged gate) → D.seen (disk_after result) ≡ D.seen disk }
+        ensures unwritten { (gate : ℕ) → fault_of result ≡ Err (Damaged gate) → D.view.seen (disk_after result) ≡ D.view.seen disk }
         ensures no_letter { (fault : LetterFault) → fault_of result ≡ Err (Letter fault) → ⊥ }
-        ensures answer { HasNodeAnswer D.honest D.counts disk (disk_after result) (fault_of result) }
+        ensures answer { HasNodeAnswer D.view disk (disk_after result) (fault_of result) }
     {
         match start(alloc, me, members, table, &mut disk) {
             Ok((store, replica)) => Ok(Node {
@@ -137,58 +139,58 @@ impl<D: Disk> Node<D> {
     /// what the replica kept before the step or for what it keeps after it, and the node doesn't run any more. `Damaged`
     /// never.
     pub fn handle(&mut self, table: &JobTable, input: Input<'_>) -> Result<StepOut, NodeFault>
-        requires at_rest { IsNodeAtRest D.seen D.may_leave D.honest table.now self.old }
+        requires at_rest { IsNodeAtRest D.view table.now self.old }
         requires small { IsSmall (replica_of self.old).state (replica_of self.old).machine.rows }
         requires inside { IsInputInside table.now input }
         ensures steps { IfOk result (λ out. Steps table.now input.entry (replica_of self.old) (replica_of self.new) out) }
-        ensures at_rest { OnOk result (IsNodeAtRest D.seen D.may_leave D.honest table.now self.new) }
+        ensures at_rest { OnOk result (IsNodeAtRest D.view table.now self.new) }
         // Whatever a stop leaves from now on stands for the state after the step.
-        ensures safe { D.honest (disk_of self.old) → OnOk result ((image : Image) → D.may_leave (disk_of self.new) image
+        ensures safe { D.view.honest (disk_of self.old) → OnOk result ((image : Image) → D.view.may_leave (disk_of self.new) image
             → FilesStand (length table.now.jobs) (replica_of self.new).state.kept image) }
         // Nothing of the chooser and of the store's area waits for a sync, in what the disk tells, where nothing did before.
-        ensures clean { IsNodeClean D.told self.old → OnOk result (IsNodeClean D.told self.new) }
-        ensures letter_clean { (fault : LetterFault) → result ≡ Err (Letter fault) → IsNodeClean D.told self.old → IsNodeClean D.told self.new }
+        ensures clean { IsNodeClean D.view self.old → OnOk result (IsNodeClean D.view self.new) }
+        ensures letter_clean { (fault : LetterFault) → result ≡ Err (Letter fault) → IsNodeClean D.view self.old → IsNodeClean D.view self.new }
         // On a disk that is reliable it goes on, and the disk stays so.
-        ensures reliable { IsReliable (D.told (disk_of self.old)) → OnOk result (IsReliable (D.told (disk_of self.new))) }
-        ensures unended { IsReliable (D.told (disk_of self.old)) → EndsRun result → ⊥ }
+        ensures reliable { IsReliable (D.view.told (disk_of self.old)) → OnOk result (IsReliable (D.view.told (disk_of self.new))) }
+        ensures unended { IsReliable (D.view.told (disk_of self.old)) → EndsRun result → ⊥ }
         ensures area { (change : Option Delta) → IsChangeOf table.now input.entry (replica_of self.old) change
             → OnOk result (area_of (store_of self.new) ≡ area_for change (area_of (store_of self.old))) }
         // It uses up as many calls of the disk's arm as save its change, and stops where fewer are left.
-        ensures armed { (change : Option Delta) (arm : Arm) → IsChangeOf table.now input.entry (replica_of self.old) change → IsNodeArmed D.told self.old arm
-            → OnOk result ((calls_of_change change ≤ arm.left) × IsNodeArmed D.told self.new (record arm { left = arm.left - calls_of_change change })) }
+        ensures armed { (change : Option Delta) (arm : Arm) → IsChangeOf table.now input.entry (replica_of self.old) change → IsNodeArmed D.view self.old arm
+            → OnOk result ((calls_of_change change ≤ arm.left) × IsNodeArmed D.view self.new (record arm { left = arm.left - calls_of_change change })) }
         ensures too_few { (change : Option Delta) (arm : Arm) → IsChangeOf table.now input.entry (replica_of self.old) change → IsErrOf result Stopped
-            → IsNodeClean D.told self.old → IsNodeArmed D.told self.old arm → arm.left < calls_of_change change }
+            → IsNodeClean D.view self.old → IsNodeArmed D.view self.old arm → arm.left < calls_of_change change }
         // A disk that can't fail doesn't, whether it is armed or not; so it stops exactly there, but for want of memory.
-        ensures unfailing { IsUnfailing (D.told (disk_of self.old)) → IsUnfailingAfter result (D.told (disk_of self.new)) }
+        ensures unfailing { IsUnfailing (D.view.told (disk_of self.old)) → IsUnfailingAfter result (D.view.told (disk_of self.new)) }
         ensures ends_by_arm { (change : Option Delta) (arm : Arm) → IsChangeOf table.now input.entry (replica_of self.old) change
-            → IsUnfailing (D.told (disk_of self.old)) → IsNodeClean D.told self.old → IsNodeArmed D.told self.old arm
+            → IsUnfailing (D.view.told (disk_of self.old)) → IsNodeClean D.view self.old → IsNodeArmed D.view self.old arm
             → EndsByArm (calls_of_change change) arm.left result }
 
         ensures alike { OnErr result (IsSameReplica (replica_of self.new) (replica_of self.old)) }
-        ensures refused { IsStepRefused result → IsNodeAtRest D.seen D.may_leave D.honest table.now self.new }
+        ensures refused { IsStepRefused result → IsNodeAtRest D.view table.now self.new }
         // The bytes of a letter are refused exactly where they break a rule, for the first that they break.
         ensures fault { letter_told result ≡ fault_in (replica_of self.old).identity.members input.entry }
         ensures untouched { (fault : LetterFault) → result ≡ Err (Letter fault) → disk_of self.new ≡ disk_of self.old }
         ensures ended { EndsRun result → runs_in self.new ≡ false }
         // Where the disk stopped, that was within the save of the step's change, and the node can be reopened.
-        ensures stopped { IsSome (D.told (disk_of self.old)) → IsErrOf result Stopped
-            → IsStoppedWithin D.may_leave D.honest D.told table.now input.entry (replica_of self.old) self.new }
+        ensures stopped { IsSome (D.view.told (disk_of self.old)) → IsErrOf result Stopped
+            → IsStoppedWithin D.view table.now input.entry (replica_of self.old) self.new }
         // Whether the change is kept then, and which area is in use, the numbers say that the disk was armed with.
         ensures kept_by_arm { (change : Delta) (arm : Arm) → IsChangeOf table.now input.entry (replica_of self.old) (Some change) → IsErrOf result Stopped
-            → IsNodeClean D.told self.old → IsNodeArmed D.told self.old arm
-            → LeavesByArm (length table.now.jobs) (area_of (store_of self.old)) (replica_of self.old).state.kept change arm (D.told (disk_of self.new)) }
+            → IsNodeClean D.view self.old → IsNodeArmed D.view self.old arm
+            → LeavesByArm (length table.now.jobs) (area_of (store_of self.old)) (replica_of self.old).state.kept change arm (D.view.told (disk_of self.new)) }
         ensures undamaged { (gate : ℕ) → result ≡ Err (Damaged gate) → ⊥ }
 
         // Whatever a stop within the call leaves stands for the state before the step or for that after it, and a replica can
         // go on from the disk with one of the two.
-        ensures images { D.honest (disk_of self.old) → LeavesOnly D.moment D.left_since (disk_of self.old) (disk_of self.new)
+        ensures images { D.view.honest (disk_of self.old) → LeavesOnly D.view (disk_of self.old) (disk_of self.new)
             (FilesStandAround table.now input.entry (replica_of self.old)) }
-        ensures recoverable { D.honest (disk_of self.old) → EndsRun result
-            → IsRecoverableAround table.now input.entry (replica_of self.old) (D.may_leave (disk_of self.new)) }
+        ensures recoverable { D.view.honest (disk_of self.old) → EndsRun result
+            → IsRecoverableAround table.now input.entry (replica_of self.old) (D.view.may_leave (disk_of self.new)) }
         // At Ok each call of the disk was made that saves the step's change, and at a fault of the disk they broke off there.
         ensures told { (own : Option ℕ) (change : Option Delta) → RecordsStand self.old own → IsChangeOf table.now input.entry (replica_of self.old) change
-            → TellsThen (MadeCalls of_disk_answer (disk_calls_for self.old own change) result) (D.told (disk_of self.old)) (D.told (disk_of self.new)) }
-        ensures answer { HasNodeAnswer D.honest D.counts (disk_of self.old) (disk_of self.new) result }
+            → TellsThen (MadeCalls of_disk_answer (disk_calls_for self.old own change) result) (D.view.told (disk_of self.old)) (D.view.told (disk_of self.new)) }
+        ensures answer { HasNodeAnswer D.view (disk_of self.old) (disk_of self.new) result }
     {
         let planned = self.replica.plan(table, input)?;
         match self.keep(planned.delta()) {
@@ -203,7 +205,7 @@ impl<D: Disk> Node<D> {
 
     // Saves a change, where there is one.
     fn keep(&mut self, delta: Option<&Delta>) -> Result<(), NodeFault>
-        requires settled { IsStoreSettled D.seen D.may_leave D.honest (disk_of self.old) (store_of self.old) }
+        requires settled { IsStoreSettled D.view (disk_of self.old) (store_of self.old) }
         requires keeps { StoreKeeps (store_of self.old) (replica_of self.old).state.kept }
         requires follows { (change : Delta) → option_copied delta ≡ Some change
             → ChangeMayFollow (jobs_of_store (store_of self.old)) (replica_of self.old).state.kept change }
@@ -211,29 +213,32 @@ impl<D: Disk> Node<D> {
         ensures changed { IsErrOf result Stopped → IsSome (option_copied delta.entry) }
         ensures jobs { jobs_of_store (store_of self.new) ≡ jobs_of_store (store_of self.old) }
         ensures runs { OnOk result (runs_in self.new ≡ runs_in self.old) }
-        ensures settled { OnOk result (IsStoreSettled D.seen D.may_leave D.honest (disk_of self.new) (store_of self.new)) }
+        ensures settled { OnOk result (IsStoreSettled D.view (disk_of self.new) (store_of self.new)) }
         ensures keeps { OnOk result (StoreKeeps (store_of self.new) (kept_after (option_copied delta.entry) (replica_of self.old).state.kept)) }
         ensures memory { IsErrOf result OutOfMemory → (runs_in self.new ≡ runs_in self.old)
-            × IsStoreSettled D.seen D.may_leave D.honest (disk_of self.new) (store_of self.new)
+            × IsStoreSettled D.view (disk_of self.new) (store_of self.new)
             × StoreKeeps (store_of self.new) (replica_of self.old).state.kept }
         ensures ended { EndsRun result → runs_in self.new ≡ false }
-        ensures images { D.honest (disk_of self.old) → LeavesOnly D.moment D.left_since (disk_of self.old) (disk_of self.new)
-            (FilesStandForEither (jobs_of_store (store_of self.old)) (replica_of self.old).state.kept (kept_after (option_copied delta.entry) (replica_of self.old).state.kept)) }
-        ensures recoverable { D.honest (disk_of self.old) → IsRecoverable (jobs_of_store (store_of self.old)) (replica_of self.old).state.kept
-            (kept_after (option_copied delta.entry) (replica_of self.old).state.kept) (D.may_leave (disk_of self.new)) }
+        ensures images { D.view.honest (disk_of self.old) → LeavesOnly D.view (disk_of self.old) (disk_of self.new)
+            (FilesStandForEither (jobs_of_store (store_of self.old)) (replica_of self.old).state.kept
+            (kept_after (option_copied delta.entry) (replica_of self.old).state.kept)) }
+        ensures recoverable { D.view.honest (disk_of self.old) → IsRecoverable (jobs_of_store (store_of self.old)) (replica_of self.old).state.kept
+            (kept_after (option_copied delta.entry) (replica_of self.old).state.kept) (D.view.may_leave (disk_of self.new)) }
         ensures undamaged { (gate : ℕ) → result ≡ Err (Damaged gate) → ⊥ }
         ensures no_letter { (fault : LetterFault) → result ≡ Err (Letter fault) → ⊥ }
         ensures told { (own : Option ℕ) → RecordsStand self.old own
-            → TellsThen (MadeCalls of_disk_answer (disk_calls_for self.old own (option_copied delta.entry)) result) (D.told (disk_of self.old)) (D.told (disk_of self.new)) }
-        ensures reliable { IsReliable (D.told (disk_of self.old)) → OnOk result (IsReliable (D.told (disk_of self.new))) }
-        ensures unended { IsReliable (D.told (disk_of self.old)) → EndsRun result → ⊥ }
-        ensures unfailing { IsUnfailing (D.told (disk_of self.old)) → IsUnfailingAfter result (D.told (disk_of self.new)) }
-        ensures clean { IsNodeClean D.told self.old → OnOk result (IsNodeClean D.told self.new) }
+            → TellsThen (MadeCalls of_disk_answer (disk_calls_for self.old own (option_copied delta.entry)) result) (D.view.told (disk_of self.old))
+            (D.view.told (disk_of self.new)) }
+        ensures reliable { IsReliable (D.view.told (disk_of self.old)) → OnOk result (IsReliable (D.view.told (disk_of self.new))) }
+        ensures unended { IsReliable (D.view.told (disk_of self.old)) → EndsRun result → ⊥ }
+        ensures unfailing { IsUnfailing (D.view.told (disk_of self.old)) → IsUnfailingAfter result (D.view.told (disk_of self.new)) }
+        ensures clean { IsNodeClean D.view self.old → OnOk result (IsNodeClean D.view self.new) }
         ensures area { OnOk result (area_of (store_of self.new) ≡ area_for (option_copied delta.entry) (area_of (store_of self.old))) }
         ensures kept_by_arm { (change : Delta) (arm : Arm) → option_copied delta.entry ≡ Some change → IsErrOf result Stopped
-            → IsNodeClean D.told self.old → IsNodeArmed D.told self.old arm
-            → LeavesByArm (jobs_of_store (store_of self.old)) (area_of (store_of self.old)) (replica_of self.old).state.kept change arm (D.told (disk_of self.new)) }
-        ensures answer { HasNodeAnswer D.honest D.counts (disk_of self.old) (disk_of self.new) result }
+            → IsNodeClean D.view self.old → IsNodeArmed D.view self.old arm
+            → LeavesByArm (jobs_of_store (store_of self.old)) (area_of (store_of self.old)) (replica_of self.old).state.kept change arm
+            (D.view.told (disk_of self.new)) }
+        ensures answer { HasNodeAnswer D.view (disk_of self.old) (disk_of self.new) result }
     {
         let Some(delta) = delta else {
             return Ok(());
@@ -263,41 +268,41 @@ impl<D: ArmedDisk> Node<D> {
     /// Lets `pass` more writes, cuts and syncs of its disk succeed, and the next one stop within and leave the image of that
     /// number. Nothing else of the node changes.
     pub fn arm(&mut self, pass: u32, image: u32)
-        ensures told { TellsThen (λ old new. new ≡ after_arm pass image old) (D.told (disk_of self.old)) (D.told (disk_of self.new)) }
-        ensures seen { D.seen (disk_of self.new) ≡ D.seen (disk_of self.old) }
-        ensures images { (left : Image) → D.may_leave (disk_of self.new) left ↔ D.may_leave (disk_of self.old) left }
-        ensures moment { D.moment (disk_of self.new) ≡ D.moment (disk_of self.old) }
-        ensures time { (start : ℕ) (left : Image) → D.left_since (disk_of self.new) start left ↔ D.left_since (disk_of self.old) start left }
-        ensures honest { D.honest (disk_of self.new) ↔ D.honest (disk_of self.old) }
-        ensures counts { D.counts (disk_of self.new) ≡ D.counts (disk_of self.old) }
+        ensures told { TellsThen (λ old new. new ≡ after_arm pass image old) (D.view.told (disk_of self.old)) (D.view.told (disk_of self.new)) }
+        ensures seen { D.view.seen (disk_of self.new) ≡ D.view.seen (disk_of self.old) }
+        ensures images { (left : Image) → D.view.may_leave (disk_of self.new) left ↔ D.view.may_leave (disk_of self.old) left }
+        ensures moment { D.view.moment (disk_of self.new) ≡ D.view.moment (disk_of self.old) }
+        ensures time { (start : ℕ) (left : Image) → D.view.left_since (disk_of self.new) start left ↔ D.view.left_since (disk_of self.old) start left }
+        ensures honest { D.view.honest (disk_of self.new) ↔ D.view.honest (disk_of self.old) }
+        ensures counts { D.view.counts (disk_of self.new) ≡ D.view.counts (disk_of self.old) }
         ensures replica { replica_of self.new ≡ replica_of self.old }
         ensures store { store_of self.new ≡ store_of self.old }
         ensures runs { runs_in self.new ≡ runs_in self.old }
-        ensures at_rest { (table : Table) → IsNodeAtRest D.seen D.may_leave D.honest table self.old
-            → IsNodeAtRest D.seen D.may_leave D.honest table self.new }
-        ensures clean { IsNodeClean D.told self.old → IsNodeClean D.told self.new }
-        ensures armed { IsNodeClean D.told self.old → IsNodeArmed D.told self.new (record { left = pass; image = image }) }
-        ensures unfailing { IsUnfailing (D.told (disk_of self.old)) → IsUnfailing (D.told (disk_of self.new)) }
+        ensures at_rest { (table : Table) → IsNodeAtRest D.view table self.old
+            → IsNodeAtRest D.view table self.new }
+        ensures clean { IsNodeClean D.view self.old → IsNodeClean D.view self.new }
+        ensures armed { IsNodeClean D.view self.old → IsNodeArmed D.view self.new (record { left = pass; image = image }) }
+        ensures unfailing { IsUnfailing (D.view.told (disk_of self.old)) → IsUnfailing (D.view.told (disk_of self.new)) }
     {
         self.disk.arm(pass, image);
     }
 
     /// Takes [`Node::arm`] back, where no stop has come. Nothing else of the node changes.
     pub fn disarm(&mut self)
-        ensures told { TellsThen (λ old new. new ≡ after_disarm old) (D.told (disk_of self.old)) (D.told (disk_of self.new)) }
-        ensures seen { D.seen (disk_of self.new) ≡ D.seen (disk_of self.old) }
-        ensures images { (left : Image) → D.may_leave (disk_of self.new) left ↔ D.may_leave (disk_of self.old) left }
-        ensures moment { D.moment (disk_of self.new) ≡ D.moment (disk_of self.old) }
-        ensures time { (start : ℕ) (left : Image) → D.left_since (disk_of self.new) start left ↔ D.left_since (disk_of self.old) start left }
-        ensures honest { D.honest (disk_of self.new) ↔ D.honest (disk_of self.old) }
-        ensures counts { D.counts (disk_of self.new) ≡ D.counts (disk_of self.old) }
+        ensures told { TellsThen (λ old new. new ≡ after_disarm old) (D.view.told (disk_of self.old)) (D.view.told (disk_of self.new)) }
+        ensures seen { D.view.seen (disk_of self.new) ≡ D.view.seen (disk_of self.old) }
+        ensures images { (left : Image) → D.view.may_leave (disk_of self.new) left ↔ D.view.may_leave (disk_of self.old) left }
+        ensures moment { D.view.moment (disk_of self.new) ≡ D.view.moment (disk_of self.old) }
+        ensures time { (start : ℕ) (left : Image) → D.view.left_since (disk_of self.new) start left ↔ D.view.left_since (disk_of self.old) start left }
+        ensures honest { D.view.honest (disk_of self.new) ↔ D.view.honest (disk_of self.old) }
+        ensures counts { D.view.counts (disk_of self.new) ≡ D.view.counts (disk_of self.old) }
         ensures replica { replica_of self.new ≡ replica_of self.old }
         ensures store { store_of self.new ≡ store_of self.old }
         ensures runs { runs_in self.new ≡ runs_in self.old }
-        ensures at_rest { (table : Table) → IsNodeAtRest D.seen D.may_leave D.honest table self.old
-            → IsNodeAtRest D.seen D.may_leave D.honest table self.new }
-        ensures clean { IsNodeClean D.told self.old → IsNodeClean D.told self.new }
-        ensures reliable { IsUnfailing (D.told (disk_of self.old)) → IsReliable (D.told (disk_of self.new)) }
+        ensures at_rest { (table : Table) → IsNodeAtRest D.view table self.old
+            → IsNodeAtRest D.view table self.new }
+        ensures clean { IsNodeClean D.view self.old → IsNodeClean D.view self.new }
+        ensures reliable { IsUnfailing (D.view.told (disk_of self.old)) → IsReliable (D.view.told (disk_of self.new)) }
     {
         self.disk.disarm();
     }
@@ -314,51 +319,56 @@ impl<D: ArmedDisk> Node<D> {
         alloc: Global,
         table: &JobTable,
     ) -> Result<(Node<D>, Option<Delta>), (D, NodeFault)>
-        requires stopped { IsStopped D.may_leave D.honest D.told table.now self }
+        requires stopped { IsStopped D.view table.now self }
         ensures ended { IfOk result (λ found. runs_in found.0 ≡ false) }
         // The answer is the change of the step that was cut short, or none; the replica keeps what it kept before the step
         // with that change, or without.
-        ensures change { (stop : IsStopped D.may_leave D.honest D.told table.now self)
+        ensures change { (stop : IsStopped D.view table.now self)
             → IfOk result (λ found. (found.1 ≡ Some stop.change) ⊎ (found.1 ≡ None)) }
         ensures kept { IfOk result (λ found. (replica_of found.0).state.kept ≡ kept_after found.1 (replica_of self).state.kept) }
         // The files stand for that, as did the image that the stop left; and where the answer is none, they don't stand for
         // the state after the change.
-        ensures stand { D.honest (disk_of self) → IfOk result (λ found. FilesStand (length table.now.jobs) (replica_of found.0).state.kept (D.seen (disk_of found.0))) }
-        ensures image { (told : Told) → D.honest (disk_of self) → D.told (disk_of self) ≡ Some told
+        ensures stand { D.view.honest (disk_of self)
+            → IfOk result (λ found. FilesStand (length table.now.jobs) (replica_of found.0).state.kept (D.view.seen (disk_of found.0))) }
+        ensures image { (told : Told) → D.view.honest (disk_of self) → D.view.told (disk_of self) ≡ Some told
             → IfOk result (λ found. FilesStand (length table.now.jobs) (replica_of found.0).state.kept (image_left told)) }
-        ensures lost { (stop : IsStopped D.may_leave D.honest D.told table.now self) → D.honest (disk_of self)
+        ensures lost { (stop : IsStopped D.view table.now self) → D.view.honest (disk_of self)
             → IfOk result (λ found. found.1 ≡ None
-            → FilesStand (length table.now.jobs) (after_delta stop.change (replica_of self).state.kept) (D.seen (disk_of found.0)) → ⊥) }
+            → FilesStand (length table.now.jobs) (after_delta stop.change (replica_of self).state.kept) (D.view.seen (disk_of found.0)) → ⊥) }
         // Where the numbers that the disk was armed with say whether the stop kept the change, they decide the answer: where they
         // don't keep it, it is none, but for a vote that a leader casts again.
-        ensures answer_by_arm { (stop : IsStopped D.may_leave D.honest D.told table.now self) (area : FileNo) (arm : Arm) → D.honest (disk_of self)
-            → LeavesByArm (length table.now.jobs) area (replica_of self).state.kept stop.change arm (D.told (disk_of self))
+        ensures answer_by_arm { (stop : IsStopped D.view table.now self) (area : FileNo) (arm : Arm) → D.view.honest (disk_of self)
+            → LeavesByArm (length table.now.jobs) area (replica_of self).state.kept stop.change arm (D.view.told (disk_of self))
             → IfOk result (λ found. IsAnsweredByArm area (replica_of self).state.kept stop.change arm found.1) }
-        ensures lost_by_arm { (stop : IsStopped D.may_leave D.honest D.told table.now self) (area : FileNo) (arm : Arm) → D.honest (disk_of self)
-            → LeavesByArm (length table.now.jobs) area (replica_of self).state.kept stop.change arm (D.told (disk_of self))
+        ensures lost_by_arm { (stop : IsStopped D.view table.now self) (area : FileNo) (arm : Arm) → D.view.honest (disk_of self)
+            → LeavesByArm (length table.now.jobs) area (replica_of self).state.kept stop.change arm (D.view.told (disk_of self))
             → ProposesAnew (replica_of self).state → (KeepsChange area stop.change arm → ⊥) → IfOk result (λ found. found.1 ≡ None) }
         // The area in use is that of the image that the stop left; by the numbers of the arm, it is the one after the answer.
-        ensures area { (told : Told) → D.told (disk_of self) ≡ Some told → IfOk result (λ found. selected (D.seen (disk_of found.0)) ≡ selected (image_left told)) }
-        ensures area_by_arm { (stop : IsStopped D.may_leave D.honest D.told table.now self) (area : FileNo) (arm : Arm) → D.honest (disk_of self)
-            → LeavesByArm (length table.now.jobs) area (replica_of self).state.kept stop.change arm (D.told (disk_of self))
-            → IfOk result (λ found. selected (D.seen (disk_of found.0)) ≡ area_for found.1 area) }
-        ensures recoverable { D.honest (disk_of self) → IfOk result (λ found. IsRecoverable (length table.now.jobs) (replica_of found.0).state.kept (replica_of found.0).state.kept
-            (D.may_leave (disk_of found.0))) }
+        ensures area { (told : Told) → D.view.told (disk_of self) ≡ Some told
+            → IfOk result (λ found. selected (D.view.seen (disk_of found.0)) ≡ selected (image_left told)) }
+        ensures area_by_arm { (stop : IsStopped D.view table.now self) (area : FileNo) (arm : Arm) → D.view.honest (disk_of self)
+            → LeavesByArm (length table.now.jobs) area (replica_of self).state.kept stop.change arm (D.view.told (disk_of self))
+            → IfOk result (λ found. selected (D.view.seen (disk_of found.0)) ≡ area_for found.1 area) }
+        ensures recoverable { D.view.honest (disk_of self)
+            → IfOk result (λ found. IsRecoverable (length table.now.jobs) (replica_of found.0).state.kept (replica_of found.0).state.kept
+            (D.view.may_leave (disk_of found.0))) }
 
-        ensures still_recoverable { (stop : IsStopped D.may_leave D.honest D.told table.now self) → D.honest (disk_of self)
-            → IsRecoverable (length table.now.jobs) (replica_of self).state.kept (after_delta stop.change (replica_of self).state.kept) (D.may_leave (disk_after (reopened result))) }
-        ensures quiet { IsDiskUnarmed (D.told (disk_after (reopened result))) }
+        ensures still_recoverable { (stop : IsStopped D.view table.now self) → D.view.honest (disk_of self)
+            → IsRecoverable (length table.now.jobs) (replica_of self).state.kept (after_delta stop.change (replica_of self).state.kept)
+            (D.view.may_leave (disk_after (reopened result))) }
+        ensures quiet { IsDiskUnarmed (D.view.told (disk_after (reopened result))) }
         // A disk that can't fail is reliable then, and of an honest one want of memory is the only fault.
-        ensures reliable { CantFail (D.told (disk_of self)) → IsReliable (D.told (disk_after (reopened result))) }
-        ensures unended { CantFail (D.told (disk_of self)) → EndsRun (fault_of (reopened result)) → ⊥ }
-        ensures memory_alone { (fault : NodeFault) → D.honest (disk_of self) → CantFail (D.told (disk_of self))
+        ensures reliable { CantFail (D.view.told (disk_of self)) → IsReliable (D.view.told (disk_after (reopened result))) }
+        ensures unended { CantFail (D.view.told (disk_of self)) → EndsRun (fault_of (reopened result)) → ⊥ }
+        ensures memory_alone { (fault : NodeFault) → D.view.honest (disk_of self) → CantFail (D.view.told (disk_of self))
             → fault_of (reopened result) ≡ Err fault → fault ≡ OutOfMemory }
         ensures never_stopped { fault_of (reopened result) ≡ Err Stopped → ⊥ }
-        ensures sound { (gate : ℕ) → D.honest (disk_of self) → fault_of (reopened result) ≡ Err (Damaged gate) → ⊥ }
+        ensures sound { (gate : ℕ) → D.view.honest (disk_of self) → fault_of (reopened result) ≡ Err (Damaged gate) → ⊥ }
         ensures damaged { (gate : ℕ) (bodies : List (List ℕ)) → fault_of (reopened result) ≡ Err (Damaged gate)
-            → HasBodies (file_of (selected (D.seen (disk_after (reopened result)))) (D.seen (disk_after (reopened result)))) bodies → IsFirstRecordAtFault (length table.now.jobs) bodies gate }
+            → HasBodies (file_of (selected (D.view.seen (disk_after (reopened result)))) (D.view.seen (disk_after (reopened result)))) bodies
+            → IsFirstRecordAtFault (length table.now.jobs) bodies gate }
         ensures no_letter { (fault : LetterFault) → fault_of (reopened result) ≡ Err (Letter fault) → ⊥ }
-        ensures answer { HasNodeAnswer D.honest D.counts (disk_of self) (disk_after (reopened result)) (fault_of (reopened result)) }
+        ensures answer { HasNodeAnswer D.view (disk_of self) (disk_after (reopened result)) (fault_of (reopened result)) }
     {
         let Node {
             mut replica,
@@ -408,30 +418,30 @@ impl<D: ArmedDisk> Node<D> {
     ) -> Result<Option<Delta>, NodeFault>
         requires me { me < members }
         requires few { members ≤ 7 }
-        requires stopped { IsStopped D.may_leave D.honest D.told table.now self.old }
-        ensures at_rest { OnOk result (IsNodeAtRest D.seen D.may_leave D.honest table.now self.new) }
+        requires stopped { IsStopped D.view table.now self.old }
+        ensures at_rest { OnOk result (IsNodeAtRest D.view table.now self.new) }
         ensures identity { OnOk result ((replica_of self.new).identity ≡ record { me = me; members = members }) }
         ensures started { OnOk result ((replica_of self.new).state ≡ started me (replica_of self.new).state.kept) }
         // The replica keeps what it kept before the step, with the change that is answered or without.
-        ensures change { (stop : IsStopped D.may_leave D.honest D.told table.now self.old)
+        ensures change { (stop : IsStopped D.view table.now self.old)
             → IfOk result (λ answer. (answer ≡ Some stop.change) ⊎ (answer ≡ None)) }
-        ensures kept { D.honest (disk_of self.old)
+        ensures kept { D.view.honest (disk_of self.old)
             → IfOk result (λ answer. (replica_of self.new).state.kept ≡ kept_after answer (replica_of self.old).state.kept) }
         // The numbers that the disk was armed with decide the answer and the area in use, as they do for `reopen`.
-        ensures answer_by_arm { (stop : IsStopped D.may_leave D.honest D.told table.now self.old) (area : FileNo) (arm : Arm) → D.honest (disk_of self.old)
-            → LeavesByArm (length table.now.jobs) area (replica_of self.old).state.kept stop.change arm (D.told (disk_of self.old))
+        ensures answer_by_arm { (stop : IsStopped D.view table.now self.old) (area : FileNo) (arm : Arm) → D.view.honest (disk_of self.old)
+            → LeavesByArm (length table.now.jobs) area (replica_of self.old).state.kept stop.change arm (D.view.told (disk_of self.old))
             → IfOk result (λ answer. IsAnsweredByArm area (replica_of self.old).state.kept stop.change arm answer) }
-        ensures lost_by_arm { (stop : IsStopped D.may_leave D.honest D.told table.now self.old) (area : FileNo) (arm : Arm) → D.honest (disk_of self.old)
-            → LeavesByArm (length table.now.jobs) area (replica_of self.old).state.kept stop.change arm (D.told (disk_of self.old))
+        ensures lost_by_arm { (stop : IsStopped D.view table.now self.old) (area : FileNo) (arm : Arm) → D.view.honest (disk_of self.old)
+            → LeavesByArm (length table.now.jobs) area (replica_of self.old).state.kept stop.change arm (D.view.told (disk_of self.old))
             → ProposesAnew (replica_of self.old).state → (KeepsChange area stop.change arm → ⊥) → IfOk result (λ answer. answer ≡ None) }
-        ensures area_by_arm { (stop : IsStopped D.may_leave D.honest D.told table.now self.old) (area : FileNo) (arm : Arm) → D.honest (disk_of self.old)
-            → LeavesByArm (length table.now.jobs) area (replica_of self.old).state.kept stop.change arm (D.told (disk_of self.old))
+        ensures area_by_arm { (stop : IsStopped D.view table.now self.old) (area : FileNo) (arm : Arm) → D.view.honest (disk_of self.old)
+            → LeavesByArm (length table.now.jobs) area (replica_of self.old).state.kept stop.change arm (D.view.told (disk_of self.old))
             → IfOk result (λ answer. area_of (store_of self.new) ≡ area_for answer area) }
-        ensures clean { OnOk result (IsNodeClean D.told self.new) }
-        ensures reliable { CantFail (D.told (disk_of self.old)) → OnOk result (IsReliable (D.told (disk_of self.new))) }
-        ensures memory_alone { (fault : NodeFault) → D.honest (disk_of self.old) → CantFail (D.told (disk_of self.old))
+        ensures clean { OnOk result (IsNodeClean D.view self.new) }
+        ensures reliable { CantFail (D.view.told (disk_of self.old)) → OnOk result (IsReliable (D.view.told (disk_of self.new))) }
+        ensures memory_alone { (fault : NodeFault) → D.view.honest (disk_of self.old) → CantFail (D.view.told (disk_of self.old))
             → result ≡ Err fault → fault ≡ OutOfMemory }
-        ensures answer { HasNodeAnswer D.honest D.counts (disk_of self.old) (disk_of self.new) result }
+        ensures answer { HasNodeAnswer D.view (disk_of self.old) (disk_of self.new) result }
     {
         let Some(planned) = self.stopped.take() else {
             unreachable!()
@@ -455,31 +465,33 @@ fn start<D: Disk>(
 ) -> Result<(Store, Replica), NodeFault>
     requires me { me < members }
     requires few { members ≤ 7 }
-    ensures settled { IfOk result (λ found. IsStoreSettled D.seen D.may_leave D.honest disk.new found.0) }
+    ensures settled { IfOk result (λ found. IsStoreSettled D.view disk.new found.0) }
     ensures jobs { IfOk result (λ found. jobs_of_store found.0 ≡ length table.now.jobs) }
     ensures keeps { IfOk result (λ found. StoreKeeps found.0 found.1.state.kept) }
     ensures identity { IfOk result (λ found. found.1.identity ≡ record { me = me; members = members }) }
     ensures started { IfOk result (λ found. found.1.state ≡ started me found.1.state.kept) }
     ensures of_table { IfOk result (λ found. IsOfTable table.now found.1) }
-    ensures stand { IfOk result (λ found. FilesStand (length table.now.jobs) found.1.state.kept (D.seen disk.old)) }
-    ensures area { IfOk result (λ found. area_of found.0 ≡ selected (D.seen disk.old)) }
-    ensures clean { IsSome (D.told disk.old) → IfOk result (λ found. IsSomeAnd (D.told disk.new) (IsAreaSynced (area_of found.0))) }
-    ensures reliable { IsReliable (D.told disk.old) → OnOk result (IsReliable (D.told disk.new)) }
-    ensures unended { IsReliable (D.told disk.old) → EndsRun result → ⊥ }
-    ensures unfailing { IsUnfailing (D.told disk.old) → IsUnfailingAfter result (D.told disk.new) }
-    ensures either { (before after : Durable) → D.honest disk.old → IsRecoverable (length table.now.jobs) before after (D.may_leave disk.old)
+    ensures stand { IfOk result (λ found. FilesStand (length table.now.jobs) found.1.state.kept (D.view.seen disk.old)) }
+    ensures area { IfOk result (λ found. area_of found.0 ≡ selected (D.view.seen disk.old)) }
+    ensures clean { IsSome (D.view.told disk.old) → IfOk result (λ found. IsSomeAnd (D.view.told disk.new) (IsAreaSynced (area_of found.0))) }
+    ensures reliable { IsReliable (D.view.told disk.old) → OnOk result (IsReliable (D.view.told disk.new)) }
+    ensures unended { IsReliable (D.view.told disk.old) → EndsRun result → ⊥ }
+    ensures unfailing { IsUnfailing (D.view.told disk.old) → IsUnfailingAfter result (D.view.told disk.new) }
+    ensures either { (before after : Durable) → D.view.honest disk.old → IsRecoverable (length table.now.jobs) before after (D.view.may_leave disk.old)
         → IfOk result (λ found. (found.1.state.kept ≡ before) ⊎ (found.1.state.kept ≡ after)) }
-    ensures sound { (before after : Durable) (gate : ℕ) → D.honest disk.old → IsRecoverable (length table.now.jobs) before after (D.may_leave disk.old)
+    ensures sound { (before after : Durable) (gate : ℕ) → D.view.honest disk.old
+        → IsRecoverable (length table.now.jobs) before after (D.view.may_leave disk.old)
         → result ≡ Err (Damaged gate) → ⊥ }
-    ensures images { (before after : Durable) → D.honest disk.old → IsRecoverable (length table.now.jobs) before after (D.may_leave disk.old)
-        → LeavesOnly D.moment D.left_since disk.old disk.new (FilesStandForEither (length table.now.jobs) before after) }
-    ensures recoverable { (before after : Durable) → D.honest disk.old → IsRecoverable (length table.now.jobs) before after (D.may_leave disk.old)
-        → IsRecoverable (length table.now.jobs) before after (D.may_leave disk.new) }
-    ensures damaged { (gate : ℕ) (bodies : List (List ℕ)) → result ≡ Err (Damaged gate) → HasBodies (file_of (selected (D.seen disk.old)) (D.seen disk.old)) bodies
+    ensures images { (before after : Durable) → D.view.honest disk.old → IsRecoverable (length table.now.jobs) before after (D.view.may_leave disk.old)
+        → LeavesOnly D.view disk.old disk.new (FilesStandForEither (length table.now.jobs) before after) }
+    ensures recoverable { (before after : Durable) → D.view.honest disk.old → IsRecoverable (length table.now.jobs) before after (D.view.may_leave disk.old)
+        → IsRecoverable (length table.now.jobs) before after (D.view.may_leave disk.new) }
+    ensures damaged { (gate : ℕ) (bodies : List (List ℕ)) → result ≡ Err (Damaged gate)
+        → HasBodies (file_of (selected (D.view.seen disk.old)) (D.view.seen disk.old)) bodies
         → IsFirstRecordAtFault (length table.now.jobs) bodies gate }
-    ensures unwritten { (gate : ℕ) → result ≡ Err (Damaged gate) → D.seen disk.new ≡ D.seen disk.old }
+    ensures unwritten { (gate : ℕ) → result ≡ Err (Damaged gate) → D.view.seen disk.new ≡ D.view.seen disk.old }
     ensures no_letter { (fault : LetterFault) → result ≡ Err (Letter fault) → ⊥ }
-    ensures answer { HasNodeAnswer D.honest D.counts disk.old disk.new result }
+    ensures answer { HasNodeAnswer D.view disk.old disk.new result }
 {
     let (store, kept) = Store::attach(alloc, disk, table.jobs())?;
     let replica = Replica::start(me, members, table, kept)?;

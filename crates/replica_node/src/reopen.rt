@@ -1,6 +1,6 @@
 //! What a node does where it is reopened.
 ghost use Rattle.std.specs.Prelude.{◌≡◌, ◌↔◌, ◌⊎◌, ℕ, List, IsTrue, None, Some, Err, IfOk, IsSomeAnd};
-ghost use Rattle.disk_model.specs.Images.{file_of, LeavesOnly, NoNewImage};
+ghost use Rattle.disk_model.specs.Images.{file_of, NoNewImage};
 ghost use Rattle.disk_model.specs.Told.{Told, TellsStop, image_left};
 ghost use Rattle.due_set.specs.Table.{Table};
 ghost use Rattle.gate_file.specs.Gates.{HasBodies};
@@ -35,27 +35,28 @@ pub fn attach_stopped<D: ArmedDisk>(
     disk: &mut D,
     jobs: u32,
 ) -> Result<(Store, Durable), NodeFault>
-    requires stopped { TellsStop (D.told disk.old) }
-    ensures settled { IfOk result (λ found. IsStoreSettled D.seen D.may_leave D.honest disk.new found.0) }
+    requires stopped { TellsStop (D.view.told disk.old) }
+    ensures settled { IfOk result (λ found. IsStoreSettled D.view disk.new found.0) }
     ensures jobs { IfOk result (λ found. jobs_of_store found.0 ≡ jobs) }
     ensures keeps { IfOk result (λ found. StoreKeeps found.0 found.1) }
-    ensures image { (told : Told) → D.told disk.old ≡ Some told → IfOk result (λ found. FilesStand jobs found.1 (image_left told)) }
-    ensures area { (told : Told) → D.told disk.old ≡ Some told → IfOk result (λ found. area_of found.0 ≡ selected (image_left told)) }
-    ensures clean { IfOk result (λ found. IsSomeAnd (D.told disk.new) (IsAreaSynced (area_of found.0))) }
-    ensures either { (before after : Durable) → D.honest disk.old → IsRecoverable jobs before after (D.may_leave disk.old)
+    ensures image { (told : Told) → D.view.told disk.old ≡ Some told → IfOk result (λ found. FilesStand jobs found.1 (image_left told)) }
+    ensures area { (told : Told) → D.view.told disk.old ≡ Some told → IfOk result (λ found. area_of found.0 ≡ selected (image_left told)) }
+    ensures clean { IfOk result (λ found. IsSomeAnd (D.view.told disk.new) (IsAreaSynced (area_of found.0))) }
+    ensures either { (before after : Durable) → D.view.honest disk.old → IsRecoverable jobs before after (D.view.may_leave disk.old)
         → IfOk result (λ found. (found.1 ≡ before) ⊎ (found.1 ≡ after)) }
-    ensures sound { (before after : Durable) (gate : ℕ) → D.honest disk.old → IsRecoverable jobs before after (D.may_leave disk.old)
+    ensures sound { (before after : Durable) (gate : ℕ) → D.view.honest disk.old → IsRecoverable jobs before after (D.view.may_leave disk.old)
         → result ≡ Err (Damaged gate) → ⊥ }
-    ensures recoverable { (before after : Durable) → D.honest disk.old → IsRecoverable jobs before after (D.may_leave disk.old)
-        → IsRecoverable jobs before after (D.may_leave disk.new) }
-    ensures damaged { (gate : ℕ) (bodies : List (List ℕ)) → result ≡ Err (Damaged gate) → HasBodies (file_of (selected (D.seen disk.new)) (D.seen disk.new)) bodies
+    ensures recoverable { (before after : Durable) → D.view.honest disk.old → IsRecoverable jobs before after (D.view.may_leave disk.old)
+        → IsRecoverable jobs before after (D.view.may_leave disk.new) }
+    ensures damaged { (gate : ℕ) (bodies : List (List ℕ)) → result ≡ Err (Damaged gate)
+        → HasBodies (file_of (selected (D.view.seen disk.new)) (D.view.seen disk.new)) bodies
         → IsFirstRecordAtFault jobs bodies gate }
-    ensures quiet { IsDiskUnarmed (D.told disk.new) }
-    ensures reliable { CantFail (D.told disk.old) → IsReliable (D.told disk.new) }
-    ensures unended { CantFail (D.told disk.old) → EndsRun result → ⊥ }
+    ensures quiet { IsDiskUnarmed (D.view.told disk.new) }
+    ensures reliable { CantFail (D.view.told disk.old) → IsReliable (D.view.told disk.new) }
+    ensures unended { CantFail (D.view.told disk.old) → EndsRun result → ⊥ }
     ensures never_stopped { result ≡ Err Stopped → ⊥ }
     ensures no_letter { (fault : LetterFault) → result ≡ Err (Letter fault) → ⊥ }
-    ensures answer { HasNodeAnswer D.honest D.counts disk.old disk.new result }
+    ensures answer { HasNodeAnswer D.view disk.old disk.new result }
 {
     disk.revive();
     Ok(Store::attach(alloc, disk, jobs)?)

@@ -3,7 +3,8 @@ use Rattle.std.proofs.Common.{◌≡◌, ℕ, refl, ◌∙◌, subst}
 use Rattle.std.specs.Bool.{⊤}
 use Rattle.disk_model.specs.declared.fault.FileNo.{FileNo}
 use Rattle.disk_model.specs.declared.fault.FileNo.TheVariants.{Chooser}
-use Rattle.disk_model.specs.Images.{Image, IsDurable, NoNewImage, LeavesOnly, InFileOnly}
+use Rattle.disk_model.specs.Images.{Image, IsDurable, NoNewImage, InFileOnly}
+use Rattle.disk_model.specs.View.{DiskView, LeavesOnly}
 use Rattle.disk_model.proofs.CallerLemmas.{follows_on, leaves_weaker}
 use Rattle.gate_file.specs.Gates.{IsStaged}
 use Rattle.paxos_base.specs.declared.durable.Durable.{Durable}
@@ -12,21 +13,21 @@ use Rattle.replica_store.proofs.FileLemmas.{selects_area, selected_staged}
 use Rattle.replica_store.proofs.ImageLemmas.{in_area}
 
 -- two runs that leave no new image
-pub looks_on : {D : Type 0} (moment : D → ℕ) (left_since : D → ℕ → Image → Type 0) (old mid new : D) (first second : Image → Type 0) → LeavesOnly moment left_since old mid first → NoNewImage first second → LeavesOnly moment left_since mid new second
-    → LeavesOnly moment left_since old new first
-looks_on moment left_since old mid new first second run none next = follows_on moment left_since old mid new first second run next none
+pub looks_on : {D : Type 0} (view : DiskView D) (old mid new : D) (first second : Image → Type 0) → LeavesOnly view old mid first → NoNewImage first second → LeavesOnly view mid new second
+    → LeavesOnly view old new first
+looks_on view old mid new first second run none next = follows_on view old mid new first second run next none
 
-module _ {D : Type 0} (moment : D → ℕ) (left_since : D → ℕ → Image → Type 0) (file : FileNo) where
+module _ {D : Type 0} (view : DiskView D) (file : FileNo) where
   -- after a look, the files but one are as in an image that might be left before
-  pub looked_elsewhere : (old new : D) (before : Image → Type 0) → LeavesOnly moment left_since old new before → LeavesOnly moment left_since old new (InFileOnly file before (λ bytes. ⊤))
+  pub looked_elsewhere : (old new : D) (before : Image → Type 0) → LeavesOnly view old new before → LeavesOnly view old new (InFileOnly file before (λ bytes. ⊤))
   looked_elsewhere old new before run =
-      leaves_weaker moment left_since old new before (InFileOnly file before (λ bytes. ⊤)) run (λ image was. (image, was, (λ other differs. refl), tt))
+      leaves_weaker view old new before (InFileOnly file before (λ bytes. ⊤)) run (λ image was. (image, was, (λ other differs. refl), tt))
 
   -- and so they are after a write to that one
-  pub closed_elsewhere : (old read new : D) (before after : Image → Type 0) → LeavesOnly moment left_since old read before → NoNewImage before after
-      → LeavesOnly moment left_since read new (InFileOnly file after (λ bytes. ⊤)) → LeavesOnly moment left_since old new (InFileOnly file before (λ bytes. ⊤))
+  pub closed_elsewhere : (old read new : D) (before after : Image → Type 0) → LeavesOnly view old read before → NoNewImage before after
+      → LeavesOnly view read new (InFileOnly file after (λ bytes. ⊤)) → LeavesOnly view old new (InFileOnly file before (λ bytes. ⊤))
   closed_elsewhere old read new before after run none closed =
-      follows_on moment left_since old read new (InFileOnly file before (λ bytes. ⊤)) (InFileOnly file after (λ bytes. ⊤))
+      follows_on view old read new (InFileOnly file before (λ bytes. ⊤)) (InFileOnly file after (λ bytes. ⊤))
       (looked_elsewhere old read before run) closed (λ image only. (only.0, none only.0 only.1, only.2, tt))
 
 module _ (jobs : ℕ) (before after : Durable) (seen : Image) (left : Image → Type 0) where

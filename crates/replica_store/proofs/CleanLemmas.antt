@@ -6,6 +6,7 @@ use Rattle.disk_model.specs.declared.fault.FileNo.TheVariants.{Chooser}
 use Rattle.disk_model.specs.Images.{Image, file_of}
 use Rattle.disk_model.specs.Made.{DiskCall, AllDone, synced_write}
 use Rattle.disk_model.specs.Told.{Told, after_arm, after_disarm, after_revive, image_left}
+use Rattle.disk_model.specs.View.{DiskView}
 use Rattle.gate_file.specs.Gates.{HasRestingGate, gated}
 use Rattle.gate_file.specs.Made.{append_calls}
 use Rattle.paxos_base.specs.declared.durable.Delta.{Delta}
@@ -80,9 +81,9 @@ ready_clean area records kept own change old new ready done = saved_clean area (
 
 -- ---- between two calls
 
-pub settled_ready : {D : Type 0} (seen : D → Image) (may_leave : D → Image → Type 0) (honest : D → Type 0) (disk : D) (store : Store) (told : Told) → IsStoreSettled seen may_leave honest disk store → told.done ≡ seen disk → told.stopped ≡ false
+pub settled_ready : {D : Type 0} (view : DiskView D) (disk : D) (store : Store) (told : Told) → IsStoreSettled view disk store → told.done ≡ view.seen disk → told.stopped ≡ false
     → IsClean Chooser told → IsClean (area_of store) told → IsReady (area_of store) (records_of store) told
-settled_ready seen may_leave honest disk store told settled same runs chooser clean =
+settled_ready view disk store told settled same runs chooser clean =
     record {
       runs = runs;
       selects = ap selected same ∙ settled.selects;

@@ -2,7 +2,8 @@
 use Rattle.std.proofs.Common.{◌≡◌, ◌≢◌, inl, inr, ℕ, ◌≤◌, List, [], ◌∷◌, ◌++◌, Some, sym, ap, ◌∙◌, subst}
 use Rattle.disk_model.specs.declared.fault.FileNo.{FileNo}
 use Rattle.disk_model.specs.declared.fault.FileNo.TheVariants.{Chooser}
-use Rattle.disk_model.specs.Images.{Image, file_of, OthersStay, InFile, HoldsPiece, IsDurable, LeavesOnly, InFileOnly}
+use Rattle.disk_model.specs.Images.{Image, file_of, OthersStay, InFile, HoldsPiece, IsDurable, InFileOnly}
+use Rattle.disk_model.specs.View.{DiskView, LeavesOnly}
 use Rattle.disk_model.proofs.CallerLemmas.{follows_on, leaves_weaker}
 use Rattle.disk_model.proofs.RunLemmas.{now_in_run}
 use Rattle.gate_file.specs.File.{file_no, bodies_of, IsFileSettled}
@@ -22,81 +23,81 @@ use Rattle.replica_store.specs.Store.{StoreKeeps, IsStoreSettled}
 use Rattle.replica_store.proofs.FileLemmas.{selects_area, byte_written, same_chooser, recoverable_stands, fewer_recoverable, other_differs, other_is_area}
 use Rattle.replica_store.proofs.ImageLemmas.{stays_durable, in_area, in_other, in_chooser, at_rest_alone}
 
-module _ {D : Type 0} (moment : D → ℕ) (left_since : D → ℕ → Image → Type 0) (jobs : ℕ) (before after : Durable) where
+module _ {D : Type 0} (view : DiskView D) (jobs : ℕ) (before after : Durable) where
   -- a run whose images are recoverable leaves what stands for one of the two states
-  pub run_stands : (old new : D) (Q : Image → Type 0) → IsRecoverable jobs before after Q → LeavesOnly moment left_since old new Q → LeavesOnly moment left_since old new (FilesStandForEither jobs before after)
-  run_stands old new Q recoverable run = leaves_weaker moment left_since old new Q (FilesStandForEither jobs before after) run (recoverable_stands jobs before after Q recoverable)
+  pub run_stands : (old new : D) (Q : Image → Type 0) → IsRecoverable jobs before after Q → LeavesOnly view old new Q → LeavesOnly view old new (FilesStandForEither jobs before after)
+  run_stands old new Q recoverable run = leaves_weaker view old new Q (FilesStandForEither jobs before after) run (recoverable_stands jobs before after Q recoverable)
 
   -- one run after another
-  pub two_runs : (old mid new : D) → LeavesOnly moment left_since old mid (FilesStandForEither jobs before after) → LeavesOnly moment left_since mid new (FilesStandForEither jobs before after)
-      → LeavesOnly moment left_since old new (FilesStandForEither jobs before after)
-  two_runs old mid new first second = follows_on moment left_since old mid new (FilesStandForEither jobs before after) (FilesStandForEither jobs before after) first second (λ image stands. stands)
+  pub two_runs : (old mid new : D) → LeavesOnly view old mid (FilesStandForEither jobs before after) → LeavesOnly view mid new (FilesStandForEither jobs before after)
+      → LeavesOnly view old new (FilesStandForEither jobs before after)
+  two_runs old mid new first second = follows_on view old mid new (FilesStandForEither jobs before after) (FilesStandForEither jobs before after) first second (λ image stands. stands)
 
   -- and so the disk is recoverable after it
-  pub run_recoverable : (may_leave : D → Image → Type 0) (old new : D) (Q : Image → Type 0) → ((start : ℕ) (image : Image) → start ≤ moment new → may_leave new image → left_since new start image) → IsRecoverable jobs before after Q
-      → LeavesOnly moment left_since old new Q → IsRecoverable jobs before after (may_leave new)
-  run_recoverable may_leave old new Q counts_now recoverable run = fewer_recoverable jobs before after Q (may_leave new) (now_in_run moment left_since may_leave old new Q counts_now run) recoverable
+  pub run_recoverable : (old new : D) (Q : Image → Type 0) → ((start : ℕ) (image : Image) → start ≤ view.moment new → view.may_leave new image → view.left_since new start image) → IsRecoverable jobs before after Q
+      → LeavesOnly view old new Q → IsRecoverable jobs before after (view.may_leave new)
+  run_recoverable old new Q counts_now recoverable run = fewer_recoverable jobs before after Q (view.may_leave new) (now_in_run view old new Q counts_now run) recoverable
 
-module _ {D : Type 0} (seen : D → Image) (may_leave : D → Image → Type 0) (honest : D → Type 0) where
+module _ {D : Type 0} (view : DiskView D) where
   -- a gated file in a file that isn't changed
-  pub still_settled : (old new : D) (gates : GateFile) (changed : FileNo) (P : List ℕ → Type 0) → file_no gates ≢ changed → (honest new → honest old) → IsFileSettled seen may_leave honest old gates → OthersStay changed (seen old) (seen new)
-      → (honest old → (image : Image) → may_leave new image → InFileOnly changed (may_leave old) P image) → IsFileSettled seen may_leave honest new gates
+  pub still_settled : (old new : D) (gates : GateFile) (changed : FileNo) (P : List ℕ → Type 0) → file_no gates ≢ changed → (view.honest new → view.honest old) → IsFileSettled view old gates → OthersStay changed (view.seen old) (view.seen new)
+      → (view.honest old → (image : Image) → view.may_leave new image → InFileOnly changed (view.may_leave old) P image) → IsFileSettled view new gates
   still_settled old new gates changed P differs before settled others only =
       record {
         at_rest = subst (λ bytes. HasRestingGate bytes (bodies_of gates)) (sym (others (file_no gates) differs)) settled.at_rest;
-        durable = λ is. stays_durable (file_no gates) changed differs (seen old) (seen new) (may_leave old) (may_leave new) P (settled.durable (before is)) others (only (before is));
+        durable = λ is. stays_durable (file_no gates) changed differs (view.seen old) (view.seen new) (view.may_leave old) (view.may_leave new) P (settled.durable (before is)) others (only (before is));
       }
 
-  module _ (disk : D) (store : Store) (settled : IsStoreSettled seen may_leave honest disk store) where
+  module _ (disk : D) (store : Store) (settled : IsStoreSettled view disk store) where
     pub is_area : file_no store.gates ≢ Chooser
-    is_area is = selects_area (seen disk) (settled.selects ∙ is)
+    is_area is = selects_area (view.seen disk) (settled.selects ∙ is)
 
-    pub append_recoverable : (kept after : Durable) (body : List ℕ) → StoreKeeps store kept → honest disk → BodiesStand store.jobs (bodies_of store.gates ++ body ∷ []) after
-        → IsRecoverable store.jobs kept after (InFileOnly (file_no store.gates) (may_leave disk) (IsStaged (bodies_of store.gates) (Some body)))
+    pub append_recoverable : (kept after : Durable) (body : List ℕ) → StoreKeeps store kept → view.honest disk → BodiesStand store.jobs (bodies_of store.gates ++ body ∷ []) after
+        → IsRecoverable store.jobs kept after (InFileOnly (file_no store.gates) (view.may_leave disk) (IsStaged (bodies_of store.gates) (Some body)))
     append_recoverable kept after body keeps is stand =
-        in_area store.jobs kept after (seen disk) (may_leave disk) (file_no store.gates) (bodies_of store.gates) (Some body) is_area settled.selects (settled.chooser is) (inl keeps) (inr stand)
+        in_area store.jobs kept after (view.seen disk) (view.may_leave disk) (file_no store.gates) (bodies_of store.gates) (Some body) is_area settled.selects (settled.chooser is) (inl keeps) (inr stand)
 
-    pub other_recoverable : (kept after : Durable) (P : List ℕ → Type 0) → StoreKeeps store kept → honest disk → IsRecoverable store.jobs kept after (InFileOnly (other_area (file_no store.gates)) (may_leave disk) P)
+    pub other_recoverable : (kept after : Durable) (P : List ℕ → Type 0) → StoreKeeps store kept → view.honest disk → IsRecoverable store.jobs kept after (InFileOnly (other_area (file_no store.gates)) (view.may_leave disk) P)
     other_recoverable kept after P keeps is =
-        in_other store.jobs kept after (seen disk) (may_leave disk) (file_no store.gates) (bodies_of store.gates) P is_area settled.selects (settled.chooser is) (settled.gates.durable is) settled.gates.at_rest (inl keeps)
+        in_other store.jobs kept after (view.seen disk) (view.may_leave disk) (file_no store.gates) (bodies_of store.gates) P is_area settled.selects (settled.chooser is) (settled.gates.durable is) settled.gates.at_rest (inl keeps)
 
-    pub chooser_recoverable : (kept after : Durable) (P : List ℕ → Type 0) (gates : GateFile) → file_no gates ≡ other_area (file_no store.gates) → IsFileSettled seen may_leave honest disk gates → StoreKeeps store kept → honest disk → BodiesStand store.jobs (bodies_of gates) after
-        → IsRecoverable store.jobs kept after (InFileOnly Chooser (may_leave disk) P)
+    pub chooser_recoverable : (kept after : Durable) (P : List ℕ → Type 0) (gates : GateFile) → file_no gates ≡ other_area (file_no store.gates) → IsFileSettled view disk gates → StoreKeeps store kept → view.honest disk → BodiesStand store.jobs (bodies_of gates) after
+        → IsRecoverable store.jobs kept after (InFileOnly Chooser (view.may_leave disk) P)
     chooser_recoverable kept after P gates other others keeps is stand =
-        in_chooser store.jobs kept after (seen disk) (may_leave disk) (file_no store.gates) (bodies_of store.gates) (bodies_of gates) P is_area (settled.gates.durable is)
-        (subst (λ file. IsDurable file (seen disk) (may_leave disk)) other (others.durable is)) settled.gates.at_rest
-        (subst (λ file. HasRestingGate (file_of file (seen disk)) (bodies_of gates)) other others.at_rest) (inl keeps) (inr stand)
+        in_chooser store.jobs kept after (view.seen disk) (view.may_leave disk) (file_no store.gates) (bodies_of store.gates) (bodies_of gates) P is_area (settled.gates.durable is)
+        (subst (λ file. IsDurable file (view.seen disk) (view.may_leave disk)) other (others.durable is)) settled.gates.at_rest
+        (subst (λ file. HasRestingGate (file_of file (view.seen disk)) (bodies_of gates)) other others.at_rest) (inl keeps) (inr stand)
 
     -- a store at rest
-    pub settled_recoverable : (kept : Durable) → StoreKeeps store kept → honest disk → IsRecoverable store.jobs kept kept (may_leave disk)
-    settled_recoverable kept keeps is = at_rest_alone store.jobs kept kept (seen disk) (may_leave disk) (file_no store.gates) (bodies_of store.gates) settled.selects (settled.chooser is) (settled.gates.durable is) settled.gates.at_rest (inl keeps)
+    pub settled_recoverable : (kept : Durable) → StoreKeeps store kept → view.honest disk → IsRecoverable store.jobs kept kept (view.may_leave disk)
+    settled_recoverable kept keeps is = at_rest_alone store.jobs kept kept (view.seen disk) (view.may_leave disk) (file_no store.gates) (bodies_of store.gates) settled.selects (settled.chooser is) (settled.gates.durable is) settled.gates.at_rest (inl keeps)
 
     -- after calls on its area, which leave it at rest
-    pub settled_in_area : (new : D) (now : Store) (P : List ℕ → Type 0) → (honest new → honest disk) → IsFileSettled seen may_leave honest new now.gates → file_no now.gates ≡ file_no store.gates → OthersStay (file_no store.gates) (seen disk) (seen new)
-        → (honest disk → (image : Image) → may_leave new image → InFileOnly (file_no store.gates) (may_leave disk) P image) → (kept : Durable) × StoreKeeps now kept → IsStoreSettled seen may_leave honest new now
+    pub settled_in_area : (new : D) (now : Store) (P : List ℕ → Type 0) → (view.honest new → view.honest disk) → IsFileSettled view new now.gates → file_no now.gates ≡ file_no store.gates → OthersStay (file_no store.gates) (view.seen disk) (view.seen new)
+        → (view.honest disk → (image : Image) → view.may_leave new image → InFileOnly (file_no store.gates) (view.may_leave disk) P image) → (kept : Durable) × StoreKeeps now kept → IsStoreSettled view new now
     settled_in_area new now P before gates same others only keeps =
         record {
           gates = gates;
-          selects = same_chooser (seen new) (seen disk) (others Chooser (λ is. is_area (sym is))) ∙ settled.selects ∙ sym same;
-          chooser = λ is. stays_durable Chooser (file_no store.gates) (λ is_it. is_area (sym is_it)) (seen disk) (seen new) (may_leave disk) (may_leave new) P (settled.chooser (before is)) others (only (before is));
+          selects = same_chooser (view.seen new) (view.seen disk) (others Chooser (λ is. is_area (sym is))) ∙ settled.selects ∙ sym same;
+          chooser = λ is. stays_durable Chooser (file_no store.gates) (λ is_it. is_area (sym is_it)) (view.seen disk) (view.seen new) (view.may_leave disk) (view.may_leave new) P (settled.chooser (before is)) others (only (before is));
           keeps = keeps;
         }
 
     -- after calls on the other area
-    pub settled_in_other : (new : D) (P : List ℕ → Type 0) → (honest new → honest disk) → OthersStay (other_area (file_no store.gates)) (seen disk) (seen new)
-        → (honest disk → (image : Image) → may_leave new image → InFileOnly (other_area (file_no store.gates)) (may_leave disk) P image) → IsStoreSettled seen may_leave honest new store
+    pub settled_in_other : (new : D) (P : List ℕ → Type 0) → (view.honest new → view.honest disk) → OthersStay (other_area (file_no store.gates)) (view.seen disk) (view.seen new)
+        → (view.honest disk → (image : Image) → view.may_leave new image → InFileOnly (other_area (file_no store.gates)) (view.may_leave disk) P image) → IsStoreSettled view new store
     settled_in_other new P before others only =
         let other = other_area (file_no store.gates) in
         record {
           gates = still_settled disk new store.gates other P (λ is. other_differs (file_no store.gates) is_area (sym is)) before settled.gates others only;
-          selects = same_chooser (seen new) (seen disk) (others Chooser (λ is. other_is_area (file_no store.gates) (sym is))) ∙ settled.selects;
-          chooser = λ is. stays_durable Chooser other (λ is_it. other_is_area (file_no store.gates) (sym is_it)) (seen disk) (seen new) (may_leave disk) (may_leave new) P (settled.chooser (before is)) others (only (before is));
+          selects = same_chooser (view.seen new) (view.seen disk) (others Chooser (λ is. other_is_area (file_no store.gates) (sym is))) ∙ settled.selects;
+          chooser = λ is. stays_durable Chooser other (λ is_it. other_is_area (file_no store.gates) (sym is_it)) (view.seen disk) (view.seen new) (view.may_leave disk) (view.may_leave new) P (settled.chooser (before is)) others (only (before is));
           keeps = settled.keeps;
         }
 
     -- after a write of the chooser that came to nothing
-    pub settled_in_chooser : (new : D) (P : List ℕ → Type 0) → (honest new → honest disk) → seen new ≡ seen disk → (honest new → IsDurable Chooser (seen new) (may_leave new))
-        → (honest disk → (image : Image) → may_leave new image → InFileOnly Chooser (may_leave disk) P image) → IsStoreSettled seen may_leave honest new store
+    pub settled_in_chooser : (new : D) (P : List ℕ → Type 0) → (view.honest new → view.honest disk) → view.seen new ≡ view.seen disk → (view.honest new → IsDurable Chooser (view.seen new) (view.may_leave new))
+        → (view.honest disk → (image : Image) → view.may_leave new image → InFileOnly Chooser (view.may_leave disk) P image) → IsStoreSettled view new store
     settled_in_chooser new P before same durable only =
         record {
           gates = still_settled disk new store.gates Chooser P is_area before settled.gates (λ file differs. ap (file_of file) same) only;
@@ -106,13 +107,13 @@ module _ {D : Type 0} (seen : D → Image) (may_leave : D → Image → Type 0) 
         }
 
     -- after the chooser was written
-    pub settled_by_chooser : (new : D) (now : Store) (P : List ℕ → Type 0) → (honest new → honest disk) → file_no now.gates ≢ Chooser → IsFileSettled seen may_leave honest disk now.gates → InFile Chooser (HoldsPiece 0 (bit_of (file_no now.gates) ∷ [])) (seen disk) (seen new)
-        → (honest new → IsDurable Chooser (seen new) (may_leave new))
-        → (honest disk → (image : Image) → may_leave new image → InFileOnly Chooser (may_leave disk) P image) → (kept : Durable) × StoreKeeps now kept → IsStoreSettled seen may_leave honest new now
+    pub settled_by_chooser : (new : D) (now : Store) (P : List ℕ → Type 0) → (view.honest new → view.honest disk) → file_no now.gates ≢ Chooser → IsFileSettled view disk now.gates → InFile Chooser (HoldsPiece 0 (bit_of (file_no now.gates) ∷ [])) (view.seen disk) (view.seen new)
+        → (view.honest new → IsDurable Chooser (view.seen new) (view.may_leave new))
+        → (view.honest disk → (image : Image) → view.may_leave new image → InFileOnly Chooser (view.may_leave disk) P image) → (kept : Durable) × StoreKeeps now kept → IsStoreSettled view new now
     settled_by_chooser new now P before differs gates written durable only keeps =
         record {
           gates = still_settled disk new now.gates Chooser P differs before gates written.others only;
-          selects = byte_written (file_no now.gates) (seen disk) (seen new) differs written.step;
+          selects = byte_written (file_no now.gates) (view.seen disk) (view.seen new) differs written.step;
           chooser = durable;
           keeps = keeps;
         }

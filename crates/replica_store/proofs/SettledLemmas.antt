@@ -1,16 +1,17 @@
 -- A store between two calls, over a disk that changes and keeps its files as they are.
 use Rattle.std.proofs.Common.{◌≡◌, sym, ap, ◌∙◌, subst}
 use Rattle.disk_model.specs.declared.fault.FileNo.TheVariants.{Chooser}
-use Rattle.disk_model.specs.Images.{Image, file_of, NoNewImage}
+use Rattle.disk_model.specs.Images.{file_of, NoNewImage}
+use Rattle.disk_model.specs.View.{DiskView}
 use Rattle.gate_file.specs.File.{file_no, bodies_of}
 use Rattle.gate_file.specs.Gates.{HasRestingGate}
 use Rattle.replica_store.specs.declared.store.Store.{Store}
 use Rattle.replica_store.specs.Files.{selected}
 use Rattle.replica_store.specs.Store.{IsStoreSettled}
 
-pub settled_still : {D : Type 0} (seen : D → Image) (may_leave : D → Image → Type 0) (honest : D → Type 0) (old new : D) (store : Store) → seen new ≡ seen old → NoNewImage (may_leave old) (may_leave new) → (honest new → honest old)
-    → IsStoreSettled seen may_leave honest old store → IsStoreSettled seen may_leave honest new store
-settled_still seen may_leave honest old new store same none before settled =
+pub settled_still : {D : Type 0} (view : DiskView D) (old new : D) (store : Store) → view.seen new ≡ view.seen old → NoNewImage (view.may_leave old) (view.may_leave new) → (view.honest new → view.honest old)
+    → IsStoreSettled view old store → IsStoreSettled view new store
+settled_still view old new store same none before settled =
     record {
       gates = record {
         at_rest = subst (λ image. HasRestingGate (file_of (file_no store.gates) image) (bodies_of store.gates)) (sym same) settled.gates.at_rest;

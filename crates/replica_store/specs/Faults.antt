@@ -3,6 +3,7 @@ use Rattle.std.specs.Prelude.{◌≡◌, ◌↔◌, ℕ, Result, Err}
 use Rattle.disk_model.specs.declared.fault.DiskFault.{DiskFault}
 use Rattle.disk_model.specs.declared.fault.DiskFault.TheVariants as Disk
 use Rattle.disk_model.specs.Faults.{Counts, CountsAnswer}
+use Rattle.disk_model.specs.View.{DiskView}
 use Rattle.gate_file.specs.declared.fault.GateFault.{GateFault}
 use Rattle.gate_file.specs.declared.fault.GateFault.TheVariants as Gate
 use Rattle.store_format.specs.declared.fault.ReadFault.{ReadFault}
@@ -30,7 +31,7 @@ CountsStoreAnswer old new result = CountsAnswer Store.Stopped Store.DiskFault St
 
 -- What each call of a store says of its disk whatever it answers: it is as honest as it was, and its counts rose where the
 -- answer tells of it, and nowhere else.
-pub record HasStoreAnswer {D T : Type 0} (honest : D → Type 0) (counts : D → Counts) (old new : D) (result : Result T StoreFault) : Type 0 where
-  pub honest_still : honest new ↔ honest old
-  pub counted : CountsStoreAnswer (counts old) (counts new) result
-  pub damaged : (gate : ℕ) → result ≡ Err (Store.Damaged gate) → counts new ≡ counts old
+pub record HasStoreAnswer {D T : Type 0} (view : DiskView D) (old new : D) (result : Result T StoreFault) : Type 0 where
+  pub honest_still : view.honest new ↔ view.honest old
+  pub counted : CountsStoreAnswer (view.counts old) (view.counts new) result
+  pub damaged : (gate : ℕ) → result ≡ Err (Store.Damaged gate) → view.counts new ≡ view.counts old

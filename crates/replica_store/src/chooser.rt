@@ -1,10 +1,11 @@
 //! The chooser's byte, and the area that it selects.
 ghost use Rattle.std.specs.Prelude.{◌≡◌, ◌↔◌, [], ◌∷◌, IfOk, OnOk};
 ghost use Rattle.disk_model.specs.Faults.{CountsDiskAnswer, WantsNoMemory};
-ghost use Rattle.disk_model.specs.Images.{IsDurable, NoNewImage, LeavesOnly};
+ghost use Rattle.disk_model.specs.Images.{IsDurable, NoNewImage};
 ghost use Rattle.disk_model.specs.Made.{SyncOf, MadeCalls};
 ghost use Rattle.disk_model.specs.Told.{TellsThen};
 ghost use Rattle.disk_model.specs.declared.fault.FileNo.TheVariants.{Chooser};
+ghost use Rattle.disk_model.specs.View.{LeavesOnly};
 ghost use Rattle.replica_store.specs.Files.{selected, selected_by, bit_of, other_area};
 
 use disk_model::{Disk, DiskFault, FileNo};
@@ -42,15 +43,15 @@ pub(crate) fn other_area(area: FileNo) -> FileNo
 
 // Syncs the chooser, and says which area it selects.
 pub(crate) fn select<D: Disk>(disk: &mut D) -> Result<FileNo, DiskFault>
-    ensures selected { IfOk result (λ area. area ≡ selected (D.seen disk.old)) }
-    ensures seen { D.seen disk.new ≡ D.seen disk.old }
-    ensures durable { OnOk result (D.honest disk.new → IsDurable Chooser (D.seen disk.new) (D.may_leave disk.new)) }
-    ensures no_new_image { D.honest disk.old → NoNewImage (D.may_leave disk.old) (D.may_leave disk.new) }
-    ensures images { D.honest disk.old → LeavesOnly D.moment D.left_since disk.old disk.new (D.may_leave disk.old) }
-    ensures honest { D.honest disk.new ↔ D.honest disk.old }
-    ensures counts { CountsDiskAnswer (D.counts disk.old) (D.counts disk.new) result }
+    ensures selected { IfOk result (λ area. area ≡ selected (D.view.seen disk.old)) }
+    ensures seen { D.view.seen disk.new ≡ D.view.seen disk.old }
+    ensures durable { OnOk result (D.view.honest disk.new → IsDurable Chooser (D.view.seen disk.new) (D.view.may_leave disk.new)) }
+    ensures no_new_image { D.view.honest disk.old → NoNewImage (D.view.may_leave disk.old) (D.view.may_leave disk.new) }
+    ensures images { D.view.honest disk.old → LeavesOnly D.view disk.old disk.new (D.view.may_leave disk.old) }
+    ensures honest { D.view.honest disk.new ↔ D.view.honest disk.old }
+    ensures counts { CountsDiskAnswer (D.view.counts disk.old) (D.view.counts disk.new) result }
     ensures memory { WantsNoMemory result }
-    ensures told { TellsThen (MadeCalls (λ fault. fault) (SyncOf Chooser ∷ []) result) (D.told disk.old) (D.told disk.new) }
+    ensures told { TellsThen (MadeCalls (λ fault. fault) (SyncOf Chooser ∷ []) result) (D.view.told disk.old) (D.view.told disk.new) }
 {
     disk.sync(FileNo::Chooser)?;
     if disk.length(FileNo::Chooser)? == 0 {

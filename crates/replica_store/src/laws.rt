@@ -32,39 +32,41 @@ pub fn files_stand_for_one_state()
 /// A law, with nothing to run: an empty disk stands for the fresh state, and is recoverable with it.
 pub fn an_empty_disk_is_recoverable<D: Disk>()
     ensures stands { (jobs : ℕ) (image : Image) → ((file : FileNo) → file_of file image ≡ []) → FilesStand jobs (fresh_kept jobs) image }
-    ensures recoverable { (disk : D) (jobs : ℕ) → ((image : Image) → D.may_leave disk image → (file : FileNo) → file_of file image ≡ [])
-        → IsRecoverable jobs (fresh_kept jobs) (fresh_kept jobs) (D.may_leave disk) }
+    ensures recoverable { (disk : D) (jobs : ℕ) → ((image : Image) → D.view.may_leave disk image → (file : FileNo) → file_of file image ≡ [])
+        → IsRecoverable jobs (fresh_kept jobs) (fresh_kept jobs) (D.view.may_leave disk) }
 {}
 
 /// A law, with nothing to run: each image that a stop may leave of a recoverable disk stands for one of its two states, and
 /// the disk is recoverable from there.
 pub fn a_stop_leaves_one_of_two_states<D: Disk>()
     ensures stands { (disk : D) (jobs : ℕ) (before after : Durable) (image : Image)
-        → IsRecoverable jobs before after (D.may_leave disk) → D.may_leave disk image → FilesStandForEither jobs before after image }
+        → IsRecoverable jobs before after (D.view.may_leave disk) → D.view.may_leave disk image → FilesStandForEither jobs before after image }
     ensures recoverable { (disk left : D) (jobs : ℕ) (before after : Durable)
-        → IsRecoverable jobs before after (D.may_leave disk) → NoNewImage (D.may_leave disk) (D.may_leave left) → IsRecoverable jobs before after (D.may_leave left) }
+        → IsRecoverable jobs before after (D.view.may_leave disk) → NoNewImage (D.view.may_leave disk) (D.view.may_leave left)
+        → IsRecoverable jobs before after (D.view.may_leave left) }
 {}
 
 /// A law, with nothing to run: between two calls of a store, whatever a stop leaves stands for the one state that it keeps.
 pub fn a_settled_store_is_recoverable<D: Disk>()
-    ensures { (disk : D) (store : Store) (kept : Durable) → D.honest disk → IsStoreSettled D.seen D.may_leave D.honest disk store → StoreKeeps store kept
-        → IsRecoverable (jobs_of_store store) kept kept (D.may_leave disk) }
+    ensures { (disk : D) (store : Store) (kept : Durable) → D.view.honest disk → IsStoreSettled D.view disk store → StoreKeeps store kept
+        → IsRecoverable (jobs_of_store store) kept kept (D.view.may_leave disk) }
 {}
 
 /// A law, with nothing to run: a settled store stays so while a disk's files stay as they are, as through the calls of
 /// [`disk_model::ArmedDisk`] that arm it and take that back.
 pub fn a_settled_store_stays_settled<D: Disk>()
-    ensures { (old new : D) (store : Store) → D.seen new ≡ D.seen old → NoNewImage (D.may_leave old) (D.may_leave new) → (D.honest new ↔ D.honest old)
-        → IsStoreSettled D.seen D.may_leave D.honest old store → IsStoreSettled D.seen D.may_leave D.honest new store }
+    ensures { (old new : D) (store : Store) → D.view.seen new ≡ D.view.seen old → NoNewImage (D.view.may_leave old) (D.view.may_leave new)
+        → (D.view.honest new ↔ D.view.honest old)
+        → IsStoreSettled D.view old store → IsStoreSettled D.view new store }
 {}
 
 /// A law, with nothing to run: a disk is recoverable with the state that its files stand for, where the chooser and the
 /// selected area are synced, and a byte 0 stands at the tail gate of that area.
 pub fn synced_files_are_recoverable<D: Disk>()
     ensures { (disk : D) (jobs : ℕ) (records : List (List ℕ)) (kept : Durable)
-        → IsDurable Chooser (D.seen disk) (D.may_leave disk) → IsDurable (selected (D.seen disk)) (D.seen disk) (D.may_leave disk)
-        → HasRestingGate (file_of (selected (D.seen disk)) (D.seen disk)) records → BodiesStand jobs records kept
-        → IsRecoverable jobs kept kept (D.may_leave disk) }
+        → IsDurable Chooser (D.view.seen disk) (D.view.may_leave disk) → IsDurable (selected (D.view.seen disk)) (D.view.seen disk) (D.view.may_leave disk)
+        → HasRestingGate (file_of (selected (D.view.seen disk)) (D.view.seen disk)) records → BodiesStand jobs records kept
+        → IsRecoverable jobs kept kept (D.view.may_leave disk) }
 {}
 
 /// A law, with nothing to run: whether a change is kept that a record saves, where an armed disk stops within the save. A
@@ -114,7 +116,7 @@ pub fn a_stop_may_keep_a_base()
 /// are clean in what the disk tells. They are so after an attach and after a save that were done, whether the disk is armed
 /// then or not; and a revival leaves every file clean.
 pub fn a_disk_is_ready_for_a_save<D: Disk>()
-    ensures ready { (disk : D) (store : Store) (told : Told) → IsStoreSettled D.seen D.may_leave D.honest disk store → D.told disk ≡ Some told
+    ensures ready { (disk : D) (store : Store) (told : Told) → IsStoreSettled D.view disk store → D.view.told disk ≡ Some told
         → told.stopped ≡ false → IsClean Chooser told → IsClean (area_of store) told → IsReady (area_of store) (records_of store) told }
     ensures attached { (image : Image) (count : ℕ) (old new : Told) → AllDone (attach_calls image count) old new
         → IsClean Chooser new × IsClean (selected image) new }

@@ -1,8 +1,9 @@
 ghost use Rattle.std.specs.Prelude.{◌≡◌, ◌↔◌, ◌⊎◌, ◌<◌, ◌^◌, ⊤, ℕ, List, length, map, Option, Some, Ok, Err, IfOk, OnOk, OnErr, IsErrOf};
-ghost use Rattle.disk_model.specs.Images.{file_of, OthersStay, NoNewImage, LeavesOnly, InFileOnly};
+ghost use Rattle.disk_model.specs.Images.{file_of, OthersStay, NoNewImage, InFileOnly};
 ghost use Rattle.gate_file.specs.File.{file_no, bodies_of, IsFileSettled};
 ghost use Rattle.disk_model.specs.Made.{AllDone, MadeCalls};
 ghost use Rattle.disk_model.specs.Told.{TellsThen};
+ghost use Rattle.disk_model.specs.View.{LeavesOnly};
 ghost use Rattle.gate_file.specs.Gates.{HasBodies};
 ghost use Rattle.gate_file.specs.Made.{rewrite_calls};
 ghost use Rattle.paxos_base.specs.declared.durable.Delta.{Delta};
@@ -50,43 +51,45 @@ impl Store {
         disk: &mut D,
         jobs: u32,
     ) -> Result<(Store, Durable), StoreFault>
-        ensures settled { IfOk result (λ found. IsStoreSettled D.seen D.may_leave D.honest disk.new found.0) }
+        ensures settled { IfOk result (λ found. IsStoreSettled D.view disk.new found.0) }
         ensures jobs { IfOk result (λ found. jobs_of_store found.0 ≡ jobs) }
         ensures keeps { IfOk result (λ found. StoreKeeps found.0 found.1) }
-        ensures stand { IfOk result (λ found. FilesStand jobs found.1 (D.seen disk.old)) }
+        ensures stand { IfOk result (λ found. FilesStand jobs found.1 (D.view.seen disk.old)) }
         // So a replica can start with it.
         ensures rows { IfOk result (λ found. RowsStand found.1.rows jobs) }
         ensures tried { IfOk result (λ found. found.1.tried < 2 ^ 61) }
-        ensures area { IfOk result (λ found. area_of found.0 ≡ selected (D.seen disk.old)) }
+        ensures area { IfOk result (λ found. area_of found.0 ≡ selected (D.view.seen disk.old)) }
         // The chooser and the other area stay as they are.
-        ensures others { OnOk result (OthersStay (selected (D.seen disk.old)) (D.seen disk.old) (D.seen disk.new)) }
+        ensures others { OnOk result (OthersStay (selected (D.view.seen disk.old)) (D.view.seen disk.old) (D.view.seen disk.new)) }
         // So they do, whatever the answer is, in whatever a stop leaves.
-        ensures elsewhere { D.honest disk.old → LeavesOnly D.moment D.left_since disk.old disk.new
-            (InFileOnly (selected (D.seen disk.old)) (D.may_leave disk.old) (λ bytes. ⊤)) }
+        ensures elsewhere { D.view.honest disk.old → LeavesOnly D.view disk.old disk.new
+            (InFileOnly (selected (D.view.seen disk.old)) (D.view.may_leave disk.old) (λ bytes. ⊤)) }
 
         // From a disk that was recoverable, with the state before a change or after it, one of the two is found; whatever a
         // stop within this call leaves stands for one of them, and the disk stays recoverable.
-        ensures either { (before after : Durable) → D.honest disk.old → IsRecoverable jobs before after (D.may_leave disk.old)
+        ensures either { (before after : Durable) → D.view.honest disk.old → IsRecoverable jobs before after (D.view.may_leave disk.old)
             → IfOk result (λ found. (found.1 ≡ before) ⊎ (found.1 ≡ after)) }
-        ensures sound { (before after : Durable) (gate : ℕ) → D.honest disk.old → IsRecoverable jobs before after (D.may_leave disk.old)
+        ensures sound { (before after : Durable) (gate : ℕ) → D.view.honest disk.old → IsRecoverable jobs before after (D.view.may_leave disk.old)
             → result ≡ Err (Damaged gate) → ⊥ }
-        ensures images { (before after : Durable) → D.honest disk.old → IsRecoverable jobs before after (D.may_leave disk.old)
-            → LeavesOnly D.moment D.left_since disk.old disk.new (FilesStandForEither jobs before after) }
-        ensures recoverable { (before after : Durable) → D.honest disk.old → IsRecoverable jobs before after (D.may_leave disk.old)
-            → IsRecoverable jobs before after (D.may_leave disk.new) }
+        ensures images { (before after : Durable) → D.view.honest disk.old → IsRecoverable jobs before after (D.view.may_leave disk.old)
+            → LeavesOnly D.view disk.old disk.new (FilesStandForEither jobs before after) }
+        ensures recoverable { (before after : Durable) → D.view.honest disk.old → IsRecoverable jobs before after (D.view.may_leave disk.old)
+            → IsRecoverable jobs before after (D.view.may_leave disk.new) }
 
-        ensures damaged { (gate : ℕ) (bodies : List (List ℕ)) → result ≡ Err (Damaged gate) → HasBodies (file_of (selected (D.seen disk.old)) (D.seen disk.old)) bodies
+        ensures damaged { (gate : ℕ) (bodies : List (List ℕ)) → result ≡ Err (Damaged gate)
+            → HasBodies (file_of (selected (D.view.seen disk.old)) (D.view.seen disk.old)) bodies
             → IsFirstRecordAtFault jobs bodies gate }
-        ensures unwritten { (gate : ℕ) → result ≡ Err (Damaged gate) → D.seen disk.new ≡ D.seen disk.old }
-        ensures damaged_image { (gate : ℕ) → result ≡ Err (Damaged gate) → D.honest disk.old → NoNewImage (D.may_leave disk.old) (D.may_leave disk.new) }
-        ensures damaged_images { (gate : ℕ) → result ≡ Err (Damaged gate) → D.honest disk.old
-            → LeavesOnly D.moment D.left_since disk.old disk.new (D.may_leave disk.old) }
-        ensures memory_image { IsErrOf result OutOfMemory → D.honest disk.old → NoNewImage (D.may_leave disk.old) (D.may_leave disk.new) }
-        ensures told { (records : List (List ℕ)) → HasBodies (file_of (selected (D.seen disk.old)) (D.seen disk.old)) records
-            → TellsThen (MadeCalls of_disk (attach_calls (D.seen disk.old) (length records)) result) (D.told disk.old) (D.told disk.new) }
+        ensures unwritten { (gate : ℕ) → result ≡ Err (Damaged gate) → D.view.seen disk.new ≡ D.view.seen disk.old }
+        ensures damaged_image { (gate : ℕ) → result ≡ Err (Damaged gate) → D.view.honest disk.old
+            → NoNewImage (D.view.may_leave disk.old) (D.view.may_leave disk.new) }
+        ensures damaged_images { (gate : ℕ) → result ≡ Err (Damaged gate) → D.view.honest disk.old
+            → LeavesOnly D.view disk.old disk.new (D.view.may_leave disk.old) }
+        ensures memory_image { IsErrOf result OutOfMemory → D.view.honest disk.old → NoNewImage (D.view.may_leave disk.old) (D.view.may_leave disk.new) }
+        ensures told { (records : List (List ℕ)) → HasBodies (file_of (selected (D.view.seen disk.old)) (D.view.seen disk.old)) records
+            → TellsThen (MadeCalls of_disk (attach_calls (D.view.seen disk.old) (length records)) result) (D.view.told disk.old) (D.view.told disk.new) }
         ensures told_damaged { (gate : ℕ) → result ≡ Err (Damaged gate)
-            → TellsThen (AllDone (look_calls (D.seen disk.old))) (D.told disk.old) (D.told disk.new) }
-        ensures answer { HasStoreAnswer D.honest D.counts disk.old disk.new result }
+            → TellsThen (AllDone (look_calls (D.view.seen disk.old))) (D.view.told disk.old) (D.view.told disk.new) }
+        ensures answer { HasStoreAnswer D.view disk.old disk.new result }
     {
         let area = select(disk)?;
         let read = ReadGates::read(alloc, disk, area)?;
@@ -106,20 +109,20 @@ impl Store {
     /// for the one after it, and are to be attached again. `OutOfMemory`: they stand for the state before it, and the store
     /// can go on. `Damaged` never.
     pub fn save<D: Disk>(&mut self, disk: &mut D, delta: &Delta) -> Result<(), StoreFault>
-        requires settled { IsStoreSettled D.seen D.may_leave D.honest disk.old self.old }
+        requires settled { IsStoreSettled D.view disk.old self.old }
         requires follows { (kept : Durable) → StoreKeeps self.old kept → ChangeMayFollow (jobs_of_store self.old) kept delta.now }
-        ensures settled { OnOk result (IsStoreSettled D.seen D.may_leave D.honest disk.new self.new) }
+        ensures settled { OnOk result (IsStoreSettled D.view disk.new self.new) }
         ensures keeps { (kept : Durable) → StoreKeeps self.old kept → OnOk result (StoreKeeps self.new (after_delta delta.now kept)) }
         ensures jobs { jobs_of_store self.new ≡ jobs_of_store self.old }
 
         // Whatever a stop within the call leaves stands for the state before the change or for the one after it, and whatever
         // the answer is, the disk is recoverable with one of the two.
-        ensures images { (kept : Durable) → StoreKeeps self.old kept → D.honest disk.old
-            → LeavesOnly D.moment D.left_since disk.old disk.new (FilesStandForEither (jobs_of_store self.old) kept (after_delta delta.now kept)) }
-        ensures recoverable { (kept : Durable) → StoreKeeps self.old kept → D.honest disk.old
-            → IsRecoverable (jobs_of_store self.old) kept (after_delta delta.now kept) (D.may_leave disk.new) }
+        ensures images { (kept : Durable) → StoreKeeps self.old kept → D.view.honest disk.old
+            → LeavesOnly D.view disk.old disk.new (FilesStandForEither (jobs_of_store self.old) kept (after_delta delta.now kept)) }
+        ensures recoverable { (kept : Durable) → StoreKeeps self.old kept → D.view.honest disk.old
+            → IsRecoverable (jobs_of_store self.old) kept (after_delta delta.now kept) (D.view.may_leave disk.new) }
 
-        ensures memory { IsErrOf result OutOfMemory → IsStoreSettled D.seen D.may_leave D.honest disk.new self.new }
+        ensures memory { IsErrOf result OutOfMemory → IsStoreSettled D.view disk.new self.new }
         ensures memory_keeps { (kept : Durable) → StoreKeeps self.old kept → IsErrOf result OutOfMemory → StoreKeeps self.new kept }
         ensures undamaged { (gate : ℕ) → result ≡ Err (Damaged gate) → ⊥ }
         // It goes on in its area, and after a base in the other one.
@@ -127,13 +130,13 @@ impl Store {
         ensures same_area { OnErr result (area_of self.new ≡ area_of self.old) }
         ensures told { (kept : Durable) (own : Option ℕ) → StandFor (jobs_of_store self.old) (records_of self.old) kept own
             → TellsThen (MadeCalls of_disk (save_calls (area_of self.old) (length (records_of self.old)) kept own delta.now) result)
-            (D.told disk.old) (D.told disk.new) }
+            (D.view.told disk.old) (D.view.told disk.new) }
         // What is said of a stop within it asks that its records are spelled.
         ensures spelled { (item : Record) → delta_record delta.now ≡ Some item → IsRecord (record_bytes item) item }
         ensures base_spelled { (kept : Durable) (own : Option ℕ) (slot : ℕ) (rows : List JobRow) → StandFor (jobs_of_store self.old) (records_of self.old) kept own
             → delta.now ≡ Base slot rows → IsErrOf result Stopped
             → AreRecords (map record_bytes (base_records kept own slot rows)) (base_records kept own slot rows) }
-        ensures answer { HasStoreAnswer D.honest D.counts disk.old disk.new result }
+        ensures answer { HasStoreAnswer D.view disk.old disk.new result }
     {
         if let Delta::Base { slot, rows } = delta {
             let gates = self.write_area(disk, *slot, rows)?;
@@ -155,25 +158,25 @@ impl Store {
         slot: u64,
         rows: &RowList,
     ) -> Result<GateFile, StoreFault>
-        requires settled { IsStoreSettled D.seen D.may_leave D.honest disk.old self.now }
+        requires settled { IsStoreSettled D.view disk.old self.now }
         requires rows { RowsStand rows.now (jobs_of_store self.now) }
-        ensures settled { IfOk result (λ gates. IsFileSettled D.seen D.may_leave D.honest disk.new gates) }
+        ensures settled { IfOk result (λ gates. IsFileSettled D.view disk.new gates) }
         ensures file { IfOk result (λ gates. file_no gates ≡ other_area (area_of self.now)) }
         ensures stand { (kept : Durable) → StoreKeeps self.now kept
             → IfOk result (λ gates. BodiesStand (jobs_of_store self.now) (bodies_of gates) (after_delta (Base slot rows.now) kept)) }
-        ensures others { OnOk result (OthersStay (other_area (area_of self.now)) (D.seen disk.old) (D.seen disk.new)) }
-        ensures images { D.honest disk.old → LeavesOnly D.moment D.left_since disk.old disk.new
-            (InFileOnly (other_area (area_of self.now)) (D.may_leave disk.old) (λ bytes. ⊤)) }
-        ensures memory_others { IsErrOf result OutOfMemory → OthersStay (other_area (area_of self.now)) (D.seen disk.old) (D.seen disk.new) }
+        ensures others { OnOk result (OthersStay (other_area (area_of self.now)) (D.view.seen disk.old) (D.view.seen disk.new)) }
+        ensures images { D.view.honest disk.old → LeavesOnly D.view disk.old disk.new
+            (InFileOnly (other_area (area_of self.now)) (D.view.may_leave disk.old) (λ bytes. ⊤)) }
+        ensures memory_others { IsErrOf result OutOfMemory → OthersStay (other_area (area_of self.now)) (D.view.seen disk.old) (D.view.seen disk.new) }
         ensures undamaged { (gate : ℕ) → result ≡ Err (Damaged gate) → ⊥ }
         ensures told { (kept : Durable) (own : Option ℕ) → StandFor (jobs_of_store self.now) (records_of self.now) kept own
             → TellsThen (MadeCalls of_disk (rewrite_calls (other_area (area_of self.now)) (map record_bytes (base_records kept own slot rows.now))) result)
-            (D.told disk.old) (D.told disk.new) }
+            (D.view.told disk.old) (D.view.told disk.new) }
         ensures spelled { (kept : Durable) (own : Option ℕ) → StandFor (jobs_of_store self.now) (records_of self.now) kept own
             → OnOk result (AreRecords (map record_bytes (base_records kept own slot rows.now)) (base_records kept own slot rows.now)) }
         ensures stopped_spelled { (kept : Durable) (own : Option ℕ) → StandFor (jobs_of_store self.now) (records_of self.now) kept own → IsErrOf result Stopped
             → AreRecords (map record_bytes (base_records kept own slot rows.now)) (base_records kept own slot rows.now) }
-        ensures answer { HasStoreAnswer D.honest D.counts disk.old disk.new result }
+        ensures answer { HasStoreAnswer D.view disk.old disk.new result }
     {
         let (kept, own) = read_records(self.alloc, self.jobs, self.gates.bodies())?;
         let bodies = write_base(self.alloc, &kept, own, slot, rows)?;

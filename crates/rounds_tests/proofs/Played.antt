@@ -1,6 +1,5 @@
 -- Worlds that take commands one after another.
-use Rattle.std.proofs.Common.{◌≡◌, ℕ, zero, suc, ◌+◌, List, [], ◌∷◌, ◌++◌, ◌<◌, length, take, drop, Option, Some, refl, sym, ap, ◌∙◌, subst, inl, inr, arith}
-use Rattle.std.specs.Bool.{⊤}
+use Rattle.std.proofs.Common.{◌≡◌, ℕ, zero, suc, ◌+◌, List, [], ◌∷◌, ◌++◌, ◌<◌, length, take, drop, Some, refl, sym, ap, ◌∙◌, subst, inl, inr, arith}
 use Rattle.std.proofs.lemmas.Int.{ints}
 use Rattle.std.specs.List.{Contains}
 use Rattle.std.specs.Prelude.{get_or, pos}
@@ -8,11 +7,11 @@ use Rattle.std.proofs.lemmas.List.{length_push}
 use Rattle.std.proofs.lemmas.List.Elements.{Contains-push_cases}
 use Rattle.disk_model.specs.Calls.{is_listing}
 use Rattle.disk_model.specs.Images.{Image, file_of}
-use Rattle.disk_model.specs.MemDisk.{left_by, new_told, no_files, told_of}
-use Rattle.disk_model.specs.Told.{Told}
+use Rattle.disk_model.specs.MemDisk.{left_by, new_told, no_files, told_of, view_of}
 use Rattle.disk_model.specs.declared.fault.FileNo.{FileNo}
 use Rattle.disk_model.specs.declared.fault.FileNo.TheVariants.{Chooser, AreaA, AreaB}
 use Rattle.disk_model.specs.declared.mem_disk.MemDisk.{MemDisk}
+use Rattle.disk_model.specs.View.{DiskView}
 use Rattle.due_set.specs.Table.{Table}
 use Rattle.zone_minutes.specs.declared.minute.Window.{Window}
 use Rattle.history.specs.Book.{Row}
@@ -33,40 +32,40 @@ none_there AreaA = refl
 none_there AreaB = refl
 
 pub new_is_fresh : (disk : MemDisk) (fails : List ℕ) → ((image : Image) → left_by disk image → image ≡ no_files) → told_of disk ≡ Some (new_told (is_listing fails)) → fails ≡ []
-    → IsFreshDisk left_by (λ disk. ⊤) told_of disk
+    → IsFreshDisk view_of disk
 new_is_fresh disk fails images told none = record {
   trusted = tt;
   reliable = subst IsReliable (sym (told ∙ ap (λ fails. Some (new_told (is_listing fails))) none)) (record { runs = refl; unarmed = refl; unfailing = refl });
   empty = λ image left file. ap (file_of file) (images image left) ∙ none_there file;
 }
 
-pub record AreFresh {D : Type 0} (may_leave : D → Image → Type 0) (honest : D → Type 0) (told : D → Option Told) (count : ℕ) (disks : List D) : Type 0 where
+pub record AreFresh {D : Type 0} (view : DiskView D) (count : ℕ) (disks : List D) : Type 0 where
   pub count_is : length disks ≡ count
-  pub fresh : (disk : D) → Contains disks disk → IsFreshDisk may_leave honest told disk
+  pub fresh : (disk : D) → Contains disks disk → IsFreshDisk view disk
 
-pub fresh_none : {D : Type 0} (may_leave : D → Image → Type 0) (honest : D → Type 0) (told : D → Option Told) (disks : List D) → disks ≡ [] → AreFresh may_leave honest told 0 disks
-fresh_none {D = D} may_leave honest told disks none =
-    subst (λ (disks : List D). AreFresh may_leave honest told 0 disks) (sym none) (record { count_is = refl; fresh = λ disk has. nothing_in has })
+pub fresh_none : {D : Type 0} (view : DiskView D) (disks : List D) → disks ≡ [] → AreFresh view 0 disks
+fresh_none {D = D} view disks none =
+    subst (λ (disks : List D). AreFresh view 0 disks) (sym none) (record { count_is = refl; fresh = λ disk has. nothing_in has })
 
-pub fresh_next : {D : Type 0} (may_leave : D → Image → Type 0) (honest : D → Type 0) (told : D → Option Told) (count : ℕ) (disks after : List D) (disk : D) → AreFresh may_leave honest told count disks
-    → IsFreshDisk may_leave honest told disk → after ≡ disks ++ disk ∷ [] → AreFresh may_leave honest told (count + 1) after
-fresh_next may_leave honest told count disks after disk so_far new is = record {
+pub fresh_next : {D : Type 0} (view : DiskView D) (count : ℕ) (disks after : List D) (disk : D) → AreFresh view count disks
+    → IsFreshDisk view disk → after ≡ disks ++ disk ∷ [] → AreFresh view (count + 1) after
+fresh_next view count disks after disk so_far new is = record {
   count_is = ap length is ∙ length_push disks disk ∙ ap (λ n. n + 1) so_far.count_is;
   fresh = λ other has. elim (Contains-push_cases disks disk other (subst (λ disks. Contains disks other) is has)) [
     | inl old ↦ so_far.fresh other old
-    | inr same ↦ subst (IsFreshDisk may_leave honest told) same new
+    | inr same ↦ subst (IsFreshDisk view) same new
   ];
 }
 
 -- a world that has gone on by a part is a world
-pub is_world : {D : Type 0} (seen : D → Image) (may_leave : D → Image → Type 0) (honest : D → Type 0) (told : D → Option Told) (table : Table) (part : Situation → List Row → Situation → Type 0) (old new : World D) → IsWorld seen may_leave honest told table old
-    → GoesOnBy seen may_leave honest told table part old new → IsWorld seen may_leave honest told table new
-is_world seen may_leave honest told table part old new is goes =
+pub is_world : {D : Type 0} (view : DiskView D) (table : Table) (part : Situation → List Row → Situation → Type 0) (old new : World D) → IsWorld view table old
+    → GoesOnBy view table part old new → IsWorld view table new
+is_world view table part old new is goes =
     let gone = goes is.rows is.situation is.is in
     record { rows = is.rows ++ gone.0; situation = gone.1; is = gone.3 }
 
-pub record HasPlayed {D : Type 0} (seen : D → Image) (may_leave : D → Image → Type 0) (honest : D → Type 0) (told : D → Option Told) (table : Table) (count : ℕ) (world : World D) : Type 0 where
-  pub world_is : IsWorld seen may_leave honest told table world
+pub record HasPlayed {D : Type 0} (view : DiskView D) (table : Table) (count : ℕ) (world : World D) : Type 0 where
+  pub world_is : IsWorld view table world
   pub members : world.book.members ≡ count
 
 at_place : (window : Window) (members : ℕ) (commands : List Command) (index : ℕ) (default : Command) → index < length commands → AreTaken window members commands

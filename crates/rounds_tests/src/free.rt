@@ -25,9 +25,9 @@ pub fn run_part<R: Threads + Wait + Sync, D: ArmedDisk + Send, G: TurnGate + Syn
     gate: &G,
 ) -> Result<World<D>, Fail>
     requires inside { IsInWindow table.now.window at.0 }
-    requires world { IsWorld D.seen D.may_leave D.honest D.told table.now world }
+    requires world { IsWorld D.view table.now world }
     requires some { 0 < (book_of world).members }
-    ensures world { IfOk result (IsWorld D.seen D.may_leave D.honest D.told table.now) }
+    ensures world { IfOk result (IsWorld D.view table.now) }
     ensures members { IfOk result (λ after. (book_of after).members ≡ (book_of world).members) }
 {
     let parts = world.take_parts();

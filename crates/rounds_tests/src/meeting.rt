@@ -112,25 +112,14 @@ impl MeetingDisk {
 }
 
 impl Disk for MeetingDisk {
-    ghost use Rattle.std.specs.Prelude.{◌≡◌, ⊤};
+    ghost use Rattle.std.specs.Prelude.{◌≡◌};
     ghost use Rattle.std.proofs.Common.{inl, sym, ap};
     ghost use Rattle.disk_model.specs.Left.{seen_left};
-    ghost use Rattle.disk_model.specs.MemDisk.{told_of, seen_of, left_by, left_since_by, moment_of, counts_by, done_in};
+    ghost use Rattle.disk_model.specs.MemDisk.{seen_of, done_in};
     ghost use Rattle.disk_model.specs.Past.{only_now};
+    ghost use Rattle.rounds_tests.specs.Meets.{view_through};
 
-    ghost seen = { λ disk. seen_of disk.disk };
-
-    ghost may_leave = { λ disk. left_by disk.disk };
-
-    ghost moment = { λ disk. moment_of disk.disk };
-
-    ghost left_since = { λ disk. left_since_by disk.disk };
-
-    ghost honest = { λ disk. ⊤ };
-
-    ghost counts = { λ disk. counts_by disk.disk };
-
-    ghost told = { λ disk. told_of disk.disk };
+    ghost view = { view_through (λ disk. disk.disk) };
 
     ghost counts_now = { λ disk start image honest le now. inl now };
 

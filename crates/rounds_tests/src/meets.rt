@@ -21,7 +21,7 @@ use world_rounds::World;
 
 // A new disk of this number, which takes part in the meeting.
 fn meeting_disk(alloc: Global, who: u8, meeting: &Arc<Meeting, Global>) -> Result<MeetingDisk, Fail>
-    ensures { IfOk result (λ disk. IsFreshDisk ⟦<MeetingDisk as Disk>⟧.may_leave ⟦<MeetingDisk as Disk>⟧.honest ⟦<MeetingDisk as Disk>⟧.told disk) }
+    ensures { IfOk result (λ disk. IsFreshDisk ⟦<MeetingDisk as Disk>⟧.view disk) }
 {
     let meeting = Arc::try_clone(meeting)?;
     Ok(MeetingDisk::new(empty_disk(alloc), who, meeting))
@@ -35,7 +35,7 @@ fn meeting_disks(
 ) -> Result<Vec<MeetingDisk>, Fail>
     ensures count { IfOk result (λ disks. length disks.items ≡ count) }
     ensures fresh { IfOk result (λ disks. (disk : Medium) → Contains disks.items disk
-        → IsFreshDisk ⟦<MeetingDisk as Disk>⟧.may_leave ⟦<MeetingDisk as Disk>⟧.honest ⟦<MeetingDisk as Disk>⟧.told disk) }
+        → IsFreshDisk ⟦<MeetingDisk as Disk>⟧.view disk) }
 {
     let mut disks = Vec::new(alloc);
     'disks: for who in 0..count {
@@ -52,7 +52,7 @@ pub fn world_of_meeting_disks(
     meeting: &Arc<Meeting, Global>,
 ) -> Result<World<MeetingDisk>, Fail>
     requires few { count ≤ 7 }
-    ensures world { IfOk result (IsWorld ⟦<MeetingDisk as Disk>⟧.seen ⟦<MeetingDisk as Disk>⟧.may_leave ⟦<MeetingDisk as Disk>⟧.honest ⟦<MeetingDisk as Disk>⟧.told table.now) }
+    ensures world { IfOk result (IsWorld ⟦<MeetingDisk as Disk>⟧.view table.now) }
     ensures members { IfOk result (λ world. (book_of world).members ≡ count) }
 {
     let disks = meeting_disks(alloc, count, meeting)?;
@@ -69,7 +69,7 @@ fn meeting_world<R: Threads + Sync>(
     table: &JobTable,
     meeting: &Arc<Meeting, Global>,
 ) -> Result<World<MeetingDisk>, Fail>
-    ensures world { IfOk result (IsWorld ⟦<MeetingDisk as Disk>⟧.seen ⟦<MeetingDisk as Disk>⟧.may_leave ⟦<MeetingDisk as Disk>⟧.honest ⟦<MeetingDisk as Disk>⟧.told table.now) }
+    ensures world { IfOk result (IsWorld ⟦<MeetingDisk as Disk>⟧.view table.now) }
     ensures members { IfOk result (λ world. (book_of world).members ≡ 3) }
 {
     let world = world_of_meeting_disks(alloc, table, 3, meeting)?;

@@ -1,7 +1,6 @@
 //! A world that is taken apart and put together again in the midst of its commands plays on as one that isn't.
-ghost use Rattle.std.specs.Bool.{⊤};
 ghost use Rattle.std.specs.Prelude.{◌≡◌};
-ghost use Rattle.disk_model.specs.MemDisk.{left_by, seen_of, told_of};
+ghost use Rattle.disk_model.specs.MemDisk.{view_of};
 ghost use Rattle.due_set.specs.Table.{Table};
 ghost use Rattle.world_rounds.specs.World.{IsWorld, book_of};
 ghost use Rattle.rounds_tests.specs.Plays.{AreTaken};
@@ -23,8 +22,8 @@ use world_rounds::World;
 
 // Takes a world apart, and puts it together again.
 fn put_together(world: World<MemDisk>) -> World<MemDisk>
-    requires { (table : Table) × IsWorld seen_of left_by (λ disk. ⊤) told_of table world }
-    ensures world { (table : Table) → IsWorld seen_of left_by (λ disk. ⊤) told_of table world → IsWorld seen_of left_by (λ disk. ⊤) told_of table result }
+    requires { (table : Table) × IsWorld view_of table world }
+    ensures world { (table : Table) → IsWorld view_of table world → IsWorld view_of table result }
     ensures book { book_of result ≡ book_of world }
 {
     World::from_parts(world.take_parts())

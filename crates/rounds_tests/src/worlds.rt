@@ -1,7 +1,6 @@
 //! Worlds over disks in memory, and the commands that they take.
-ghost use Rattle.std.specs.Bool.{⊤};
 ghost use Rattle.std.specs.Prelude.{◌≡◌, ◌<◌, ◌≤◌, Contains, IfOk, OnOk, length};
-ghost use Rattle.disk_model.specs.MemDisk.{left_by, seen_of, told_of};
+ghost use Rattle.disk_model.specs.MemDisk.{view_of};
 ghost use Rattle.disk_model.specs.declared.mem_disk.MemDisk.{MemDisk as Medium};
 ghost use Rattle.world_rounds.specs.Commands.{IsTaken};
 ghost use Rattle.world_rounds.specs.Start.{IsFreshDisk};
@@ -18,7 +17,7 @@ use world_rounds::World;
 
 /// A new disk in memory.
 pub fn empty_disk(alloc: Global) -> MemDisk
-    ensures { IsFreshDisk left_by (λ disk. ⊤) told_of result }
+    ensures { IsFreshDisk view_of result }
 {
     let fails = Vec::new(alloc);
     MemDisk::new(alloc, fails)
@@ -26,7 +25,7 @@ pub fn empty_disk(alloc: Global) -> MemDisk
 
 fn disks(alloc: Global, count: u8) -> Result<Vec<MemDisk>, Fail>
     ensures count { IfOk result (λ disks. length disks.items ≡ count) }
-    ensures fresh { IfOk result (λ disks. (disk : Medium) → Contains disks.items disk → IsFreshDisk left_by (λ disk. ⊤) told_of disk) }
+    ensures fresh { IfOk result (λ disks. (disk : Medium) → Contains disks.items disk → IsFreshDisk view_of disk) }
 {
     let mut disks = Vec::new(alloc);
     'disks: for _disk in 0..count {
@@ -38,7 +37,7 @@ fn disks(alloc: Global, count: u8) -> Result<Vec<MemDisk>, Fail>
 /// A world before any turn.
 pub fn first_world(alloc: Global, table: &JobTable, count: u8) -> Result<World<MemDisk>, Fail>
     requires few { count ≤ 7 }
-    ensures world { IfOk result (IsWorld seen_of left_by (λ disk. ⊤) told_of table.now) }
+    ensures world { IfOk result (IsWorld view_of table.now) }
     ensures members { IfOk result (λ world. (book_of world).members ≡ count) }
 {
     let disks = disks(alloc, count)?;
@@ -57,9 +56,9 @@ fn take<R: Threads + Sync, D: ArmedDisk + Send>(
     lanes: u8,
 ) -> Result<(), Fail>
     requires lanes { 0 < lanes }
-    requires world { IsWorld D.seen D.may_leave D.honest D.told table.now world.old }
+    requires world { IsWorld D.view table.now world.old }
     requires taken { IsTaken table.now.window (book_of world.old).members command.now }
-    ensures world { OnOk result (IsWorld D.seen D.may_leave D.honest D.told table.now world.new) }
+    ensures world { OnOk result (IsWorld D.view table.now world.new) }
     ensures members { OnOk result ((book_of world.new).members ≡ (book_of world.old).members) }
 {
     match world.command(rt, table, command, lanes) {
@@ -77,9 +76,9 @@ pub fn play_on<R: Threads + Sync, D: ArmedDisk + Send>(
     lanes: u8,
 ) -> Result<World<D>, Fail>
     requires lanes { 0 < lanes }
-    requires world { IsWorld D.seen D.may_leave D.honest D.told table.now world }
+    requires world { IsWorld D.view table.now world }
     requires taken { AreTaken table.now.window (book_of world).members commands.now }
-    ensures world { IfOk result (IsWorld D.seen D.may_leave D.honest D.told table.now) }
+    ensures world { IfOk result (IsWorld D.view table.now) }
     ensures members { IfOk result (λ after. (book_of after).members ≡ (book_of world).members) }
 {
     'commands: for command in commands {
@@ -100,7 +99,7 @@ pub fn world_after<R: Threads + Sync>(
     requires lanes { 0 < lanes }
     requires few { count ≤ 7 }
     requires taken { AreTaken table.now.window count commands.now }
-    ensures world { IfOk result (IsWorld seen_of left_by (λ disk. ⊤) told_of table.now) }
+    ensures world { IfOk result (IsWorld view_of table.now) }
     ensures members { IfOk result (λ world. (book_of world).members ≡ count) }
 {
     let world = first_world(alloc, table, count)?;

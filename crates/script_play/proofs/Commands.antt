@@ -1,8 +1,7 @@
 -- Commands, one after another, from whichever situation.
-use Rattle.std.proofs.Common.{◌≡◌, ℕ, ◌+◌, List, [], ◌∷◌, ◌++◌, length, Option, refl, sym, ap, ◌∙◌, subst, arith, append_assoc}
+use Rattle.std.proofs.Common.{◌≡◌, ℕ, ◌+◌, List, [], ◌∷◌, ◌++◌, length, refl, sym, ap, ◌∙◌, subst, arith, append_assoc}
 use Rattle.std.proofs.lemmas.List.{append-nil, length-append}
-use Rattle.disk_model.specs.Images.{Image}
-use Rattle.disk_model.specs.Told.{Told}
+use Rattle.disk_model.specs.View.{DiskView}
 use Rattle.due_set.specs.Table.{Table}
 use Rattle.script_text.specs.declared.command.Command.{Command}
 use Rattle.history.specs.Book.{Row}
@@ -34,24 +33,24 @@ parts_push n table (first ∷ script) command situation middle after rows more p
   two = parts_push n table script command parts.middle middle after parts.back more parts.two part;
 }
 
-module _ {D : Type 0} (seen : D → Image) (may_leave : D → Image → Type 0) (honest : D → Type 0) (told_of : D → Option Told) (table : Table) where
+module _ {D : Type 0} (view : DiskView D) (table : Table) where
   -- the world has played some commands, whose parts begin at these numbers of turns
   pub record HasDone (script : List Command) (starts : List ℕ) (old new : World D) : Type 0 where
-    pub goes : GoesOnBy seen may_leave honest told_of table (ArePartsFrom old.book.members table script (length old.book.turns) starts) old new
+    pub goes : GoesOnBy view table (ArePartsFrom old.book.members table script (length old.book.turns) starts) old new
     pub members : new.book.members ≡ old.book.members
-    pub world : IsWorld seen may_leave honest told_of table new
+    pub world : IsWorld view table new
 
-  pub done_none : (world : World D) → IsWorld seen may_leave honest told_of table world → HasDone [] [] world world
+  pub done_none : (world : World D) → IsWorld view table world → HasDone [] [] world world
   done_none world is = record {
     goes = λ rows situation here.
-        ([], situation, parts_at_none world.book.members table (length world.book.turns) situation, subst (λ rows. IsWorldAt seen may_leave honest told_of table rows world situation) (sym (append-nil rows)) here);
+        ([], situation, parts_at_none world.book.members table (length world.book.turns) situation, subst (λ rows. IsWorldAt view table rows world situation) (sym (append-nil rows)) here);
     members = refl;
     world = is;
   }
 
   -- the turns that were added are as many more
-  more_turns : (rows more : List Row) (old new : World D) (situation after : Situation) → IsWorldAt seen may_leave honest told_of table rows old situation
-      → IsWorldAt seen may_leave honest told_of table (rows ++ more) new after → length new.book.turns ≡ length old.book.turns + length more
+  more_turns : (rows more : List Row) (old new : World D) (situation after : Situation) → IsWorldAt view table rows old situation
+      → IsWorldAt view table (rows ++ more) new after → length new.book.turns ≡ length old.book.turns + length more
   more_turns rows more old new situation after before behind =
       let first = as_many_turns table rows old.book before.ahead.at.behind in
       let last = as_many_turns table (rows ++ more) new.book behind.ahead.at.behind in
@@ -60,7 +59,7 @@ module _ {D : Type 0} (seen : D → Image) (may_leave : D → Image → Type 0) 
 
   pub done_next : (script : List Command) (command : Command) (starts : List ℕ) (start : ℕ) (old now new : World D) → HasDone script starts old now
       → start ≡ length now.book.turns
-      → GoesOnBy seen may_leave honest told_of table (IsPartOf now.book.members table command) now new → new.book.members ≡ now.book.members
+      → GoesOnBy view table (IsPartOf now.book.members table command) now new → new.book.members ≡ now.book.members
       → HasDone (script ++ command ∷ []) (starts ++ start ∷ []) old new
   done_next script command starts start old now new so_far start_is goes members = record {
     goes = λ rows situation is.
@@ -72,7 +71,7 @@ module _ {D : Type 0} (seen : D → Image) (may_leave : D → Image → Type 0) 
           front.0 ++ back.0,
           back.1,
           parts_at_push old.book.members table (length old.book.turns) situation script command starts start front.0 back.0 front.1 back.1 front.2 here parts,
-          subst (λ rows. IsWorldAt seen may_leave honest told_of table rows new back.1) (append_assoc rows front.0 back.0) back.3,
+          subst (λ rows. IsWorldAt view table rows new back.1) (append_assoc rows front.0 back.0) back.3,
         );
     members = members ∙ so_far.members;
     world = let here = so_far.world in let back = goes here.rows here.situation here.is in record { rows = here.rows ++ back.0; situation = back.1; is = back.3 };

@@ -1,5 +1,4 @@
 -- A run that a world has played.
-use Rattle.std.specs.Prelude.{⊤}
 use Rattle.std.proofs.Common.{◌≡◌, ℕ, List, ◌++◌, length, None, Some, ℤ, pos, ◌-ℤ◌, ◌<ℤ◌, ◌≤ℤ◌, refl, sym, ◌∙◌, subst, arith, to_z, of_z}
 use Rattle.std.specs.Int.{w64}
 use Rattle.std.specs.List.{slice_get}
@@ -21,7 +20,7 @@ use Rattle.script_semantics.specs.Settling.{Walks}
 use Rattle.script_semantics.specs.Situation.{Situation}
 use Rattle.world_law.specs.Book.{IsLegalBook, StandsBehind, standing_behind}
 use Rattle.disk_model.specs.Images.{Image}
-use Rattle.disk_model.specs.MemDisk.{left_by, seen_of, told_of}
+use Rattle.disk_model.specs.MemDisk.{left_by, seen_of, view_of}
 use Rattle.world_rounds.proofs.Limits.{within_bounds}
 use Rattle.world_rounds.specs.Bounds.{IsBookBounded}
 use Rattle.world_rounds.specs.World.{book_of}
@@ -57,7 +56,7 @@ walked table members script starts old new more after played walks here same bou
     obeys = record { front = played.rows; middle = played.situation; back = more; parts = refl; one = played.parts.parts; two = walks };
   };
   ends = refl;
-  limits = within_bounds seen_of left_by (λ disk. ⊤) told_of table (played.rows ++ more) new after here bounded;
+  limits = within_bounds view_of table (played.rows ++ more) new after here bounded;
   is = here;
   count = same ∙ played.count;
 }
@@ -79,7 +78,7 @@ module _ (table : Table) (members : ℕ) (script : List Command) (world : World 
       → FilesStand (length table.jobs) ((standing_behind table run.rows (book_of world)).replicas who).kept image
   stops_stand who node image found left =
       let is = are.each who node found in
-      subst (λ (kept : Durable). FilesStand (length table.jobs) kept image) is.kept (stands_at_rest seen_of left_by (λ disk. ⊤) table node is.at_rest tt image left)
+      subst (λ (kept : Durable). FilesStand (length table.jobs) kept image) is.kept (stands_at_rest view_of table node is.at_rest tt image left)
 
   pub count_nodes : length nodes ≡ members
   count_nodes = are.count ∙ run.count

@@ -1,8 +1,8 @@
 -- A world on disks in memory, and a script that it has played.
-use Rattle.std.specs.Prelude.{◌≡◌, ℕ, ◌+◌, ◌<◌, List, ◌++◌, length, take, get_or, ⊤}
+use Rattle.std.specs.Prelude.{◌≡◌, ℕ, ◌+◌, ◌<◌, List, ◌++◌, length, take, get_or}
 use Rattle.zone_minutes.specs.Window.{IsInWindow}
 use Rattle.zone_minutes.specs.declared.minute.Window.{Window}
-use Rattle.disk_model.specs.MemDisk.{left_by, seen_of, told_of}
+use Rattle.disk_model.specs.MemDisk.{view_of}
 use Rattle.disk_model.specs.declared.mem_disk.MemDisk.{MemDisk}
 use Rattle.due_set.specs.Table.{Table}
 use Rattle.script_text.specs.declared.command.Command.{Command}
@@ -22,16 +22,16 @@ use Rattle.world_rounds.specs.declared.world.World.{World}
 
 -- the disk's files are empty, whatever a stop leaves; a disk in memory is honest
 abbrev pub IsFreshMemDisk : MemDisk → Type 0
-IsFreshMemDisk disk = IsFreshDisk left_by (λ disk. ⊤) told_of disk
+IsFreshMemDisk disk = IsFreshDisk view_of disk
 
 -- the world on disks in memory is in this situation, and behind its book stand these rows
 abbrev pub IsMemWorldAt : Table → List Row → World MemDisk → Situation → Type 0
-IsMemWorldAt table rows world situation = IsWorldAt seen_of left_by (λ disk. ⊤) told_of table rows world situation
+IsMemWorldAt table rows world situation = IsWorldAt view_of table rows world situation
 
--- **The nodes on disks in memory are those of the book's replicas**, behind which these rows stand: what the files of node r's disk have, as
--- `seen_of` shows them, stands for what replica r keeps.
+-- **The nodes on disks in memory are those of the book's replicas**, behind which these rows stand: what a read of node r's
+-- disk gives stands for what replica r keeps.
 abbrev pub AreMemNodesOf : Table → List Row → BookState → List (Node MemDisk) → Type 0
-AreMemNodesOf table rows book nodes = AreNodesOf seen_of left_by (λ disk. ⊤) told_of table rows book nodes
+AreMemNodesOf table rows book nodes = AreNodesOf view_of table rows book nodes
 
 -- The command is one that a world takes, or one for replicas that run by themselves: there are some, and the instant is in the window.
 abbrev pub IsPlayable : Window → ℕ → Command → Type 0

@@ -37,12 +37,15 @@ pub fn a_played_run_obeys_its_script()
 /// The files of a replica's disk in memory, when a world has played a run, stand for what the replica keeps after the turns; and so
 /// does whatever a stop would leave of that disk.
 pub fn a_played_run_leaves_its_nodes()
-    ensures files { (table : Table) (members : ℕ) (script : List Command) (world : World MemDisk) (run : HasRun table members script world) (nodes : List (Node MemDisk))
+    ensures files { (table : Table) (members : ℕ) (script : List Command) (world : World MemDisk)
+        (run : HasRun table members script world) (nodes : List (Node MemDisk))
         → AreMemNodesOf table run.rows (book_of world) nodes → (who : ℕ) (node : Node MemDisk) → slice_get nodes who ≡ Some node
         → FilesStand (length table.jobs) ((standing_behind table run.rows (book_of world)).replicas who).kept (seen_of (disk_of node)) }
-    ensures stops { (table : Table) (members : ℕ) (script : List Command) (world : World MemDisk) (run : HasRun table members script world) (nodes : List (Node MemDisk))
+    ensures stops { (table : Table) (members : ℕ) (script : List Command) (world : World MemDisk)
+        (run : HasRun table members script world) (nodes : List (Node MemDisk))
         → AreMemNodesOf table run.rows (book_of world) nodes → (who : ℕ) (node : Node MemDisk) (image : Image) → slice_get nodes who ≡ Some node
         → left_by (disk_of node) image → FilesStand (length table.jobs) ((standing_behind table run.rows (book_of world)).replicas who).kept image }
-    ensures count { (table : Table) (members : ℕ) (script : List Command) (world : World MemDisk) (run : HasRun table members script world) (nodes : List (Node MemDisk))
+    ensures count { (table : Table) (members : ℕ) (script : List Command) (world : World MemDisk)
+        (run : HasRun table members script world) (nodes : List (Node MemDisk))
         → AreMemNodesOf table run.rows (book_of world) nodes → length nodes ≡ members }
 {}

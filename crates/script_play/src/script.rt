@@ -28,10 +28,10 @@ fn play_free<D: ArmedDisk + Send, R: Threads + Wait + Sync, G: TurnGate + Sync>(
     turns: u32,
     gate: &G,
 ) -> Result<World<D>, OutOfMemory>
-    requires world { IsWorld D.seen D.may_leave D.honest D.told table.now world }
+    requires world { IsWorld D.view table.now world }
     requires some { 0 < (book_of world).members }
     requires inside { IsInWindow table.now.window at.0 }
-    ensures goes { IfOk result (GoesOnBy D.seen D.may_leave D.honest D.told table.now (IsPartOf (book_of world).members table.now (Free at turns)) world) }
+    ensures goes { IfOk result (GoesOnBy D.view table.now (IsPartOf (book_of world).members table.now (Free at turns)) world) }
     ensures members { IfOk result (λ new. (book_of new).members ≡ (book_of world).members) }
 {
     let parts = run_free(rt, alloc, table, world.take_parts(), at, turns, gate)?;
@@ -49,9 +49,9 @@ fn play_command<D: ArmedDisk + Send, R: Threads + Wait + Sync, G: TurnGate + Syn
     gate: &G,
 ) -> Result<World<D>, OutOfMemory>
     requires lanes { 0 < lanes }
-    requires world { IsWorld D.seen D.may_leave D.honest D.told table.now world }
+    requires world { IsWorld D.view table.now world }
     requires taken { IsPlayable table.now.window (book_of world).members command.now }
-    ensures goes { IfOk result (GoesOnBy D.seen D.may_leave D.honest D.told table.now (IsPartOf (book_of world).members table.now command.now) world) }
+    ensures goes { IfOk result (GoesOnBy D.view table.now (IsPartOf (book_of world).members table.now command.now) world) }
     ensures members { IfOk result (λ new. (book_of new).members ≡ (book_of world).members) }
 {
     match *command {
@@ -79,9 +79,9 @@ pub fn play<D: ArmedDisk + Send, R: Threads + Wait + Sync, G: TurnGate + Sync>(
     gate: &G,
 ) -> Result<(World<D>, Vec<u64>), OutOfMemory>
     requires lanes { 0 < lanes }
-    requires world { IsWorld D.seen D.may_leave D.honest D.told table.now world }
+    requires world { IsWorld D.view table.now world }
     requires taken { All (IsPlayable table.now.window (book_of world).members) commands.now }
-    ensures goes { IfOk result (λ played. GoesOnBy D.seen D.may_leave D.honest D.told table.now
+    ensures goes { IfOk result (λ played. GoesOnBy D.view table.now
         (ArePartsFrom (book_of world).members table.now commands.now (length (book_of world).turns) played.1.items)
         world played.0) }
     ensures members { IfOk result (λ played. (book_of played.0).members ≡ (book_of world).members) }

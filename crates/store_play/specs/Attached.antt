@@ -1,7 +1,6 @@
 -- A store on its disk, and what it keeps.
 use Rattle.std.specs.Prelude.{◌≡◌, length}
-use Rattle.std.specs.Bool.{⊤}
-use Rattle.disk_model.specs.MemDisk.{left_by, seen_of}
+use Rattle.disk_model.specs.MemDisk.{view_of}
 use Rattle.disk_model.specs.declared.mem_disk.MemDisk.{MemDisk}
 use Rattle.due_set.specs.Table.{Table}
 use Rattle.paxos_base.specs.declared.durable.Durable.{Durable}
@@ -17,6 +16,6 @@ pub record AttachedState : Type 0 where
 
 -- the store is settled on its disk, is of a table of that many jobs, and keeps that
 pub record IsStoreAttached (attached : AttachedState) : Type 0 where
-  pub settled : IsStoreSettled seen_of left_by (λ disk. ⊤) attached.disk attached.store
+  pub settled : IsStoreSettled view_of attached.disk attached.store
   pub jobs : jobs_of_store attached.store ≡ length attached.table.jobs
   pub keeps : StoreKeeps attached.store attached.kept

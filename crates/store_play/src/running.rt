@@ -20,8 +20,7 @@ pub struct Running<'a> {
 }
 
 impl<'a> Model for Running<'a> {
-    ghost use Rattle.std.specs.Bool.{⊤};
-    ghost use Rattle.disk_model.specs.MemDisk.{left_by, seen_of};
+    ghost use Rattle.disk_model.specs.MemDisk.{view_of};
     ghost use Rattle.disk_model.specs.declared.mem_disk.MemDisk.{MemDisk};
     ghost use Rattle.due_set.specs.Table.{Table};
     ghost use Rattle.replica_node.specs.Node.{IsNodeAtRest};
@@ -31,7 +30,7 @@ impl<'a> Model for Running<'a> {
 
     ghost view = { λ here. (here.owner.table.now, here.node) };
 
-    ghost invariant = { λ here. IsNodeAtRest seen_of left_by (λ disk. ⊤) here.owner.table.now here.node };
+    ghost invariant = { λ here. IsNodeAtRest view_of here.owner.table.now here.node };
 }
 
 /// A node that was stopped within a step.
@@ -42,8 +41,7 @@ pub struct Halted<'a> {
 }
 
 impl<'a> Model for Halted<'a> {
-    ghost use Rattle.std.specs.Bool.{⊤};
-    ghost use Rattle.disk_model.specs.MemDisk.{left_by, told_of};
+    ghost use Rattle.disk_model.specs.MemDisk.{view_of};
     ghost use Rattle.disk_model.specs.declared.mem_disk.MemDisk.{MemDisk};
     ghost use Rattle.due_set.specs.Table.{Table};
     ghost use Rattle.replica_node.specs.Stopped.{IsStopped};
@@ -53,7 +51,7 @@ impl<'a> Model for Halted<'a> {
 
     ghost view = { λ here. (here.owner.table.now, here.node) };
 
-    ghost invariant = { λ here. IsStopped left_by (λ disk. ⊤) told_of here.owner.table.now here.node };
+    ghost invariant = { λ here. IsStopped view_of here.owner.table.now here.node };
 }
 
 fn input_of(told: &Told) -> Input<'_> {

@@ -1,10 +1,9 @@
 -- The jobs with which a part begins, by the parts of the world.
-use Rattle.std.proofs.Common.{◌≡◌, ℕ, ◌+◌, ◌<◌, ◌^◌, true, List, [], ◌∷◌, length, map, Option, Some, refl, sym, ap, ◌∙◌, subst, inl, arith}
+use Rattle.std.proofs.Common.{◌≡◌, ℕ, ◌+◌, ◌<◌, ◌^◌, true, List, [], ◌∷◌, length, map, Some, refl, sym, ap, ◌∙◌, subst, inl, arith}
 use Rattle.std.specs.List.{AllZip, slice_get}
 use Rattle.std.proofs.lemmas.List.{append-nil, length-map}
 use Rattle.std.proofs.lemmas.Option.{slice_get_within}
-use Rattle.disk_model.specs.Images.{Image}
-use Rattle.disk_model.specs.Told.{Told}
+use Rattle.disk_model.specs.View.{DiskView}
 use Rattle.due_set.specs.Table.{Table}
 use Rattle.history.specs.Book.{PostedLetter, Row, Standing}
 use Rattle.history.specs.Legal.{IsLegal}
@@ -47,19 +46,19 @@ posted_to letters posted who number are sent =
       to = sent.to;
     }
 
-module _ {D : Type 0} (seen : D → Image) (may_leave : D → Image → Type 0) (honest : D → Type 0) (told_of : D → Option Told) where
+module _ {D : Type 0} (view : DiskView D) where
   -- What the threads of a part begin with: the book of the plan, behind which these rows stand, the nodes of its replicas and what is set for
   -- them.
   pub record Begins (plan : FreePlan) (book : SharedBook) (rows : List Row) (nodes : List (Node D)) (mails : List MemberMail) : Type 0 where
     pub of_plan : IsOfPlan plan book
     pub at : IsBookAt plan.table rows plan.book plan.situation
-    pub nodes_are : AreNodesOf seen may_leave honest told_of plan.table rows plan.book nodes
+    pub nodes_are : AreNodesOf view plan.table rows plan.book nodes
     pub mails_are : (who : ℕ) (mail : MemberMail) → slice_get mails who ≡ Some mail → IsMailOf plan.book.letters plan.situation who [] mail
     pub few : length plan.book.turns < 2 ^ 31
 
   module _ (plan : FreePlan) (book : SharedBook) (rows : List Row) (nodes : List (Node D)) (mails : List MemberMail) (begins : Begins plan book rows nodes mails)
       (who : ℕ) (job : FreeJob D)
-      (node : IsNodeOf seen may_leave honest told_of plan.table rows plan.book who job.node) (member : who < plan.book.members)
+      (node : IsNodeOf view plan.table rows plan.book who job.node) (member : who < plan.book.members)
       (mail : IsMailOf plan.book.letters plan.situation who [] job.mail.mail)
       (kept : (job.mail.looked ≡ length plan.book.letters) × HasFirstBytes (map posted_as plan.book.letters) job.mail)
       (seat : IsNewSeat book who job.seat) where
@@ -105,7 +104,7 @@ module _ {D : Type 0} (seen : D → Image) (may_leave : D → Image → Type 0) 
     gone_begins runs =
         record { goes = goes_none plan.book.members who plan.table.window plan.at plan.turns plan.situation; taken_is = refl; last = refl; runs = runs }
 
-    runner_begins : plan.situation.standing.runs who ≡ true → IsRunner seen may_leave honest told_of plan book who 0 job
+    runner_begins : plan.situation.standing.runs who ≡ true → IsRunner view plan book who 0 job
     runner_begins runs = record {
       of_plan = begins.of_plan;
       node = record { at_rest = node.at_rest; trusted = node.trusted; identity = node.identity; member = member };
@@ -117,12 +116,12 @@ module _ {D : Type 0} (seen : D → Image) (may_leave : D → Image → Type 0) 
           subst (λ l. (replica_of job.node).state ≡ (situation_in plan l).standing.replicas who) (sym (none_beside HasTurnOf more are.each))
           (node.state (ap (λ (s : Standing). s.runs who) (sym begins.at.standing) ∙ runs) ∙ ap (λ (s : Standing). s.replicas who) (sym begins.at.standing));
       disk = λ begun more are.
-          subst (λ l. IsDiskAt told_of ((situation_in plan l).bases who) job.node) (sym (none_beside HasTurnOf more are.each))
-          (subst (λ (bases : ℕ → ℕ). IsDiskAt told_of (bases who) job.node) (sym begins.at.bases) node.disk);
+          subst (λ l. IsDiskAt view ((situation_in plan l).bases who) job.node) (sym (none_beside HasTurnOf more are.each))
+          (subst (λ (bases : ℕ → ℕ). IsDiskAt view (bases who) job.node) (sym begins.at.bases) node.disk);
       mail = λ begun more are. subst (λ l. IsMailIn (situation_in plan l) who job.mail) (sym (none_beside HasTurnOf more are.each)) (mail_begins runs);
     }
 
-    idle_begins : HasNotBegun seen may_leave honest told_of plan book who job
+    idle_begins : HasNotBegun view plan book who job
     idle_begins = record {
       seat = seat_begins;
       node = λ other at. node_still other (come_here plan.table rows other plan.book begins.at.behind at.behind).stands (sym begins.at.bases ∙ at.bases);
@@ -130,18 +129,18 @@ module _ {D : Type 0} (seen : D → Image) (may_leave : D → Image → Type 0) 
     }
       where
         node_still : (other : List Row) → standing_behind plan.table rows plan.book ≡ standing_behind plan.table other plan.book
-            → bases_behind plan.table rows plan.book ≡ bases_behind plan.table other plan.book → IsNodeOf seen may_leave honest told_of plan.table other plan.book who job.node
+            → bases_behind plan.table rows plan.book ≡ bases_behind plan.table other plan.book → IsNodeOf view plan.table other plan.book who job.node
         node_still other same bases = record {
           at_rest = node.at_rest;
           trusted = node.trusted;
-          disk = subst (λ (kept : ℕ → ℕ). IsDiskAt told_of (kept who) job.node) bases node.disk;
+          disk = subst (λ (kept : ℕ → ℕ). IsDiskAt view (kept who) job.node) bases node.disk;
           identity = node.identity;
           state = λ runs. node.state (ap (λ (s : Standing). s.runs who) same ∙ runs) ∙ ap (λ (s : Standing). s.replicas who) same;
           kept = node.kept ∙ ap (λ (s : Standing). (s.replicas who).kept) same;
-          stand = subst (λ (s : Standing). FilesStand (length plan.table.jobs) (s.replicas who).kept (seen (disk_of job.node))) same node.stand;
+          stand = subst (λ (s : Standing). FilesStand (length plan.table.jobs) (s.replicas who).kept (view.seen (disk_of job.node))) same node.stand;
         }
 
-    job_begins : IsJobAt seen may_leave honest told_of plan book who 0 job
+    job_begins : IsJobAt view plan book who 0 job
     job_begins = record { running = λ runs. runner_begins (sym mail.runs ∙ runs); stopped = λ stopped. inl idle_begins }
 
   -- **The jobs as a part begins.**
@@ -149,7 +148,7 @@ module _ {D : Type 0} (seen : D → Image) (may_leave : D → Image → Type 0) 
       (seats : List Seat) (jobs : List (FreeJob D))
       → Begins plan book rows nodes mails → map mail_of kept ≡ mails → AreKept plan.book.letters kept → AreNewSeats book 0 seats
       → AreJobsOf nodes kept seats jobs
-      → AreJobsAt seen may_leave honest told_of plan book 0 jobs
+      → AreJobsAt view plan book 0 jobs
   jobs_begin plan book rows nodes mails kept seats jobs begins mails_are are_kept new are who job there =
       let node_there : slice_get nodes who ≡ Some job.node = ap (λ l. slice_get l who) are.nodes_are ∙ mapped_at node_in jobs who job there in
       let kept_there : slice_get kept who ≡ Some job.mail = ap (λ l. slice_get l who) are.mails_are ∙ mapped_at mail_in jobs who job there in
@@ -164,7 +163,7 @@ module _ {D : Type 0} (seen : D → Image) (may_leave : D → Image → Type 0) 
   -- what the parts of a world are to the threads that share its book
   pub parts_begin : {M : Type 0} (table : Table) (rows : List Row) (parts : Bundle (Node D) M) (situation : Situation) (book : SharedBook) (setting : Setting)
       (seats : ℕ)
-      → ArePartsAt seen may_leave honest told_of table rows parts situation → BeganWith table parts.book seats book → setting.cuts.items ≡ parts.mail.cuts.items
+      → ArePartsAt view table rows parts situation → BeganWith table parts.book seats book → setting.cuts.items ≡ parts.mail.cuts.items
       → setting.members ≡ parts.book.members → length parts.book.turns < 2 ^ 31
       → Begins (plan_of table book situation setting) book rows parts.nodes.items parts.mail.members.items
   parts_begin table rows parts situation book setting seats are began cuts members few = record {
@@ -177,7 +176,7 @@ module _ {D : Type 0} (seen : D → Image) (may_leave : D → Image → Type 0) 
       members = members ∙ ap (λ (state : BookState). state.members) (sym began.state_is);
     };
     at = here;
-    nodes_are = subst (λ (state : BookState). AreNodesOf seen may_leave honest told_of table rows state parts.nodes.items) (sym began.state_is) are.nodes;
+    nodes_are = subst (λ (state : BookState). AreNodesOf view table rows state parts.nodes.items) (sym began.state_is) are.nodes;
     mails_are = λ who mail there. subst (λ (state : BookState). IsMailOf state.letters situation who [] mail) (sym began.state_is) (are.mails who mail there);
     few = subst (λ (state : BookState). length state.turns < 2 ^ 31) (sym began.state_is) few;
   }

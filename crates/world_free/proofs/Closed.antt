@@ -1,12 +1,11 @@
 -- The end of a part: what the jobs of all threads know, and the book that is closed, make the parts of the world behind it.
-use Rattle.std.proofs.Common.{◌≡◌, ◌⊎◌, ℕ, zero, suc, ◌-◌, ◌<◌, ◌≤◌, true, false, List, [], ◌∷◌, ◌++◌, length, fold, map, Option, Some, None, ℤ, eq-eqb, refl, sym, ap, ◌∙◌, subst, inl, inr, ⊎_elim, arith}
+use Rattle.std.proofs.Common.{◌≡◌, ◌⊎◌, ℕ, zero, suc, ◌-◌, ◌<◌, ◌≤◌, true, false, List, [], ◌∷◌, ◌++◌, length, fold, map, Some, None, ℤ, eq-eqb, refl, sym, ap, ◌∙◌, subst, inl, inr, ⊎_elim, arith}
 use Rattle.std.specs.List.{AllZip, Contains, slice_get}
 use Rattle.std.proofs.lemmas.Bool.{cases_Bool}
 use Rattle.std.proofs.lemmas.List.{append-nil, length-append, length-map}
 use Rattle.std.proofs.lemmas.List.Elements.{Contains-append_cases}
 use Rattle.std.proofs.lemmas.List.Sums.{fold-append}
-use Rattle.disk_model.specs.Images.{Image}
-use Rattle.disk_model.specs.Told.{Told}
+use Rattle.disk_model.specs.View.{DiskView}
 use Rattle.launch_machine.specs.Clerk.{first_rows}
 use Rattle.step_spec.specs.State.{State}
 use Rattle.step_spec.proofs.Lists.{nothing_in}
@@ -197,12 +196,12 @@ module _ (plan : FreePlan) (count : ℕ) (seats : List Seat) (new : BookState) (
       subst (λ l. GoesFreely plan.book.members plan.table.window plan.at plan.turns who plan.situation l) (sym last.parts)
       (goes_others plan.book.members who plan.table.window plan.at plan.turns plan.situation last.one last.other goes last.others)
 
-  module _ {D : Type 0} (seen : D → Image) (may_leave : D → Image → Type 0) (honest : D → Type 0) (told_of : D → Option Told) (book : SharedBook) (who : ℕ)
+  module _ {D : Type 0} (view : DiskView D) (book : SharedBook) (who : ℕ)
       (job : FreeJob D)
       (there : slice_get seats who ≡ Some job.seat) where
     -- ---- a replica that runs
 
-    module _ (runner : IsRunner seen may_leave honest told_of plan book who plan.turns job) where
+    module _ (runner : IsRunner view plan book who plan.turns job) where
       last : SinceLast who runner.after
       last = since_last book who runner.after job.seat runner.seat there
 
@@ -221,11 +220,11 @@ module _ (plan : FreePlan) (count : ℕ) (seats : List Seat) (new : BookState) (
       pub runner_takes : TakesFreeTurns plan.book.members plan.table.window plan.at plan.turns who plan.situation more_of
       runner_takes = record { goes = goes_since who runner.after last gone.goes; all = λ runs. (course_since who runner.after last).1 ∙ gone.taken_is }
 
-      pub runner_node : IsNodeOf seen may_leave honest told_of plan.table (rows ++ more_of) new who job.node
-      runner_node = running_node seen may_leave honest told_of plan.table (rows ++ more_of) new who job.node (record {
+      pub runner_node : IsNodeOf view plan.table (rows ++ more_of) new who job.node
+      runner_node = running_node view plan.table (rows ++ more_of) new who job.node (record {
         at_rest = runner.node.at_rest;
         trusted = runner.node.trusted;
-        disk = subst (λ (count : ℕ). IsDiskAt told_of count job.node) (sym passes.bases ∙ ap (λ (bases : ℕ → ℕ). bases who) bases_there)
+        disk = subst (λ (count : ℕ). IsDiskAt view count job.node) (sym passes.bases ∙ ap (λ (bases : ℕ → ℕ). bases who) bases_there)
             (runner.disk rows last.one last.first);
         first = replica_of job.node;
         stands = record {
@@ -290,7 +289,7 @@ module _ (plan : FreePlan) (count : ℕ) (seats : List Seat) (new : BookState) (
 
     -- ---- a replica that was stopped as the part began
 
-    module _ (idle : HasNotBegun seen may_leave honest told_of plan book who job) (halted : job.mail.mail.runs ≡ false) where
+    module _ (idle : HasNotBegun view plan book who job) (halted : job.mail.mail.runs ≡ false) where
       stopped : plan.situation.standing.runs who ≡ false
       stopped = sym idle.mail.runs ∙ halted
 
@@ -324,19 +323,19 @@ module _ (plan : FreePlan) (count : ℕ) (seats : List Seat) (new : BookState) (
       kept_there : (plan.situation.standing.replicas who) ≡ (standing_behind plan.table (rows ++ more_of) new).replicas who
       kept_there = sym left.replica ∙ ap (λ (s : Standing). s.replicas who) stands_there
 
-      pub idle_node : IsNodeOf seen may_leave honest told_of plan.table (rows ++ more_of) new who job.node
+      pub idle_node : IsNodeOf view plan.table (rows ++ more_of) new who job.node
       idle_node = record {
         at_rest = node.at_rest;
         trusted = node.trusted;
-        disk = subst (λ (count : ℕ). IsDiskAt told_of count job.node)
+        disk = subst (λ (count : ℕ). IsDiskAt view count job.node)
             (ap (λ (bases : ℕ → ℕ). bases who) (sym at.bases) ∙ sym left.bases ∙ ap (λ (bases : ℕ → ℕ). bases who) bases_there) node.disk;
         identity = node.identity ∙ ap (λ n. identity_of n who) (sym closed.members);
         state = λ runs. absurd (let no : false ≡ true = sym stopped_there ∙ ap (λ (s : Standing). s.runs who) stands_there ∙ runs in cc);
         kept = node.kept ∙ ap (λ (s : State). s.kept) same;
-        stand = subst (λ (s : State). FilesStand (length plan.table.jobs) s.kept (seen (disk_of job.node))) same node.stand;
+        stand = subst (λ (s : State). FilesStand (length plan.table.jobs) s.kept (view.seen (disk_of job.node))) same node.stand;
       }
         where
-          node : IsNodeOf seen may_leave honest told_of plan.table rows plan.book who job.node
+          node : IsNodeOf view plan.table rows plan.book who job.node
           node = idle.node rows at
 
           same : (standing_behind plan.table rows plan.book).replicas who ≡ (standing_behind plan.table (rows ++ more_of) new).replicas who
@@ -367,7 +366,7 @@ module _ (plan : FreePlan) (count : ℕ) (seats : List Seat) (new : BookState) (
 
     -- ---- a replica that has stopped within the part
 
-    module _ (ended_in : IsBroken seen may_leave honest told_of plan book who job) where
+    module _ (ended_in : IsBroken view plan book who job) where
       last_of : SinceLast who ended_in.after
       last_of = since_last book who ended_in.after job.seat ended_in.seat there
 
@@ -391,13 +390,13 @@ module _ (plan : FreePlan) (count : ℕ) (seats : List Seat) (new : BookState) (
             absurd (let no : false ≡ true = sym broken.stopped ∙ ap (λ (s : Situation). s.standing.runs who) (sym saw) ∙ runs in cc);
       }
 
-      pub broken_node : IsNodeOf seen may_leave honest told_of plan.table (rows ++ more_of) new who job.node
+      pub broken_node : IsNodeOf view plan.table (rows ++ more_of) new who job.node
       broken_node =
-          stopped_node seen may_leave honest told_of plan.table (rows ++ more_of) new who job.node
+          stopped_node view plan.table (rows ++ more_of) new who job.node
           (ap (λ (s : Standing). s.runs who) (sym stands_there) ∙ halted_there) (record {
             at_rest = ended_in.node.at_rest;
             trusted = ended_in.node.trusted;
-            disk = subst (λ (count : ℕ). IsDiskAt told_of count job.node) (sym passed.bases ∙ ap (λ (bases : ℕ → ℕ). bases who) bases_there)
+            disk = subst (λ (count : ℕ). IsDiskAt view count job.node) (sym passed.bases ∙ ap (λ (bases : ℕ → ℕ). bases who) bases_there)
                 (ended_in.disk rows last_of.one last_of.first);
             identity = ended_in.node.identity ∙ ap (λ n. identity_of n who) (sym closed.members);
             none = refl;
@@ -422,7 +421,7 @@ module _ (plan : FreePlan) (count : ℕ) (seats : List Seat) (new : BookState) (
 
     -- ---- either way
 
-    module _ (ended_job : IsJobAt seen may_leave honest told_of plan book who plan.turns job) where
+    module _ (ended_job : IsJobAt view plan book who plan.turns job) where
       pub job_takes : TakesFreeTurns plan.book.members plan.table.window plan.at plan.turns who plan.situation more_of
       job_takes =
           elim (cases_Bool job.mail.mail.runs) [
@@ -430,7 +429,7 @@ module _ (plan : FreePlan) (count : ℕ) (seats : List Seat) (new : BookState) (
             | inr stopped ↦ ⊎_elim (λ idle. idle_takes idle stopped) broken_takes (ended_job.stopped stopped)
           ]
 
-      pub job_node : IsNodeOf seen may_leave honest told_of plan.table (rows ++ more_of) new who job.node
+      pub job_node : IsNodeOf view plan.table (rows ++ more_of) new who job.node
       job_node =
           elim (cases_Bool job.mail.mail.runs) [
             | inl runs ↦ runner_node (ended_job.running runs)

@@ -2,8 +2,7 @@
 use Rattle.std.proofs.Common.{◌≡◌, ℕ, Bool, ◌+◌, ◌<◌, ◌≤◌, ◌^◌, List, [], ◌∷◌, ◌++◌, length, Some, None, Option, IfSome, refl, sym, ap, ◌∙◌, subst, inr, append_assoc}
 use Rattle.std.specs.Prelude.{is_some}
 use Rattle.std.specs.Option.{option_to_list}
-use Rattle.disk_model.specs.Images.{Image}
-use Rattle.disk_model.specs.Told.{Told}
+use Rattle.disk_model.specs.View.{DiskView}
 use Rattle.due_set.specs.Table.{Table}
 use Rattle.history.specs.Book.{Row}
 use Rattle.history.specs.Legal.{IsMade}
@@ -123,17 +122,17 @@ seat_then plan book who after seat new turn row shows mine of_book number first 
   own = owns ∙ ap (λ rows. rows ++ row ∷ []) shows.own ∙ sym (is_own (λ (r : BookRow). seat_of r.turn) who (after ++ shows.gone) row mine);
 }
 
-module _ {D : Type 0} (seen : D → Image) (may_leave : D → Image → Type 0) (honest : D → Type 0) (told_of : D → Option Told) (plan : FreePlan) (book : SharedBook) (who taken : ℕ) (step : Taken) (job : FreeJob D)
-    (stepper : IsStepper seen may_leave honest told_of plan book who taken step job) (turn : SeatTurn) (at : IsTurnAt book job.seat turn) (shows : ShowsHistory law.ghosts job.seat turn)
+module _ {D : Type 0} (view : DiskView D) (plan : FreePlan) (book : SharedBook) (who taken : ℕ) (step : Taken) (job : FreeJob D)
+    (stepper : IsStepper view plan book who taken step job) (turn : SeatTurn) (at : IsTurnAt book job.seat turn) (shows : ShowsHistory law.ghosts job.seat turn)
     (rests : ShowsRest law.ghosts turn) where
   abbrev shown : Shows plan who stepper.after job.seat turn
   shown = shows_book plan book who stepper.after job.seat turn stepper.of_plan stepper.seat at shows rests
 
   pub may_join_here : MayJoin plan.table (state_at turn) who step
-  may_join_here = may_join seen may_leave honest told_of plan book who taken step job stepper shown.gone shown.others (state_at turn) shown.here shown.rest shown.members
+  may_join_here = may_join view plan book who taken step job stepper shown.gone shown.others (state_at turn) shown.here shown.rest shown.members
 
   pub looked_here : job.mail.looked ≤ length (state_at turn).letters
-  looked_here = looked_within seen may_leave honest told_of plan book who taken step job stepper shown.gone shown.others (state_at turn) shown.here shown.rest shown.members
+  looked_here = looked_within view plan book who taken step job stepper shown.gone shown.others (state_at turn) shown.here shown.rest shown.members
 
   -- the thread of a replica whose step has become a turn of a book that was in this state has what it has after one turn more
   abbrev pub Commits : BookState → Type 0
@@ -144,30 +143,30 @@ module _ {D : Type 0} (seen : D → Image) (may_leave : D → Image → Type 0) 
       → length state.turns + 1 < 2 ^ 31 → IfSome made (λ call. call.fate ≡ job.mail.mail.fate) → HasLooked plan.cuts state.letters who step job.mail looked
       → new.node ≡ job.node → new.mail.mail ≡ noted made (calls_for (option_to_list step.out.delta)) looked.mail → new.mail.looked ≡ looked.looked → new.mail.bytes.items ≡ looked.bytes.items
       → IsSeatOf (book_at turn) new.seat → number_of new.seat ≡ number_at turn → first_rows_by new.seat ≡ first_rows_at turn → own_rows new.seat ≡ own_at turn ++ row_of_step who step made ∷ []
-      → seen_by new.seat ≡ shown_at turn ++ row_of_step who step made ∷ [] → IsRunner seen may_leave honest told_of plan book who (taken + 1) new
+      → seen_by new.seat ≡ shown_at turn ++ row_of_step who step made ∷ [] → IsRunner view plan book who (taken + 1) new
 
   has_committed : Commits (state_at turn)
   has_committed made during looked new call stands pending members few fated looks node mail looked_is bytes of_book number first owns saw = record {
     of_plan = stepper.of_plan;
-    node = subst (λ (n : Node D). IsNodeFit seen may_leave honest plan who n) (sym node) stepper.node;
+    node = subst (λ (n : Node D). IsNodeFit view plan who n) (sym node) stepper.node;
     after = (stepper.after ++ shown.gone) ++ row_of_step who step made ∷ [];
     seat = seat_then plan book who stepper.after job.seat new.seat turn (row_of_step who step made) shown refl (subst (λ (b : SharedBook). IsSeatOf b new.seat) at.of_book of_book)
         (number ∙ shown.number) first owns saw;
-    some = played_then seen may_leave honest told_of plan book who taken step job stepper shown.gone shown.others (state_at turn) shown.here shown.rest shown.members made
+    some = played_then view plan book who taken step job stepper shown.gone shown.others (state_at turn) shown.here shown.rest shown.members made
         (call (shown.here.begun ++ shown.here.more) shown.here.behind) during (stands (shown.here.begun ++ shown.here.more) shown.here.behind) pending members few;
     gone = λ begun more are.
-        gone_then seen may_leave honest told_of plan book who taken step job stepper shown.gone shown.others (state_at turn) shown.here shown.rest shown.members made
+        gone_then view plan book who taken step job stepper shown.gone shown.others (state_at turn) shown.here shown.rest shown.members made
         (call (shown.here.begun ++ shown.here.more) shown.here.behind) during (stands (shown.here.begun ++ shown.here.more) shown.here.behind) pending members few begun more are fated;
     state = λ begun more are.
         ap (λ (n : Node D). (replica_of n).state) node
-        ∙ state_then seen may_leave honest told_of plan book who taken step job stepper shown.gone shown.others (state_at turn) shown.here shown.rest shown.members made
+        ∙ state_then view plan book who taken step job stepper shown.gone shown.others (state_at turn) shown.here shown.rest shown.members made
         (call (shown.here.begun ++ shown.here.more) shown.here.behind) during (stands (shown.here.begun ++ shown.here.more) shown.here.behind) pending members few begun more are;
     disk = λ begun more are.
-        subst (λ (n : Node D). IsDiskAt told_of ((situation_in plan more).bases who) n) (sym node)
-        (disk_then seen may_leave honest told_of plan book who taken step job stepper shown.gone shown.others (state_at turn) shown.here shown.rest shown.members made
+        subst (λ (n : Node D). IsDiskAt view ((situation_in plan more).bases who) n) (sym node)
+        (disk_then view plan book who taken step job stepper shown.gone shown.others (state_at turn) shown.here shown.rest shown.members made
         (call (shown.here.begun ++ shown.here.more) shown.here.behind) during (stands (shown.here.begun ++ shown.here.more) shown.here.behind) pending members few begun more are);
     mail = λ begun more are.
-        mail_then seen may_leave honest told_of plan book who taken step job stepper shown.gone shown.others (state_at turn) shown.here shown.rest shown.members made
+        mail_then view plan book who taken step job stepper shown.gone shown.others (state_at turn) shown.here shown.rest shown.members made
         (call (shown.here.begun ++ shown.here.more) shown.here.behind) during (stands (shown.here.begun ++ shown.here.more) shown.here.behind) pending members few begun more are looked new.mail looks mail
         looked_is bytes;
   }
@@ -192,8 +191,8 @@ stop_row who cause change kept out is alone =
     stopped_row : Bool → StepOut → BookRow
     stopped_row k o = record { turn = Stopped who (Some cause) k; out = o }
 
-module _ {D : Type 0} (seen : D → Image) (may_leave : D → Image → Type 0) (honest : D → Type 0) (told_of : D → Option Told) (plan : FreePlan) (book : SharedBook) (who taken : ℕ) (cause : Cause)
-    (change : Option Delta) (job : FreeJob D) (stopper : IsStopper seen may_leave honest told_of plan book who taken cause change job) (turn : SeatTurn) (at : IsTurnAt book job.seat turn)
+module _ {D : Type 0} (view : DiskView D) (plan : FreePlan) (book : SharedBook) (who taken : ℕ) (cause : Cause)
+    (change : Option Delta) (job : FreeJob D) (stopper : IsStopper view plan book who taken cause change job) (turn : SeatTurn) (at : IsTurnAt book job.seat turn)
     (shows : ShowsHistory law.ghosts job.seat turn) (rests : ShowsRest law.ghosts turn) where
   abbrev halts : Shows plan who stopper.after job.seat turn
   halts = shows_book plan book who stopper.after job.seat turn stopper.of_plan stopper.seat at shows rests
@@ -202,28 +201,28 @@ module _ {D : Type 0} (seen : D → Image) (may_leave : D → Image → Type 0) 
   pub stop_comes_in : (state : BookState) → state ≡ state_at turn → (rows : List BookRow) → HasRows plan.table rows state → MayComeNext state.members plan.table rows (row_of_stop who cause change)
   stop_comes_in state same =
       subst (λ (s : BookState). (rows : List BookRow) → HasRows plan.table rows s → MayComeNext s.members plan.table rows (row_of_stop who cause change)) (sym same)
-      (halted.stop_comes_next seen may_leave honest told_of plan book who taken cause change job stopper halts.gone halts.others (state_at turn) halts.here halts.rest halts.members)
+      (halted.stop_comes_next view plan book who taken cause change job stopper halts.gone halts.others (state_at turn) halts.here halts.rest halts.members)
 
   -- and once it is one, the replica has stopped within the part
   pub has_broken : (row : BookRow) (new : FreeJob D) → row ≡ row_of_stop who cause change → new.node ≡ job.node → IsHalted job.mail.mail new.mail.mail → IsSeatOf (book_at turn) new.seat → number_of new.seat ≡ number_at turn
       → first_rows_by new.seat ≡ first_rows_at turn → own_rows new.seat ≡ own_at turn ++ row ∷ [] → seen_by new.seat ≡ shown_at turn ++ row ∷ []
-      → IsBroken seen may_leave honest told_of plan book who new
+      → IsBroken view plan book who new
   has_broken row new row_is node mail of_book number first owns saw = record {
     of_plan = stopper.of_plan;
-    node = subst (λ (n : Node D). IsNodeFit seen may_leave honest plan who n) (sym node)
-        (halted.node_then seen may_leave honest told_of plan book who taken cause change job stopper halts.gone halts.others (state_at turn) halts.here halts.rest halts.members);
+    node = subst (λ (n : Node D). IsNodeFit view plan who n) (sym node)
+        (halted.node_then view plan book who taken cause change job stopper halts.gone halts.others (state_at turn) halts.here halts.rest halts.members);
     after = (stopper.after ++ halts.gone) ++ row_of_stop who cause change ∷ [];
     seat = seat_then plan book who stopper.after job.seat new.seat turn (row_of_stop who cause change) halts refl (subst (λ (b : SharedBook). IsSeatOf b new.seat) at.of_book of_book)
         (number ∙ halts.number) first (owns ∙ ap (λ (r : BookRow). own_at turn ++ r ∷ []) row_is) (saw ∙ ap (λ (r : BookRow). shown_at turn ++ r ∷ []) row_is);
     halted = mail.runs;
-    broken = halted.broken_then seen may_leave honest told_of plan book who taken cause change job stopper halts.gone halts.others (state_at turn) halts.here halts.rest halts.members;
+    broken = halted.broken_then view plan book who taken cause change job stopper halts.gone halts.others (state_at turn) halts.here halts.rest halts.members;
     kept = λ begun more are.
-        halted.kept_then seen may_leave honest told_of plan book who taken cause change job stopper halts.gone halts.others (state_at turn) halts.here halts.rest halts.members begun more are
+        halted.kept_then view plan book who taken cause change job stopper halts.gone halts.others (state_at turn) halts.here halts.rest halts.members begun more are
         ∙ ap (λ (n : Node D). started who (replica_of n).state.kept) (sym node);
     disk = λ begun more are.
-        subst (λ (n : Node D). IsDiskAt told_of ((situation_in plan more).bases who) n) (sym node)
-        (halted.disk_then seen may_leave honest told_of plan book who taken cause change job stopper halts.gone halts.others (state_at turn) halts.here halts.rest halts.members begun more are);
+        subst (λ (n : Node D). IsDiskAt view ((situation_in plan more).bases who) n) (sym node)
+        (halted.disk_then view plan book who taken cause change job stopper halts.gone halts.others (state_at turn) halts.here halts.rest halts.members begun more are);
     mail = λ begun more are.
-        halted.mail_then seen may_leave honest told_of plan book who taken cause change job stopper halts.gone halts.others (state_at turn) halts.here halts.rest halts.members begun more are
+        halted.mail_then view plan book who taken cause change job stopper halts.gone halts.others (state_at turn) halts.here halts.rest halts.members begun more are
         new.mail.mail mail;
   }

@@ -1,12 +1,11 @@
 -- All jobs of a part that has ended make the part, and the parts of the world behind it.
-use Rattle.std.proofs.Common.{◌≡◌, ℕ, ◌≤◌, ◌≤ℤ◌, List, [], ◌++◌, length, drop, map, Option, Some, ℤ, refl, sym, ap, ◌∙◌, subst, inl, inr, ⊎_elim, arith}
+use Rattle.std.proofs.Common.{◌≡◌, ℕ, ◌≤◌, ◌≤ℤ◌, List, [], ◌++◌, length, drop, map, Some, ℤ, refl, sym, ap, ◌∙◌, subst, inl, inr, ⊎_elim, arith}
 use Rattle.std.specs.List.{slice_get}
 use Rattle.std.proofs.lemmas.Bool.{cases_Bool}
 use Rattle.std.proofs.lemmas.Int.{ints}
 use Rattle.std.proofs.lemmas.List.{length-map, map-append}
 use Rattle.std.proofs.lemmas.Option.{slice_get_within}
-use Rattle.disk_model.specs.Images.{Image}
-use Rattle.disk_model.specs.Told.{Told}
+use Rattle.disk_model.specs.View.{DiskView}
 use Rattle.history.specs.Book.{Row}
 use Rattle.replica_node.specs.declared.node.Node.{Node}
 use Rattle.script_semantics.specs.Free.{IsFreePart}
@@ -29,9 +28,9 @@ use Rattle.world_free.proofs.EndLemmas.{drop_front, latest_of, none_earlier}
 use Rattle.world_free.proofs.Gone.{cuts_stay}
 use Rattle.world_free.proofs.JobLemmas.{mapped_at, mapped_from, some_at}
 
-module _ {D : Type 0} (seen : D → Image) (may_leave : D → Image → Type 0) (honest : D → Type 0) (told_of : D → Option Told) where
+module _ {D : Type 0} (view : DiskView D) where
   -- the seat of a job, whether its replica runs or not
-  seat_of_job : (plan : FreePlan) (book : SharedBook) (who : ℕ) (job : FreeJob D) → IsJobAt seen may_leave honest told_of plan book who plan.turns job
+  seat_of_job : (plan : FreePlan) (book : SharedBook) (who : ℕ) (job : FreeJob D) → IsJobAt view plan book who plan.turns job
       → IsSeatOf book job.seat × (number_of job.seat ≡ who)
   seat_of_job plan book who job ended = elim (cases_Bool job.mail.mail.runs) [
     | inl runs ↦ (let runner = ended.running runs in (runner.seat.of_book, runner.seat.number))
@@ -39,7 +38,7 @@ module _ {D : Type 0} (seen : D → Image) (may_leave : D → Image → Type 0) 
   ]
 
   module _ (book : SharedBook) (setting : Setting) (situation : Situation) (jobs : List (FreeJob D))
-      (run : HaveRun seen may_leave honest told_of book setting situation jobs) (count : length jobs ≡ seats_of book)
+      (run : HaveRun view book setting situation jobs) (count : length jobs ≡ seats_of book)
       (nodes : List (Node D)) (mails : List FreeMail) (seats : List Seat) (are : AreJobsOf nodes mails seats jobs) where
     abbrev plan : FreePlan
     plan = plan_of (opening_of book).key.value book situation setting
@@ -65,7 +64,7 @@ module _ {D : Type 0} (seen : D → Image) (may_leave : D → Image → Type 0) 
         let ended = run who from.0 from.1 in
         let runner = ended.running (ap (λ (m : FreeMail). m.mail.runs) from.2 ∙ runs) in
         subst (λ (m : FreeMail). m.looked ≤ length new.letters) from.2
-        (runner_looked plan (seats_of book) seats new closed runner.of_plan.rows runner.of_plan.at seen may_leave honest told_of book who from.0
+        (runner_looked plan (seats_of book) seats new closed runner.of_plan.rows runner.of_plan.at view book who from.0
         (seat_there who from.0 from.1) runner)
 
     module _ {M : Type 0} (new : Bundle (Node D) M) (closed : IsClosed plan (seats_of book) seats new.book) (rows : List Row) (latest : ℤ)
@@ -82,14 +81,14 @@ module _ {D : Type 0} (seen : D → Image) (may_leave : D → Image → Type 0) 
         named = named_there plan (seats_of book) seats new.book closed rows begins.at plan.book.members members;
         each = λ who member.
             let one = some_at jobs who (omega (arith, member, members, count)) in
-            job_takes plan (seats_of book) seats new.book closed rows begins.at seen may_leave honest told_of book who one.0 (seat_there who one.0 one.1)
+            job_takes plan (seats_of book) seats new.book closed rows begins.at view book who one.0 (seat_there who one.0 one.1)
             (run who one.0 one.1);
         is = refl;
       }
 
       pub parts_there : (first : ℕ) → nodes ≡ new.nodes.items → HaveEnded plan.cuts new.book.letters mails new.mail.members.items
           → new.mail.cuts.items ≡ plan.cuts → first ≡ length plan.book.turns
-          → new.mail.latest.0 ≡ latest_by latest (drop first new.book.turns) → ArePartsAt seen may_leave honest told_of plan.table (rows ++ more) new after
+          → new.mail.latest.0 ≡ latest_by latest (drop first new.book.turns) → ArePartsAt view plan.table (rows ++ more) new after
       parts_there first nodes_are ended cuts_are first_is latest_is = record {
         at = record {
           sound = begins.at.sound;
@@ -130,11 +129,11 @@ module _ {D : Type 0} (seen : D → Image) (may_leave : D → Image → Type 0) 
               omega (arith, ints, begins.at.since, later, same)
 
           node_of : (who : ℕ) (node : Node D) → slice_get new.nodes.items who ≡ Some node
-              → IsNodeOf seen may_leave honest told_of plan.table (rows ++ more) new.book who node
+              → IsNodeOf view plan.table (rows ++ more) new.book who node
           node_of who node there =
               let from = mapped_from node_in jobs who node (ap (λ l. slice_get l who) (sym are.nodes_are ∙ nodes_are) ∙ there) in
-              subst (λ (n : Node D). IsNodeOf seen may_leave honest told_of plan.table (rows ++ more) new.book who n) from.2
-              (job_node plan (seats_of book) seats new.book closed rows begins.at seen may_leave honest told_of book who from.0 (seat_there who from.0 from.1)
+              subst (λ (n : Node D). IsNodeOf view plan.table (rows ++ more) new.book who n) from.2
+              (job_node plan (seats_of book) seats new.book closed rows begins.at view book who from.0 (seat_there who from.0 from.1)
               (run who from.0 from.1))
 
           mail_of_it : (who : ℕ) (mail : MemberMail) → slice_get new.mail.members.items who ≡ Some mail → IsMailOf new.book.letters after who [] mail
@@ -142,6 +141,6 @@ module _ {D : Type 0} (seen : D → Image) (may_leave : D → Image → Type 0) 
               let within = slice_get_within new.mail.members.items who mail there in
               let one = some_at jobs who (omega (arith, within, as_many, count, members, closed.members)) in
               let kept : slice_get mails who ≡ Some one.0.mail = ap (λ l. slice_get l who) are.mails_are ∙ mapped_at mail_in jobs who one.0 one.1 in
-              job_mail plan (seats_of book) seats new.book closed rows begins.at seen may_leave honest told_of book who one.0 (seat_there who one.0 one.1)
+              job_mail plan (seats_of book) seats new.book closed rows begins.at view book who one.0 (seat_there who one.0 one.1)
               (run who one.0 one.1) mail
               (ended.each who one.0.mail mail kept there)

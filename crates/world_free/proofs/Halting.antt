@@ -2,8 +2,7 @@
 use Rattle.std.proofs.Common.{◌≡◌, ◌⊎◌, ℕ, ◌<◌, Bool, true, false, List, [], ◌∷◌, ◌++◌, length, ℤ, Some, None, Option, refl, sym, ap, ◌∙◌, subst, inl, inr, append_assoc}
 use Rattle.std.specs.Prelude.{is_some}
 use Rattle.std.specs.Option.{option_to_list}
-use Rattle.disk_model.specs.Images.{Image}
-use Rattle.disk_model.specs.Told.{Told}
+use Rattle.disk_model.specs.View.{DiskView}
 use Rattle.launch_machine.specs.Clerk.{first_rows}
 use Rattle.paxos_base.specs.declared.durable.Delta.{Delta}
 use Rattle.save_calls.specs.Save.{is_kept}
@@ -71,8 +70,8 @@ stop_waits : (n : ℕ) (s : Standing) (who : ℕ) (cause : Option Cause) (kept :
 unfolding after_row
 stop_waits n s who cause kept event letters = fact_here who None s.waits
 
-module _ {D : Type 0} (seen : D → Image) (may_leave : D → Image → Type 0) (honest : D → Type 0) (told_of : D → Option Told) (plan : FreePlan) (book : SharedBook) (who taken : ℕ) (cause : Cause)
-    (change : Option Delta) (job : FreeJob D) (stopper : IsStopper seen may_leave honest told_of plan book who taken cause change job) (gone : List BookRow) (others : rows_by who gone ≡ [])
+module _ {D : Type 0} (view : DiskView D) (plan : FreePlan) (book : SharedBook) (who taken : ℕ) (cause : Cause)
+    (change : Option Delta) (job : FreeJob D) (stopper : IsStopper view plan book who taken cause change job) (gone : List BookRow) (others : rows_by who gone ≡ [])
     (state : BookState) (here : IsHere plan (stopper.after ++ gone) state) (rest : state.pending ≡ None) (members : state.members ≡ plan.book.members) where
   abbrev rows_now : List Row
   rows_now = here.begun ++ here.more
@@ -134,7 +133,7 @@ module _ {D : Type 0} (seen : D → Image) (may_leave : D → Image → Type 0) 
 
   -- ---- the node
 
-  pub node_then : IsNodeFit seen may_leave honest plan who job.node
+  pub node_then : IsNodeFit view plan who job.node
   node_then = record {
     at_rest = stopper.stop.attached.at_rest;
     trusted = stopper.stop.attached.trusted;
@@ -224,8 +223,8 @@ module _ {D : Type 0} (seen : D → Image) (may_leave : D → Image → Type 0) 
         (broken_next plan who taken late.one late.other late.row cause (stopper.gone begun late.one late.first) stopper.left late.others (stopper.cause_is begun late.one late.first) stops)
 
     -- the disk is where the turn leaves it
-    pub disk_then : IsDiskAt told_of ((situation_in plan more).bases who) job.node
-    disk_then = subst (λ (count : ℕ). IsDiskAt told_of count job.node) (sym bases_then) stopper.stop.attached.disk
+    pub disk_then : IsDiskAt view ((situation_in plan more).bases who) job.node
+    disk_then = subst (λ (count : ℕ). IsDiskAt view count job.node) (sym bases_then) stopper.stop.attached.disk
       where
         bases_then : (situation_in plan more).bases who ≡ bases_with (option_to_list change) (bases_behind plan.table (stopper.some.begun ++ stopper.some.more) stopper.some.book who)
         bases_then =

@@ -1,8 +1,7 @@
 -- What the threads of a part are handed, by the parts of the world; and what comes back when they have run.
-use Rattle.std.proofs.Common.{◌≡◌, ℕ, ◌<◌, ◌^◌, List, ◌++◌, length, drop, take, map, Option, Result, Ok, Err, IfOk, sym, ap, ◌∙◌, subst}
+use Rattle.std.proofs.Common.{◌≡◌, ℕ, ◌<◌, ◌^◌, List, ◌++◌, length, drop, take, map, Result, Ok, Err, IfOk, sym, ap, ◌∙◌, subst}
 use Rattle.std.proofs.Math.Seq.{take-append_seam}
-use Rattle.disk_model.specs.Images.{Image}
-use Rattle.disk_model.specs.Told.{Told}
+use Rattle.disk_model.specs.View.{DiskView}
 use Rattle.due_set.specs.Table.{Table}
 use Rattle.history.specs.Book.{Row}
 use Rattle.history.specs.declared.turn.Turn.{Turn}
@@ -68,33 +67,33 @@ module _ {D M : Type 0} (table : Table) (parts : Bundle (Node D) M) (book : Shar
     are = are;
   }
 
-module _ {D M : Type 0} (seen : D → Image) (may_leave : D → Image → Type 0) (honest : D → Type 0) (told_of : D → Option Told) (table : Table)
+module _ {D M : Type 0} (view : DiskView D) (table : Table)
     (parts : Bundle (Node D) M) (book : SharedBook) (setting : Setting) where
   module _ (jobs : List (FreeJob D)) (handed : AreHanded table parts book setting jobs) where
     have_run : (situation : Situation) (after : List (FreeJob D))
-        → AreJobsAt seen may_leave honest told_of (plan_of table book situation setting) book setting.turns after
-        → HaveRun seen may_leave honest told_of book setting situation after
+        → AreJobsAt view (plan_of table book situation setting) book setting.turns after
+        → HaveRun view book setting situation after
     have_run situation after are =
-        subst (λ key. AreJobsAt seen may_leave honest told_of (plan_of key book situation setting) book setting.turns after) (sym handed.began.key_is) are
+        subst (λ key. AreJobsAt view (plan_of key book situation setting) book setting.turns after) (sym handed.began.key_is) are
 
-    module _ (rows : List Row) (situation : Situation) (at : ArePartsAt seen may_leave honest told_of table rows parts situation) where
+    module _ (rows : List Row) (situation : Situation) (at : ArePartsAt view table rows parts situation) where
       abbrev plan : FreePlan
       plan = plan_of table book situation setting
 
       -- the jobs before any turn
-      pub begun : (now : List (FreeJob D)) → now ≡ jobs → AreJobsAt seen may_leave honest told_of plan book 0 now
+      pub begun : (now : List (FreeJob D)) → now ≡ jobs → AreJobsAt view plan book 0 now
       begun now is =
-          subst (λ l. AreJobsAt seen may_leave honest told_of plan book 0 l) (sym is)
-          (jobs_begin seen may_leave honest told_of plan book rows parts.nodes.items parts.mail.members.items handed.kept handed.seats jobs
-          (parts_begin seen may_leave honest told_of table rows parts situation book setting handed.count at handed.began handed.cuts handed.members handed.few) handed.mails
+          subst (λ l. AreJobsAt view plan book 0 l) (sym is)
+          (jobs_begin view plan book rows parts.nodes.items parts.mail.members.items handed.kept handed.seats jobs
+          (parts_begin view table rows parts situation book setting handed.count at handed.began handed.cuts handed.members handed.few) handed.mails
           (subst (λ (state : BookState). AreKept state.letters handed.kept) (sym handed.began.state_is) handed.are_kept) handed.new handed.are)
 
       -- and those that were lent to the threads, after all their turns
       pub ran : (now new : List (FreeJob D)) (len : ℕ) → now ≡ jobs → length new ≡ length now → len ≡ length jobs
-          → (AreJobsAt seen may_leave honest told_of plan book 0 now → AreJobsAt seen may_leave honest told_of plan book setting.turns new)
-          → HaveRun seen may_leave honest told_of book setting situation (take len (new ++ drop (length new) jobs))
+          → (AreJobsAt view plan book 0 now → AreJobsAt view plan book setting.turns new)
+          → HaveRun view book setting situation (take len (new ++ drop (length new) jobs))
       ran now new len is count long takes =
-          subst (λ l. HaveRun seen may_leave honest told_of book setting situation l) (sym (lent len jobs now new is count long))
+          subst (λ l. HaveRun view book setting situation l) (sym (lent len jobs now new is count long))
           (have_run situation new (takes (begun now is)))
 
       pub begins_at : BeginsAt book setting parts.mail.latest.0 rows situation
@@ -110,7 +109,7 @@ module _ {D M : Type 0} (seen : D → Image) (may_leave : D → Image → Type 0
     abbrev pub GoesTo : Table → (members : ℕ) → List Row → Situation → Bundle (Node D) M → Type 0
     GoesTo key members rows situation new =
         (more : List Row) × (after : Situation) × IsFreePart members key.window setting.at.0 setting.turns situation more after
-        × ArePartsAt seen may_leave honest told_of key (rows ++ more) new after
+        × ArePartsAt view key (rows ++ more) new after
 
     pub goes_to : (rows : List Row) (situation : Situation) (new : Bundle (Node D) M)
         → GoesTo (opening_of book).key.value (opening_of book).state.value.members rows situation new

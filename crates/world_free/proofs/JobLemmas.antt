@@ -1,11 +1,10 @@
 -- Jobs are made of nodes, mails and seats, one after another, and taken apart again.
-use Rattle.std.proofs.Common.{◌≡◌, ◌⊎◌, ℕ, zero, suc, ◌<◌, false, List, [], ◌∷◌, ◌++◌, length, map, Option, Some, Result, Ok, Err, OnOk, refl, sym, ap, ◌∙◌, subst, inl, inr, ⊎_elim, arith, append_assoc, length-append}
+use Rattle.std.proofs.Common.{◌≡◌, ◌⊎◌, ℕ, zero, suc, ◌<◌, false, List, [], ◌∷◌, ◌++◌, length, map, Some, Result, Ok, Err, OnOk, refl, sym, ap, ◌∙◌, subst, inl, inr, ⊎_elim, arith, append_assoc, length-append}
 use Rattle.std.specs.List.{remove, slice_get}
 use Rattle.std.specs.Prelude.{slice_index_or}
 use Rattle.std.proofs.lemmas.List.{append-nil, length-map, map-append}
 use Rattle.std.proofs.lemmas.Option.{slice_get-get_or, slice_get_within}
-use Rattle.disk_model.specs.Images.{Image}
-use Rattle.disk_model.specs.Told.{Told}
+use Rattle.disk_model.specs.View.{DiskView}
 use Rattle.due_set.specs.Table.{Table}
 use Rattle.replica_node.specs.declared.node.Node.{Node}
 use Rattle.script_semantics.specs.Situation.{Situation}
@@ -169,22 +168,22 @@ pub on_ok : {T E : Type 0} (result : Result T E) (P Q : Type 0) → (P → Q) �
 on_ok (Ok value) P Q goes is = goes is
 on_ok (Err fault) P Q goes is = tt
 
-module _ {D : Type 0} (seen : D → Image) (may_leave : D → Image → Type 0) (honest : D → Type 0) (told_of : D → Option Told) (table : Table) (book : SharedBook)
+module _ {D : Type 0} (view : DiskView D) (table : Table) (book : SharedBook)
     (setting : Setting) (old new : List (FreeJob D)) where
   -- each has taken its turns, or was short of memory
   abbrev pub HaveGone : Type 0
   HaveGone =
       (who : ℕ) (none : FreeJob D) → who < length old → (slice_index_or new who none).short ≡ false → (situation : Situation)
-      → IsJobAt seen may_leave honest told_of (plan_of table book situation setting) book who 0 (slice_index_or old who none)
-      → IsJobAt seen may_leave honest told_of (plan_of table book situation setting) book who setting.turns (slice_index_or new who none)
+      → IsJobAt view (plan_of table book situation setting) book who 0 (slice_index_or old who none)
+      → IsJobAt view (plan_of table book situation setting) book who setting.turns (slice_index_or new who none)
 
   pub all_run : length new ≡ length old → HaveGone → ((who : ℕ) (job : FreeJob D) → slice_get new who ≡ Some job → job.short ≡ false) → (situation : Situation)
-      → AreJobsAt seen may_leave honest told_of (plan_of table book situation setting) book 0 old
-      → AreJobsAt seen may_leave honest told_of (plan_of table book situation setting) book setting.turns new
+      → AreJobsAt view (plan_of table book situation setting) book 0 old
+      → AreJobsAt view (plan_of table book situation setting) book setting.turns new
   all_run count gone had situation begun who job there =
       let inside = slice_get_within new who job there in
       let within : who < length old = omega (arith, inside, count) in
       let same = got_at new who job job there in
-      subst (λ (j : FreeJob D). IsJobAt seen may_leave honest told_of (plan_of table book situation setting) book who setting.turns j) same
+      subst (λ (j : FreeJob D). IsJobAt view (plan_of table book situation setting) book who setting.turns j) same
       (gone who job within (ap (λ (j : FreeJob D). j.short) same ∙ had who job there) situation
       (begun who (slice_index_or old who job) (slice_get-get_or old who job within)))

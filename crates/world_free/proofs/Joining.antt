@@ -4,9 +4,8 @@ use Rattle.std.specs.List.{Contains, slice_get}
 use Rattle.std.specs.Option.{option_to_list}
 use Rattle.std.proofs.lemmas.List.{length-append, length-map}
 use Rattle.std.proofs.lemmas.List.Elements.{Contains-append_cases}
-use Rattle.disk_model.specs.Images.{Image}
-use Rattle.disk_model.specs.Told.{Told}
 use Rattle.disk_model.specs.declared.armed.Arm.{Arm}
+use Rattle.disk_model.specs.View.{DiskView}
 use Rattle.launch_machine.specs.Clerk.{first_rows}
 use Rattle.paxos_base.specs.declared.durable.Delta.{Delta}
 use Rattle.step_spec.specs.Folds.{deltas_of}
@@ -51,8 +50,8 @@ use Rattle.world_free.proofs.Since.{IsHere, Lately, changes_before, changes_seen
 use Rattle.history.proofs.Standings.{fact_here}
 use Rattle.step_spec.proofs.ListLemmas.{found_still as found_more}
 
-module _ {D : Type 0} (seen : D → Image) (may_leave : D → Image → Type 0) (honest : D → Type 0) (told_of : D → Option Told) (plan : FreePlan) (book : SharedBook) (who taken : ℕ) (step : Taken) (job : FreeJob D)
-    (stepper : IsStepper seen may_leave honest told_of plan book who taken step job) (gone : List BookRow) (others : rows_by who gone ≡ []) (state : BookState)
+module _ {D : Type 0} (view : DiskView D) (plan : FreePlan) (book : SharedBook) (who taken : ℕ) (step : Taken) (job : FreeJob D)
+    (stepper : IsStepper view plan book who taken step job) (gone : List BookRow) (others : rows_by who gone ≡ []) (state : BookState)
     (here : IsHere plan (stepper.after ++ gone) state) (rest : state.pending ≡ None) (members : state.members ≡ plan.book.members) where
   abbrev rows_now : List Row
   rows_now = here.begun ++ here.more
@@ -193,8 +192,8 @@ module _ {D : Type 0} (seen : D → Image) (may_leave : D → Image → Type 0) 
           (stepper.saved begun late.one late.first))
 
       -- the disk is where the turn leaves it
-      pub disk_then : IsDiskAt told_of ((situation_in plan more).bases who) job.node
-      disk_then = subst (λ (count : ℕ). IsDiskAt told_of count job.node) (sym bases_then) (stepper.disk begun late.one late.first)
+      pub disk_then : IsDiskAt view ((situation_in plan more).bases who) job.node
+      disk_then = subst (λ (count : ℕ). IsDiskAt view count job.node) (sym bases_then) (stepper.disk begun late.one late.first)
         where
           bases_then : (situation_in plan more).bases who ≡ bases_with (option_to_list step.out.delta) (seen_last.bases who)
           bases_then =

@@ -7,9 +7,8 @@ use Rattle.std.proofs.lemmas.Int.{clamps, ints}
 use Rattle.zone_minutes.specs.Window.{IsInWindow}
 use Rattle.zone_minutes.specs.declared.minute.Minute.{Minute}
 use Rattle.zone_minutes.specs.declared.minute.Window.{Window}
-use Rattle.disk_model.specs.Images.{Image}
-use Rattle.disk_model.specs.Told.{Told}
 use Rattle.disk_model.specs.declared.armed.Arm.{Arm}
+use Rattle.disk_model.specs.View.{DiskView}
 use Rattle.paxos_base.specs.declared.durable.Delta.{Delta}
 use Rattle.cluster_sched.specs.declared.row.SchedRow.{SchedRow}
 use Rattle.term_core.specs.Term.{is_leader}
@@ -78,7 +77,7 @@ posted_row [] number letter is = absurd cc
 posted_row (row ∷ letters) zero letter is = (row, refl, (let same : posted_as row ≡ letter = cc in same))
 posted_row (row ∷ letters) (suc number) letter is = posted_row letters number letter is
 
-module _ {D : Type 0} (seen : D → Image) (may_leave : D → Image → Type 0) (honest : D → Type 0) (told_of : D → Option Told) (plan : FreePlan) (book : SharedBook) (who taken : ℕ) (job : FreeJob D) (runner : IsRunner seen may_leave honest told_of plan book who taken job) where
+module _ {D : Type 0} (view : DiskView D) (plan : FreePlan) (book : SharedBook) (who taken : ℕ) (job : FreeJob D) (runner : IsRunner view plan book who taken job) where
   -- the cause by what the thread keeps
   abbrev cause_kept : Cause
   cause_kept = next_cause_by job.mail.mail.waits job.mail.mail.letters.items (idle_cause_by plan.table.window plan.at job.mail.mail.skew who taken (replica_of job.node).state.term)
@@ -140,7 +139,7 @@ module _ {D : Type 0} (seen : D → Image) (may_leave : D → Image → Type 0) 
       bases_still plan book who runner.after begun more runner.some.begun runner.some.more runner.of_plan are runner.some.are
       ∙ ap (λ (bases : ℕ → ℕ). bases who) (situation_bases plan book runner.after runner.some.begun runner.some.more runner.of_plan runner.some.are) ∙ rw runner.some.members refl
 
-  pub beside : IsBeside seen may_leave honest told_of plan.table behind_it runner.some.book who [] job.node
+  pub beside : IsBeside view plan.table behind_it runner.some.book who [] job.node
   beside = record {
     sound = runner.of_plan.at.sound;
     behind = runner.some.behind;
@@ -149,7 +148,7 @@ module _ {D : Type 0} (seen : D → Image) (may_leave : D → Image → Type 0) 
     ahead = record {
       at_rest = runner.node.at_rest;
       trusted = runner.node.trusted;
-      disk = subst (λ (count : ℕ). IsDiskAt told_of count job.node) (bases_now runner.some.begun runner.some.more runner.some.are) (runner.disk runner.some.begun runner.some.more runner.some.are);
+      disk = subst (λ (count : ℕ). IsDiskAt view count job.node) (bases_now runner.some.begun runner.some.more runner.some.are) (runner.disk runner.some.begun runner.some.more runner.some.are);
       first = replica_of job.node;
       stands = stands_at;
       me = rw runner.node.identity refl;
@@ -199,10 +198,10 @@ module _ {D : Type 0} (seen : D → Image) (may_leave : D → Image → Type 0) 
       subst (λ i. IsInputInside plan.table i) (sym (told waits.0 waits.1)) tt
 
   pub was_told : (cause : Cause) (input : Input) → cause ≡ cause_kept → IsToldHere job.mail cause input
-      → WasToldOf seen may_leave honest told_of plan.table behind_it runner.some.book who [] job.node cause input
+      → WasToldOf view plan.table behind_it runner.some.book who [] job.node cause input
   was_told cause input is told = record { beside = beside; is_told = told_of_it cause input is told; inside = inside_it cause input is told }
 
-  pub may_step : (cause : Cause) (input : Input) → cause ≡ cause_kept → IsToldHere job.mail cause input → MayStep seen may_leave honest told_of plan.table 2147483647 job.node cause input
+  pub may_step : (cause : Cause) (input : Input) → cause ≡ cause_kept → IsToldHere job.mail cause input → MayStep view plan.table 2147483647 job.node cause input
   may_step cause input is told = record {
     rows = behind_it;
     book = runner.some.book;
@@ -216,8 +215,8 @@ module _ {D : Type 0} (seen : D → Image) (may_leave : D → Image → Type 0) 
   -- ---- and has stepped
 
   stepped : (cause : Cause) (step : Taken) (new : FreeJob D) → cause ≡ cause_kept → step.cause ≡ cause → taken < plan.turns
-      → IsEnough (armed_in job.mail.mail.arm) (option_to_list step.out.delta) → IsBeside seen may_leave honest told_of plan.table behind_it runner.some.book who (step ∷ []) new.node → new.seat ≡ job.seat → new.mail ≡ job.mail
-      → IsStepper seen may_leave honest told_of plan book who taken step new
+      → IsEnough (armed_in job.mail.mail.arm) (option_to_list step.out.delta) → IsBeside view plan.table behind_it runner.some.book who (step ∷ []) new.node → new.seat ≡ job.seat → new.mail ≡ job.mail
+      → IsStepper view plan book who taken step new
   stepped cause step new is of left enough after seat mail = record {
     of_plan = runner.of_plan;
     node = record {
@@ -243,7 +242,7 @@ module _ {D : Type 0} (seen : D → Image) (may_leave : D → Image → Type 0) 
     cause = λ begun more are. of ∙ is ∙ cause_is begun more are;
     saved = λ begun more are. subst (λ (armed : Option Armed). IsEnough armed (option_to_list step.out.delta)) (runner.mail begun more are).arm enough;
     disk = λ begun more are.
-        subst (λ (count : ℕ). IsDiskAt told_of count new.node)
+        subst (λ (count : ℕ). IsDiskAt view count new.node)
         (ap (λ (changes : List Delta). bases_with changes (bases_behind plan.table behind_it runner.some.book who)) (append-nil (option_to_list step.out.delta))
         ∙ ap (bases_with (option_to_list step.out.delta)) (sym (bases_now begun more are)))
         after.ahead.disk;
@@ -253,8 +252,8 @@ module _ {D : Type 0} (seen : D → Image) (may_leave : D → Image → Type 0) 
   -- ---- or the disk has stopped
 
   stopped : (cause : Cause) (change : Option Delta) (arm : Arm) (new : FreeJob D) → cause ≡ cause_kept → taken < plan.turns → job.mail.mail.arm ≡ Some arm
-      → HasStopped seen may_leave honest told_of plan.table behind_it runner.some.book who cause arm change new.node → new.seat ≡ job.seat → new.mail ≡ job.mail
-      → IsStopper seen may_leave honest told_of plan book who taken cause change new
+      → HasStopped view plan.table behind_it runner.some.book who cause arm change new.node → new.seat ≡ job.seat → new.mail ≡ job.mail
+      → IsStopper view plan book who taken cause change new
   stopped cause change arm new is left armed stop seat mail = record {
     of_plan = runner.of_plan;
     after = runner.after;
@@ -272,7 +271,7 @@ module _ {D : Type 0} (seen : D → Image) (may_leave : D → Image → Type 0) 
   -- ---- either way
 
   pub tried : (cause : Cause) (outcome : Outcome) (new : FreeJob D) → cause ≡ cause_kept → taken < plan.turns
-      → HasOutcome seen may_leave honest told_of plan.table behind_it runner.some.book who cause job.mail.mail.arm outcome new.node → new.seat ≡ job.seat → new.mail ≡ job.mail
-      → HasTried seen may_leave honest told_of plan book who taken cause outcome new
+      → HasOutcome view plan.table behind_it runner.some.book who cause job.mail.mail.arm outcome new.node → new.seat ≡ job.seat → new.mail ≡ job.mail
+      → HasTried view plan book who taken cause outcome new
   tried cause (ended.Taken step) new is left after seat mail = stepped cause step new is after.0 left after.1 after.2 seat mail
   tried cause (ended.Stopped change) new is left after seat mail = stopped cause change after.0 new is left after.1 after.2 seat mail

@@ -1,9 +1,8 @@
 -- What the thread of a replica knows between its turns, and when it has taken a step that is no turn yet.
 use Rattle.std.specs.Option.{option_to_list}
 use Rattle.std.specs.Prelude.{◌≡◌, ◌⊎◌, ℕ, ◌<◌, ◌^◌, true, false, List, [], ◌++◌, length, Option, None, Some, slice_get}
-use Rattle.disk_model.specs.Images.{Image}
-use Rattle.disk_model.specs.Told.{Told}
 use Rattle.disk_model.specs.declared.armed.Arm.{Arm}
+use Rattle.disk_model.specs.View.{DiskView}
 use Rattle.paxos_base.specs.declared.durable.Delta.{Delta}
 use Rattle.step_spec.specs.State.{started}
 use Rattle.agreement.specs.Transition.{identity_of}
@@ -74,32 +73,32 @@ pub record HasStoppedFreely (plan : FreePlan) (who : ℕ) (more : List Row) : Ty
 -- ---- between two turns
 
 -- the node of a replica
-pub record IsNodeFit {D : Type 0} (seen : D → Image) (may_leave : D → Image → Type 0) (honest : D → Type 0) (plan : FreePlan) (who : ℕ) (node : Node D) : Type 0 where
-  pub at_rest : IsNodeAtRest seen may_leave honest plan.table node
-  pub trusted : honest (disk_of node)
+pub record IsNodeFit {D : Type 0} (view : DiskView D) (plan : FreePlan) (who : ℕ) (node : Node D) : Type 0 where
+  pub at_rest : IsNodeAtRest view plan.table node
+  pub trusted : view.honest (disk_of node)
   pub identity : (replica_of node).identity ≡ identity_of plan.book.members who
   pub member : who < plan.book.members
 
 -- **What the thread of a replica that runs has, after so many turns**: whatever rows of the part have what its seat has seen, the replica has
 -- gone freely by them, its node and its disk are where they leave them, and its mail is the one that they leave.
-pub record IsRunner {D : Type 0} (seen : D → Image) (may_leave : D → Image → Type 0) (honest : D → Type 0) (told_of : D → Option Told) (plan : FreePlan) (book : SharedBook) (who taken : ℕ) (job : FreeJob D) : Type 0 where
+pub record IsRunner {D : Type 0} (view : DiskView D) (plan : FreePlan) (book : SharedBook) (who taken : ℕ) (job : FreeJob D) : Type 0 where
   pub of_plan : IsOfPlan plan book
-  pub node : IsNodeFit seen may_leave honest plan who job.node
+  pub node : IsNodeFit view plan who job.node
   pub after : List BookRow
   pub seat : IsSeatAt book who after job.seat
   pub some : ArePlayedRows plan after
   pub gone : (begun more : List Row) → ArePlayed plan after begun more → HasGone plan who taken more
   pub state : (begun more : List Row) → ArePlayed plan after begun more → (replica_of job.node).state ≡ (situation_in plan more).standing.replicas who
-  pub disk : (begun more : List Row) → ArePlayed plan after begun more → IsDiskAt told_of ((situation_in plan more).bases who) job.node
+  pub disk : (begun more : List Row) → ArePlayed plan after begun more → IsDiskAt view ((situation_in plan more).bases who) job.node
   pub mail : (begun more : List Row) → ArePlayed plan after begun more → IsMailIn (situation_in plan more) who job.mail
 
 -- ---- with a step that is no turn yet
 
 -- **The replica has taken a step, for the cause that was next**: the node is one step ahead of all that the seat has seen, and its disk
 -- had calls enough left for the save of the step's change.
-pub record IsStepper {D : Type 0} (seen : D → Image) (may_leave : D → Image → Type 0) (honest : D → Type 0) (told_of : D → Option Told) (plan : FreePlan) (book : SharedBook) (who taken : ℕ) (step : Step) (job : FreeJob D) : Type 0 where
+pub record IsStepper {D : Type 0} (view : DiskView D) (plan : FreePlan) (book : SharedBook) (who taken : ℕ) (step : Step) (job : FreeJob D) : Type 0 where
   pub of_plan : IsOfPlan plan book
-  pub node : IsNodeFit seen may_leave honest plan who job.node
+  pub node : IsNodeFit view plan who job.node
   pub after : List BookRow
   pub seat : IsSeatAt book who after job.seat
   pub some : ArePlayedRows plan after
@@ -111,12 +110,12 @@ pub record IsStepper {D : Type 0} (seen : D → Image) (may_leave : D → Image 
       → step.cause ≡ next_cause plan.table.window plan.at who taken (situation_in plan more)
   pub saved : (begun more : List Row) → ArePlayed plan after begun more → IsEnough ((situation_in plan more).arms who) (option_to_list step.out.delta)
   pub disk : (begun more : List Row) → ArePlayed plan after begun more
-      → IsDiskAt told_of (bases_with (option_to_list step.out.delta) ((situation_in plan more).bases who)) job.node
+      → IsDiskAt view (bases_with (option_to_list step.out.delta) ((situation_in plan more).bases who)) job.node
   pub mail : (begun more : List Row) → ArePlayed plan after begun more → IsMailIn (situation_in plan more) who job.mail
 
 -- **The disk of the replica has stopped within the step for the cause that was next**, and the node was attached again; the stop is no turn
 -- yet.
-pub record IsStopper {D : Type 0} (seen : D → Image) (may_leave : D → Image → Type 0) (honest : D → Type 0) (told_of : D → Option Told) (plan : FreePlan) (book : SharedBook) (who taken : ℕ) (cause : Cause) (change : Option Delta) (job : FreeJob D) : Type 0 where
+pub record IsStopper {D : Type 0} (view : DiskView D) (plan : FreePlan) (book : SharedBook) (who taken : ℕ) (cause : Cause) (change : Option Delta) (job : FreeJob D) : Type 0 where
   pub of_plan : IsOfPlan plan book
   pub after : List BookRow
   pub seat : IsSeatAt book who after job.seat
@@ -124,53 +123,53 @@ pub record IsStopper {D : Type 0} (seen : D → Image) (may_leave : D → Image 
   pub left : taken < plan.turns
   pub arm : Arm
   pub armed : job.mail.mail.arm ≡ Some arm
-  pub stop : HasStopped seen may_leave honest told_of plan.table (some.begun ++ some.more) some.book who cause arm change job.node
+  pub stop : HasStopped view plan.table (some.begun ++ some.more) some.book who cause arm change job.node
   pub gone : (begun more : List Row) → ArePlayed plan after begun more → HasGone plan who taken more
   pub cause_is : (begun more : List Row) → ArePlayed plan after begun more
       → cause ≡ next_cause plan.table.window plan.at who taken (situation_in plan more)
   pub mail : (begun more : List Row) → ArePlayed plan after begun more → IsMailIn (situation_in plan more) who job.mail
 
 -- what came of the step for a cause: it was taken, or the disk has stopped within it
-abbrev pub HasTried : {D : Type 0} → (seen : D → Image) → (may_leave : D → Image → Type 0) → (honest : D → Type 0) → (told_of : D → Option Told) → (plan : FreePlan) → (book : SharedBook) → (who taken : ℕ) → Cause → Outcome → FreeJob D → Type 0
-HasTried seen may_leave honest told_of plan book who taken cause (Taken step) job = IsStepper seen may_leave honest told_of plan book who taken step job
-HasTried seen may_leave honest told_of plan book who taken cause (Stopped change) job = IsStopper seen may_leave honest told_of plan book who taken cause change job
+abbrev pub HasTried : {D : Type 0} → (view : DiskView D) → (plan : FreePlan) → (book : SharedBook) → (who taken : ℕ) → Cause → Outcome → FreeJob D → Type 0
+HasTried view plan book who taken cause (Taken step) job = IsStepper view plan book who taken step job
+HasTried view plan book who taken cause (Stopped change) job = IsStopper view plan book who taken cause change job
 
 -- ---- a replica that is stopped
 
 -- **The replica has stopped within the part**: whatever rows of the part have what its seat has seen, the last of its own is the stop; its
 -- node keeps what they leave it, and nothing is on its way to it.
-pub record IsBroken {D : Type 0} (seen : D → Image) (may_leave : D → Image → Type 0) (honest : D → Type 0) (told_of : D → Option Told) (plan : FreePlan) (book : SharedBook) (who : ℕ) (job : FreeJob D) : Type 0 where
+pub record IsBroken {D : Type 0} (view : DiskView D) (plan : FreePlan) (book : SharedBook) (who : ℕ) (job : FreeJob D) : Type 0 where
   pub of_plan : IsOfPlan plan book
-  pub node : IsNodeFit seen may_leave honest plan who job.node
+  pub node : IsNodeFit view plan who job.node
   pub after : List BookRow
   pub seat : IsSeatAt book who after job.seat
   pub halted : job.mail.mail.runs ≡ false
   pub broken : (begun more : List Row) → ArePlayed plan after begun more → HasStoppedFreely plan who more
   pub kept : (begun more : List Row) → ArePlayed plan after begun more
       → (situation_in plan more).standing.replicas who ≡ started who (replica_of job.node).state.kept
-  pub disk : (begun more : List Row) → ArePlayed plan after begun more → IsDiskAt told_of ((situation_in plan more).bases who) job.node
+  pub disk : (begun more : List Row) → ArePlayed plan after begun more → IsDiskAt view ((situation_in plan more).bases who) job.node
   pub mail : (begun more : List Row) → ArePlayed plan after begun more → IsStoppedMailIn (situation_in plan more) who job.mail.mail
 
 -- the thread has done nothing: the node and the mail are as the part began
-pub record HasNotBegun {D : Type 0} (seen : D → Image) (may_leave : D → Image → Type 0) (honest : D → Type 0) (told_of : D → Option Told) (plan : FreePlan) (book : SharedBook) (who : ℕ) (job : FreeJob D) : Type 0 where
+pub record HasNotBegun {D : Type 0} (view : DiskView D) (plan : FreePlan) (book : SharedBook) (who : ℕ) (job : FreeJob D) : Type 0 where
   pub seat : IsSeatAt book who [] job.seat
-  pub node : (rows : List Row) → IsBookAt plan.table rows plan.book plan.situation → IsNodeOf seen may_leave honest told_of plan.table rows plan.book who job.node
+  pub node : (rows : List Row) → IsBookAt plan.table rows plan.book plan.situation → IsNodeOf view plan.table rows plan.book who job.node
   pub mail : IsMailOf plan.book.letters plan.situation who [] job.mail.mail
 
 -- ---- jobs
 
 -- **The job of a replica after so many turns, where it runs**; one that is stopped has been so since the part began, or has stopped within
 -- it.
-pub record IsJobAt {D : Type 0} (seen : D → Image) (may_leave : D → Image → Type 0) (honest : D → Type 0) (told_of : D → Option Told) (plan : FreePlan) (book : SharedBook) (who taken : ℕ) (job : FreeJob D) : Type 0 where
-  pub running : job.mail.mail.runs ≡ true → IsRunner seen may_leave honest told_of plan book who taken job
-  pub stopped : job.mail.mail.runs ≡ false → HasNotBegun seen may_leave honest told_of plan book who job ⊎ IsBroken seen may_leave honest told_of plan book who job
+pub record IsJobAt {D : Type 0} (view : DiskView D) (plan : FreePlan) (book : SharedBook) (who taken : ℕ) (job : FreeJob D) : Type 0 where
+  pub running : job.mail.mail.runs ≡ true → IsRunner view plan book who taken job
+  pub stopped : job.mail.mail.runs ≡ false → HasNotBegun view plan book who job ⊎ IsBroken view plan book who job
 
 -- each replica's job is so
-abbrev pub AreJobsAt : {D : Type 0} → (seen : D → Image) → (may_leave : D → Image → Type 0) → (honest : D → Type 0) → (told_of : D → Option Told) → (plan : FreePlan) → (book : SharedBook) → (taken : ℕ) → List (FreeJob D) → Type 0
-AreJobsAt {D = D} seen may_leave honest told_of plan book taken jobs =
-    (who : ℕ) (job : FreeJob D) → slice_get jobs who ≡ Some job → IsJobAt seen may_leave honest told_of plan book who taken job
+abbrev pub AreJobsAt : {D : Type 0} → (view : DiskView D) → (plan : FreePlan) → (book : SharedBook) → (taken : ℕ) → List (FreeJob D) → Type 0
+AreJobsAt {D = D} view plan book taken jobs =
+    (who : ℕ) (job : FreeJob D) → slice_get jobs who ≡ Some job → IsJobAt view plan book who taken job
 
 -- each replica's job has had all its turns, of a part that began in this situation
-abbrev pub HaveRun : {D : Type 0} → (seen : D → Image) → (may_leave : D → Image → Type 0) → (honest : D → Type 0) → (told_of : D → Option Told) → SharedBook → Setting → Situation → List (FreeJob D) → Type 0
-HaveRun seen may_leave honest told_of book setting situation jobs =
-    AreJobsAt seen may_leave honest told_of (plan_of (opening_of book).key.value book situation setting) book setting.turns jobs
+abbrev pub HaveRun : {D : Type 0} → (view : DiskView D) → SharedBook → Setting → Situation → List (FreeJob D) → Type 0
+HaveRun view book setting situation jobs =
+    AreJobsAt view (plan_of (opening_of book).key.value book situation setting) book setting.turns jobs

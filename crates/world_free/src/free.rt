@@ -41,12 +41,12 @@ fn run_all<D: ArmedDisk + Send, R: Threads + Wait + Sync, G: TurnGate + Sync>(
     requires inside { IsInWindow table.now.window setting.now.at.0 }
     requires few { length jobs.old ≤ 7 }
     requires begun { (who : ℕ) (none : Work D) → who < length jobs.old → (situation : Here)
-        × IsJobAt D.seen D.may_leave D.honest D.told (plan_of table.now book.now situation setting.now) book.now who 0 (slice_index_or jobs.old who none) }
+        × IsJobAt D.view (plan_of table.now book.now situation setting.now) book.now who 0 (slice_index_or jobs.old who none) }
     requires memory { (who : ℕ) (none : Work D) → who < length jobs.old → (slice_index_or jobs.old who none).short ≡ false }
     ensures count { length jobs.new ≡ length jobs.old }
     ensures runs { (who : ℕ) (none : Work D) → who < length jobs.old → (slice_index_or jobs.new who none).short ≡ false → (situation : Here)
-        → IsJobAt D.seen D.may_leave D.honest D.told (plan_of table.now book.now situation setting.now) book.now who 0 (slice_index_or jobs.old who none)
-        → IsJobAt D.seen D.may_leave D.honest D.told (plan_of table.now book.now situation setting.now) book.now who setting.now.turns (slice_index_or jobs.new who none) }
+        → IsJobAt D.view (plan_of table.now book.now situation setting.now) book.now who 0 (slice_index_or jobs.old who none)
+        → IsJobAt D.view (plan_of table.now book.now situation setting.now) book.now who setting.now.turns (slice_index_or jobs.new who none) }
 {
     thread::for_each_mut(
         rt,
@@ -67,12 +67,12 @@ fn run_jobs<D: ArmedDisk + Send, R: Threads + Wait + Sync, G: TurnGate + Sync>(
 ) -> Result<(), OutOfMemory>
     requires inside { IsInWindow table.now.window setting.now.at.0 }
     requires few { length jobs.old ≤ 7 }
-    requires begun { (situation : Here) × AreJobsAt D.seen D.may_leave D.honest D.told (plan_of table.now book.now situation setting.now) book.now 0 jobs.old }
+    requires begun { (situation : Here) × AreJobsAt D.view (plan_of table.now book.now situation setting.now) book.now 0 jobs.old }
     requires memory { (who : ℕ) (none : Work D) → who < length jobs.old → (slice_index_or jobs.old who none).short ≡ false }
     ensures count { length jobs.new ≡ length jobs.old }
     ensures taken { OnOk result ((situation : Here)
-        → AreJobsAt D.seen D.may_leave D.honest D.told (plan_of table.now book.now situation setting.now) book.now 0 jobs.old
-        → AreJobsAt D.seen D.may_leave D.honest D.told (plan_of table.now book.now situation setting.now) book.now setting.now.turns jobs.new) }
+        → AreJobsAt D.view (plan_of table.now book.now situation setting.now) book.now 0 jobs.old
+        → AreJobsAt D.view (plan_of table.now book.now situation setting.now) book.now setting.now.turns jobs.new) }
 {
     run_all(rt, book, gate, table, setting, jobs);
     had_memory(jobs)
@@ -92,13 +92,13 @@ fn finish<D: Disk, M: Drop>(
     requires few { length jobs.items ≤ 7 }
     requires members { seats_of book ≡ (opening_of book).state.value.members }
     requires first { first ≡ length (opening_of book).state.value.turns }
-    requires taken { (situation : Here) × HaveRun D.seen D.may_leave D.honest D.told book setting situation jobs.items }
+    requires taken { (situation : Here) × HaveRun D.view book setting situation jobs.items }
     ensures ends { IfOk result (λ new. (rows : List Row) (situation : Here)
-        → HaveRun D.seen D.may_leave D.honest D.told book setting situation jobs.items
+        → HaveRun D.view book setting situation jobs.items
         → BeginsAt book setting latest.0 rows situation
         → (more : List Row) × (after : Here)
         × IsFreePart (opening_of book).state.value.members (opening_of book).key.value.window setting.at.0 setting.turns situation more after
-        × ArePartsAt D.seen D.may_leave D.honest D.told (opening_of book).key.value (rows ++ more) new after) }
+        × ArePartsAt D.view (opening_of book).key.value (rows ++ more) new after) }
     ensures lists { IfOk result (λ new. HasListRoom new) }
     ensures room { IfOk result (λ new. new.room ≡ room) }
     ensures members { IfOk result (λ new. new.book.members ≡ (opening_of book).state.value.members) }
@@ -135,11 +135,11 @@ pub fn run_free<D: ArmedDisk + Send, M: Drop, R: Threads + Wait + Sync, G: TurnG
     gate: &G,
 ) -> Result<Bundle<Node<D>, M>, OutOfMemory>
     requires inside { IsInWindow table.now.window at.0 }
-    requires parts { AreParts D.seen D.may_leave D.honest D.told table.now parts }
+    requires parts { AreParts D.view table.now parts }
     requires some { 0 < parts.book.members }
-    ensures goes { IfOk result (λ new. (rows : List Row) (situation : Here) → ArePartsAt D.seen D.may_leave D.honest D.told table.now rows parts situation
+    ensures goes { IfOk result (λ new. (rows : List Row) (situation : Here) → ArePartsAt D.view table.now rows parts situation
         → (more : List Row) × (after : Here) × IsFreePart parts.book.members table.now.window at.0 turns situation more after
-        × ArePartsAt D.seen D.may_leave D.honest D.told table.now (rows ++ more) new after) }
+        × ArePartsAt D.view table.now (rows ++ more) new after) }
     ensures lists { IfOk result (λ new. HasListRoom new) }
     ensures room { IfOk result (λ new. new.room ≡ parts.room) }
     ensures members { IfOk result (λ new. new.book.members ≡ parts.book.members) }

@@ -53,11 +53,11 @@ impl<D: ArmedDisk> FreeJob<D> {
     ) -> Result<(Cause, Outcome), OutOfMemory>
         requires inside { IsInWindow table.now.window setting.now.at.0 }
         requires may { (book : SharedBook) × (situation : Here)
-            × IsRunner D.seen D.may_leave D.honest D.told (plan_of table.now book situation setting.now) book who turn self.old }
+            × IsRunner D.view (plan_of table.now book situation setting.now) book who turn self.old }
         requires left { turn < setting.now.turns }
         ensures steps { IfOk result (λ tried. (book : SharedBook) (situation : Here)
-            → IsRunner D.seen D.may_leave D.honest D.told (plan_of table.now book situation setting.now) book who turn self.old
-            → HasTried D.seen D.may_leave D.honest D.told (plan_of table.now book situation setting.now) book who turn tried.0 tried.1 self.new) }
+            → IsRunner D.view (plan_of table.now book situation setting.now) book who turn self.old
+            → HasTried D.view (plan_of table.now book situation setting.now) book who turn tried.0 tried.1 self.new) }
     {
         let cause = next_cause(
             &self.mail.mail,
@@ -94,10 +94,10 @@ impl<D: ArmedDisk> FreeJob<D> {
         taken: Taken,
     ) -> Result<(), OutOfMemory>
         requires may { (situation : Here) × (turn : ℕ)
-            × IsStepper D.seen D.may_leave D.honest D.told (plan_of table.now book.now situation setting.now) book.now who turn taken self.old }
+            × IsStepper D.view (plan_of table.now book.now situation setting.now) book.now who turn taken self.old }
         ensures goes { OnOk result ((situation : Here) (turn : ℕ)
-            → IsStepper D.seen D.may_leave D.honest D.told (plan_of table.now book.now situation setting.now) book.now who turn taken self.old
-            → IsRunner D.seen D.may_leave D.honest D.told (plan_of table.now book.now situation setting.now) book.now who (turn + 1) self.new) }
+            → IsStepper D.view (plan_of table.now book.now situation setting.now) book.now who turn taken self.old
+            → IsRunner D.view (plan_of table.now book.now situation setting.now) book.now who (turn + 1) self.new) }
     {
         let mut turn = book.enter(rt, &mut self.seat);
         match make_ready(
@@ -135,11 +135,11 @@ impl<D: ArmedDisk> FreeJob<D> {
         change: Option<Delta>,
     ) -> Result<(), OutOfMemory>
         requires may { (situation : Here) × (turn : ℕ)
-            × IsStopper D.seen D.may_leave D.honest D.told (plan_of table.now book.now situation setting.now)
+            × IsStopper D.view (plan_of table.now book.now situation setting.now)
             book.now who turn cause change self.old }
         ensures stops { OnOk result ((situation : Here) (turn : ℕ)
-            → IsStopper D.seen D.may_leave D.honest D.told (plan_of table.now book.now situation setting.now) book.now who turn cause change self.old
-            → IsBroken D.seen D.may_leave D.honest D.told (plan_of table.now book.now situation setting.now) book.now who self.new) }
+            → IsStopper D.view (plan_of table.now book.now situation setting.now) book.now who turn cause change self.old
+            → IsBroken D.view (plan_of table.now book.now situation setting.now) book.now who self.new) }
     {
         let kept = change.is_some();
         let out = change_alone(setting.alloc, change);
@@ -174,11 +174,11 @@ impl<D: ArmedDisk> FreeJob<D> {
     ) -> Result<(), OutOfMemory>
         requires inside { IsInWindow table.now.window setting.now.at.0 }
         requires may { (situation : Here)
-            × IsRunner D.seen D.may_leave D.honest D.told (plan_of table.now book.now situation setting.now) book.now who turn self.old }
+            × IsRunner D.view (plan_of table.now book.now situation setting.now) book.now who turn self.old }
         requires left { turn < setting.now.turns }
         ensures goes { OnOk result ((situation : Here)
-            → IsRunner D.seen D.may_leave D.honest D.told (plan_of table.now book.now situation setting.now) book.now who turn self.old
-            → IsJobAt D.seen D.may_leave D.honest D.told (plan_of table.now book.now situation setting.now) book.now who (turn + 1) self.new) }
+            → IsRunner D.view (plan_of table.now book.now situation setting.now) book.now who turn self.old
+            → IsJobAt D.view (plan_of table.now book.now situation setting.now) book.now who (turn + 1) self.new) }
     {
         let (cause, ended) = self.step(table, setting, who, turn)?;
         match ended {
@@ -202,11 +202,11 @@ impl<D: ArmedDisk> FreeJob<D> {
         requires small { who < 7 }
         requires inside { IsInWindow table.now.window setting.now.at.0 }
         requires may { (situation : Here)
-            × IsJobAt D.seen D.may_leave D.honest D.told (plan_of table.now book.now situation setting.now) book.now who 0 self.old }
+            × IsJobAt D.view (plan_of table.now book.now situation setting.now) book.now who 0 self.old }
         requires has_memory { self.old.short ≡ false }
         ensures runs { self.new.short ≡ false → (situation : Here)
-            → IsJobAt D.seen D.may_leave D.honest D.told (plan_of table.now book.now situation setting.now) book.now who 0 self.old
-            → IsJobAt D.seen D.may_leave D.honest D.told (plan_of table.now book.now situation setting.now) book.now who setting.now.turns self.new }
+            → IsJobAt D.view (plan_of table.now book.now situation setting.now) book.now who 0 self.old
+            → IsJobAt D.view (plan_of table.now book.now situation setting.now) book.now who setting.now.turns self.new }
     {
         'turns: for turn in 0..setting.turns {
             if !self.mail.mail.runs {

@@ -2,8 +2,7 @@
 use Rattle.std.proofs.Common.{◌≡◌, ℕ, Bool, true, false, List, [], ◌∷◌, ◌++◌, Option, sym, ap, ◌∙◌, inl, inr}
 use Rattle.std.proofs.lemmas.Bool.{cases_Bool}
 use Rattle.std.specs.Option.{option_to_list}
-use Rattle.disk_model.specs.Images.{Image}
-use Rattle.disk_model.specs.Told.{Told}
+use Rattle.disk_model.specs.View.{DiskView}
 use Rattle.due_set.specs.Table.{Table}
 use Rattle.history.specs.Book.{Row, Standing}
 use Rattle.history.specs.declared.turn.CallRow.{CallRow}
@@ -19,16 +18,16 @@ use Rattle.world_steps.specs.declared.steps.Taken.{Taken}
 use Rattle.world_rounds.specs.World.{IsMemberAhead}
 use Rattle.world_rounds.specs.declared.member.Member.{Member}
 
-module _ {D : Type 0} (seen : D → Image) (may_leave : D → Image → Type 0) (honest : D → Type 0) (told_of : D → Option Told) (table : Table) where
+module _ {D : Type 0} (view : DiskView D) (table : Table) where
   pub member_stays : (rows : List Row) (row : Row) (book after : BookState) (situation : Situation) (other : ℕ) (steps : List Taken) (member : Member D) → IsBookAt table rows book situation
       → after.members ≡ book.members → HasLetters book.letters after → Leaves book.members situation row other
-      → IsMemberAhead seen may_leave honest told_of table rows book situation other steps member
-      → IsMemberAhead seen may_leave honest told_of table (rows ++ row ∷ []) after (after_turn book.members situation row) other steps member
+      → IsMemberAhead view table rows book situation other steps member
+      → IsMemberAhead view table (rows ++ row ∷ []) after (after_turn book.members situation row) other steps member
   member_stays rows row book after situation other steps member at members has leaves ahead = record {
     mail = mail_stays book.members situation row other (letters_heard_in (causes_of steps)) book.letters after member.mail has leaves ahead.mail;
-    running = λ runs. node_stays seen may_leave honest told_of table rows row book after other steps member.node members has replica runs waits bases (ahead.running (sym running ∙ runs));
+    running = λ runs. node_stays view table rows row book after other steps member.node members has replica runs waits bases (ahead.running (sym running ∙ runs));
     stopped = λ stopped.
-        stopped_stays seen may_leave honest told_of table book.members after.members other (standing_behind table rows book) (standing_behind table (rows ++ row ∷ []) after)
+        stopped_stays view table book.members after.members other (standing_behind table rows book) (standing_behind table (rows ++ row ∷ []) after)
         (bases_behind table rows book other) (bases_behind table (rows ++ row ∷ []) after other) steps member.node members replica bases
         (ahead.stopped (sym running ∙ stopped));
   }
@@ -51,24 +50,24 @@ module _ {D : Type 0} (seen : D → Image) (may_leave : D → Image → Type 0) 
           ∙ ap (λ (counts : ℕ → ℕ). counts other) at.bases
 
 -- a replica that is a step ahead runs
-pub runs_ahead : {D : Type 0} (seen : D → Image) (may_leave : D → Image → Type 0) (honest : D → Type 0) (told_of : D → Option Told) (table : Table) (rows : List Row) (book : BookState) (situation : Situation) (who : ℕ) (taken : Taken)
-    (more : List Taken) (member : Member D) → IsMemberAhead seen may_leave honest told_of table rows book situation who (taken ∷ more) member → (standing_behind table rows book).runs who ≡ true
-runs_ahead seen may_leave honest told_of table rows book situation who taken more member ahead =
+pub runs_ahead : {D : Type 0} (view : DiskView D) (table : Table) (rows : List Row) (book : BookState) (situation : Situation) (who : ℕ) (taken : Taken)
+    (more : List Taken) (member : Member D) → IsMemberAhead view table rows book situation who (taken ∷ more) member → (standing_behind table rows book).runs who ≡ true
+runs_ahead view table rows book situation who taken more member ahead =
     elim (cases_Bool ((standing_behind table rows book).runs who)) [
       | inl runs ↦ runs
       | inr stopped ↦ absurd (let none = (ahead.stopped stopped).none in cc)
     ]
 
-module _ {D : Type 0} (seen : D → Image) (may_leave : D → Image → Type 0) (honest : D → Type 0) (told_of : D → Option Told) (table : Table) where
+module _ {D : Type 0} (view : DiskView D) (table : Table) where
   pub member_did : (rows : List Row) (book after : BookState) (situation : Situation) (who : ℕ) (taken : Taken) (more : List Taken) (made : Option CallRow) (member : Member D)
-      → (at : IsBookAt table rows book situation) → (ahead : IsMemberAhead seen may_leave honest told_of table rows book situation who (taken ∷ more) member)
-      → (node : IsNodeAhead seen may_leave honest told_of table rows book who (taken ∷ more) member.node)
+      → (at : IsBookAt table rows book situation) → (ahead : IsMemberAhead view table rows book situation who (taken ∷ more) member)
+      → (node : IsNodeAhead view table rows book who (taken ∷ more) member.node)
       → (joined : HasJoinedAt table rows book after who taken member.mail.fate made node.took.0)
-      → IsMemberAhead seen may_leave honest told_of table (rows ++ joined.row ∷ []) after (after_turn book.members situation joined.row) who more
+      → IsMemberAhead view table (rows ++ joined.row ∷ []) after (after_turn book.members situation joined.row) who more
       (record member { mail = noted made (calls_for (option_to_list taken.out.delta)) member.mail })
   member_did rows book after situation who taken more made member at ahead node joined = record {
     mail = mail_did book.members situation joined.row who taken more made book.letters after member.mail joined.joined.turn changes joined.joined.has ahead.mail;
-    running = λ here. node_did seen may_leave honest told_of table rows book after who taken more member.mail.fate made member.node at.behind at.rest at.few node joined;
+    running = λ here. node_did view table rows book after who taken more member.mail.fate made member.node at.behind at.rest at.few node joined;
     stopped = λ stopped. absurd (let e : true ≡ false = sym was ∙ sym running ∙ stopped in cc);
   }
     where
@@ -79,10 +78,10 @@ module _ {D : Type 0} (seen : D → Image) (may_leave : D → Image → Type 0) 
       changes =
           ap (λ (s : Standing). changes_in book.members s joined.row.turn joined.row.event) at.standing
           ∙ changes_joined table rows book after who taken node.first node.took.0 member.mail.fate made joined.row
-          (next_step seen may_leave honest told_of table rows book situation who taken more member.node at node) joined.joined
+          (next_step view table rows book situation who taken more member.node at node) joined.joined
 
       was : (standing_behind table rows book).runs who ≡ true
-      was = runs_ahead seen may_leave honest told_of table rows book situation who taken more member ahead
+      was = runs_ahead view table rows book situation who taken more member ahead
 
       running : (standing_behind table (rows ++ joined.row ∷ []) after).runs who ≡ (standing_behind table rows book).runs who
       running =

@@ -1,11 +1,10 @@
 -- A world that is taken apart.
-use Rattle.std.proofs.Common.{◌≡◌, ℕ, zero, suc, ◌<◌, ◌≤◌, List, [], ◌∷◌, ◌++◌, length, Option, Some, refl, sym, ap, ◌∙◌, subst, arith, append_assoc, append-nil, length-append}
+use Rattle.std.proofs.Common.{◌≡◌, ℕ, zero, suc, ◌<◌, ◌≤◌, List, [], ◌∷◌, ◌++◌, length, Some, refl, sym, ap, ◌∙◌, subst, arith, append_assoc, append-nil, length-append}
 use Rattle.std.proofs.lemmas.Option.{same_Some}
 use Rattle.std.specs.List.{remove, slice_get}
 use Rattle.std.specs.Prelude.{slice_index_or}
 use Rattle.std.proofs.lemmas.List.{length-map, map-append}
-use Rattle.disk_model.specs.Images.{Image}
-use Rattle.disk_model.specs.Told.{Told}
+use Rattle.disk_model.specs.View.{DiskView}
 use Rattle.due_set.specs.Table.{Table}
 use Rattle.history.specs.Book.{Row}
 use Rattle.replica_node.specs.declared.node.Node.{Node}
@@ -74,15 +73,15 @@ found_mail [] who mail is = absurd cc
 found_mail (member ∷ members) zero mail is = (member, refl, same_Some member.mail mail is)
 found_mail (member ∷ members) (suc who) mail is = found_mail members who mail is
 
-module _ {D : Type 0} (seen : D → Image) (may_leave : D → Image → Type 0) (honest : D → Type 0) (told_of : D → Option Told) (table : Table) where
-  pub parts_at : (rows : List Row) (world : World D) (situation : Situation) (parts : Bundle (Node D) (MemberRoom D)) → IsWorldAt seen may_leave honest told_of table rows world situation
+module _ {D : Type 0} (view : DiskView D) (table : Table) where
+  pub parts_at : (rows : List Row) (world : World D) (situation : Situation) (parts : Bundle (Node D) (MemberRoom D)) → IsWorldAt view table rows world situation
       → parts.book ≡ world.book → AreNodesAndMails world.members.items parts.nodes.items parts.mail.members.items → parts.mail.cuts ≡ world.cuts → parts.mail.latest ≡ world.latest
-      → ArePartsAt seen may_leave honest told_of table rows parts situation
+      → ArePartsAt view table rows parts situation
   parts_at rows world situation parts is book replicas cuts latest = record {
     at = subst (λ (b : BookState). IsBookAt table rows b situation) (sym book) is.ahead.at;
     nodes =
-        subst (λ (b : BookState). AreNodesOf seen may_leave honest told_of table rows b parts.nodes.items) (sym book)
-        (nodes_left seen may_leave honest told_of table rows world situation parts.nodes.items is replicas.nodes_are);
+        subst (λ (b : BookState). AreNodesOf view table rows b parts.nodes.items) (sym book)
+        (nodes_left view table rows world situation parts.nodes.items is replicas.nodes_are);
     count = ap length replicas.mails_are ∙ length-map world.members.items (λ member. member.mail) ∙ is.ahead.count ∙ ap (λ (b : BookState). b.members) (sym book);
     mails = λ who mail found.
         let (member, there, mail_is) = found_mail world.members.items who mail (subst (λ mails. slice_get mails who ≡ Some mail) replicas.mails_are found) in

@@ -1,10 +1,9 @@
 -- Late calls that arrive.
-use Rattle.std.proofs.Common.{◌≡◌, ℕ, ◌<◌, ◌==◌, ◌&&◌, nat_lt, not, Bool, true, false, List, [], ◌∷◌, length, None, Some, refl, sym, ap, ◌∙◌, subst, inl, inr, arith, if◌then◌else◌, Option}
+use Rattle.std.proofs.Common.{◌≡◌, ℕ, ◌<◌, ◌==◌, ◌&&◌, nat_lt, not, Bool, true, false, List, [], ◌∷◌, length, None, Some, refl, sym, ap, ◌∙◌, subst, inl, inr, arith, if◌then◌else◌}
 use Rattle.std.specs.List.{list_any, slice_get}
 use Rattle.std.proofs.lemmas.Bool.{cases_Bool, ltb-true}
 use Rattle.std.proofs.lemmas.Option.{slice_get_cases}
-use Rattle.disk_model.specs.Images.{Image}
-use Rattle.disk_model.specs.Told.{Told}
+use Rattle.disk_model.specs.View.{DiskView}
 use Rattle.due_set.specs.Table.{Table}
 use Rattle.step_spec.specs.Step as event
 use Rattle.history.specs.Book.{Row, Standing, late_after}
@@ -46,9 +45,9 @@ asked_late late situation asks within = elim ((slice_get_cases situation.standin
 abbrev row_arrived : ℕ → Row
 row_arrived late = record { turn = Arrived late; event = event.Campaign; letters = []; votes = []; learnt = [] }
 
-module _ {D : Type 0} (seen : D → Image) (may_leave : D → Image → Type 0) (honest : D → Type 0) (told_of : D → Option Told) (table : Table) where
+module _ {D : Type 0} (view : DiskView D) (table : Table) where
   -- the book has of late calls what the situation has
-  late_alike : (rows : List Row) (world : World D) (situation : Situation) (late : ℕ) → IsWorldAt seen may_leave honest told_of table rows world situation
+  late_alike : (rows : List Row) (world : World D) (situation : Situation) (late : ℕ) → IsWorldAt view table rows world situation
       → (nat_lt late (length world.book.ledger.late) && not (has_number late world.book.arrived)) ≡ (nat_lt late (length situation.standing.late) && not (has_number late situation.standing.arrived))
   late_alike rows world situation late is =
       let s = standing_behind table rows world.book in
@@ -58,11 +57,11 @@ module _ {D : Type 0} (seen : D → Image) (may_leave : D → Image → Type 0) 
       ap (λ calls. nat_lt late (length calls) && not (has_number late world.book.arrived)) calls
       ∙ ap (λ arrived. nat_lt late (length situation.standing.late) && not (has_number late arrived)) arrived
 
-  pub asks_arrival : (rows : List Row) (world : World D) (situation : Situation) (late : ℕ) (may : Bool) → IsWorldAt seen may_leave honest told_of table rows world situation
+  pub asks_arrival : (rows : List Row) (world : World D) (situation : Situation) (late : ℕ) (may : Bool) → IsWorldAt view table rows world situation
       → (nat_lt late (length world.book.ledger.late) && not (has_number late world.book.arrived)) ≡ may → arrival_tasks late situation ≡ (if may then Arrive late ∷ [] else [])
   asks_arrival rows world situation late may is answer = ap (λ (b : Bool). if b then Arrive late ∷ [] else []) (sym (late_alike rows world situation late is) ∙ answer)
 
-  arrives_alone : (rows : List Row) (world : World D) (situation : Situation) (late : ℕ) → IsWorldAt seen may_leave honest told_of table rows world situation
+  arrives_alone : (rows : List Row) (world : World D) (situation : Situation) (late : ℕ) → IsWorldAt view table rows world situation
       → (nat_lt late (length world.book.ledger.late) && not (has_number late world.book.arrived)) ≡ true → IsAlone table rows world.book (Arrived late) None (row_arrived late)
   arrives_alone rows world situation late is answer =
       let within : late < length situation.standing.late =
@@ -78,19 +77,19 @@ module _ {D : Type 0} (seen : D → Image) (may_leave : D → Image → Type 0) 
         );
       }
 
-  pub may_come : (world : World D) (late : ℕ) → IsWorld seen may_leave honest told_of table world
+  pub may_come : (world : World D) (late : ℕ) → IsWorld view table world
       → (nat_lt late (length world.book.ledger.late) && not (has_number late world.book.arrived)) ≡ true → (rows : List Row) × (row : Row) × IsAlone table rows world.book (Arrived late) None row
   may_come world late is answer = (is.rows, row_arrived late, arrives_alone is.rows world is.situation late is.is answer)
 
   pub arrival_goes : (world new : World D) (late : ℕ) → (nat_lt late (length world.book.ledger.late) && not (has_number late world.book.arrived)) ≡ true
       → new.members ≡ world.members → new.cuts ≡ world.cuts → new.latest ≡ world.latest
       → ((rows : List Row) (row : Row) → IsAlone table rows world.book (Arrived late) None row → HasJoinedAlone table rows world.book new.book row)
-      → GoesOnBy seen may_leave honest told_of table (Plain world.book.members (arrival_tasks late) (λ situation. situation)) world new
+      → GoesOnBy view table (Plain world.book.members (arrival_tasks late) (λ situation. situation)) world new
   arrival_goes world new late answer members cuts latest joins = λ rows situation is.
       let row = row_arrived late in
       let joined = joins rows row (arrives_alone rows world situation late is answer) in
-      goes_alone seen may_leave honest told_of table rows world new situation row (Arrive late) (arrival_tasks late) is joined refl (asks_arrival rows world situation late true is answer)
+      goes_alone view table rows world new situation row (Arrive late) (arrival_tasks late) is joined refl (asks_arrival rows world situation late true is answer)
       (ap (λ members. length members.items) members) cuts (ap (λ minute. minute.0) latest ∙ is.ahead.latest)
-      (λ k x found. member_stays seen may_leave honest told_of table rows row world.book new.book situation k [] x is.ahead.at joined.members (has_same world.book new.book joined.letters)
+      (λ k x found. member_stays view table rows row world.book new.book situation k [] x is.ahead.at joined.members (has_same world.book new.book joined.letters)
       (leaves_all world.book.members situation row late k refl) (is.ahead.each k x (subst (λ members. slice_get members.items k ≡ Some x) members found)))
       (λ k x found. is.idle k x (subst (λ members. slice_get members.items k ≡ Some x) members found))

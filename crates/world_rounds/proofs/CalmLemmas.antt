@@ -1,5 +1,5 @@
 -- What settling begins with, in a world.
-use Rattle.std.proofs.Common.{Bool, List, Option, Some, [], ap, append-nil as append_nil, append_assoc, ap₂, arith, drop, false, if◌then◌else◌, inl, inr, length, nat_lt, pos, refl, subst, suc, sym, true, zero, ℕ, ◌++◌, ◌+◌, ◌-◌, ◌<◌, ◌∙◌, ◌∷◌, ◌≡◌, ◌≢◌, ◌≤◌, ◌⊎◌}
+use Rattle.std.proofs.Common.{Bool, List, Some, [], ap, append-nil as append_nil, append_assoc, ap₂, arith, drop, false, if◌then◌else◌, inl, inr, length, nat_lt, pos, refl, subst, suc, sym, true, zero, ℕ, ◌++◌, ◌+◌, ◌-◌, ◌<◌, ◌∙◌, ◌∷◌, ◌≡◌, ◌≢◌, ◌≤◌, ◌⊎◌}
 use Rattle.std.specs.List.{Contains, flat_map, range_with_len, slice_get}
 use Rattle.std.proofs.lemmas.Int.{ints}
 use Rattle.std.specs.Vec.{with_items}
@@ -7,8 +7,7 @@ use Rattle.std.proofs.Math.ListN.{set}
 use Rattle.std.proofs.lemmas.List.{length-set}
 use Rattle.std.proofs.lemmas.List.Concat.{flat_map-append}
 use Rattle.std.proofs.lemmas.Option.{slice_get_within}
-use Rattle.disk_model.specs.Images.{Image}
-use Rattle.disk_model.specs.Told.{Told}
+use Rattle.disk_model.specs.View.{DiskView}
 use Rattle.due_set.specs.Table.{Table}
 use Rattle.step_spec.proofs.Lists.{nothing_in}
 use Rattle.step_spec.specs.State.{State, prefix_of}
@@ -192,11 +191,11 @@ module _ {D : Type 0} where
       subst (λ members. AreCalmed world.members.items members)
       (sym (take_front world.members.len members (drop (length members) world.members.items) (world.members.ok.0 ∙ sym all.count))) all
 
-module _ {D : Type 0} (seen : D → Image) (may_leave : D → Image → Type 0) (honest : D → Type 0) (told_of : D → Option Told) where
+module _ {D : Type 0} (view : DiskView D) where
   pub world_calmed : (old new : World D) → new.book ≡ old.book → new.latest ≡ old.latest → new.cuts.items ≡ [] → AreCalmed old.members.items new.members.items
-      → Changes seen may_leave honest told_of calmed old new
+      → Changes view calmed old new
   world_calmed old new book latest cuts members = λ table rows situation is.
-      world_set seen may_leave honest told_of table rows old new situation (calmed situation) is book latest members.count refl refl refl (λ from to. ap (is_cut from to) cuts)
+      world_set view table rows old new situation (calmed situation) is book latest members.count refl refl refl (λ from to. ap (is_cut from to) cuts)
       (λ who next found.
       let below : who < length new.members.items = slice_get_within new.members.items who next found in
       let count = members.count in
@@ -219,26 +218,26 @@ module _ {D : Type 0} (seen : D → Image) (may_leave : D → Image → Type 0) 
         },
       ))
 
-module _ {D : Type 0} (seen : D → Image) (may_leave : D → Image → Type 0) (honest : D → Type 0) (told_of : D → Option Told) (table : Table) where
+module _ {D : Type 0} (view : DiskView D) (table : Table) where
   pub record HasRestartedTo (count : ℕ) (old new : World D) : Type 0 where
-    pub goes : GoesOnBy seen may_leave honest told_of table (RestartsBelow old.book.members count) old new
+    pub goes : GoesOnBy view table (RestartsBelow old.book.members count) old new
     pub members : new.book.members ≡ old.book.members
-    pub world : IsWorld seen may_leave honest told_of table new
+    pub world : IsWorld view table new
 
-  pub restarted_none : (world : World D) → IsWorld seen may_leave honest told_of table world → HasRestartedTo 0 world world
+  pub restarted_none : (world : World D) → IsWorld view table world → HasRestartedTo 0 world world
   restarted_none world is = record {
     goes = λ rows situation here. (
       [],
       situation,
       record { turns = refl; standing = refl; latest = refl; bases = refl },
-      subst (λ rows. IsWorldAt seen may_leave honest told_of table rows world situation) (sym (append_nil rows)) here,
+      subst (λ rows. IsWorldAt view table rows world situation) (sym (append_nil rows)) here,
     );
     members = refl;
     world = is;
   }
 
   pub restarted_next : (count : ℕ) (old now new : World D) → HasRestartedTo count old now
-      → GoesOnBy seen may_leave honest told_of table (IsPartOf now.book.members table (command.Restart count)) now new → new.book.members ≡ now.book.members → HasRestartedTo (count + 1) old new
+      → GoesOnBy view table (IsPartOf now.book.members table (command.Restart count)) now new → new.book.members ≡ now.book.members → HasRestartedTo (count + 1) old new
   restarted_next count old now new so_far goes members = record {
     goes = λ rows situation is.
         let front = so_far.goes rows situation is in
@@ -247,14 +246,14 @@ module _ {D : Type 0} (seen : D → Image) (may_leave : D → Image → Type 0) 
           back.1,
           restarts_more old.book.members count table situation front.1 back.1 front.0 back.0 front.2
               (subst (λ n. IsPartOf n table (command.Restart count) front.1 back.0 back.1) so_far.members back.2),
-          subst (λ rows. IsWorldAt seen may_leave honest told_of table rows new back.1) (append_assoc rows front.0 back.0) back.3,
+          subst (λ rows. IsWorldAt view table rows new back.1) (append_assoc rows front.0 back.0) back.3,
         );
     members = members ∙ so_far.members;
     world = let here = so_far.world in let back = goes here.rows here.situation here.is in record { rows = here.rows ++ back.0; situation = back.1; is = back.3 };
   }
 
-  pub restarted_all : (count : ℕ) (old new : World D) → IsWorld seen may_leave honest told_of table old → count ≡ length old.members.items → HasRestartedTo count old new
-      → GoesOnBy seen may_leave honest told_of table (RestartsAll old.book.members) old new
+  pub restarted_all : (count : ℕ) (old new : World D) → IsWorld view table old → count ≡ length old.members.items → HasRestartedTo count old new
+      → GoesOnBy view table (RestartsAll old.book.members) old new
   restarted_all count old new world whole so_far = λ rows situation is.
       let part = so_far.goes rows situation is in
       let all : count ≡ old.book.members = whole ∙ is.ahead.count in (
@@ -288,14 +287,14 @@ module _ {D : Type 0} (seen : D → Image) (may_leave : D → Image → Type 0) 
         two = record { none = refl; is = same_calm n situation here rows all };
       }
 
-  pub started_over : (n : ℕ) (old now new : World D) → GoesOnBy seen may_leave honest told_of table (RestartsAll n) old now → Changes seen may_leave honest told_of calmed now new
-      → GoesOnBy seen may_leave honest told_of table (Plain n (restart_tasks n) calmed) old new
+  pub started_over : (n : ℕ) (old now new : World D) → GoesOnBy view table (RestartsAll n) old now → Changes view calmed now new
+      → GoesOnBy view table (Plain n (restart_tasks n) calmed) old new
   started_over n old now new goes changes = λ rows situation is.
       let part = goes rows situation is in
       (part.0, calmed part.1, calm_same n situation part.1 part.0 part.2, changes table (rows ++ part.0) part.1 part.3)
 
-  pub all_started : (old now new : World D) → IsWorld seen may_leave honest told_of table old → GoesOnBy seen may_leave honest told_of table (RestartsAll old.book.members) old now
-      → now.book.members ≡ old.book.members → Changes seen may_leave honest told_of calmed now new → new.book ≡ now.book → AllRun new
+  pub all_started : (old now new : World D) → IsWorld view table old → GoesOnBy view table (RestartsAll old.book.members) old now
+      → now.book.members ≡ old.book.members → Changes view calmed now new → new.book ≡ now.book → AllRun new
   all_started old now new world goes members changes book = λ who member found.
       let part = goes world.rows world.situation world.is in
       let is = changes table (world.rows ++ part.0) part.1 part.3 in
@@ -306,7 +305,7 @@ module _ {D : Type 0} (seen : D → Image) (may_leave : D → Image → Type 0) 
 
   -- ---- the coordinator
 
-  pub learned_in : (world : World D) (rows : List Row) (situation : Situation) → IsWorldAt seen may_leave honest told_of table rows world situation → AllRun world
+  pub learned_in : (world : World D) (rows : List Row) (situation : Situation) → IsWorldAt view table rows world situation → AllRun world
       → HaveLearned situation.standing.replicas world.members.items
   learned_in world rows situation is run = λ who member there.
-      ap prefix_of (sym (node_state seen may_leave honest told_of table rows world situation who member is there (run who member there)))
+      ap prefix_of (sym (node_state view table rows world situation who member is there (run who member there)))

@@ -3,8 +3,7 @@ use Rattle.std.proofs.Common.{List, None, Option, Some, [], ap, append-nil as ap
 use Rattle.std.specs.List.{slice_get}
 use Rattle.std.proofs.Math.ListN.{set}
 use Rattle.std.proofs.lemmas.List.{length-set}
-use Rattle.disk_model.specs.Images.{Image}
-use Rattle.disk_model.specs.Told.{Told}
+use Rattle.disk_model.specs.View.{DiskView}
 use Rattle.due_set.specs.Table.{Table}
 use Rattle.history.specs.Book.{Row, Standing}
 use Rattle.history.specs.declared.turn.Cause.TheVariants.{Campaign}
@@ -26,18 +25,18 @@ use Rattle.world_rounds.specs.World.{GoesOnBy, IsMemberAhead, IsWorld, IsWorldAt
 use Rattle.world_rounds.specs.declared.member.Member.{Member}
 use Rattle.world_rounds.specs.declared.world.World.{World}
 
-module _ {D : Type 0} (seen : D → Image) (may_leave : D → Image → Type 0) (honest : D → Type 0) (told_of : D → Option Told) (table : Table) where
-  pub told_campaign : (rows : List Row) (book : BookState) (situation : Situation) (who : ℕ) (member : Member D) → IsMemberIdle seen may_leave honest told_of table rows book situation who member
-      → member.mail.runs ≡ true → WasToldOf seen may_leave honest told_of table rows book who member.steps.items member.node Campaign told.Campaign
+module _ {D : Type 0} (view : DiskView D) (table : Table) where
+  pub told_campaign : (rows : List Row) (book : BookState) (situation : Situation) (who : ℕ) (member : Member D) → IsMemberIdle view table rows book situation who member
+      → member.mail.runs ≡ true → WasToldOf view table rows book who member.steps.items member.node Campaign told.Campaign
   told_campaign rows book situation who member idle runs = record {
-    beside = subst (λ steps. IsBeside seen may_leave honest told_of table rows book who steps member.node) (sym idle.none) (idle_beside seen may_leave honest told_of table book rows situation who member idle runs);
+    beside = subst (λ steps. IsBeside view table rows book who steps member.node) (sym idle.none) (idle_beside view table book rows situation who member idle runs);
     is_told = refl;
     inside = tt;
   }
 
-  pub campaign_taken : (rows : List Row) (book : BookState) (situation : Situation) (who : ℕ) (old new : Member D) → IsMemberIdle seen may_leave honest told_of table rows book situation who old
-      → old.mail.runs ≡ true → IsBeside seen may_leave honest told_of table rows book who new.steps.items new.node → new.mail ≡ old.mail → causes_of new.steps.items ≡ causes_of old.steps.items ++ Campaign ∷ []
-      → HasStood seen may_leave honest told_of table rows book situation who new
+  pub campaign_taken : (rows : List Row) (book : BookState) (situation : Situation) (who : ℕ) (old new : Member D) → IsMemberIdle view table rows book situation who old
+      → old.mail.runs ≡ true → IsBeside view table rows book who new.steps.items new.node → new.mail ≡ old.mail → causes_of new.steps.items ≡ causes_of old.steps.items ++ Campaign ∷ []
+      → HasStood view table rows book situation who new
   campaign_taken rows book situation who old new idle runs beside mail causes = record {
     ahead = record {
       mail = rw mail (record {
@@ -61,7 +60,7 @@ module _ {D : Type 0} (seen : D → Image) (may_leave : D → Image → Type 0) 
 
   -- ---- the world
 
-  pub idle_steps : (rows : List Row) (world : World D) (situation : Situation) (who : ℕ) → IsWorldAt seen may_leave honest told_of table rows world situation → steps_at world who ≡ []
+  pub idle_steps : (rows : List Row) (world : World D) (situation : Situation) (who : ℕ) → IsWorldAt view table rows world situation → steps_at world who ≡ []
   idle_steps rows world situation who is = go (slice_get world.members.items who) refl
     where
       go : (found : Option (Member D)) → slice_get world.members.items who ≡ found → steps_left_to found ≡ []
@@ -77,84 +76,84 @@ module _ {D : Type 0} (seen : D → Image) (may_leave : D → Image → Type 0) 
   other_steps world middle who next other members differs =
       ap (λ members. steps_left_to (slice_get members other)) members ∙ ap steps_left_to (get_set_there world.members.items who next other differs)
 
-  stood : (rows : List Row) (world : World D) (situation : Situation) (who : ℕ) (member next : Member D) → IsWorldAt seen may_leave honest told_of table rows world situation
-      → slice_get world.members.items who ≡ Some member → TakesCampaign seen may_leave honest told_of table world.book member next
-      → HasStood seen may_leave honest told_of table rows world.book situation who next
+  stood : (rows : List Row) (world : World D) (situation : Situation) (who : ℕ) (member next : Member D) → IsWorldAt view table rows world situation
+      → slice_get world.members.items who ≡ Some member → TakesCampaign view table world.book member next
+      → HasStood view table rows world.book situation who next
   stood rows world situation who member next is there takes =
       takes rows situation who (record { at = is.ahead.at; ahead = is.ahead.each who member there; none = is.idle who member there })
 
-  campaign_ahead : (rows : List Row) (world middle : World D) (situation : Situation) (who : ℕ) (member next : Member D) → IsWorldAt seen may_leave honest told_of table rows world situation
+  campaign_ahead : (rows : List Row) (world middle : World D) (situation : Situation) (who : ℕ) (member next : Member D) → IsWorldAt view table rows world situation
       → slice_get world.members.items who ≡ Some member → who < length world.members.items → middle.members.items ≡ set world.members.items who next
-      → TakesCampaign seen may_leave honest told_of table world.book member next → middle.book ≡ world.book → middle.cuts ≡ world.cuts → middle.latest ≡ world.latest
-      → IsAhead seen may_leave honest told_of table rows middle situation
+      → TakesCampaign view table world.book member next → middle.book ≡ world.book → middle.cuts ≡ world.cuts → middle.latest ≡ world.latest
+      → IsAhead view table rows middle situation
   campaign_ahead rows world middle situation who member next is there below members takes book cuts latest = record {
     at = subst (λ book. IsBookAt table rows book situation) (sym book) is.ahead.at;
     count = ap length members ∙ length-set world.members.items who next ∙ is.ahead.count ∙ sym (ap (λ (book : BookState). book.members) book);
     each = λ k x found.
-        subst (λ book. IsMemberAhead seen may_leave honest told_of table rows book situation k (steps_at middle k) x) (sym book)
+        subst (λ book. IsMemberAhead view table rows book situation k (steps_at middle k) x) (sym book)
         (elim (set_cases world.members.items who next k x (subst (λ members. slice_get members k ≡ Some x) members found)) [
           | inl here ↦
-              subst (λ k. IsMemberAhead seen may_leave honest told_of table rows world.book situation k (steps_at middle k) x) (sym here.0)
-              (subst (λ steps. IsMemberAhead seen may_leave honest told_of table rows world.book situation who steps x) (sym (own_steps world middle who next members below))
-              (subst (λ x. IsMemberAhead seen may_leave honest told_of table rows world.book situation who next.steps.items x) (sym here.1) (stood rows world situation who member next is there takes).ahead))
+              subst (λ k. IsMemberAhead view table rows world.book situation k (steps_at middle k) x) (sym here.0)
+              (subst (λ steps. IsMemberAhead view table rows world.book situation who steps x) (sym (own_steps world middle who next members below))
+              (subst (λ x. IsMemberAhead view table rows world.book situation who next.steps.items x) (sym here.1) (stood rows world situation who member next is there takes).ahead))
           | inr other ↦
-              subst (λ steps. IsMemberAhead seen may_leave honest told_of table rows world.book situation k steps x)
+              subst (λ steps. IsMemberAhead view table rows world.book situation k steps x)
               (sym (other_steps world middle who next k members other.0 ∙ idle_steps rows world situation k is)) (is.ahead.each k x other.1)
         ]);
     cuts = λ from to. ap (λ cuts. is_cut from to cuts.items) cuts ∙ is.ahead.cuts from to;
     latest = ap (λ minute. minute.0) latest ∙ is.ahead.latest;
   }
 
-  pub may_commit_campaign : (world middle : World D) (who : ℕ) (member next : Member D) → IsWorld seen may_leave honest told_of table world
+  pub may_commit_campaign : (world middle : World D) (who : ℕ) (member next : Member D) → IsWorld view table world
       → slice_get world.members.items who ≡ Some member → who < length world.members.items → middle.members.items ≡ set world.members.items who next
-      → TakesCampaign seen may_leave honest told_of table world.book member next → middle.book ≡ world.book → middle.cuts ≡ world.cuts → middle.latest ≡ world.latest
-      → MayCommitOwn seen may_leave honest told_of table middle
+      → TakesCampaign view table world.book member next → middle.book ≡ world.book → middle.cuts ≡ world.cuts → middle.latest ≡ world.latest
+      → MayCommitOwn view table middle
   may_commit_campaign world middle who member next is there below members takes book cuts latest =
       record { rows = is.rows; situation = is.situation; ahead = campaign_ahead is.rows world middle is.situation who member next is.is there below members takes book cuts latest }
 
-  pub committed_members : (middle now : World D) (who : ℕ) → CommitsOwn seen may_leave honest told_of table who middle now → MayCommitOwn seen may_leave honest told_of table middle
+  pub committed_members : (middle now : World D) (who : ℕ) → CommitsOwn view table who middle now → MayCommitOwn view table middle
       → now.book.members ≡ middle.book.members
   committed_members middle now who commits may = (commits may.rows may.situation may.ahead).members_are
 
   -- what the campaign comes to, before its letters join the mails
-  campaign_taken_on : (rows : List Row) (world middle now : World D) (situation : Situation) (who : ℕ) (member next : Member D) → IsWorldAt seen may_leave honest told_of table rows world situation
+  campaign_taken_on : (rows : List Row) (world middle now : World D) (situation : Situation) (who : ℕ) (member next : Member D) → IsWorldAt view table rows world situation
       → slice_get world.members.items who ≡ Some member → who < length world.members.items → middle.members.items ≡ set world.members.items who next
-      → TakesCampaign seen may_leave honest told_of table world.book member next → middle.book ≡ world.book → middle.cuts ≡ world.cuts → middle.latest ≡ world.latest
-      → CommitsOwn seen may_leave honest told_of table who middle now → HasTakenTurns seen may_leave honest told_of table world.book.members rows situation (Do who Campaign ∷ []) (steps_at now) now
+      → TakesCampaign view table world.book member next → middle.book ≡ world.book → middle.cuts ≡ world.cuts → middle.latest ≡ world.latest
+      → CommitsOwn view table who middle now → HasTakenTurns view table world.book.members rows situation (Do who Campaign ∷ []) (steps_at now) now
   campaign_taken_on rows world middle now situation who member next is there below members takes book cuts latest commits =
-      subst (λ causes. HasTakenTurns seen may_leave honest told_of table world.book.members rows situation (tasks_by who causes) (steps_at now) now)
+      subst (λ causes. HasTakenTurns view table world.book.members rows situation (tasks_by who causes) (steps_at now) now)
       (ap causes_of (own_steps world middle who next members below) ∙ (stood rows world situation who member next is there takes).causes)
-      (subst (λ n. HasTakenTurns seen may_leave honest told_of table n rows situation (tasks_by who (causes_of (steps_at middle who))) (steps_at now) now) (ap (λ (book : BookState). book.members) book)
+      (subst (λ n. HasTakenTurns view table n rows situation (tasks_by who (causes_of (steps_at middle who))) (steps_at now) now) (ap (λ (book : BookState). book.members) book)
       (commits rows situation (campaign_ahead rows world middle situation who member next is there below members takes book cuts latest)))
 
-  campaign_down : (rows : List Row) (world middle now : World D) (situation : Situation) (who : ℕ) (next : Member D) → IsWorldAt seen may_leave honest told_of table rows world situation
+  campaign_down : (rows : List Row) (world middle now : World D) (situation : Situation) (who : ℕ) (next : Member D) → IsWorldAt view table rows world situation
       → middle.members.items ≡ set world.members.items who next → PutsDown who middle now → (k : ℕ) → steps_at now k ≡ []
   campaign_down rows world middle now situation who next is members puts k = elim (cases_number k who) [
     | inl here ↦ ap (steps_at now) here ∙ puts.mine
     | inr other ↦ puts.others k other ∙ other_steps world middle who next k members other ∙ idle_steps rows world situation k is
   ]
 
-  pub world_stood : (world middle now : World D) (who : ℕ) (member next : Member D) → IsWorld seen may_leave honest told_of table world
+  pub world_stood : (world middle now : World D) (who : ℕ) (member next : Member D) → IsWorld view table world
       → slice_get world.members.items who ≡ Some member → who < length world.members.items → middle.members.items ≡ set world.members.items who next
-      → TakesCampaign seen may_leave honest told_of table world.book member next → middle.book ≡ world.book → middle.cuts ≡ world.cuts → middle.latest ≡ world.latest
-      → CommitsOwn seen may_leave honest told_of table who middle now → PutsDown who middle now → IsWorld seen may_leave honest told_of table now
+      → TakesCampaign view table world.book member next → middle.book ≡ world.book → middle.cuts ≡ world.cuts → middle.latest ≡ world.latest
+      → CommitsOwn view table who middle now → PutsDown who middle now → IsWorld view table now
   world_stood world middle now who member next is there below members takes book cuts latest commits puts =
       let taken = campaign_taken_on is.rows world middle now is.situation who member next is.is there below members takes book cuts latest commits in
       record {
         rows = is.rows ++ taken.more;
         situation = after_turns world.book.members is.situation taken.more;
-        is = put_down seen may_leave honest told_of table (is.rows ++ taken.more) now (after_turns world.book.members is.situation taken.more) taken.ahead
+        is = put_down view table (is.rows ++ taken.more) now (after_turns world.book.members is.situation taken.more) taken.ahead
             (campaign_down is.rows world middle now is.situation who next is.is members puts);
       }
 
   pub campaign_goes : (world middle now new : World D) (who : ℕ) (member next : Member D) → slice_get world.members.items who ≡ Some member → who < length world.members.items
-      → middle.members.items ≡ set world.members.items who next → TakesCampaign seen may_leave honest told_of table world.book member next → member.mail.runs ≡ true
-      → middle.book ≡ world.book → middle.cuts ≡ world.cuts → middle.latest ≡ world.latest → CommitsOwn seen may_leave honest told_of table who middle now → PutsDown who middle now
-      → Changes seen may_leave honest told_of (delivered (length world.book.letters)) now new
-      → GoesOnBy seen may_leave honest told_of table (Plain world.book.members (λ situation. if situation.standing.runs who then Do who Campaign ∷ [] else []) (λ situation. situation)) world new
+      → middle.members.items ≡ set world.members.items who next → TakesCampaign view table world.book member next → member.mail.runs ≡ true
+      → middle.book ≡ world.book → middle.cuts ≡ world.cuts → middle.latest ≡ world.latest → CommitsOwn view table who middle now → PutsDown who middle now
+      → Changes view (delivered (length world.book.letters)) now new
+      → GoesOnBy view table (Plain world.book.members (λ situation. if situation.standing.runs who then Do who Campaign ∷ [] else []) (λ situation. situation)) world new
   campaign_goes world middle now new who member next there below members takes runs book cuts latest commits puts changes = λ rows situation is.
       let ends =
-      performed seen may_leave honest told_of table rows world middle now new situation (Do who Campaign ∷ []) is
+      performed view table rows world middle now new situation (Do who Campaign ∷ []) is
       (campaign_taken_on rows world middle now situation who member next is there below members takes book cuts latest commits)
       (campaign_down rows world middle now situation who next is members puts) changes in
       let stands : situation.standing.runs who ≡ true = sym (is.ahead.each who member there).mail.runs ∙ runs in (

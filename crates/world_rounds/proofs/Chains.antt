@@ -1,7 +1,6 @@
 -- Turns after turns.
-use Rattle.std.proofs.Common.{List, Option, [], append-nil as append_nil, append_assoc, refl, subst, sym, ℕ, ◌++◌, ◌∙◌, ◌∷◌, ◌≡◌}
-use Rattle.disk_model.specs.Images.{Image}
-use Rattle.disk_model.specs.Told.{Told}
+use Rattle.std.proofs.Common.{List, [], append-nil as append_nil, append_assoc, refl, subst, sym, ℕ, ◌++◌, ◌∙◌, ◌∷◌, ◌≡◌}
+use Rattle.disk_model.specs.View.{DiskView}
 use Rattle.due_set.specs.Table.{Table}
 use Rattle.history.specs.Book.{Row}
 use Rattle.script_semantics.specs.Situation.{AreTurnsFor, Situation, Task, after_turn, after_turns}
@@ -21,23 +20,23 @@ turns_append n situation [] others (row ∷ rows) more one two = absurd cc
 turns_append n situation (task ∷ tasks) others [] more one two = absurd cc
 turns_append n situation (task ∷ tasks) others (row ∷ rows) more one two = (one.0, turns_append n (after_turn n situation row) tasks others rows more one.1 two)
 
-module _ {D : Type 0} (seen : D → Image) (may_leave : D → Image → Type 0) (honest : D → Type 0) (told_of : D → Option Told) (table : Table) where
+module _ {D : Type 0} (view : DiskView D) (table : Table) where
   -- no turn at all
-  pub taken_none : (rows : List Row) (situation : Situation) (left : ℕ → List Taken) (world : World D) → IsWorldAhead seen may_leave honest told_of table rows world situation left
-      → HasTakenTurns seen may_leave honest told_of table (book_of world).members rows situation [] left world
+  pub taken_none : (rows : List Row) (situation : Situation) (left : ℕ → List Taken) (world : World D) → IsWorldAhead view table rows world situation left
+      → HasTakenTurns view table (book_of world).members rows situation [] left world
   taken_none rows situation left world ahead = record {
     members_are = refl;
     more = [];
     turns = refl;
-    ahead = subst (λ rows. IsWorldAhead seen may_leave honest told_of table rows world situation left) (sym (append_nil rows)) ahead;
+    ahead = subst (λ rows. IsWorldAhead view table rows world situation left) (sym (append_nil rows)) ahead;
   }
 
   -- some turns and then others
   pub taken_then : (n : ℕ) (rows : List Row) (situation : Situation) (tasks others : List Task) (left later : ℕ → List Taken) (middle world : World D)
-      → HasTakenTurns seen may_leave honest told_of table n rows situation tasks left middle
-      → ((rows : List Row) (situation : Situation) → IsWorldAhead seen may_leave honest told_of table rows middle situation left
-      → HasTakenTurns seen may_leave honest told_of table (book_of middle).members rows situation others later world)
-      → HasTakenTurns seen may_leave honest told_of table n rows situation (tasks ++ others) later world
+      → HasTakenTurns view table n rows situation tasks left middle
+      → ((rows : List Row) (situation : Situation) → IsWorldAhead view table rows middle situation left
+      → HasTakenTurns view table (book_of middle).members rows situation others later world)
+      → HasTakenTurns view table n rows situation (tasks ++ others) later world
   taken_then n rows situation tasks others left later middle world one two =
       let next = two (rows ++ one.more) (after_turns n situation one.more) one.ahead in
       record {
@@ -47,8 +46,8 @@ module _ {D : Type 0} (seen : D → Image) (may_leave : D → Image → Type 0) 
             turns_append n situation tasks others one.more next.more one.turns
             (subst (λ members. AreTurnsFor members (after_turns n situation one.more) others next.more) one.members_are next.turns);
         ahead =
-            subst (λ situation. IsWorldAhead seen may_leave honest told_of table (rows ++ (one.more ++ next.more)) world situation later) (sym (after_append n situation one.more next.more))
-            (subst (λ rows. IsWorldAhead seen may_leave honest told_of table rows world (after_turns n (after_turns n situation one.more) next.more) later) (append_assoc rows one.more next.more)
-            (subst (λ members. IsWorldAhead seen may_leave honest told_of table ((rows ++ one.more) ++ next.more) world (after_turns members (after_turns n situation one.more) next.more) later)
+            subst (λ situation. IsWorldAhead view table (rows ++ (one.more ++ next.more)) world situation later) (sym (after_append n situation one.more next.more))
+            (subst (λ rows. IsWorldAhead view table rows world (after_turns n (after_turns n situation one.more) next.more) later) (append_assoc rows one.more next.more)
+            (subst (λ members. IsWorldAhead view table ((rows ++ one.more) ++ next.more) world (after_turns members (after_turns n situation one.more) next.more) later)
             one.members_are next.ahead));
       }

@@ -1,5 +1,5 @@
 -- Letters join the mails of a world.
-use Rattle.std.proofs.Common.{◌≡◌, ◌≢◌, ◌⊎◌, ℕ, zero, suc, ◌+◌, ◌-◌, ◌<◌, ◌≤◌, Bool, true, false, eqb, not, ◌&&◌, if◌then◌else◌, List, [], ◌∷◌, ◌++◌, length, Some, eq-eqb, refl, sym, ap, ◌∙◌, subst, inl, inr, arith, append_assoc, add-one, Option}
+use Rattle.std.proofs.Common.{◌≡◌, ◌≢◌, ◌⊎◌, ℕ, zero, suc, ◌+◌, ◌-◌, ◌<◌, ◌≤◌, Bool, true, false, eqb, not, ◌&&◌, if◌then◌else◌, List, [], ◌∷◌, ◌++◌, length, Some, eq-eqb, refl, sym, ap, ◌∙◌, subst, inl, inr, arith, append_assoc, add-one}
 use Rattle.std.proofs.Common.{append-nil as append_nil}
 use Rattle.std.specs.List.{Contains, filter, range_with_len, slice_get}
 use Rattle.std.specs.Option.{option_map}
@@ -7,8 +7,7 @@ use Rattle.std.proofs.Math.ListN.{set}
 use Rattle.std.proofs.lemmas.List.{length-map, length-set}
 use Rattle.std.proofs.lemmas.Option.{slice_get-map}
 use Rattle.std.proofs.lemmas.Bool.{cases_Bool, ne_eqb}
-use Rattle.disk_model.specs.Images.{Image}
-use Rattle.disk_model.specs.Told.{Told}
+use Rattle.disk_model.specs.View.{DiskView}
 use Rattle.due_set.specs.Table.{Table}
 use Rattle.step_spec.proofs.Lists.{found_in}
 use Rattle.history.specs.Book.{Row, Standing}
@@ -56,8 +55,8 @@ in_more (z ∷ xs) y x has = elim (cons_cases z (xs ++ y ∷ []) x has) [
   | inr later ↦ elim (in_more xs y x later) [ inl old ↦ inl (in_rest z xs x old) | inr new ↦ inr new ]
 ]
 
-module _ {D : Type 0} (seen : D → Image) (may_leave : D → Image → Type 0) (honest : D → Type 0) (told_of : D → Option Told) (table : Table) where
-  pub arrival_is : (rows : List Row) (world : World D) (situation : Situation) (number : ℕ) (letter : LetterRow) (who : ℕ) → IsWorldAt seen may_leave honest told_of table rows world situation
+module _ {D : Type 0} (view : DiskView D) (table : Table) where
+  pub arrival_is : (rows : List Row) (world : World D) (situation : Situation) (number : ℕ) (letter : LetterRow) (who : ℕ) → IsWorldAt view table rows world situation
       → slice_get world.book.letters number ≡ Some letter
       → arrival_of situation number who ≡ arrival_by number letter.to who (situation.standing.runs who) (is_cut letter.from letter.to world.cuts.items)
   arrival_is rows world situation number letter who is there =
@@ -66,7 +65,7 @@ module _ {D : Type 0} (seen : D → Image) (may_leave : D → Image → Type 0) 
       ∙ ap (λ cut. arrival_by number letter.to who (situation.standing.runs who) cut) (sym (is.ahead.cuts letter.from letter.to))
 
   -- the addressee of a letter is a replica of the world
-  pub addressee : (rows : List Row) (world : World D) (situation : Situation) (number : ℕ) (letter : LetterRow) → IsWorldAt seen may_leave honest told_of table rows world situation
+  pub addressee : (rows : List Row) (world : World D) (situation : Situation) (number : ℕ) (letter : LetterRow) → IsWorldAt view table rows world situation
       → slice_get world.book.letters number ≡ Some letter → letter.to < length world.members.items
   addressee rows world situation number letter is there =
       rw is.ahead.count
@@ -74,7 +73,7 @@ module _ {D : Type 0} (seen : D → Image) (may_leave : D → Image → Type 0) 
       (found_in (standing_behind table rows world.book).posted number (posted_as letter) (posted_at table rows world.book number letter is.ahead.at.behind there)))
 
   -- an addressee that is stopped gets no letter, nor do others
-  pub none_arrives : (rows : List Row) (world : World D) (situation : Situation) (number : ℕ) (letter : LetterRow) (addressed : Member D) (who : ℕ) → IsWorldAt seen may_leave honest told_of table rows world situation
+  pub none_arrives : (rows : List Row) (world : World D) (situation : Situation) (number : ℕ) (letter : LetterRow) (addressed : Member D) (who : ℕ) → IsWorldAt view table rows world situation
       → slice_get world.book.letters number ≡ Some letter → slice_get world.members.items letter.to ≡ Some addressed → addressed.mail.runs ≡ false → arrival_of situation number who ≡ []
   none_arrives rows world situation number letter addressed who is there mine stopped =
       arrival_is rows world situation number letter who is there ∙ elim (cases_number letter.to who) [
@@ -103,15 +102,15 @@ module _ {D : Type 0} (seen : D → Image) (may_leave : D → Image → Type 0) 
   same_mail letters situation number who mail is none =
       mail_more letters situation number who [] mail mail is none (sym (append_nil mail.letters.items)) refl refl refl refl refl is.sent
 
-  member_same : (rows : List Row) (book : BookState) (situation : Situation) (number who : ℕ) (member : Member D) → IsMemberAhead seen may_leave honest told_of table rows book situation who [] member
-      → arrival_of situation number who ≡ [] → IsMemberAhead seen may_leave honest told_of table rows book (arrived number situation) who [] member
+  member_same : (rows : List Row) (book : BookState) (situation : Situation) (number who : ℕ) (member : Member D) → IsMemberAhead view table rows book situation who [] member
+      → arrival_of situation number who ≡ [] → IsMemberAhead view table rows book (arrived number situation) who [] member
   member_same rows book situation number who member is none =
       record { mail = same_mail book.letters situation number who member.mail is.mail none; running = is.running; stopped = is.stopped }
 
   -- the letter reaches nobody
-  pub unmoved : (rows : List Row) (world : World D) (situation : Situation) (number : ℕ) → IsWorldAt seen may_leave honest told_of table rows world situation
+  pub unmoved : (rows : List Row) (world : World D) (situation : Situation) (number : ℕ) → IsWorldAt view table rows world situation
       → ((who : ℕ) (member : Member D) → slice_get world.members.items who ≡ Some member → arrival_of situation number who ≡ [])
-      → IsWorldAt seen may_leave honest told_of table rows world (arrived number situation)
+      → IsWorldAt view table rows world (arrived number situation)
   unmoved rows world situation number is none = record {
     ahead = record {
       at = record { sound = is.ahead.at.sound; behind = is.ahead.at.behind; rest = is.ahead.at.rest; few = is.ahead.at.few; standing = is.ahead.at.standing; since = is.ahead.at.since; bases = is.ahead.at.bases };
@@ -124,18 +123,18 @@ module _ {D : Type 0} (seen : D → Image) (may_leave : D → Image → Type 0) 
   }
 
   -- the letter joins the mail of its addressee
-  pub moved : (rows : List Row) (world after : World D) (situation : Situation) (number : ℕ) (letter : LetterRow) (member next : Member D) → IsWorldAt seen may_leave honest told_of table rows world situation
+  pub moved : (rows : List Row) (world after : World D) (situation : Situation) (number : ℕ) (letter : LetterRow) (member next : Member D) → IsWorldAt view table rows world situation
       → slice_get world.book.letters number ≡ Some letter → slice_get world.members.items letter.to ≡ Some member → is_cut letter.from letter.to world.cuts.items ≡ false → member.mail.runs ≡ true
       → after.book ≡ world.book → after.members.items ≡ set world.members.items letter.to next → after.cuts ≡ world.cuts → after.latest ≡ world.latest
       → next.node ≡ member.node → next.steps ≡ member.steps → next.mail.letters.items ≡ member.mail.letters.items ++ number ∷ [] → next.mail.runs ≡ member.mail.runs → next.mail.skew ≡ member.mail.skew
-      → next.mail.fate ≡ member.mail.fate → next.mail.waits ≡ member.mail.waits → next.mail.arm ≡ member.mail.arm → IsWorldAt seen may_leave honest told_of table rows after (arrived number situation)
+      → next.mail.fate ≡ member.mail.fate → next.mail.waits ≡ member.mail.waits → next.mail.arm ≡ member.mail.arm → IsWorldAt view table rows after (arrived number situation)
   moved rows world after situation number letter member next is there mine whole runs book members cuts latest node steps letters running skew fate waits arm = record {
     ahead = record {
       at = record { sound = is.ahead.at.sound; behind = rw book is.ahead.at.behind; rest = rw book is.ahead.at.rest; few = rw book is.ahead.at.few; standing = rw book is.ahead.at.standing; since = is.ahead.at.since; bases = rw book is.ahead.at.bases };
       count = rw book (ap length members ∙ length-set world.members.items letter.to next ∙ is.ahead.count);
       each = λ who x found. rw book (elim (set_cases world.members.items letter.to next who x (subst (λ members. slice_get members who ≡ Some x) members found)) [
-        | inl here ↦ subst (λ w. IsMemberAhead seen may_leave honest told_of table rows world.book (arrived number situation) w [] x) (sym here.0)
-            (subst (λ x. IsMemberAhead seen may_leave honest told_of table rows world.book (arrived number situation) letter.to [] x) (sym here.1) mine_moved)
+        | inl here ↦ subst (λ w. IsMemberAhead view table rows world.book (arrived number situation) w [] x) (sym here.0)
+            (subst (λ x. IsMemberAhead view table rows world.book (arrived number situation) letter.to [] x) (sym here.1) mine_moved)
         | inr other ↦ member_same rows world.book situation number who x (is.ahead.each who x other.1)
             (arrival_is rows world situation number letter who is there ∙ by_other number letter.to who (situation.standing.runs who) (is_cut letter.from letter.to world.cuts.items) (λ same. other.0 (sym same)))
       ]);
@@ -148,7 +147,7 @@ module _ {D : Type 0} (seen : D → Image) (may_leave : D → Image → Type 0) 
     ];
   }
     where
-      was : IsMemberAhead seen may_leave honest told_of table rows world.book situation letter.to [] member
+      was : IsMemberAhead view table rows world.book situation letter.to [] member
       was = is.ahead.each letter.to member mine
 
       arrives : arrival_of situation number letter.to ≡ number ∷ []
@@ -162,7 +161,7 @@ module _ {D : Type 0} (seen : D → Image) (may_leave : D → Image → Type 0) 
         | inr new ↦ subst (λ n. IsSentTo world.book.letters letter.to n) new (record { letter = letter; there = there; to = refl })
       ]
 
-      mine_moved : IsMemberAhead seen may_leave honest told_of table rows world.book (arrived number situation) letter.to [] next
+      mine_moved : IsMemberAhead view table rows world.book (arrived number situation) letter.to [] next
       mine_moved = record {
         mail = mail_more world.book.letters situation number letter.to (number ∷ []) member.mail next.mail was.mail arrives letters running skew fate waits arm sent;
         running = rw node was.running;
@@ -187,7 +186,7 @@ filter_next : (test : ℕ → Bool) (xs : List ℕ) (x : ℕ) → filter test (x
 filter_next test [] x = elim (cases_Bool (test x)) [ inl is ↦ rw is refl | inr isnt ↦ rw isnt refl ]
 filter_next test (y ∷ xs) x = elim (cases_Bool (test y)) [ inl is ↦ rw is (ap (λ more. y ∷ more) (filter_next test xs x)) | inr isnt ↦ rw isnt (filter_next test xs x) ]
 
-module _ {D : Type 0} (seen : D → Image) (may_leave : D → Image → Type 0) (honest : D → Type 0) (told_of : D → Option Told) where
+module _ {D : Type 0} (view : DiskView D) where
   mail_like : (letters : List LetterRow) (situation : Situation) (mails : ℕ → List ℕ) (who : ℕ) (mail : MemberMail) → situation.mails who ≡ mails who → IsMailOf letters situation who [] mail
       → IsMailOf letters (record situation { mails = mails }) who [] mail
   mail_like letters situation mails who mail same is =
@@ -195,7 +194,7 @@ module _ {D : Type 0} (seen : D → Image) (may_leave : D → Image → Type 0) 
 
   -- a situation with the same mails, each by each
   pub same_mails : (table : Table) (rows : List Row) (world : World D) (situation : Situation) (mails : ℕ → List ℕ) → ((who : ℕ) → situation.mails who ≡ mails who)
-      → IsWorldAt seen may_leave honest told_of table rows world situation → IsWorldAt seen may_leave honest told_of table rows world (record situation { mails = mails })
+      → IsWorldAt view table rows world situation → IsWorldAt view table rows world (record situation { mails = mails })
   same_mails table rows world situation mails same is = record {
     ahead = record {
       at = record { sound = is.ahead.at.sound; behind = is.ahead.at.behind; rest = is.ahead.at.rest; few = is.ahead.at.few; standing = is.ahead.at.standing; since = is.ahead.at.since; bases = is.ahead.at.bases };
@@ -210,7 +209,7 @@ module _ {D : Type 0} (seen : D → Image) (may_leave : D → Image → Type 0) 
 
   -- the letters so far have joined the mails
   pub record HasDelivered (first number : ℕ) (old new : World D) : Type 0 where
-    pub changes : first ≤ number → Changes seen may_leave honest told_of (delivered_to first number) old new
+    pub changes : first ≤ number → Changes view (delivered_to first number) old new
     pub book : new.book ≡ old.book
     pub reach : (number ≡ first) ⊎ (number ≤ length old.book.letters)
 
@@ -222,7 +221,7 @@ module _ {D : Type 0} (seen : D → Image) (may_leave : D → Image → Type 0) 
     reach = inl refl;
   }
 
-  pub delivered_next : (first number : ℕ) (old now new : World D) → first ≤ number → number < length old.book.letters → HasDelivered first number old now → Changes seen may_leave honest told_of (arrived number) now new
+  pub delivered_next : (first number : ℕ) (old now new : World D) → first ≤ number → number < length old.book.letters → HasDelivered first number old now → Changes view (arrived number) now new
       → new.book ≡ now.book → HasDelivered first (number + 1) old new
   delivered_next first number old now new up below delivered arrives book = record {
     changes = λ up_too table rows situation is.
@@ -247,7 +246,7 @@ module _ {D : Type 0} (seen : D → Image) (may_leave : D → Image → Type 0) 
   ends first number total (inr some) past = omega arith
 
   pub delivered_all : (first number : ℕ) (old new : World D) → length old.book.letters ≤ number → HasDelivered first number old new → first ≤ number
-      → Changes seen may_leave honest told_of (delivered first) old new
+      → Changes view (delivered first) old new
   delivered_all first number old new past delivered up = λ table rows situation is.
       same_mails table rows new (delivered_to first number situation) _
       (λ who. ap (λ (n : ℕ). situation.mails who ++ filter (λ k. reaches situation who (slice_get situation.standing.posted k)) (range_with_len first n))
@@ -255,7 +254,7 @@ module _ {D : Type 0} (seen : D → Image) (may_leave : D → Image → Type 0) 
       ∙ ap (λ (n : ℕ). n - first) (sym (length-map old.book.letters posted_as) ∙ ap length (is.ahead.at.behind.letters ∙ ap (λ (s : Standing). s.posted) (sym is.ahead.at.standing)))))
       (delivered.changes up table rows situation is)
 
-  pub still_world : (first number : ℕ) (table : Table) (old now : World D) → first ≤ number → HasDelivered first number old now → IsWorld seen may_leave honest told_of table old
-      → IsWorld seen may_leave honest told_of table now
+  pub still_world : (first number : ℕ) (table : Table) (old now : World D) → first ≤ number → HasDelivered first number old now → IsWorld view table old
+      → IsWorld view table now
   still_world first number table old now up delivered world =
       record { rows = world.rows; situation = delivered_to first number world.situation; is = delivered.changes up table world.rows world.situation world.is }

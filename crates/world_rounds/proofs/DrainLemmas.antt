@@ -2,8 +2,7 @@
 use Rattle.std.proofs.Common.{Bool, Err, List, None, Ok, OnOk, Option, Result, Some, [], ap, append-nil as append_nil, append_assoc, arith, false, inl, inr, length, refl, subst, suc, sym, true, zero, ℕ, ℤ, ◌++◌, ◌-◌, ◌<◌, ◌∙◌, ◌∷◌, ◌≡◌}
 use Rattle.std.specs.List.{Contains}
 use Rattle.std.proofs.lemmas.Option.{slice_get_within}
-use Rattle.disk_model.specs.Images.{Image}
-use Rattle.disk_model.specs.Told.{Told}
+use Rattle.disk_model.specs.View.{DiskView}
 use Rattle.due_set.specs.Table.{Table}
 use Rattle.term_core.specs.declared.term.Term.{Term}
 use Rattle.term_core.specs.declared.term.Term.TheVariants.{Candidate, Follower, Leader}
@@ -125,7 +124,7 @@ drained_calm n table who at situation after rows parts =
 
 -- ---- a round of a drain
 
-module _ {D : Type 0} (seen : D → Image) (may_leave : D → Image → Type 0) (honest : D → Type 0) (told_of : D → Option Told) (table : Table) where
+module _ {D : Type 0} (view : DiskView D) (table : Table) where
   -- the campaign of one that runs
   pub campaign_plays : (n who : ℕ) (situation after : Situation) (rows : List Row) → situation.standing.runs who ≡ true → Plain n (tasks_for (command.Campaign who)) (set_by (command.Campaign who)) situation rows after
       → Plays n (λ here. Do who Campaign ∷ []) situation rows after
@@ -136,7 +135,7 @@ module _ {D : Type 0} (seen : D → Image) (may_leave : D → Image → Type 0) 
       (subst (λ after. Performs n (tasks_for (command.Campaign who) situation) situation rows after) (sym part.two.is)
       (subst (λ rows. Performs n (tasks_for (command.Campaign who) situation) situation rows part.middle) (sym whole) part.one))
 
-  pub runs_in : (rows : List Row) (world : World D) (situation : Situation) (who : ℕ) → IsWorldAt seen may_leave honest told_of table rows world situation → AllRun world → who < length world.members.items
+  pub runs_in : (rows : List Row) (world : World D) (situation : Situation) (who : ℕ) → IsWorldAt view table rows world situation → AllRun world → who < length world.members.items
       → situation.standing.runs who ≡ true
   runs_in rows world situation who is run below =
       let found = found_at world.members.items who below in
@@ -152,16 +151,16 @@ module _ {D : Type 0} (seen : D → Image) (may_leave : D → Image → Type 0) 
   other_tasks who (Candidate ballot first heard best) not = refl
   other_tasks who (Leader ballot best flight) not = refl
 
-  pub lead_goes : (who : ℕ) (old new : World D) → AllRun old → who < length old.members.items → GoesOnBy seen may_leave honest told_of table (Plain old.book.members (tasks_for (command.Campaign who)) (set_by (command.Campaign who))) old new
-      → GoesOnBy seen may_leave honest told_of table (Plays old.book.members (λ here. Do who Campaign ∷ [])) old new
+  pub lead_goes : (who : ℕ) (old new : World D) → AllRun old → who < length old.members.items → GoesOnBy view table (Plain old.book.members (tasks_for (command.Campaign who)) (set_by (command.Campaign who))) old new
+      → GoesOnBy view table (Plays old.book.members (λ here. Do who Campaign ∷ [])) old new
   lead_goes who old new run below goes = λ rows situation is.
       let part = goes rows situation is in
       (part.0, part.1, campaign_plays old.book.members who situation part.1 part.0 (runs_in rows old situation who is run below) part.2, part.3)
 
   -- it follows and stands for leader, and a round comes
-  pub led_round : (who : ℕ) (at : ℤ) (old now new : World D) → AnswersFor seen may_leave honest told_of table (λ situation. IsFollower (situation.standing.replicas who).term) old true
-      → GoesOnBy seen may_leave honest told_of table (Plays old.book.members (λ here. Do who Campaign ∷ [])) old now → now.book.members ≡ old.book.members
-      → GoesOnBy seen may_leave honest told_of table (IsRound now.book.members table.window at) now new → GoesOnBy seen may_leave honest told_of table (IsDrainRound old.book.members table who at) old new
+  pub led_round : (who : ℕ) (at : ℤ) (old now new : World D) → AnswersFor view table (λ situation. IsFollower (situation.standing.replicas who).term) old true
+      → GoesOnBy view table (Plays old.book.members (λ here. Do who Campaign ∷ [])) old now → now.book.members ≡ old.book.members
+      → GoesOnBy view table (IsRound now.book.members table.window at) now new → GoesOnBy view table (IsDrainRound old.book.members table who at) old new
   led_round who at old now new follows campaign members round = λ rows situation is.
       let one = campaign rows situation is in
       let two = round (rows ++ one.0) one.1 one.3 in (
@@ -176,16 +175,16 @@ module _ {D : Type 0} (seen : D → Image) (may_leave : D → Image → Type 0) 
               (sym (follows_tasks who (situation.standing.replicas who).term ((follows rows situation is).0 refl))) one.2;
           two = subst (λ n. IsRound n table.window at one.1 two.0 two.1) members two.2;
         },
-        subst (λ rows. IsWorldAt seen may_leave honest told_of table rows new two.1) (append_assoc rows one.0 two.0) two.3,
+        subst (λ rows. IsWorldAt view table rows new two.1) (append_assoc rows one.0 two.0) two.3,
       )
 
   -- it doesn't follow, and a round comes
-  pub plain_round : (who : ℕ) (at : ℤ) (old new : World D) → AnswersFor seen may_leave honest told_of table (λ situation. IsFollower (situation.standing.replicas who).term) old false
-      → GoesOnBy seen may_leave honest told_of table (IsRound old.book.members table.window at) old new → GoesOnBy seen may_leave honest told_of table (IsDrainRound old.book.members table who at) old new
+  pub plain_round : (who : ℕ) (at : ℤ) (old new : World D) → AnswersFor view table (λ situation. IsFollower (situation.standing.replicas who).term) old false
+      → GoesOnBy view table (IsRound old.book.members table.window at) old new → GoesOnBy view table (IsDrainRound old.book.members table who at) old new
   plain_round who at old new follows round = λ rows situation is.
       let middle : Situation = delivered (length situation.standing.posted) situation in
-      let same : IsWorldAt seen may_leave honest told_of table rows old middle =
-      same_mails seen may_leave honest told_of table rows old situation (λ who. situation.mails who ++ letters_for situation (length situation.standing.posted) who)
+      let same : IsWorldAt view table rows old middle =
+      same_mails view table rows old situation (λ who. situation.mails who ++ letters_for situation (length situation.standing.posted) who)
       (λ who. let e : length situation.standing.posted - length situation.standing.posted ≡ 0 = omega arith in rw e (sym (append_nil (situation.mails who)))) is in
       let two = round rows middle same in (
         two.0,
@@ -206,7 +205,7 @@ module _ {D : Type 0} (seen : D → Image) (may_leave : D → Image → Type 0) 
 
   -- all run where the part leaves who runs
   pub run_on : (part : Situation → List Row → Situation → Type 0) (old new : World D) → ((situation : Situation) (rows : List Row) (after : Situation) → part situation rows after → StaysCalm situation after)
-      → IsWorld seen may_leave honest told_of table old → AllRun old → new.book.members ≡ old.book.members → GoesOnBy seen may_leave honest told_of table part old new → AllRun new
+      → IsWorld view table old → AllRun old → new.book.members ≡ old.book.members → GoesOnBy view table part old new → AllRun new
   run_on part old new leaves world run members goes = λ k member found.
       let gone = goes world.rows world.situation world.is in
       let calm = leaves world.situation gone.0 gone.1 gone.2 in
@@ -215,29 +214,29 @@ module _ {D : Type 0} (seen : D → Image) (may_leave : D → Image → Type 0) 
       (gone.3.ahead.each k member found).mail.runs ∙ ap (λ (runs : ℕ → Bool). runs k) calm.runs
       ∙ runs_in world.rows old world.situation k world.is run (omega (arith, below, count))
 
-  pub world_gone : (part : Situation → List Row → Situation → Type 0) (old new : World D) → IsWorld seen may_leave honest told_of table old → GoesOnBy seen may_leave honest told_of table part old new
-      → IsWorld seen may_leave honest told_of table new
+  pub world_gone : (part : Situation → List Row → Situation → Type 0) (old new : World D) → IsWorld view table old → GoesOnBy view table part old new
+      → IsWorld view table new
   world_gone part old new world goes = let gone = goes world.rows world.situation world.is in record { rows = world.rows ++ gone.0; situation = gone.1; is = gone.3 }
 
   -- ---- drains
 
   -- so far it has drained
   pub record HasDrained (who : ℕ) (at : ℤ) (old now : World D) : Type 0 where
-    pub goes : GoesOnBy seen may_leave honest told_of table (DrainsOn old.book.members table who at) old now
-    pub world : IsWorld seen may_leave honest told_of table now
+    pub goes : GoesOnBy view table (DrainsOn old.book.members table who at) old now
+    pub world : IsWorld view table now
     pub run : AllRun now
     pub members : now.book.members ≡ old.book.members
 
-  pub drained_none : (who : ℕ) (at : ℤ) (world : World D) → IsWorld seen may_leave honest told_of table world → AllRun world → HasDrained who at world world
+  pub drained_none : (who : ℕ) (at : ℤ) (world : World D) → IsWorld view table world → AllRun world → HasDrained who at world world
   drained_none who at world is run = record {
-    goes = λ rows situation here. ([], situation, drains_on_none world.book.members table who at situation, subst (λ rows. IsWorldAt seen may_leave honest told_of table rows world situation) (sym (append_nil rows)) here);
+    goes = λ rows situation here. ([], situation, drains_on_none world.book.members table who at situation, subst (λ rows. IsWorldAt view table rows world situation) (sym (append_nil rows)) here);
     world = is;
     run = run;
     members = refl;
   }
 
-  pub drained_next : (who : ℕ) (at : ℤ) (old now new : World D) → HasDrained who at old now → AnswersFor seen may_leave honest told_of table (IsQuiet now.book.members table who at) now false
-      → GoesOnBy seen may_leave honest told_of table (IsDrainRound now.book.members table who at) now new → new.book.members ≡ now.book.members → HasDrained who at old new
+  pub drained_next : (who : ℕ) (at : ℤ) (old now new : World D) → HasDrained who at old now → AnswersFor view table (IsQuiet now.book.members table who at) now false
+      → GoesOnBy view table (IsDrainRound now.book.members table who at) now new → new.book.members ≡ now.book.members → HasDrained who at old new
   drained_next who at old now new so_far tells goes members = record {
     goes = λ rows situation is.
         let front = so_far.goes rows situation is in
@@ -247,15 +246,15 @@ module _ {D : Type 0} (seen : D → Image) (may_leave : D → Image → Type 0) 
           back.1,
           drains_on_then old.book.members table who at situation front.1 back.1 front.0 back.0 front.2
               (subst (λ n. DrainsOn n table who at front.1 back.0 back.1) so_far.members (drains_on_next now.book.members table who at front.1 back.1 back.0 not_yet back.2)),
-          subst (λ rows. IsWorldAt seen may_leave honest told_of table rows new back.1) (append_assoc rows front.0 back.0) back.3,
+          subst (λ rows. IsWorldAt view table rows new back.1) (append_assoc rows front.0 back.0) back.3,
         );
     world = world_gone (IsDrainRound now.book.members table who at) now new so_far.world goes;
     run = run_on (IsDrainRound now.book.members table who at) now new (λ situation rows after part. drained_calm now.book.members table who at situation after rows part) so_far.world so_far.run members goes;
     members = members ∙ so_far.members;
   }
 
-  pub drained_whole : (who : ℕ) (at : ℤ) (old now : World D) → HasDrained who at old now → AnswersFor seen may_leave honest told_of table (IsQuiet now.book.members table who at) now true
-      → GoesOnBy seen may_leave honest told_of table (Drains old.book.members table who at) old now
+  pub drained_whole : (who : ℕ) (at : ℤ) (old now : World D) → HasDrained who at old now → AnswersFor view table (IsQuiet now.book.members table who at) now true
+      → GoesOnBy view table (Drains old.book.members table who at) old now
   drained_whole who at old now so_far tells = λ rows situation is.
       let gone = so_far.goes rows situation is in
       let quiet : IsQuiet old.book.members table who at gone.1 =
@@ -264,10 +263,10 @@ module _ {D : Type 0} (seen : D → Image) (may_leave : D → Image → Type 0) 
 
   -- ---- settling
 
-  pub settled : (at : ℤ) (who : ℕ) (old over led new : World D) → GoesOnBy seen may_leave honest told_of table (Plain old.book.members (restart_tasks old.book.members) calmed) old over
-      → over.book.members ≡ old.book.members → ((situation : Situation) → IsIn seen may_leave honest told_of table over situation → who ≡ coordinator over.book.members situation)
-      → GoesOnBy seen may_leave honest told_of table (Plays over.book.members (λ here. Do who Campaign ∷ [])) over led → led.book.members ≡ over.book.members
-      → GoesOnBy seen may_leave honest told_of table (Drains led.book.members table who at) led new → GoesOnBy seen may_leave honest told_of table (Settles old.book.members table at) old new
+  pub settled : (at : ℤ) (who : ℕ) (old over led new : World D) → GoesOnBy view table (Plain old.book.members (restart_tasks old.book.members) calmed) old over
+      → over.book.members ≡ old.book.members → ((situation : Situation) → IsIn view table over situation → who ≡ coordinator over.book.members situation)
+      → GoesOnBy view table (Plays over.book.members (λ here. Do who Campaign ∷ [])) over led → led.book.members ≡ over.book.members
+      → GoesOnBy view table (Drains led.book.members table who at) led new → GoesOnBy view table (Settles old.book.members table at) old new
   settled at who old over led new start same leads campaign led_same drains = λ rows situation is.
       let one = start rows situation is in
       let two = campaign (rows ++ one.0) one.1 one.3 in
@@ -292,19 +291,19 @@ module _ {D : Type 0} (seen : D → Image) (may_leave : D → Image → Type 0) 
                 two = subst (λ n. Drains n table who at two.1 three.0 three.1) (led_same ∙ same) three.2;
               });
         },
-        subst (λ rows. IsWorldAt seen may_leave honest told_of table rows new three.1)
+        subst (λ rows. IsWorldAt view table rows new three.1)
             (append_assoc (rows ++ one.0) two.0 three.0 ∙ append_assoc rows one.0 (two.0 ++ three.0)) three.3,
       )
 
   -- who leads was the one to lead before
-  pub leads_before : (who : ℕ) (old over : World D) → GoesOnBy seen may_leave honest told_of table (Plain old.book.members (restart_tasks old.book.members) calmed) old over
-      → over.book.members ≡ old.book.members → ((situation : Situation) → IsIn seen may_leave honest told_of table over situation → who ≡ coordinator over.book.members situation)
-      → (situation : Situation) → IsIn seen may_leave honest told_of table old situation → who ≡ coordinator old.book.members situation
+  pub leads_before : (who : ℕ) (old over : World D) → GoesOnBy view table (Plain old.book.members (restart_tasks old.book.members) calmed) old over
+      → over.book.members ≡ old.book.members → ((situation : Situation) → IsIn view table over situation → who ≡ coordinator over.book.members situation)
+      → (situation : Situation) → IsIn view table old situation → who ≡ coordinator old.book.members situation
   leads_before who old over start same leads = λ situation (rows, is).
       let one = start rows situation is in
       leads one.1 (rows ++ one.0, one.3) ∙ ap (λ n. coordinator n one.1) same ∙ same_coordinator old.book.members situation one.0 one.1 one.2
 
   -- the world has as many replicas
-  pub same_count : (old new : World D) → IsWorld seen may_leave honest told_of table old → IsWorld seen may_leave honest told_of table new → new.book.members ≡ old.book.members
+  pub same_count : (old new : World D) → IsWorld view table old → IsWorld view table new → new.book.members ≡ old.book.members
       → length new.members.items ≡ length old.members.items
   same_count old new was is members = is.is.ahead.count ∙ members ∙ sym was.is.ahead.count

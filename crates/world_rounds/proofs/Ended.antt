@@ -1,10 +1,9 @@
 -- The nodes of a world, when no more of it is wanted.
-use Rattle.std.proofs.Common.{◌≡◌, ℕ, zero, suc, ◌≤◌, Bool, true, false, List, [], ◌∷◌, length, Option, Some, refl, ap, ◌∙◌, subst, arith}
+use Rattle.std.proofs.Common.{◌≡◌, ℕ, zero, suc, ◌≤◌, Bool, true, false, List, [], ◌∷◌, length, Some, refl, ap, ◌∙◌, subst, arith}
 use Rattle.std.specs.List.{slice_get}
 use Rattle.std.proofs.lemmas.List.{length-map}
 use Rattle.std.proofs.lemmas.Option.{same_Some}
-use Rattle.disk_model.specs.Images.{Image}
-use Rattle.disk_model.specs.Told.{Told}
+use Rattle.disk_model.specs.View.{DiskView}
 use Rattle.due_set.specs.Table.{Table}
 use Rattle.history.specs.Book.{Row}
 use Rattle.replica_node.specs.declared.node.Node.{Node}
@@ -23,24 +22,24 @@ found_node [] who node is = absurd cc
 found_node (member ∷ members) zero node is = (member, refl, same_Some member.node node is)
 found_node (member ∷ members) (suc who) node is = found_node members who node is
 
-module _ {D : Type 0} (seen : D → Image) (may_leave : D → Image → Type 0) (honest : D → Type 0) (told_of : D → Option Told) (table : Table) where
+module _ {D : Type 0} (view : DiskView D) (table : Table) where
   node_of : (rows : List Row) (book : BookState) (situation : Situation) (who : ℕ) (member : Member D) (runs : Bool) → (standing_behind table rows book).runs who ≡ runs
-      → IsMemberAhead seen may_leave honest told_of table rows book situation who [] member → IsNodeOf seen may_leave honest told_of table rows book who member.node
-  node_of rows book situation who member true is ahead = running_node seen may_leave honest told_of table rows book who member.node (ahead.running is)
-  node_of rows book situation who member false is ahead = stopped_node seen may_leave honest told_of table rows book who member.node is (ahead.stopped is)
+      → IsMemberAhead view table rows book situation who [] member → IsNodeOf view table rows book who member.node
+  node_of rows book situation who member true is ahead = running_node view table rows book who member.node (ahead.running is)
+  node_of rows book situation who member false is ahead = stopped_node view table rows book who member.node is (ahead.stopped is)
 
-  pub few_members : (rows : List Row) (world : World D) (situation : Situation) → IsWorldAt seen may_leave honest told_of table rows world situation → length world.members.items ≤ 7
+  pub few_members : (rows : List Row) (world : World D) (situation : Situation) → IsWorldAt view table rows world situation → length world.members.items ≤ 7
   few_members rows world situation is =
       let few : world.book.members ≤ 7 = is.ahead.at.few in
       let count : length world.members.items ≡ world.book.members = is.ahead.count in
       omega (arith, few, count)
 
-  pub nodes_left : (rows : List Row) (world : World D) (situation : Situation) (nodes : List (Node D)) → IsWorldAt seen may_leave honest told_of table rows world situation
-      → nodes ≡ nodes_of world.members.items → AreNodesOf seen may_leave honest told_of table rows world.book nodes
+  pub nodes_left : (rows : List Row) (world : World D) (situation : Situation) (nodes : List (Node D)) → IsWorldAt view table rows world situation
+      → nodes ≡ nodes_of world.members.items → AreNodesOf view table rows world.book nodes
   nodes_left rows world situation nodes is same = record {
     count = ap length same ∙ length-map world.members.items (λ member. member.node) ∙ is.ahead.count;
     each = λ who node found.
         let (member, there, node_is) = found_node world.members.items who node (subst (λ nodes. slice_get nodes who ≡ Some node) same found) in
-        subst (λ node. IsNodeOf seen may_leave honest told_of table rows world.book who node) node_is
+        subst (λ node. IsNodeOf view table rows world.book who node) node_is
         (node_of rows world.book situation who member ((standing_behind table rows world.book).runs who) refl (is.ahead.each who member there));
   }

@@ -3,8 +3,7 @@ use Rattle.std.proofs.Common.{List, None, Option, Some, [], ap, append-nil as ap
 use Rattle.std.specs.List.{Contains, slice_get}
 use Rattle.std.proofs.Math.ListN.{set}
 use Rattle.std.proofs.lemmas.List.{length-set}
-use Rattle.disk_model.specs.Images.{Image}
-use Rattle.disk_model.specs.Told.{Told}
+use Rattle.disk_model.specs.View.{DiskView}
 use Rattle.due_set.specs.Table.{Table}
 use Rattle.paxos_base.specs.declared.durable.Delta.{Delta}
 use Rattle.step_spec.specs.State.{started}
@@ -79,15 +78,15 @@ stop_waits : (n : ℕ) (s : Standing) (who : ℕ) (event : Event) (letters : Lis
 unfolding after_row
 stop_waits n s who event letters = fact_here who None s.waits
 
-module _ {D : Type 0} (seen : D → Image) (may_leave : D → Image → Type 0) (honest : D → Type 0) (told_of : D → Option Told) (table : Table) where
+module _ {D : Type 0} (view : DiskView D) (table : Table) where
   -- the world after one turn that posts no letter, and after its command
-  pub goes_alone : (rows : List Row) (world new : World D) (situation : Situation) (row : Row) (task : Task) (tasks : Situation → List Task) → IsWorldAt seen may_leave honest told_of table rows world situation
+  pub goes_alone : (rows : List Row) (world new : World D) (situation : Situation) (row : Row) (task : Task) (tasks : Situation → List Task) → IsWorldAt view table rows world situation
       → HasJoinedAlone table rows world.book new.book row → IsTurnFor situation.fates task row.turn → tasks situation ≡ task ∷ []
       → length new.members.items ≡ length world.members.items → new.cuts ≡ world.cuts → new.latest.0 ≡ latest_after row.turn situation.latest
       → ((k : ℕ) (member : Member D) → slice_get new.members.items k ≡ Some member
-      → IsMemberAhead seen may_leave honest told_of table (rows ++ row ∷ []) new.book (after_turn world.book.members situation row) k [] member)
+      → IsMemberAhead view table (rows ++ row ∷ []) new.book (after_turn world.book.members situation row) k [] member)
       → ((k : ℕ) (member : Member D) → slice_get new.members.items k ≡ Some member → member.steps.items ≡ [])
-      → (more : List Row) × (after : Situation) × Plain world.book.members tasks (λ s. s) situation more after × IsWorldAt seen may_leave honest told_of table (rows ++ more) new after
+      → (more : List Row) × (after : Situation) × Plain world.book.members tasks (λ s. s) situation more after × IsWorldAt view table (rows ++ more) new after
   goes_alone rows world new situation row task tasks is joined turn asks count cuts latest each idle = (
     row ∷ [],
     ends,
@@ -99,7 +98,7 @@ module _ {D : Type 0} (seen : D → Image) (may_leave : D → Image → Type 0) 
       one = rw asks (record { turns = (turn, refl); is = refl });
       two = record { none = refl; is = refl };
     },
-    same_mails seen may_leave honest told_of table (rows ++ row ∷ []) new after (λ who. after.mails who ++ letters_for after (length situation.standing.posted) who)
+    same_mails view table (rows ++ row ∷ []) new after (λ who. after.mails who ++ letters_for after (length situation.standing.posted) who)
         (λ who. rw (none_left who) (sym (append_nil (after.mails who)))) base,
   )
     where
@@ -109,15 +108,15 @@ module _ {D : Type 0} (seen : D → Image) (may_leave : D → Image → Type 0) 
       ends : Situation
       ends = delivered (length situation.standing.posted) after
 
-      base : IsWorldAt seen may_leave honest told_of table (rows ++ row ∷ []) new after
+      base : IsWorldAt view table (rows ++ row ∷ []) new after
       base = record {
-        ahead = world_on seen may_leave honest told_of table rows world new situation none_taken none_taken row is.ahead joined.behind joined.rest joined.members count cuts latest each;
+        ahead = world_on view table rows world new situation none_taken none_taken row is.ahead joined.behind joined.rest joined.members count cuts latest each;
         idle = idle;
       }
 
       posted : length after.standing.posted ≡ length situation.standing.posted
       posted =
-          sym (posted_so_far seen may_leave honest told_of table (rows ++ row ∷ []) new after base) ∙ ap length joined.letters ∙ posted_so_far seen may_leave honest told_of table rows world situation is
+          sym (posted_so_far view table (rows ++ row ∷ []) new after base) ∙ ap length joined.letters ∙ posted_so_far view table rows world situation is
 
       none_left : (who : ℕ) → letters_for after (length situation.standing.posted) who ≡ []
       none_left who = let e : length after.standing.posted - length situation.standing.posted ≡ 0 = omega (arith, posted) in rw e refl
@@ -128,9 +127,9 @@ module _ {D : Type 0} (seen : D → Image) (may_leave : D → Image → Type 0) 
     pub alone : IsAlone table rows world.book (Stopped who None false) None row
     pub stopped : (after : BookState) → after.members ≡ world.book.members → (standing_behind table (rows ++ row ∷ []) after).runs who ≡ false
     pub node : (after : BookState) → after.members ≡ world.book.members
-        → IsNodeStopped seen may_leave honest told_of table after.members (standing_behind table (rows ++ row ∷ []) after) (bases_behind table (rows ++ row ∷ []) after who) who [] member.node
+        → IsNodeStopped view table after.members (standing_behind table (rows ++ row ∷ []) after) (bases_behind table (rows ++ row ∷ []) after who) who [] member.node
 
-  can_stop : (rows : List Row) (world : World D) (situation : Situation) (who : ℕ) (member : Member D) → IsWorldAt seen may_leave honest told_of table rows world situation
+  can_stop : (rows : List Row) (world : World D) (situation : Situation) (who : ℕ) (member : Member D) → IsWorldAt view table rows world situation
       → slice_get world.members.items who ≡ Some member → member.mail.runs ≡ true → CanStop rows world who member
   can_stop rows world situation who member is there runs = record {
     row = stop.row;
@@ -139,17 +138,17 @@ module _ {D : Type 0} (seen : D → Image) (may_leave : D → Image → Type 0) 
     node = λ after members. record {
       at_rest = node.at_rest;
       trusted = node.trusted;
-      disk = subst (λ (count : ℕ). IsDiskAt told_of count member.node) (sym (ap (λ (counts : ℕ → ℕ). counts who) (bases_same table rows stop.row world.book after members none_kept))) node.disk;
+      disk = subst (λ (count : ℕ). IsDiskAt view count member.node) (sym (ap (λ (counts : ℕ → ℕ). counts who) (bases_same table rows stop.row world.book after members none_kept))) node.disk;
       identity = ap (λ (r : ReplicaState). r.identity) node.took ∙ node.stands.identity ∙ ap (identity_of world.book.members) node.me ∙ ap (λ n. identity_of n who) (sym members);
       none = refl;
       kept = (stop.stands after members).state ∙ ap (λ (r : ReplicaState). started who r.state.kept) (sym node.took);
     };
   }
     where
-      ahead : IsMemberAhead seen may_leave honest told_of table rows world.book situation who [] member
+      ahead : IsMemberAhead view table rows world.book situation who [] member
       ahead = is.ahead.each who member there
 
-      node : IsNodeAhead seen may_leave honest told_of table rows world.book who [] member.node
+      node : IsNodeAhead view table rows world.book who [] member.node
       node = ahead.running (sym (ap (λ (s : Standing). s.runs who) is.ahead.at.standing) ∙ sym ahead.mail.runs ∙ runs)
 
       stop : IsStopOf table rows world.book who None None node.first.state.kept
@@ -158,7 +157,7 @@ module _ {D : Type 0} (seen : D → Image) (may_leave : D → Image → Type 0) 
       none_kept : (changes : List Delta) (counts : ℕ → ℕ) → bases_kept stop.row.turn changes counts ≡ counts
       none_kept changes counts = ap (λ (turn : Turn). bases_kept turn changes counts) stop.is.turn_is
 
-  pub may_stop : (world : World D) (who : ℕ) (member : Member D) → IsWorld seen may_leave honest told_of table world → slice_get world.members.items who ≡ Some member → member.mail.runs ≡ true
+  pub may_stop : (world : World D) (who : ℕ) (member : Member D) → IsWorld view table world → slice_get world.members.items who ≡ Some member → member.mail.runs ≡ true
       → (rows : List Row) × (row : Row) × IsAlone table rows world.book (Stopped who None false) None row
   may_stop world who member is there runs = let can = can_stop is.rows world is.situation who member is.is there runs in (is.rows, can.row, can.alone)
 
@@ -166,7 +165,7 @@ module _ {D : Type 0} (seen : D → Image) (may_leave : D → Image → Type 0) 
       → ((rows : List Row) (row : Row) → IsAlone table rows world.book (Stopped who None false) None row → HasJoinedAlone table rows world.book new.book row)
       → new.members.items ≡ set world.members.items who next → next.node ≡ member.node → next.steps ≡ member.steps → IsHalted member.mail next.mail
       → new.cuts ≡ world.cuts → new.latest ≡ world.latest
-      → GoesOnBy seen may_leave honest told_of table (Plain world.book.members (λ situation. if situation.standing.runs who then Stop who ∷ [] else []) (λ situation. situation)) world new
+      → GoesOnBy view table (Plain world.book.members (λ situation. if situation.standing.runs who then Stop who ∷ [] else []) (λ situation. situation)) world new
   stop_goes world new who member next there runs joins members node steps halted cuts latest = λ rows situation is.
       let can = can_stop rows world situation who member is there runs in
       let joined = joins rows can.row can.alone in
@@ -176,11 +175,11 @@ module _ {D : Type 0} (seen : D → Image) (may_leave : D → Image → Type 0) 
       (ap (λ minute. minute.0) latest ∙ is.ahead.latest ∙ sym (ap (λ turn. latest_after turn situation.latest) can.alone.is.turn_is))
       (λ k x found. elim (set_cases world.members.items who next k x (subst (λ members. slice_get members k ≡ Some x) members found)) [
         | inl here ↦
-            subst (λ k. IsMemberAhead seen may_leave honest told_of table (rows ++ can.row ∷ []) new.book (after_turn world.book.members situation can.row) k [] x) (sym here.0)
-            (subst (λ x. IsMemberAhead seen may_leave honest told_of table (rows ++ can.row ∷ []) new.book (after_turn world.book.members situation can.row) who [] x) (sym here.1)
+            subst (λ k. IsMemberAhead view table (rows ++ can.row ∷ []) new.book (after_turn world.book.members situation can.row) k [] x) (sym here.0)
+            (subst (λ x. IsMemberAhead view table (rows ++ can.row ∷ []) new.book (after_turn world.book.members situation can.row) who [] x) (sym here.1)
             (mine rows situation is can joined))
         | inr other ↦
-            member_stays seen may_leave honest told_of table rows can.row world.book new.book situation k [] x is.ahead.at joined.members (has_same world.book new.book joined.letters)
+            member_stays view table rows can.row world.book new.book situation k [] x is.ahead.at joined.members (has_same world.book new.book joined.letters)
             (leaves_other world.book.members situation can.row k (λ same. other.0 (same ∙ ap turn_of can.alone.is.turn_is))) (is.ahead.each k x other.1)
       ])
       (λ k x found. elim (set_cases world.members.items who next k x (subst (λ members. slice_get members k ≡ Some x) members found)) [
@@ -188,9 +187,9 @@ module _ {D : Type 0} (seen : D → Image) (may_leave : D → Image → Type 0) 
         | inr other ↦ is.idle k x other.1
       ])
     where
-      mine : (rows : List Row) (situation : Situation) → IsWorldAt seen may_leave honest told_of table rows world situation → (can : CanStop rows world who member)
+      mine : (rows : List Row) (situation : Situation) → IsWorldAt view table rows world situation → (can : CanStop rows world who member)
           → HasJoinedAlone table rows world.book new.book can.row
-          → IsMemberAhead seen may_leave honest told_of table (rows ++ can.row ∷ []) new.book (after_turn world.book.members situation can.row) who [] next
+          → IsMemberAhead view table (rows ++ can.row ∷ []) new.book (after_turn world.book.members situation can.row) who [] next
       mine rows situation is can joined =
           let was = is.ahead.each who member there in
           let turn = can.alone.is.turn_is in

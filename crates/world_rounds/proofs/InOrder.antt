@@ -4,9 +4,8 @@ use Rattle.std.proofs.Common.{append-nil as append_nil}
 use Rattle.std.specs.Prelude.{IfOk}
 use Rattle.std.specs.List.{flat_map, range_with_len, slice_get}
 use Rattle.std.proofs.lemmas.List.Concat.{flat_map-append}
+use Rattle.disk_model.specs.View.{DiskView}
 use Rattle.cluster_sched.specs.declared.row.SchedRow.{SchedRow}
-use Rattle.disk_model.specs.Images.{Image}
-use Rattle.disk_model.specs.Told.{Told}
 use Rattle.due_set.specs.Table.{Table}
 use Rattle.history.specs.Book.{Row}
 use Rattle.history.specs.declared.turn.CallRow.{CallRow}
@@ -38,13 +37,13 @@ skews_stay : (n : ℕ) (situation : Situation) (rows : List Row) (who : ℕ) →
 skews_stay n situation [] who = refl
 skews_stay n situation (row ∷ rows) who = skews_stay n (after_turn n situation row) rows who
 
-module _ {D : Type 0} (seen : D → Image) (may_leave : D → Image → Type 0) (honest : D → Type 0) (told_of : D → Option Told) (table : Table) where
-  pub led_none : (n : ℕ) (rows : List Row) (world : World D) (situation : Situation) (who : ℕ) → IsWorldAt seen may_leave honest told_of table rows world situation → situation.standing.runs who ≡ true
-      → IsLed seen may_leave honest told_of table n rows situation who [] true world
+module _ {D : Type 0} (view : DiskView D) (table : Table) where
+  pub led_none : (n : ℕ) (rows : List Row) (world : World D) (situation : Situation) (who : ℕ) → IsWorldAt view table rows world situation → situation.standing.runs who ≡ true
+      → IsLed view table n rows situation who [] true world
   led_none n rows world situation who is runs = record {
     more = [];
     leads = leads_none n who situation;
-    at = subst (λ (all : List Row). IsWorldAt seen may_leave honest told_of table all world situation) (sym (append_nil rows)) is;
+    at = subst (λ (all : List Row). IsWorldAt view table all world situation) (sym (append_nil rows)) is;
     runs = λ goes. runs;
   }
 
@@ -55,7 +54,7 @@ module _ {D : Type 0} (seen : D → Image) (may_leave : D → Image → Type 0) 
   still_runs n situation who cause row runs (inr stops) goes = absurd (let e : false ≡ true = sym (ap goes_on stops.is) ∙ goes in cc)
 
   pub led_step : (n : ℕ) (rows : List Row) (situation : Situation) (who : ℕ) (cause : Cause) (goes : Bool) (new : World D) → situation.standing.runs who ≡ true
-      → HasStepped seen may_leave honest told_of table n rows situation who cause goes new → IsLed seen may_leave honest told_of table n rows situation who (Do who cause ∷ []) goes new
+      → HasStepped view table n rows situation who cause goes new → IsLed view table n rows situation who (Do who cause ∷ []) goes new
   led_step n rows situation who cause goes new runs stepped = record {
     more = stepped.row ∷ [];
     leads = subst (λ (g : Bool). LeadsOn n who situation (Do who cause ∷ []) (stepped.row ∷ []) g) stepped.goes_is (leads_step n who cause situation stepped.row stepped.turn);
@@ -63,25 +62,25 @@ module _ {D : Type 0} (seen : D → Image) (may_leave : D → Image → Type 0) 
     runs = λ on. still_runs n situation who cause stepped.row runs stepped.turn (stepped.goes_is ∙ on);
   }
 
-  led_then : (n : ℕ) (rows : List Row) (situation : Situation) (who : ℕ) (one two : List Task) (goes : Bool) (now new : World D) → (led : IsLed seen may_leave honest told_of table n rows situation who one true now)
-      → IsLed seen may_leave honest told_of table n (rows ++ led.more) (after_turns n situation led.more) who two goes new → AreTasksOf who two
-      → IsLed seen may_leave honest told_of table n rows situation who (one ++ two) goes new
+  led_then : (n : ℕ) (rows : List Row) (situation : Situation) (who : ℕ) (one two : List Task) (goes : Bool) (now new : World D) → (led : IsLed view table n rows situation who one true now)
+      → IsLed view table n (rows ++ led.more) (after_turns n situation led.more) who two goes new → AreTasksOf who two
+      → IsLed view table n rows situation who (one ++ two) goes new
   led_then n rows situation who one two goes now new led next of = record {
     more = led.more ++ next.more;
     leads = leads_then n who situation one two led.more next.more goes led.leads next.leads of;
     at =
-        subst (λ (all : List Row). IsWorldAt seen may_leave honest told_of table all new (after_turns n situation (led.more ++ next.more))) (append_assoc rows led.more next.more)
-        (subst (λ (here : Situation). IsWorldAt seen may_leave honest told_of table ((rows ++ led.more) ++ next.more) new here) (sym (after_both n situation led.more next.more)) next.at);
+        subst (λ (all : List Row). IsWorldAt view table all new (after_turns n situation (led.more ++ next.more))) (append_assoc rows led.more next.more)
+        (subst (λ (here : Situation). IsWorldAt view table ((rows ++ led.more) ++ next.more) new here) (sym (after_both n situation led.more next.more)) next.at);
     runs = λ on. ap (λ (here : Situation). here.standing.runs who) (after_both n situation led.more next.more) ∙ next.runs on;
   }
 
-  pub led_stop : (n : ℕ) (rows : List Row) (situation : Situation) (who : ℕ) (one two : List Task) (new : World D) → IsLed seen may_leave honest told_of table n rows situation who one false new → AreTasksOf who two
-      → IsLed seen may_leave honest told_of table n rows situation who (one ++ two) false new
+  pub led_stop : (n : ℕ) (rows : List Row) (situation : Situation) (who : ℕ) (one two : List Task) (new : World D) → IsLed view table n rows situation who one false new → AreTasksOf who two
+      → IsLed view table n rows situation who (one ++ two) false new
   led_stop n rows situation who one two new led of =
       record { more = led.more; leads = leads_stop n who situation one two led.more led.leads of; at = led.at; runs = λ on. absurd (let e : false ≡ true = on in cc) }
 
-  pub passed_of : (n : ℕ) (rows : List Row) (situation : Situation) (who : ℕ) (tasks : List Task) (goes : Bool) (new : World D) → IsLed seen may_leave honest told_of table n rows situation who tasks goes new
-      → HasPassed seen may_leave honest told_of table n rows situation tasks new
+  pub passed_of : (n : ℕ) (rows : List Row) (situation : Situation) (who : ℕ) (tasks : List Task) (goes : Bool) (new : World D) → IsLed view table n rows situation who tasks goes new
+      → HasPassed view table n rows situation tasks new
   passed_of n rows situation who tasks goes new led = record { more = led.more; turns = leads_end n who situation tasks led.more goes led.leads; at = led.at }
 
   -- ---- an answer
@@ -91,33 +90,33 @@ module _ {D : Type 0} (seen : D → Image) (may_leave : D → Image → Type 0) 
   mail_answered n situation who row (inr stops) goes = absurd (let e : false ≡ true = sym (ap goes_on stops.is) ∙ goes in cc)
 
   pub led_answer : (n : ℕ) (rows : List Row) (situation : Situation) (who : ℕ) (answer : SchedRow) (goes : Bool) (new : World D) → situation.standing.runs who ≡ true → situation.standing.waits who ≡ Some answer
-      → HasStepped seen may_leave honest told_of table n rows situation who Answer goes new
-      → IsLedOn seen may_leave honest told_of table n rows situation who (answer_tasks who (situation.standing.waits who)) goes new
+      → HasStepped view table n rows situation who Answer goes new
+      → IsLedOn view table n rows situation who (answer_tasks who (situation.standing.waits who)) goes new
   unfolding led_step
   led_answer n rows situation who answer goes new runs waits stepped =
-      subst (λ (w : Option SchedRow). IsLedOn seen may_leave honest told_of table n rows situation who (answer_tasks who w) goes new) (sym waits) (record {
+      subst (λ (w : Option SchedRow). IsLedOn view table n rows situation who (answer_tasks who w) goes new) (sym waits) (record {
         led = led_step n rows situation who Answer goes new runs stepped;
         mail = λ on. mail_answered n situation who stepped.row stepped.turn (stepped.goes_is ∙ on);
       })
 
-  pub led_unanswered : (n : ℕ) (rows : List Row) (world : World D) (situation : Situation) (who : ℕ) → IsWorldAt seen may_leave honest told_of table rows world situation → situation.standing.runs who ≡ true
-      → situation.standing.waits who ≡ None → IsLedOn seen may_leave honest told_of table n rows situation who (answer_tasks who (situation.standing.waits who)) true world
+  pub led_unanswered : (n : ℕ) (rows : List Row) (world : World D) (situation : Situation) (who : ℕ) → IsWorldAt view table rows world situation → situation.standing.runs who ≡ true
+      → situation.standing.waits who ≡ None → IsLedOn view table n rows situation who (answer_tasks who (situation.standing.waits who)) true world
   unfolding led_none
   led_unanswered n rows world situation who is runs waits =
-      subst (λ (w : Option SchedRow). IsLedOn seen may_leave honest told_of table n rows situation who (answer_tasks who w) true world) (sym waits) (record { led = led_none n rows world situation who is runs; mail = λ on. refl })
+      subst (λ (w : Option SchedRow). IsLedOn view table n rows situation who (answer_tasks who w) true world) (sym waits) (record { led = led_none n rows world situation who is runs; mail = λ on. refl })
 
   -- ---- letters, one after another
 
   -- so many letters of the mail have been heard
   pub record HasHeard (n : ℕ) (who count : ℕ) (old new : World D) : Type 0 where
-    pub hears : (rows : List Row) (situation : Situation) → IsWorldAt seen may_leave honest told_of table rows old situation → situation.standing.runs who ≡ true
-        → (led : IsLed seen may_leave honest told_of table n rows situation who (hear_tasks who (take count (situation.mails who))) true new)
+    pub hears : (rows : List Row) (situation : Situation) → IsWorldAt view table rows old situation → situation.standing.runs who ≡ true
+        → (led : IsLed view table n rows situation who (hear_tasks who (take count (situation.mails who))) true new)
         × ((after_turns n situation led.more).mails who ≡ drop count (situation.mails who))
-    pub world : IsWorld seen may_leave honest told_of table new
+    pub world : IsWorld view table new
     pub members : new.book.members ≡ old.book.members
     pub count_is : length new.members.items ≡ length old.members.items
 
-  pub heard_none : (n who : ℕ) (world : World D) → IsWorld seen may_leave honest told_of table world → HasHeard n who 0 world world
+  pub heard_none : (n who : ℕ) (world : World D) → IsWorld view table world → HasHeard n who 0 world world
   unfolding led_none
   heard_none n who world is = record { hears = λ rows situation here runs. (led_none n rows world situation who here runs, refl); world = is; members = refl; count_is = refl }
 
@@ -146,7 +145,7 @@ module _ {D : Type 0} (seen : D → Image) (may_leave : D → Image → Type 0) 
   hear_whole who (first ∷ mail) zero number rest is = let one : first ≡ number = cc in let two : mail ≡ rest = cc in rw (one, two) refl
   hear_whole who (first ∷ mail) (suc count) number rest is = ap (λ more. Do who (Hear first) ∷ more) (hear_whole who mail count number rest is)
 
-  pub mail_is : (rows : List Row) (world : World D) (situation : Situation) (who : ℕ) (member : Member D) → IsWorldAt seen may_leave honest told_of table rows world situation → slice_get world.members.items who ≡ Some member
+  pub mail_is : (rows : List Row) (world : World D) (situation : Situation) (who : ℕ) (member : Member D) → IsWorldAt view table rows world situation → slice_get world.members.items who ≡ Some member
       → situation.mails who ≡ member.mail.letters.items
   mail_is rows world situation who member is there = (is.ahead.each who member there).mail.letters_are
 
@@ -165,13 +164,13 @@ module _ {D : Type 0} (seen : D → Image) (may_leave : D → Image → Type 0) 
     abbrev pub number : ℕ
     number = get_or here.mail.letters.items 0 none
 
-    pub left_is : (rows : List Row) (situation : Situation) → (is : IsWorldAt seen may_leave honest told_of table rows old situation) → situation.standing.runs who ≡ true
+    pub left_is : (rows : List Row) (situation : Situation) → (is : IsWorldAt view table rows old situation) → situation.standing.runs who ≡ true
         → drop count (situation.mails who) ≡ here.mail.letters.items
     left_is rows situation is runs =
         let so_far = heard.hears rows situation is runs in
         sym so_far.1 ∙ mail_is (rows ++ so_far.0.more) now (after_turns n situation so_far.0.more) who here so_far.0.at found
 
-    left_first : (rows : List Row) (situation : Situation) → (is : IsWorldAt seen may_leave honest told_of table rows old situation) → situation.standing.runs who ≡ true
+    left_first : (rows : List Row) (situation : Situation) → (is : IsWorldAt view table rows old situation) → situation.standing.runs who ≡ true
         → drop count (situation.mails who) ≡ number ∷ drop 1 here.mail.letters.items
     left_first rows situation is runs =
         let left = left_is rows situation is runs in
@@ -180,24 +179,24 @@ module _ {D : Type 0} (seen : D → Image) (may_leave : D → Image → Type 0) 
         (left_over (situation.mails who) count (subst (λ (mail : List ℕ). count < length mail) (sym (mail_is rows old situation who first is there)) below)) in
         left ∙ first_of here.mail.letters.items none some
 
-    pub may_hear_next : (rows : List Row) (situation : Situation) → (is : IsWorldAt seen may_leave honest told_of table rows old situation) → (runs : situation.standing.runs who ≡ true)
+    pub may_hear_next : (rows : List Row) (situation : Situation) → (is : IsWorldAt view table rows old situation) → (runs : situation.standing.runs who ≡ true)
         → MayStepFor table.window (after_turns n situation (heard.hears rows situation is runs).0.more) who (Hear number)
     may_hear_next rows situation is runs =
         let so_far = heard.hears rows situation is runs in
         record { runs = so_far.0.runs refl; next = (drop 1 here.mail.letters.items, so_far.1 ∙ left_first rows situation is runs) }
 
     module _ (new : World D) (goes : Bool)
-        (steps : (rows : List Row) (situation : Situation) → IsWorldAt seen may_leave honest told_of table rows now situation → MayStepFor table.window situation who (Hear number)
-        → HasStepped seen may_leave honest told_of table now.book.members rows situation who (Hear number) goes new) (same : now.book.members ≡ n) where
-      one : (rows : List Row) (situation : Situation) → (is : IsWorldAt seen may_leave honest told_of table rows old situation) → (runs : situation.standing.runs who ≡ true)
-          → HasStepped seen may_leave honest told_of table n (rows ++ (heard.hears rows situation is runs).0.more) (after_turns n situation (heard.hears rows situation is runs).0.more) who (Hear number) goes new
+        (steps : (rows : List Row) (situation : Situation) → IsWorldAt view table rows now situation → MayStepFor table.window situation who (Hear number)
+        → HasStepped view table now.book.members rows situation who (Hear number) goes new) (same : now.book.members ≡ n) where
+      one : (rows : List Row) (situation : Situation) → (is : IsWorldAt view table rows old situation) → (runs : situation.standing.runs who ≡ true)
+          → HasStepped view table n (rows ++ (heard.hears rows situation is runs).0.more) (after_turns n situation (heard.hears rows situation is runs).0.more) who (Hear number) goes new
       one rows situation is runs =
           let so_far = heard.hears rows situation is runs in
-          subst (λ (m : ℕ). HasStepped seen may_leave honest told_of table m (rows ++ so_far.0.more) (after_turns n situation so_far.0.more) who (Hear number) goes new) same
+          subst (λ (m : ℕ). HasStepped view table m (rows ++ so_far.0.more) (after_turns n situation so_far.0.more) who (Hear number) goes new) same
           (steps (rows ++ so_far.0.more) (after_turns n situation so_far.0.more) so_far.0.at (may_hear_next rows situation is runs))
 
-      both : (rows : List Row) (situation : Situation) → (is : IsWorldAt seen may_leave honest told_of table rows old situation) → (runs : situation.standing.runs who ≡ true)
-          → IsLed seen may_leave honest told_of table n rows situation who (hear_tasks who (take count (situation.mails who)) ++ Do who (Hear number) ∷ []) goes new
+      both : (rows : List Row) (situation : Situation) → (is : IsWorldAt view table rows old situation) → (runs : situation.standing.runs who ≡ true)
+          → IsLed view table n rows situation who (hear_tasks who (take count (situation.mails who)) ++ Do who (Hear number) ∷ []) goes new
       both rows situation is runs =
           let so_far = heard.hears rows situation is runs in
           led_then n rows situation who (hear_tasks who (take count (situation.mails who))) (Do who (Hear number) ∷ []) goes now new so_far.0
@@ -205,9 +204,9 @@ module _ {D : Type 0} (seen : D → Image) (may_leave : D → Image → Type 0) 
 
     -- it goes on
     pub heard_next : (new : World D)
-        → ((rows : List Row) (situation : Situation) → IsWorldAt seen may_leave honest told_of table rows now situation → MayStepFor table.window situation who (Hear number)
-        → HasStepped seen may_leave honest told_of table now.book.members rows situation who (Hear number) true new)
-        → now.book.members ≡ n → new.book.members ≡ now.book.members → IsWorld seen may_leave honest told_of table new → length new.members.items ≡ length now.members.items
+        → ((rows : List Row) (situation : Situation) → IsWorldAt view table rows now situation → MayStepFor table.window situation who (Hear number)
+        → HasStepped view table now.book.members rows situation who (Hear number) true new)
+        → now.book.members ≡ n → new.book.members ≡ now.book.members → IsWorld view table new → length new.members.items ≡ length now.members.items
         → HasHeard n who (count + 1) old new
     unfolding both one led_then led_step
     heard_next new steps same members world lengths = subst (λ (k : ℕ). HasHeard n who k old new) (sym (add-one count)) (record {
@@ -232,13 +231,13 @@ module _ {D : Type 0} (seen : D → Image) (may_leave : D → Image → Type 0) 
 
     -- or it has stopped within
     pub heard_stop : (new : World D)
-        → ((rows : List Row) (situation : Situation) → IsWorldAt seen may_leave honest told_of table rows now situation → MayStepFor table.window situation who (Hear number)
-        → HasStepped seen may_leave honest told_of table now.book.members rows situation who (Hear number) false new)
-        → now.book.members ≡ n → (rows : List Row) (situation : Situation) → IsWorldAt seen may_leave honest told_of table rows old situation → situation.standing.runs who ≡ true
-        → IsLed seen may_leave honest told_of table n rows situation who (hear_tasks who (situation.mails who)) false new
+        → ((rows : List Row) (situation : Situation) → IsWorldAt view table rows now situation → MayStepFor table.window situation who (Hear number)
+        → HasStepped view table now.book.members rows situation who (Hear number) false new)
+        → now.book.members ≡ n → (rows : List Row) (situation : Situation) → IsWorldAt view table rows old situation → situation.standing.runs who ≡ true
+        → IsLed view table n rows situation who (hear_tasks who (situation.mails who)) false new
     heard_stop new steps same rows situation is runs =
         let first_left = left_first rows situation is runs in
-        subst (λ (tasks : List Task). IsLed seen may_leave honest told_of table n rows situation who tasks false new)
+        subst (λ (tasks : List Task). IsLed view table n rows situation who tasks false new)
         (hear_whole who (situation.mails who) count number (drop 1 here.mail.letters.items) first_left)
         (led_stop n rows situation who (hear_tasks who (take count (situation.mails who)) ++ Do who (Hear number) ∷ []) (hear_tasks who (drop 1 here.mail.letters.items)) new
         (both new false steps same rows situation is runs) (hears_of who (drop 1 here.mail.letters.items)))
@@ -250,26 +249,26 @@ module _ {D : Type 0} (seen : D → Image) (may_leave : D → Image → Type 0) 
   take_all (first ∷ mail) (suc count) is = ap (λ more. first ∷ more) (take_all mail count (omega (arith, is)))
 
   pub heard_all : (n who count : ℕ) (old now : World D) (first : Member D) → HasHeard n who count old now → slice_get old.members.items who ≡ Some first → count ≡ length first.mail.letters.items
-      → (rows : List Row) (situation : Situation) → IsWorldAt seen may_leave honest told_of table rows old situation → situation.standing.runs who ≡ true
-      → IsLed seen may_leave honest told_of table n rows situation who (hear_tasks who (situation.mails who)) true now
+      → (rows : List Row) (situation : Situation) → IsWorldAt view table rows old situation → situation.standing.runs who ≡ true
+      → IsLed view table n rows situation who (hear_tasks who (situation.mails who)) true now
   heard_all n who count old now first heard there whole rows situation is runs =
-      subst (λ (mail : List ℕ). IsLed seen may_leave honest told_of table n rows situation who (hear_tasks who mail) true now)
+      subst (λ (mail : List ℕ). IsLed view table n rows situation who (hear_tasks who mail) true now)
       (take_all (situation.mails who) count (whole ∙ ap length (sym (mail_is rows old situation who first is there)))) (heard.hears rows situation is runs).0
 
   -- a replica that runs in the world runs in its situation
-  pub runs_here : (rows : List Row) (world : World D) (situation : Situation) (who : ℕ) (member : Member D) → IsWorldAt seen may_leave honest told_of table rows world situation → slice_get world.members.items who ≡ Some member
+  pub runs_here : (rows : List Row) (world : World D) (situation : Situation) (who : ℕ) (member : Member D) → IsWorldAt view table rows world situation → slice_get world.members.items who ≡ Some member
       → member.mail.runs ≡ true → situation.standing.runs who ≡ true
   runs_here rows world situation who member is there runs = sym (is.ahead.each who member there).mail.runs ∙ runs
 
   -- ---- the tasks of a round
 
   -- a replica that is stopped has none
-  pub passed_stopped : (n : ℕ) (rows : List Row) (world : World D) (situation : Situation) (who : ℕ) (at : ℤ) → IsWorldAt seen may_leave honest told_of table rows world situation → situation.standing.runs who ≡ false
-      → HasPassed seen may_leave honest told_of table n rows situation (tasks_of table.window at situation who) world
+  pub passed_stopped : (n : ℕ) (rows : List Row) (world : World D) (situation : Situation) (who : ℕ) (at : ℤ) → IsWorldAt view table rows world situation → situation.standing.runs who ≡ false
+      → HasPassed view table n rows situation (tasks_of table.window at situation who) world
   passed_stopped n rows world situation who at is stopped = record {
     more = [];
     turns = rw stopped refl;
-    at = subst (λ (all : List Row). IsWorldAt seen may_leave honest told_of table all world situation) (sym (append_nil rows)) is;
+    at = subst (λ (all : List Row). IsWorldAt view table all world situation) (sym (append_nil rows)) is;
   }
 
   abbrev back_tasks : ℤ → Situation → ℕ → List Task
@@ -280,20 +279,20 @@ module _ {D : Type 0} (seen : D → Image) (may_leave : D → Image → Type 0) 
   tasks_are at situation who runs = rw runs refl
 
   module _ (n : ℕ) (rows : List Row) (situation : Situation) (who : ℕ) (at : ℤ) (runs : situation.standing.runs who ≡ true) where
-    whole : (goes : Bool) (new : World D) → IsLed seen may_leave honest told_of table n rows situation who (answer_tasks who (situation.standing.waits who) ++ back_tasks at situation who) goes new
-        → HasPassed seen may_leave honest told_of table n rows situation (tasks_of table.window at situation who) new
+    whole : (goes : Bool) (new : World D) → IsLed view table n rows situation who (answer_tasks who (situation.standing.waits who) ++ back_tasks at situation who) goes new
+        → HasPassed view table n rows situation (tasks_of table.window at situation who) new
     whole goes new led =
-        subst (λ (tasks : List Task). HasPassed seen may_leave honest told_of table n rows situation tasks new) (tasks_are at situation who runs)
+        subst (λ (tasks : List Task). HasPassed view table n rows situation tasks new) (tasks_are at situation who runs)
         (passed_of n rows situation who (answer_tasks who (situation.standing.waits who) ++ back_tasks at situation who) goes new led)
 
     -- it has stopped as it took the answer
-    pub passed_answer : (new : World D) → IsLedOn seen may_leave honest told_of table n rows situation who (answer_tasks who (situation.standing.waits who)) false new
-        → HasPassed seen may_leave honest told_of table n rows situation (tasks_of table.window at situation who) new
+    pub passed_answer : (new : World D) → IsLedOn view table n rows situation who (answer_tasks who (situation.standing.waits who)) false new
+        → HasPassed view table n rows situation (tasks_of table.window at situation who) new
     passed_answer new answered =
         whole false new (led_stop n rows situation who (answer_tasks who (situation.standing.waits who)) (back_tasks at situation who) new answered.led
         (back_of who (situation.mails who) (Tick (clock_reading table.window at (situation.skews who)))))
 
-    module _ (now : World D) (answered : IsLedOn seen may_leave honest told_of table n rows situation who (answer_tasks who (situation.standing.waits who)) true now) where
+    module _ (now : World D) (answered : IsLedOn view table n rows situation who (answer_tasks who (situation.standing.waits who)) true now) where
       abbrev here : Situation
       here = after_turns n situation answered.led.more
 
@@ -303,41 +302,41 @@ module _ {D : Type 0} (seen : D → Image) (may_leave : D → Image → Type 0) 
           ∙ ap (λ (skew : ℤ). hear_tasks who (situation.mails who) ++ Do who (Tick (clock_reading table.window at skew)) ∷ []) (skews_stay n situation answered.led.more who)
 
       then_back : (goes : Bool) (new : World D)
-          → IsLed seen may_leave honest told_of table n (rows ++ answered.led.more) here who (hear_tasks who (here.mails who) ++ Do who (Tick (clock_reading table.window at (here.skews who))) ∷ []) goes new
-          → HasPassed seen may_leave honest told_of table n rows situation (tasks_of table.window at situation who) new
+          → IsLed view table n (rows ++ answered.led.more) here who (hear_tasks who (here.mails who) ++ Do who (Tick (clock_reading table.window at (here.skews who))) ∷ []) goes new
+          → HasPassed view table n rows situation (tasks_of table.window at situation who) new
       then_back goes new led =
           whole goes new (led_then n rows situation who (answer_tasks who (situation.standing.waits who)) (back_tasks at situation who) goes now new answered.led
-          (subst (λ (tasks : List Task). IsLed seen may_leave honest told_of table n (rows ++ answered.led.more) here who tasks goes new) same_back led)
+          (subst (λ (tasks : List Task). IsLed view table n (rows ++ answered.led.more) here who tasks goes new) same_back led)
           (back_of who (situation.mails who) (Tick (clock_reading table.window at (situation.skews who)))))
 
       -- as it heard a letter
-      pub passed_hear : (new : World D) → IsLed seen may_leave honest told_of table n (rows ++ answered.led.more) here who (hear_tasks who (here.mails who)) false new
-          → HasPassed seen may_leave honest told_of table n rows situation (tasks_of table.window at situation who) new
+      pub passed_hear : (new : World D) → IsLed view table n (rows ++ answered.led.more) here who (hear_tasks who (here.mails who)) false new
+          → HasPassed view table n rows situation (tasks_of table.window at situation who) new
       passed_hear new heard =
           then_back false new (led_stop n (rows ++ answered.led.more) here who (hear_tasks who (here.mails who)) (Do who (Tick (clock_reading table.window at (here.skews who))) ∷ []) new heard
           (tick_of who (Tick (clock_reading table.window at (here.skews who)))))
 
       -- or it has had them all
-      pub passed_tick : (after new : World D) (goes : Bool) → (heard : IsLed seen may_leave honest told_of table n (rows ++ answered.led.more) here who (hear_tasks who (here.mails who)) true after)
-          → IsLed seen may_leave honest told_of table n ((rows ++ answered.led.more) ++ heard.more) (after_turns n here heard.more) who
+      pub passed_tick : (after new : World D) (goes : Bool) → (heard : IsLed view table n (rows ++ answered.led.more) here who (hear_tasks who (here.mails who)) true after)
+          → IsLed view table n ((rows ++ answered.led.more) ++ heard.more) (after_turns n here heard.more) who
           (Do who (Tick (clock_reading table.window at ((after_turns n here heard.more).skews who))) ∷ []) goes new
-          → HasPassed seen may_leave honest told_of table n rows situation (tasks_of table.window at situation who) new
+          → HasPassed view table n rows situation (tasks_of table.window at situation who) new
       passed_tick after new goes heard ticked =
           then_back goes new (led_then n (rows ++ answered.led.more) here who (hear_tasks who (here.mails who)) (Do who (Tick (clock_reading table.window at (here.skews who))) ∷ []) goes after new heard
-          (subst (λ (skew : ℤ). IsLed seen may_leave honest told_of table n ((rows ++ answered.led.more) ++ heard.more) (after_turns n here heard.more) who (Do who (Tick (clock_reading table.window at skew)) ∷ []) goes new)
+          (subst (λ (skew : ℤ). IsLed view table n ((rows ++ answered.led.more) ++ heard.more) (after_turns n here heard.more) who (Do who (Tick (clock_reading table.window at skew)) ∷ []) goes new)
           (skews_stay n here heard.more who) ticked) (tick_of who (Tick (clock_reading table.window at (here.skews who)))))
 
   -- ---- all replicas
 
   pub record HasPassedTo (at : ℤ) (count : ℕ) (old new : World D) : Type 0 where
-    pub passes : (rows : List Row) (situation : Situation) → IsWorldAt seen may_leave honest told_of table rows old situation
-        → HasPassed seen may_leave honest told_of table old.book.members rows situation (flat_map (tasks_of table.window at situation) (range_with_len 0 count)) new
-    pub world : IsWorld seen may_leave honest told_of table new
+    pub passes : (rows : List Row) (situation : Situation) → IsWorldAt view table rows old situation
+        → HasPassed view table old.book.members rows situation (flat_map (tasks_of table.window at situation) (range_with_len 0 count)) new
+    pub world : IsWorld view table new
     pub members : new.book.members ≡ old.book.members
 
-  pub passed_none : (at : ℤ) (world : World D) → IsWorld seen may_leave honest told_of table world → HasPassedTo at 0 world world
+  pub passed_none : (at : ℤ) (world : World D) → IsWorld view table world → HasPassedTo at 0 world world
   passed_none at world is = record {
-    passes = λ rows situation here. record { more = []; turns = refl; at = subst (λ (all : List Row). IsWorldAt seen may_leave honest told_of table all world situation) (sym (append_nil rows)) here };
+    passes = λ rows situation here. record { more = []; turns = refl; at = subst (λ (all : List Row). IsWorldAt view table all world situation) (sym (append_nil rows)) here };
     world = is;
     members = refl;
   }
@@ -358,14 +357,14 @@ module _ {D : Type 0} (seen : D → Image) (may_leave : D → Image → Type 0) 
       ∙ ap (λ last. flat_map (tasks_of table.window at situation) (range_with_len 0 count) ++ last) (append_nil (tasks_of table.window at situation count))
 
   pub passed_next : (at : ℤ) (count : ℕ) (old now new : World D) → HasPassedTo at count old now
-      → ((rows : List Row) (situation : Situation) → IsWorldAt seen may_leave honest told_of table rows now situation
-      → HasPassed seen may_leave honest told_of table now.book.members rows situation (tasks_of table.window at situation count) new)
+      → ((rows : List Row) (situation : Situation) → IsWorldAt view table rows now situation
+      → HasPassed view table now.book.members rows situation (tasks_of table.window at situation count) new)
       → new.book.members ≡ now.book.members → HasPassedTo at (count + 1) old new
   passed_next at count old now new so_far passes members = record {
     passes = λ rows situation is.
         let front = so_far.passes rows situation is in
         let here = after_turns old.book.members situation front.more in
-        let next = subst (λ (n : ℕ). HasPassed seen may_leave honest told_of table n (rows ++ front.more) here (tasks_of table.window at here count) new) so_far.members (passes (rows ++ front.more) here front.at) in
+        let next = subst (λ (n : ℕ). HasPassed view table n (rows ++ front.more) here (tasks_of table.window at here count) new) so_far.members (passes (rows ++ front.more) here front.at) in
         let left = others_leave old.book.members count count situation (flat_map (tasks_of table.window at situation) (range_with_len 0 count)) front.more (omega arith) (round_below table.window at situation count) front.turns in
         record {
           more = front.more ++ next.more;
@@ -375,41 +374,41 @@ module _ {D : Type 0} (seen : D → Image) (may_leave : D → Image → Type 0) 
               (round_below table.window at situation count) (round_tasks_of table.window at situation count) front.turns
               (subst (λ (tasks : List Task). AreTurnsByArms old.book.members here tasks next.more) (same_tasks at situation here count left) next.turns));
           at =
-              subst (λ (all : List Row). IsWorldAt seen may_leave honest told_of table all new (after_turns old.book.members situation (front.more ++ next.more))) (append_assoc rows front.more next.more)
-              (subst (λ (there : Situation). IsWorldAt seen may_leave honest told_of table ((rows ++ front.more) ++ next.more) new there) (sym (after_both old.book.members situation front.more next.more)) next.at);
+              subst (λ (all : List Row). IsWorldAt view table all new (after_turns old.book.members situation (front.more ++ next.more))) (append_assoc rows front.more next.more)
+              (subst (λ (there : Situation). IsWorldAt view table ((rows ++ front.more) ++ next.more) new there) (sym (after_both old.book.members situation front.more next.more)) next.at);
         };
     world = let here = so_far.world in let next = passes here.rows here.situation here.is in record { rows = here.rows ++ next.more; situation = after_turns now.book.members here.situation next.more; is = next.at };
     members = members ∙ so_far.members;
   }
 
   -- then the letters join the mails
-  pub passed_on : (rows : List Row) (world now new : World D) (situation : Situation) (tasks : List Task) → IsWorldAt seen may_leave honest told_of table rows world situation
-      → HasPassed seen may_leave honest told_of table world.book.members rows situation tasks now → Changes seen may_leave honest told_of (delivered (length world.book.letters)) now new
-      → (more : List Row) × (after : Situation) × PerformsByArms world.book.members tasks situation more after × IsWorldAt seen may_leave honest told_of table (rows ++ more) new after
+  pub passed_on : (rows : List Row) (world now new : World D) (situation : Situation) (tasks : List Task) → IsWorldAt view table rows world situation
+      → HasPassed view table world.book.members rows situation tasks now → Changes view (delivered (length world.book.letters)) now new
+      → (more : List Row) × (after : Situation) × PerformsByArms world.book.members tasks situation more after × IsWorldAt view table (rows ++ more) new after
   passed_on rows world now new situation tasks is passed changes = (
     passed.more,
     delivered (length world.book.letters) (after_turns world.book.members situation passed.more),
     record {
       turns = passed.turns;
-      is = ap (λ n. delivered n (after_turns world.book.members situation passed.more)) (posted_so_far seen may_leave honest told_of table rows world situation is);
+      is = ap (λ n. delivered n (after_turns world.book.members situation passed.more)) (posted_so_far view table rows world situation is);
     },
     changes table (rows ++ passed.more) (after_turns world.book.members situation passed.more) passed.at,
   )
 
-  pub round_passed : (at : ℤ) (count : ℕ) (world now new : World D) → HasPassedTo at count world now → count ≡ world.book.members → Changes seen may_leave honest told_of (delivered (length world.book.letters)) now new
-      → GoesOnBy seen may_leave honest told_of table (PlaysByArms world.book.members (round_tasks world.book.members table.window at)) world new
+  pub round_passed : (at : ℤ) (count : ℕ) (world now new : World D) → HasPassedTo at count world now → count ≡ world.book.members → Changes view (delivered (length world.book.letters)) now new
+      → GoesOnBy view table (PlaysByArms world.book.members (round_tasks world.book.members table.window at)) world new
   round_passed at count world now new passed whole changes = λ rows situation is.
       passed_on rows world now new situation (round_tasks world.book.members table.window at situation) is
-      (subst (λ (n : ℕ). HasPassed seen may_leave honest told_of table world.book.members rows situation (flat_map (tasks_of table.window at situation) (range_with_len 0 n)) now) whole (passed.passes rows situation is)) changes
+      (subst (λ (n : ℕ). HasPassed view table world.book.members rows situation (flat_map (tasks_of table.window at situation) (range_with_len 0 n)) now) whole (passed.passes rows situation is)) changes
 
   pub campaign_passed : (who : ℕ) (goes : Bool) (world now new : World D) (member : Member D) → slice_get world.members.items who ≡ Some member → member.mail.runs ≡ true
-      → ((rows : List Row) (situation : Situation) → IsWorldAt seen may_leave honest told_of table rows world situation → MayStepFor table.window situation who Campaign
-      → HasStepped seen may_leave honest told_of table world.book.members rows situation who Campaign goes now)
-      → Changes seen may_leave honest told_of (delivered (length world.book.letters)) now new
-      → GoesOnBy seen may_leave honest told_of table (PlaysByArms world.book.members (λ situation. if situation.standing.runs who then Do who Campaign ∷ [] else [])) world new
+      → ((rows : List Row) (situation : Situation) → IsWorldAt view table rows world situation → MayStepFor table.window situation who Campaign
+      → HasStepped view table world.book.members rows situation who Campaign goes now)
+      → Changes view (delivered (length world.book.letters)) now new
+      → GoesOnBy view table (PlaysByArms world.book.members (λ situation. if situation.standing.runs who then Do who Campaign ∷ [] else [])) world new
   campaign_passed who goes world now new member there runs steps changes = λ rows situation is.
       let running = runs_here rows world situation who member is there runs in
       let led = led_step world.book.members rows situation who Campaign goes now running (steps rows situation is (record { runs = running; next = tt })) in
       passed_on rows world now new situation (if situation.standing.runs who then Do who Campaign ∷ [] else []) is
-      (subst (λ (tasks : List Task). HasPassed seen may_leave honest told_of table world.book.members rows situation tasks now) (rw running refl)
+      (subst (λ (tasks : List Task). HasPassed view table world.book.members rows situation tasks now) (rw running refl)
       (passed_of world.book.members rows situation who (Do who Campaign ∷ []) goes now led)) changes

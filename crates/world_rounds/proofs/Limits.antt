@@ -1,9 +1,8 @@
 -- The bounds of a world's book are those of its rows.
-use Rattle.std.proofs.Common.{◌≡◌, ◌*◌, ◌^◌, ◌<◌, List, length, ap, ◌∙◌, subst, Option}
+use Rattle.std.proofs.Common.{◌≡◌, ◌*◌, ◌^◌, ◌<◌, List, length, ap, ◌∙◌, subst}
 use Rattle.std.specs.List.{Contains}
 use Rattle.std.proofs.lemmas.List.{length-map}
-use Rattle.disk_model.specs.Images.{Image}
-use Rattle.disk_model.specs.Told.{Told}
+use Rattle.disk_model.specs.View.{DiskView}
 use Rattle.due_set.specs.Table.{Table}
 use Rattle.history.specs.Book.{PostedLetter, Row}
 use Rattle.script_semantics.proofs.ListLemmas.{from_map}
@@ -15,14 +14,14 @@ use Rattle.world_rounds.specs.Bounds.{IsBookBounded}
 use Rattle.world_rounds.specs.World.{IsWorldAt}
 use Rattle.world_rounds.specs.declared.world.World.{World}
 
-module _ {D : Type 0} (seen : D → Image) (may_leave : D → Image → Type 0) (honest : D → Type 0) (told_of : D → Option Told) (table : Table) where
-  pub within_bounds : (rows : List Row) (world : World D) (situation : Situation) → IsWorldAt seen may_leave honest told_of table rows world situation → IsBookBounded world.book
+module _ {D : Type 0} (view : DiskView D) (table : Table) where
+  pub within_bounds : (rows : List Row) (world : World D) (situation : Situation) → IsWorldAt view table rows world situation → IsBookBounded world.book
       → IsWithinBounds rows situation.standing.posted
   within_bounds rows world situation is bounded = record {
     turns =
         let many : length world.book.turns ≡ length rows = ap length is.ahead.at.behind.turns ∙ length-map rows (λ (row : Row). row.turn) in
         subst (λ n. n < 2 ^ 59) many bounded.turns;
     letters = λ letter has.
-        let from = from_map posted_as world.book.letters letter (subst (λ posted. Contains posted letter) (posted_are seen may_leave honest told_of table rows world situation is) has) in
+        let from = from_map posted_as world.book.letters letter (subst (λ posted. Contains posted letter) (posted_are view table rows world situation is) has) in
         subst (λ (l : PostedLetter). length l.bytes < 56 * 2 ^ 31) from.is (bounded.letters from.origin from.among);
   }

@@ -1,10 +1,9 @@
 -- Worlds that drain until one leads, until it rests, and until all are level.
-use Rattle.std.proofs.Common.{◌≡◌, ℕ, suc, ◌+◌, ◌*◌, ◌^◌, ◌<◌, ◌≤◌, true, false, List, [], ◌∷◌, ◌++◌, length, drop, map, ℤ, Some, refl, sym, ap, ◌∙◌, subst, inl, inr, arith, append_assoc, add-one, Option, append-nil as append_nil}
+use Rattle.std.proofs.Common.{◌≡◌, ℕ, suc, ◌+◌, ◌*◌, ◌^◌, ◌<◌, ◌≤◌, true, false, List, [], ◌∷◌, ◌++◌, length, drop, map, ℤ, Some, refl, sym, ap, ◌∙◌, subst, inl, inr, arith, append_assoc, add-one, append-nil as append_nil}
 use Rattle.std.specs.List.{slice_get}
 use Rattle.std.proofs.lemmas.Bool.{cases_lt}
 use Rattle.std.proofs.lemmas.List.{length-append, length-map}
-use Rattle.disk_model.specs.Images.{Image}
-use Rattle.disk_model.specs.Told.{Told}
+use Rattle.disk_model.specs.View.{DiskView}
 use Rattle.zone_minutes.specs.Window.{IsInWindow}
 use Rattle.due_set.specs.Table.{Table}
 use Rattle.step_spec.specs.Step.{Event, IsLaunchTable}
@@ -87,12 +86,12 @@ kept_or_new (first ∷ old) (letter ∷ new) more is short rest = λ one has. el
       kept_or_new old new more tail (λ l among. short l (in_rest first old l among)) rest one other
 ]
 
-module _ {D : Type 0} (seen : D → Image) (may_leave : D → Image → Type 0) (honest : D → Type 0) (told_of : D → Option Told) (table : Table) where
+module _ {D : Type 0} (view : DiskView D) (table : Table) where
   -- ---- parts of a legal book
 
-  part_bounded : (part : Situation → List Row → Situation → Type 0) (old new : World D) → IsWorld seen may_leave honest told_of table old
+  part_bounded : (part : Situation → List Row → Situation → Type 0) (old new : World D) → IsWorld view table old
       → ((situation : Situation) (rows : List Row) (after : Situation) → part situation rows after → (more : List PostedLetter) × (after.standing.posted ≡ situation.standing.posted ++ more))
-      → GoesOnBy seen may_leave honest told_of table part old new
+      → GoesOnBy view table part old new
       → IsBookBounded old.book → length new.book.turns < 2 ^ 59 → AreShort (drop (length old.book.letters) new.book.letters) → IsBookBounded new.book
   part_bounded part old new world posts goes bounded turns short = record {
     turns = turns;
@@ -100,20 +99,20 @@ module _ {D : Type 0} (seen : D → Image) (may_leave : D → Image → Type 0) 
         let gone = goes world.rows world.situation world.is in
         let more = posts world.situation gone.0 gone.1 gone.2 in
         kept_or_new old.book.letters new.book.letters more.0
-        (sym (posted_are seen may_leave honest told_of table (world.rows ++ gone.0) new gone.1 gone.3) ∙ more.1
-        ∙ ap (λ posted. posted ++ more.0) (posted_are seen may_leave honest told_of table world.rows old world.situation world.is))
+        (sym (posted_are view table (world.rows ++ gone.0) new gone.1 gone.3) ∙ more.1
+        ∙ ap (λ posted. posted ++ more.0) (posted_are view table world.rows old world.situation world.is))
         bounded.letters short;
   }
 
-  pub round_bounded : (who : ℕ) (at : ℤ) (old new : World D) → IsWorld seen may_leave honest told_of table old → GoesOnBy seen may_leave honest told_of table (IsDrainRound old.book.members table who at) old new
+  pub round_bounded : (who : ℕ) (at : ℤ) (old new : World D) → IsWorld view table old → GoesOnBy view table (IsDrainRound old.book.members table who at) old new
       → IsBookBounded old.book → length new.book.turns < 2 ^ 59 → AreShort (drop (length old.book.letters) new.book.letters) → IsBookBounded new.book
   round_bounded who at old new world goes bounded turns short =
       part_bounded (IsDrainRound old.book.members table who at) old new world (λ situation rows after part. drained_more old.book.members table who at situation after rows part) goes bounded turns short
 
   -- what a world does is what its book does
   goes_book : (part : Situation → List Row → Situation → Type 0) (at : ℤ) (old new : World D) (rows more : List Row) (situation after : Situation) → IsInWindow table.window at
-      → IsWorldAt seen may_leave honest told_of table rows old situation → IsFaultless old.book.members situation → part situation more after
-      → IsWorldAt seen may_leave honest told_of table (rows ++ more) new after → new.book.members ≡ old.book.members → IsBookBounded new.book
+      → IsWorldAt view table rows old situation → IsFaultless old.book.members situation → part situation more after
+      → IsWorldAt view table (rows ++ more) new after → new.book.members ≡ old.book.members → IsBookBounded new.book
       → BookGoesOnBy part old.book.members table at rows more situation after
   goes_book part at old new rows more situation after inside is faultless goes now members bounded = record {
     few = is.ahead.at.few;
@@ -123,7 +122,7 @@ module _ {D : Type 0} (seen : D → Image) (may_leave : D → Image → Type 0) 
     standing = is.ahead.at.standing;
     faultless = faultless;
     round = goes;
-    limits = within_bounds seen may_leave honest told_of table (rows ++ more) new after now bounded;
+    limits = within_bounds view table (rows ++ more) new after now bounded;
   }
 
   -- ---- what holds of a world after a round of a drain
@@ -131,8 +130,8 @@ module _ {D : Type 0} (seen : D → Image) (may_leave : D → Image → Type 0) 
   pub given_next : (who : ℕ) (at : ℤ) (holds then_holds : ℕ → Situation → Type 0) (old new : World D)
       → ((book rows : List Row) (situation after : Situation) → holds old.book.members situation → GoesDrainRound old.book.members table who at book rows situation after
       → then_holds old.book.members after × IsFaultless old.book.members after)
-      → IsInWindow table.window at → IsFaultlessIn seen may_leave honest told_of table holds old → GoesOnBy seen may_leave honest told_of table (IsDrainRound old.book.members table who at) old new
-      → new.book.members ≡ old.book.members → IsBookBounded new.book → IsFaultlessIn seen may_leave honest told_of table then_holds new
+      → IsInWindow table.window at → IsFaultlessIn view table holds old → GoesOnBy view table (IsDrainRound old.book.members table who at) old new
+      → new.book.members ≡ old.book.members → IsBookBounded new.book → IsFaultlessIn view table then_holds new
   given_next who at holds then_holds old new law inside have goes members bounded =
       let gone = goes have.rows have.situation have.is in
       let both = law have.rows gone.0 have.situation gone.1 have.given
@@ -146,14 +145,14 @@ module _ {D : Type 0} (seen : D → Image) (may_leave : D → Image → Type 0) 
         bounded = bounded;
       }
 
-  pub given_world : (holds : ℕ → Situation → Type 0) (world : World D) → IsFaultlessIn seen may_leave honest told_of table holds world → IsWorld seen may_leave honest told_of table world
+  pub given_world : (holds : ℕ → Situation → Type 0) (world : World D) → IsFaultlessIn view table holds world → IsWorld view table world
   given_world holds world have = record { rows = have.rows; situation = have.situation; is = have.is }
 
   -- ---- until one leads
 
-  pub leads_soon_next : (who : ℕ) (at : ℤ) (rounds : ℕ) (old new : World D) → IsInWindow table.window at → IsFaultlessIn seen may_leave honest told_of table (λ n s. LeadsSoon (suc rounds) n table who s) old
-      → GoesOnBy seen may_leave honest told_of table (IsDrainRound old.book.members table who at) old new → new.book.members ≡ old.book.members → IsBookBounded new.book
-      → IsFaultlessIn seen may_leave honest told_of table (λ n s. LeadsSoon rounds n table who s) new
+  pub leads_soon_next : (who : ℕ) (at : ℤ) (rounds : ℕ) (old new : World D) → IsInWindow table.window at → IsFaultlessIn view table (λ n s. LeadsSoon (suc rounds) n table who s) old
+      → GoesOnBy view table (IsDrainRound old.book.members table who at) old new → new.book.members ≡ old.book.members → IsBookBounded new.book
+      → IsFaultlessIn view table (λ n s. LeadsSoon rounds n table who s) new
   leads_soon_next who at rounds old new inside have goes members bounded =
       given_next who at (λ n s. LeadsSoon (suc rounds) n table who s) (λ n s. LeadsSoon rounds n table who s) old new
       (λ book rows situation after leads goes. (
@@ -162,8 +161,8 @@ module _ {D : Type 0} (seen : D → Image) (may_leave : D → Image → Type 0) 
       ))
       inside have goes members bounded
 
-  pub leads_by_quiet : (who : ℕ) (at : ℤ) (rounds : ℕ) (world : World D) → IsFaultlessIn seen may_leave honest told_of table (λ n s. LeadsSoon rounds n table who s) world
-      → AnswersFor seen may_leave honest told_of table (IsQuiet world.book.members table who at) world true → IsFaultlessIn seen may_leave honest told_of table (λ n s. LeadsNow n table who s) world
+  pub leads_by_quiet : (who : ℕ) (at : ℤ) (rounds : ℕ) (world : World D) → IsFaultlessIn view table (λ n s. LeadsSoon rounds n table who s) world
+      → AnswersFor view table (IsQuiet world.book.members table who at) world true → IsFaultlessIn view table (λ n s. LeadsNow n table who s) world
   leads_by_quiet who at rounds world have tells = record {
     rows = have.rows;
     situation = have.situation;
@@ -173,8 +172,8 @@ module _ {D : Type 0} (seen : D → Image) (may_leave : D → Image → Type 0) 
     bounded = have.bounded;
   }
 
-  pub leads_at_last : (who : ℕ) (world : World D) → IsFaultlessIn seen may_leave honest told_of table (λ n s. LeadsSoon 0 n table who s) world
-      → IsFaultlessIn seen may_leave honest told_of table (λ n s. LeadsNow n table who s) world
+  pub leads_at_last : (who : ℕ) (world : World D) → IsFaultlessIn view table (λ n s. LeadsSoon 0 n table who s) world
+      → IsFaultlessIn view table (λ n s. LeadsNow n table who s) world
   leads_at_last who world have = record {
     rows = have.rows;
     situation = have.situation;
@@ -186,9 +185,9 @@ module _ {D : Type 0} (seen : D → Image) (may_leave : D → Image → Type 0) 
 
   -- ---- until it rests
 
-  pub leads_next : (who : ℕ) (at : ℤ) (old new : World D) → IsInWindow table.window at → IsFaultlessIn seen may_leave honest told_of table (λ n s. LeadsNow n table who s) old
-      → GoesOnBy seen may_leave honest told_of table (IsDrainRound old.book.members table who at) old new → new.book.members ≡ old.book.members → IsBookBounded new.book
-      → IsFaultlessIn seen may_leave honest told_of table (λ n s. LeadsNow n table who s) new
+  pub leads_next : (who : ℕ) (at : ℤ) (old new : World D) → IsInWindow table.window at → IsFaultlessIn view table (λ n s. LeadsNow n table who s) old
+      → GoesOnBy view table (IsDrainRound old.book.members table who at) old new → new.book.members ≡ old.book.members → IsBookBounded new.book
+      → IsFaultlessIn view table (λ n s. LeadsNow n table who s) new
   leads_next who at old new inside have goes members bounded =
       given_next who at (λ n s. LeadsNow n table who s) (λ n s. LeadsNow n table who s) old new
       (λ book rows situation after leads goes. (
@@ -197,25 +196,25 @@ module _ {D : Type 0} (seen : D → Image) (may_leave : D → Image → Type 0) 
       ))
       inside have goes members bounded
 
-  left_is : (rows : List Row) (world : World D) (situation : Situation) (who : ℕ) (member : Member D) → IsWorldAt seen may_leave honest told_of table rows world situation → AllRun world
+  left_is : (rows : List Row) (world : World D) (situation : Situation) (who : ℕ) (member : Member D) → IsWorldAt view table rows world situation → AllRun world
       → slice_get world.members.items who ≡ Some member
       → left_of table.window.until.0 (replica_of member.node).machine.rows (situation.standing.waits who) (situation.standing.replicas who) ≡ left_in table who world
   left_is rows world situation who member is run there =
-      ap (λ waits. left_of table.window.until.0 (replica_of member.node).machine.rows waits (situation.standing.replicas who)) (sym (node_waits seen may_leave honest told_of table rows world situation who member is there))
+      ap (λ waits. left_of table.window.until.0 (replica_of member.node).machine.rows waits (situation.standing.replicas who)) (sym (node_waits view table rows world situation who member is there))
       ∙ ap (λ state. left_of table.window.until.0 (replica_of member.node).machine.rows member.mail.waits state)
-      (sym (node_state seen may_leave honest told_of table rows world situation who member is there (run who member there)))
+      (sym (node_state view table rows world situation who member is there (run who member there)))
       ∙ ap (left_to table) (sym there)
 
-  table_is : (rows : List Row) (world : World D) (situation : Situation) (who : ℕ) (member : Member D) → IsWorldAt seen may_leave honest told_of table rows world situation → AllRun world
+  table_is : (rows : List Row) (world : World D) (situation : Situation) (who : ℕ) (member : Member D) → IsWorldAt view table rows world situation → AllRun world
       → slice_get world.members.items who ≡ Some member → IsLaunchTable table (situation.standing.replicas who) (replica_of member.node).machine.rows
   table_is rows world situation who member is run there =
-      subst (λ state. IsLaunchTable table state (replica_of member.node).machine.rows) (node_state seen may_leave honest told_of table rows world situation who member is there (run who member there))
-      (node_table seen may_leave honest told_of table rows world situation who member is there (run who member there)).rows
+      subst (λ state. IsLaunchTable table state (replica_of member.node).machine.rows) (node_state view table rows world situation who member is there (run who member there))
+      (node_table view table rows world situation who member is there (run who member there)).rows
 
   -- fewer rounds are left after a round before which it was not at rest
-  pub left_falls : (who : ℕ) (at : ℤ) (old new : World D) → IsInWindow table.window at → IsFaultlessIn seen may_leave honest told_of table (λ n s. LeadsNow n table who s) old
-      → AnswersFor seen may_leave honest told_of table (IsAtRest table who at) old false → AllRun old → AllRun new → who < length old.members.items → who < length new.members.items
-      → GoesOnBy seen may_leave honest told_of table (IsDrainRound old.book.members table who at) old new → new.book.members ≡ old.book.members → IsBookBounded new.book
+  pub left_falls : (who : ℕ) (at : ℤ) (old new : World D) → IsInWindow table.window at → IsFaultlessIn view table (λ n s. LeadsNow n table who s) old
+      → AnswersFor view table (IsAtRest table who at) old false → AllRun old → AllRun new → who < length old.members.items → who < length new.members.items
+      → GoesOnBy view table (IsDrainRound old.book.members table who at) old new → new.book.members ≡ old.book.members → IsBookBounded new.book
       → left_in table who new < left_in table who old
   left_falls who at old new inside have tells run run_new below below_new goes members bounded =
       let gone = goes have.rows have.situation have.is in
@@ -234,8 +233,8 @@ module _ {D : Type 0} (seen : D → Image) (may_leave : D → Image → Type 0) 
 
   -- ---- until all are level
 
-  pub rests_now : (who : ℕ) (at : ℤ) (world : World D) → IsFaultlessIn seen may_leave honest told_of table (λ n s. LeadsNow n table who s) world
-      → AnswersFor seen may_leave honest told_of table (IsAtRest table who at) world true → IsFaultlessIn seen may_leave honest told_of table (λ n s. HasRestedFor 0 n table who at s) world
+  pub rests_now : (who : ℕ) (at : ℤ) (world : World D) → IsFaultlessIn view table (λ n s. LeadsNow n table who s) world
+      → AnswersFor view table (IsAtRest table who at) world true → IsFaultlessIn view table (λ n s. HasRestedFor 0 n table who at s) world
   rests_now who at world have tells = record {
     rows = have.rows;
     situation = have.situation;
@@ -245,9 +244,9 @@ module _ {D : Type 0} (seen : D → Image) (may_leave : D → Image → Type 0) 
     bounded = have.bounded;
   }
 
-  pub rests_next : (who : ℕ) (at : ℤ) (rounds : ℕ) (old new : World D) → IsInWindow table.window at → IsFaultlessIn seen may_leave honest told_of table (λ n s. HasRestedFor rounds n table who at s) old
-      → GoesOnBy seen may_leave honest told_of table (IsDrainRound old.book.members table who at) old new → new.book.members ≡ old.book.members → IsBookBounded new.book
-      → IsFaultlessIn seen may_leave honest told_of table (λ n s. HasRestedFor (suc rounds) n table who at s) new
+  pub rests_next : (who : ℕ) (at : ℤ) (rounds : ℕ) (old new : World D) → IsInWindow table.window at → IsFaultlessIn view table (λ n s. HasRestedFor rounds n table who at s) old
+      → GoesOnBy view table (IsDrainRound old.book.members table who at) old new → new.book.members ≡ old.book.members → IsBookBounded new.book
+      → IsFaultlessIn view table (λ n s. HasRestedFor (suc rounds) n table who at s) new
   rests_next who at rounds old new inside have goes members bounded =
       given_next who at (λ n s. HasRestedFor rounds n table who at s) (λ n s. HasRestedFor (suc rounds) n table who at s) old new
       (λ book rows situation after rests goes. (
@@ -256,8 +255,8 @@ module _ {D : Type 0} (seen : D → Image) (may_leave : D → Image → Type 0) 
       ))
       inside have goes members bounded
 
-  pub rested_gives : (who : ℕ) (at : ℤ) (rounds : ℕ) (world : World D) → IsFaultlessIn seen may_leave honest told_of table (λ n s. HasRestedFor rounds n table who at s) world
-      → IsFaultlessIn seen may_leave honest told_of table (λ n s. LeadsNow n table who s) world
+  pub rested_gives : (who : ℕ) (at : ℤ) (rounds : ℕ) (world : World D) → IsFaultlessIn view table (λ n s. HasRestedFor rounds n table who at s) world
+      → IsFaultlessIn view table (λ n s. LeadsNow n table who s) world
   rested_gives who at rounds world have = record {
     rows = have.rows;
     situation = have.situation;
@@ -267,18 +266,18 @@ module _ {D : Type 0} (seen : D → Image) (may_leave : D → Image → Type 0) 
     bounded = have.bounded;
   }
 
-  pub quiet_at_last : (who : ℕ) (at : ℤ) (world : World D) → IsFaultlessIn seen may_leave honest told_of table (λ n s. HasRestedFor 5 n table who at s) world
-      → AnswersFor seen may_leave honest told_of table (IsQuiet world.book.members table who at) world false → ⊥
+  pub quiet_at_last : (who : ℕ) (at : ℤ) (world : World D) → IsFaultlessIn view table (λ n s. HasRestedFor 5 n table who at s) world
+      → AnswersFor view table (IsQuiet world.book.members table who at) world false → ⊥
   quiet_at_last who at world have tells =
       let no : false ≡ true = (tells have.rows have.situation have.is).1 (rested_quiet world.book.members table who at have.situation have.given) in absurd cc
 
   -- ---- the first campaign
 
-  pub lead_given : (who : ℕ) (at : ℤ) (old over led : World D) → IsInWindow table.window at → 1 ≤ old.book.members → IsWorld seen may_leave honest told_of table old
-      → GoesOnBy seen may_leave honest told_of table (Plain old.book.members (restart_tasks old.book.members) calmed) old over → AllRun over → over.book.members ≡ old.book.members
-      → ((situation : Situation) → IsIn seen may_leave honest told_of table over situation → who ≡ coordinator over.book.members situation)
-      → GoesOnBy seen may_leave honest told_of table (Plays over.book.members (λ here. Do who Campaign ∷ [])) over led → led.book.members ≡ over.book.members → IsBookBounded led.book
-      → IsFaultlessIn seen may_leave honest told_of table (λ n s. LeadsSoon 4 n table who s) led
+  pub lead_given : (who : ℕ) (at : ℤ) (old over led : World D) → IsInWindow table.window at → 1 ≤ old.book.members → IsWorld view table old
+      → GoesOnBy view table (Plain old.book.members (restart_tasks old.book.members) calmed) old over → AllRun over → over.book.members ≡ old.book.members
+      → ((situation : Situation) → IsIn view table over situation → who ≡ coordinator over.book.members situation)
+      → GoesOnBy view table (Plays over.book.members (λ here. Do who Campaign ∷ [])) over led → led.book.members ≡ over.book.members → IsBookBounded led.book
+      → IsFaultlessIn view table (λ n s. LeadsSoon 4 n table who s) led
   lead_given who at old over led inside some world start run same leads campaign led_same bounded =
       let one = start world.rows world.situation world.is in
       let two = campaign (world.rows ++ one.0) one.1 one.3 in
@@ -286,7 +285,7 @@ module _ {D : Type 0} (seen : D → Image) (may_leave : D → Image → Type 0) 
       let is : one.1 ≡ calmed one.2.middle = one.2.two.is in
       let count : length over.members.items ≡ n = one.3.ahead.count in
       let faultless : IsFaultless n one.1 = record {
-        runs = λ k below. runs_in seen may_leave honest told_of table (world.rows ++ one.0) over one.1 k one.3 run (omega (arith, below, count));
+        runs = λ k below. runs_in view table (world.rows ++ one.0) over one.1 k one.3 run (omega (arith, below, count));
         uncut = ap (λ (s : Situation). s.cuts) is;
         right = λ k below. ap (λ (s : Situation). s.skews k) is;
         done = λ k below. ap (λ (s : Situation). s.fates k) is;
@@ -308,49 +307,49 @@ module _ {D : Type 0} (seen : D → Image) (may_leave : D → Image → Type 0) 
       }
 
   -- some rounds of a drain, and the rest of it
-  pub drains_then : (who : ℕ) (at : ℤ) (old middle new : World D) → GoesOnBy seen may_leave honest told_of table (DrainsOn old.book.members table who at) old middle → middle.book.members ≡ old.book.members
-      → GoesOnBy seen may_leave honest told_of table (Drains middle.book.members table who at) middle new → GoesOnBy seen may_leave honest told_of table (Drains old.book.members table who at) old new
+  pub drains_then : (who : ℕ) (at : ℤ) (old middle new : World D) → GoesOnBy view table (DrainsOn old.book.members table who at) old middle → middle.book.members ≡ old.book.members
+      → GoesOnBy view table (Drains middle.book.members table who at) middle new → GoesOnBy view table (Drains old.book.members table who at) old new
   drains_then who at old middle new on members drains = λ rows situation is.
       let one = on rows situation is in
       let two = drains (rows ++ one.0) one.1 one.3 in (
         one.0 ++ two.0,
         two.1,
         one.2 two.0 two.1 (subst (λ n. Drains n table who at one.1 two.0 two.1) members two.2),
-        subst (λ rows. IsWorldAt seen may_leave honest told_of table rows new two.1) (append_assoc rows one.0 two.0) two.3,
+        subst (λ rows. IsWorldAt view table rows new two.1) (append_assoc rows one.0 two.0) two.3,
       )
 
-  pub not_quiet : (who : ℕ) (at : ℤ) (world : World D) → AnswersFor seen may_leave honest told_of table (IsAtRest table who at) world false
-      → AnswersFor seen may_leave honest told_of table (IsQuiet world.book.members table who at) world false
-  not_quiet who at world tells = tells_no_quiet seen may_leave honest told_of table world who at tells
+  pub not_quiet : (who : ℕ) (at : ℤ) (world : World D) → AnswersFor view table (IsAtRest table who at) world false
+      → AnswersFor view table (IsQuiet world.book.members table who at) world false
+  not_quiet who at world tells = tells_no_quiet view table world who at tells
 
-  pub letters_grow : (who : ℕ) (at : ℤ) (old new : World D) → IsWorld seen may_leave honest told_of table old → GoesOnBy seen may_leave honest told_of table (IsDrainRound old.book.members table who at) old new
+  pub letters_grow : (who : ℕ) (at : ℤ) (old new : World D) → IsWorld view table old → GoesOnBy view table (IsDrainRound old.book.members table who at) old new
       → length old.book.letters ≤ length new.book.letters
   letters_grow who at old new world goes =
       let gone = goes world.rows world.situation world.is in
       let more = drained_more old.book.members table who at world.situation gone.1 gone.0 gone.2 in
       let all : length new.book.letters ≡ length (world.situation.standing.posted ++ more.0) =
-      sym (length-map new.book.letters posted_as) ∙ ap length (sym (posted_are seen may_leave honest told_of table (world.rows ++ gone.0) new gone.1 gone.3) ∙ more.1) in
+      sym (length-map new.book.letters posted_as) ∙ ap length (sym (posted_are view table (world.rows ++ gone.0) new gone.1 gone.3) ∙ more.1) in
       let long = length-append world.situation.standing.posted more.0 in
       let was : length world.situation.standing.posted ≡ length old.book.letters =
-      ap length (posted_are seen may_leave honest told_of table world.rows old world.situation world.is) ∙ length-map old.book.letters posted_as in
+      ap length (posted_are view table world.rows old world.situation world.is) ∙ length-map old.book.letters posted_as in
       omega (arith, all, long, was)
 
-  pub below_in : (who : ℕ) (at : ℤ) (old now : World D) → IsWorld seen may_leave honest told_of table old → HasDrained seen may_leave honest told_of table who at old now → who < length old.members.items
+  pub below_in : (who : ℕ) (at : ℤ) (old now : World D) → IsWorld view table old → HasDrained view table who at old now → who < length old.members.items
       → who < length now.members.items
   below_in who at old now was drained below =
-      let same = same_count seen may_leave honest told_of table old now was drained.world drained.members in
+      let same = same_count view table old now was drained.world drained.members in
       omega (arith, same, below)
 
-  pub level_next : (who : ℕ) (at : ℤ) (rounds : ℕ) (now new : World D) → IsInWindow table.window at → rounds ≤ 5 → IsFaultlessIn seen may_leave honest told_of table (λ n s. HasRestedFor rounds n table who at s) now
-      → AnswersFor seen may_leave honest told_of table (IsQuiet now.book.members table who at) now false
-      → GoesOnBy seen may_leave honest told_of table (IsDrainRound now.book.members table who at) now new → new.book.members ≡ now.book.members → IsBookBounded new.book
-      → (rounds + 1 ≤ 5) × IsFaultlessIn seen may_leave honest told_of table (λ n s. HasRestedFor (rounds + 1) n table who at s) new
+  pub level_next : (who : ℕ) (at : ℤ) (rounds : ℕ) (now new : World D) → IsInWindow table.window at → rounds ≤ 5 → IsFaultlessIn view table (λ n s. HasRestedFor rounds n table who at s) now
+      → AnswersFor view table (IsQuiet now.book.members table who at) now false
+      → GoesOnBy view table (IsDrainRound now.book.members table who at) now new → new.book.members ≡ now.book.members → IsBookBounded new.book
+      → (rounds + 1 ≤ 5) × IsFaultlessIn view table (λ n s. HasRestedFor (rounds + 1) n table who at s) new
   level_next who at rounds now new inside few have tells goes members bounded = elim (cases_lt rounds 5) [
     | inl less ↦ (
       omega arith,
-      subst (λ k. IsFaultlessIn seen may_leave honest told_of table (λ n s. HasRestedFor k n table who at s) new) (sym (add-one rounds)) (rests_next who at rounds now new inside have goes members bounded),
+      subst (λ k. IsFaultlessIn view table (λ n s. HasRestedFor k n table who at s) new) (sym (add-one rounds)) (rests_next who at rounds now new inside have goes members bounded),
     )
     | inr last ↦
         let five : rounds ≡ 5 = omega arith in
-        absurd (quiet_at_last who at now (subst (λ k. IsFaultlessIn seen may_leave honest told_of table (λ n s. HasRestedFor k n table who at s) now) five have) tells)
+        absurd (quiet_at_last who at now (subst (λ k. IsFaultlessIn view table (λ n s. HasRestedFor k n table who at s) now) five have) tells)
   ]

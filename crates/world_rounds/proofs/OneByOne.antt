@@ -7,8 +7,6 @@ use Rattle.std.proofs.Math.ListN.{set}
 use Rattle.std.proofs.lemmas.List.{length-set}
 use Rattle.zone_minutes.specs.declared.minute.Window.{Window}
 use Rattle.cluster_sched.specs.declared.row.SchedRow.{SchedRow}
-use Rattle.disk_model.specs.Images.{Image}
-use Rattle.disk_model.specs.Told.{Told}
 use Rattle.disk_model.specs.declared.armed.Arm.{Arm}
 use Rattle.due_set.specs.Table.{Table}
 use Rattle.paxos_base.specs.declared.durable.Delta.{Delta}
@@ -17,6 +15,7 @@ use Rattle.step_spec.specs.State.{started}
 use Rattle.step_spec.specs.Step.{Event}
 use Rattle.step_spec.specs.declared.out.OutLetter.{OutLetter}
 use Rattle.std.proofs.lemmas.Option.{slice_get_within}
+use Rattle.disk_model.specs.View.{DiskView}
 use Rattle.script_text.specs.Command.{IsSkew}
 use Rattle.step_spec.proofs.Lists.{nothing_in}
 use Rattle.history.specs.Book.{Row, Standing, after_row, turn_of, with_fact}
@@ -100,8 +99,8 @@ within_waits : (n : ℕ) (s : Standing) (who : ℕ) (cause : Cause) (kept : Bool
 unfolding after_row
 within_waits n s who cause kept event letters = fact_here who None s.waits
 
-module _ {D : Type 0} (seen : D → Image) (may_leave : D → Image → Type 0) (honest : D → Type 0) (told_of : D → Option Told) (table : Table) where
-  pub can_tell : (rows : List Row) (book : BookState) (situation : Situation) (who : ℕ) (cause : Cause) (member : Member D) → IsMemberIdle seen may_leave honest told_of table rows book situation who member
+module _ {D : Type 0} (view : DiskView D) (table : Table) where
+  pub can_tell : (rows : List Row) (book : BookState) (situation : Situation) (who : ℕ) (cause : Cause) (member : Member D) → IsMemberIdle view table rows book situation who member
       → MayStepFor table.window situation who cause → CanTell book.letters member.mail.waits who cause
   can_tell rows book situation who Campaign member idle may = tt
   can_tell rows book situation who (Tick now) member idle may = tt
@@ -109,24 +108,23 @@ module _ {D : Type 0} (seen : D → Image) (may_leave : D → Image → Type 0) 
       idle.ahead.mail.sent number (subst (λ (mail : List ℕ). Contains mail number) (sym may.next.1 ∙ idle.ahead.mail.letters_are) (in_first number may.next.0))
   can_tell rows book situation who Answer member idle may = subst (λ (waits : Option SchedRow). IsSome waits) (sym idle.ahead.mail.waits) may.next
 
-  pub was_told : (rows : List Row) (book : BookState) (situation : Situation) (who : ℕ) (cause : Cause) (input : Input) (member : Member D) → IsMemberIdle seen may_leave honest told_of table rows book situation who member
-      → MayStepFor table.window situation who cause → IsToldOf book.letters member.mail.waits who cause input → WasToldOf seen may_leave honest told_of table rows book who [] member.node cause input
+  pub was_told : (rows : List Row) (book : BookState) (situation : Situation) (who : ℕ) (cause : Cause) (input : Input) (member : Member D) → IsMemberIdle view table rows book situation who member
+      → MayStepFor table.window situation who cause → IsToldOf book.letters member.mail.waits who cause input → WasToldOf view table rows book who [] member.node cause input
   was_told rows book situation who cause input member idle may told = record {
-    beside = idle_beside seen may_leave honest told_of table book rows situation who member idle (idle.ahead.mail.runs ∙ may.runs);
+    beside = idle_beside view table book rows situation who member idle (idle.ahead.mail.runs ∙ may.runs);
     is_told = subst (λ (waits : Option SchedRow). IsToldOf book.letters waits who cause input) (idle.ahead.mail.waits ∙ ap (λ (s : Standing). s.waits who) idle.at.standing) told;
     inside = inside_of table book.letters member.mail.waits who cause input situation told may.next;
   }
 
   -- the step is taken
-  pub ends_taken : (rows : List Row) (book : BookState) (situation : Situation) (who : ℕ) (cause : Cause) (taken : Taken) (old new : Member D) → IsMemberIdle seen may_leave honest told_of table rows book situation who old
+  pub ends_taken : (rows : List Row) (book : BookState) (situation : Situation) (who : ℕ) (cause : Cause) (taken : Taken) (old new : Member D) → IsMemberIdle view table rows book situation who old
       → MayStepFor table.window situation who cause → taken.cause ≡ cause → IsEnough (armed_in old.mail.arm) (option_to_list taken.out.delta)
-      → IsBeside seen may_leave honest told_of table rows book who (taken ∷ []) new.node → new.steps ≡ old.steps
+      → IsBeside view table rows book who (taken ∷ []) new.node
       → new.mail ≡ record old.mail { letters = new.mail.letters } → new.mail.letters.items ≡ letters_behind cause old.mail.letters.items
-      → EndsStep seen may_leave honest told_of table rows book situation who cause (outcome.Taken taken) old new
-  ends_taken rows book situation who cause taken old new idle may same enough beside steps mail letters = (
+      → EndsStep view table rows book situation who cause (outcome.Taken taken) new
+  ends_taken rows book situation who cause taken old new idle may same enough beside mail letters = (
     same,
     subst (λ (armed : Option Armed). IsEnough armed (option_to_list taken.out.delta)) idle.ahead.mail.arm enough,
-    steps,
     record {
       mail = record {
         runs = ap (λ (m : MemberMail). m.runs) mail ∙ idle.ahead.mail.runs;
@@ -147,41 +145,41 @@ module _ {D : Type 0} (seen : D → Image) (may_leave : D → Image → Type 0) 
 
   -- ---- a turn that is a step
 
-  pub idle_here : (rows : List Row) (world : World D) (situation : Situation) (who : ℕ) (member : Member D) → IsWorldAt seen may_leave honest told_of table rows world situation → slice_get world.members.items who ≡ Some member
-      → IsMemberIdle seen may_leave honest told_of table rows world.book situation who member
+  pub idle_here : (rows : List Row) (world : World D) (situation : Situation) (who : ℕ) (member : Member D) → IsWorldAt view table rows world situation → slice_get world.members.items who ≡ Some member
+      → IsMemberIdle view table rows world.book situation who member
   idle_here rows world situation who member is there = record { at = is.ahead.at; ahead = is.ahead.each who member there; none = is.idle who member there }
 
-  pub may_take_beside : (rows : List Row) (world : World D) (situation : Situation) (who : ℕ) (cause : Cause) (member : Member D) → IsWorldAt seen may_leave honest told_of table rows world situation
-      → MayStepFor table.window situation who cause → slice_get world.members.items who ≡ Some member → MayTakeBeside seen may_leave honest told_of table world.book who cause member
+  pub may_take_beside : (rows : List Row) (world : World D) (situation : Situation) (who : ℕ) (cause : Cause) (member : Member D) → IsWorldAt view table rows world situation
+      → MayStepFor table.window situation who cause → slice_get world.members.items who ≡ Some member → MayTakeBeside view table world.book who cause member
   may_take_beside rows world situation who cause member is may there =
       record { rows = rows; situation = situation; idle = idle_here rows world situation who member is there; may = may }
 
   -- the replica is a step ahead, and the others are as they were
-  pub step_ahead : (rows : List Row) (world middle : World D) (situation : Situation) (who : ℕ) (taken : Taken) (new : Member D) → IsWorldAt seen may_leave honest told_of table rows world situation
-      → IsMemberAhead seen may_leave honest told_of table rows world.book situation who (taken ∷ []) new → middle.members.items ≡ set world.members.items who new
+  pub step_ahead : (rows : List Row) (world middle : World D) (situation : Situation) (who : ℕ) (taken : Taken) (new : Member D) → IsWorldAt view table rows world situation
+      → IsMemberAhead view table rows world.book situation who (taken ∷ []) new → middle.members.items ≡ set world.members.items who new
       → middle.book ≡ world.book → middle.cuts ≡ world.cuts → middle.latest ≡ world.latest
-      → IsWorldAhead seen may_leave honest told_of table rows middle situation (with_fact who (taken ∷ []) none_taken)
+      → IsWorldAhead view table rows middle situation (with_fact who (taken ∷ []) none_taken)
   step_ahead rows world middle situation who taken new is ahead members book cuts latest = record {
     at = subst (λ (b : BookState). IsBookAt table rows b situation) (sym book) is.ahead.at;
     count = ap length members ∙ length-set world.members.items who new ∙ is.ahead.count ∙ sym (ap (λ (b : BookState). b.members) book);
     each = λ k x found.
-        subst (λ (b : BookState). IsMemberAhead seen may_leave honest told_of table rows b situation k (with_fact who (taken ∷ []) none_taken k) x) (sym book)
+        subst (λ (b : BookState). IsMemberAhead view table rows b situation k (with_fact who (taken ∷ []) none_taken k) x) (sym book)
         (elim (set_cases world.members.items who new k x (subst (λ members. slice_get members k ≡ Some x) members found)) [
           | inl here ↦
-              subst (λ k. IsMemberAhead seen may_leave honest told_of table rows world.book situation k (with_fact who (taken ∷ []) none_taken k) x) (sym here.0)
-              (subst (λ steps. IsMemberAhead seen may_leave honest told_of table rows world.book situation who steps x) (sym (fact_here who (taken ∷ []) none_taken))
-              (subst (λ x. IsMemberAhead seen may_leave honest told_of table rows world.book situation who (taken ∷ []) x) (sym here.1) ahead))
+              subst (λ k. IsMemberAhead view table rows world.book situation k (with_fact who (taken ∷ []) none_taken k) x) (sym here.0)
+              (subst (λ steps. IsMemberAhead view table rows world.book situation who steps x) (sym (fact_here who (taken ∷ []) none_taken))
+              (subst (λ x. IsMemberAhead view table rows world.book situation who (taken ∷ []) x) (sym here.1) ahead))
           | inr other ↦
-              subst (λ steps. IsMemberAhead seen may_leave honest told_of table rows world.book situation k steps x) (sym (fact_there who (taken ∷ []) none_taken k other.0)) (is.ahead.each k x other.1)
+              subst (λ steps. IsMemberAhead view table rows world.book situation k steps x) (sym (fact_there who (taken ∷ []) none_taken k other.0)) (is.ahead.each k x other.1)
         ]);
     cuts = λ from to. ap (λ cuts. is_cut from to cuts.items) cuts ∙ is.ahead.cuts from to;
     latest = ap (λ minute. minute.0) latest ∙ is.ahead.latest;
   }
 
-  pub may_commit_step : (rows : List Row) (world middle : World D) (situation : Situation) (who : ℕ) (taken : Taken) (new : Member D) → IsWorldAt seen may_leave honest told_of table rows world situation
-      → IsMemberAhead seen may_leave honest told_of table rows world.book situation who (taken ∷ []) new → middle.members.items ≡ set world.members.items who new
+  pub may_commit_step : (rows : List Row) (world middle : World D) (situation : Situation) (who : ℕ) (taken : Taken) (new : Member D) → IsWorldAt view table rows world situation
+      → IsMemberAhead view table rows world.book situation who (taken ∷ []) new → middle.members.items ≡ set world.members.items who new
       → middle.book ≡ world.book → middle.cuts ≡ world.cuts → middle.latest ≡ world.latest → who < length middle.members.items
-      → MayCommit seen may_leave honest told_of table middle who (taken ∷ [])
+      → MayCommit view table middle who (taken ∷ [])
   may_commit_step rows world middle situation who taken new is ahead members book cuts latest below = record {
     rows = rows;
     situation = situation;
@@ -196,20 +194,20 @@ module _ {D : Type 0} (seen : D → Image) (may_leave : D → Image → Type 0) 
   one_turn n situation who cause [] turns = absurd cc
   one_turn n situation who cause (row ∷ rows) turns = (row, ap (λ rest. row ∷ rest) turns.1, turns.0)
 
-  pub stepped : (rows : List Row) (world middle new_world : World D) (situation : Situation) (who : ℕ) (cause : Cause) (taken : Taken) (old new : Member D) → IsWorldAt seen may_leave honest told_of table rows world situation
-      → MayStepFor table.window situation who cause → slice_get world.members.items who ≡ Some old → EndsStep seen may_leave honest told_of table rows world.book situation who cause (outcome.Taken taken) old new
+  pub stepped : (rows : List Row) (world middle new_world : World D) (situation : Situation) (who : ℕ) (cause : Cause) (taken : Taken) (old new : Member D) → IsWorldAt view table rows world situation
+      → MayStepFor table.window situation who cause → slice_get world.members.items who ≡ Some old → EndsStep view table rows world.book situation who cause (outcome.Taken taken) new → new.steps ≡ old.steps
       → middle.members.items ≡ set world.members.items who new → middle.book ≡ world.book → middle.cuts ≡ world.cuts → middle.latest ≡ world.latest
-      → TakesTurns seen may_leave honest told_of table who (taken ∷ []) [] middle new_world → KeepsSteps middle new_world
-      → HasStepped seen may_leave honest told_of table world.book.members rows situation who cause true new_world
-  stepped rows world middle new_world situation who cause taken old new is may there ends members book cuts latest commits keeps = record {
+      → TakesTurns view table who (taken ∷ []) [] middle new_world → KeepsSteps middle new_world
+      → HasStepped view table world.book.members rows situation who cause true new_world
+  stepped rows world middle new_world situation who cause taken old new is may there ends kept_steps members book cuts latest commits keeps = record {
     row = row;
     turn = inl (record { does = does; saved = saved });
     goes_is = ap goes_on does.is;
-    at = record { ahead = ahead_same seen may_leave honest told_of table (rows ++ row ∷ []) new_world after (with_fact who [] (with_fact who (taken ∷ []) none_taken)) none_taken none ahead; idle = idle };
+    at = record { ahead = ahead_same view table (rows ++ row ∷ []) new_world after (with_fact who [] (with_fact who (taken ∷ []) none_taken)) none_taken none ahead; idle = idle };
   }
     where
-      had : HasTakenTurns seen may_leave honest told_of table middle.book.members rows situation (tasks_by who (causes_of (taken ∷ []))) (with_fact who [] (with_fact who (taken ∷ []) none_taken)) new_world
-      had = commits rows situation (with_fact who (taken ∷ []) none_taken) (step_ahead rows world middle situation who taken new is ends.3 members book cuts latest) (fact_here who (taken ∷ []) none_taken)
+      had : HasTakenTurns view table middle.book.members rows situation (tasks_by who (causes_of (taken ∷ []))) (with_fact who [] (with_fact who (taken ∷ []) none_taken)) new_world
+      had = commits rows situation (with_fact who (taken ∷ []) none_taken) (step_ahead rows world middle situation who taken new is ends.2 members book cuts latest) (fact_here who (taken ∷ []) none_taken)
 
       n_is : middle.book.members ≡ world.book.members
       n_is = ap (λ (b : BookState). b.members) book
@@ -229,10 +227,10 @@ module _ {D : Type 0} (seen : D → Image) (may_leave : D → Image → Type 0) 
       does : Does situation.fates who cause row.turn
       does = subst (λ (c : Cause). Does situation.fates who c row.turn) ends.0 one.2
 
-      ahead : IsWorldAhead seen may_leave honest told_of table (rows ++ row ∷ []) new_world after (with_fact who [] (with_fact who (taken ∷ []) none_taken))
+      ahead : IsWorldAhead view table (rows ++ row ∷ []) new_world after (with_fact who [] (with_fact who (taken ∷ []) none_taken))
       ahead =
-          subst (λ (n : ℕ). IsWorldAhead seen may_leave honest told_of table (rows ++ row ∷ []) new_world (after_turn n situation row) (with_fact who [] (with_fact who (taken ∷ []) none_taken))) n_is
-          (subst (λ (more : List Row). IsWorldAhead seen may_leave honest told_of table (rows ++ more) new_world (after_turns middle.book.members situation more) (with_fact who [] (with_fact who (taken ∷ []) none_taken)))
+          subst (λ (n : ℕ). IsWorldAhead view table (rows ++ row ∷ []) new_world (after_turn n situation row) (with_fact who [] (with_fact who (taken ∷ []) none_taken))) n_is
+          (subst (λ (more : List Row). IsWorldAhead view table (rows ++ more) new_world (after_turns middle.book.members situation more) (with_fact who [] (with_fact who (taken ∷ []) none_taken)))
           one.1 had.ahead)
 
       none : (k : ℕ) → with_fact who [] (with_fact who (taken ∷ []) none_taken) k ≡ none_taken k
@@ -244,13 +242,13 @@ module _ {D : Type 0} (seen : D → Image) (may_leave : D → Image → Type 0) 
       runs : (standing_behind table rows world.book).runs who ≡ true
       runs = sym (ap (λ (s : Standing). s.runs who) is.ahead.at.standing) ∙ may.runs
 
-      node : IsNodeAhead seen may_leave honest told_of table rows world.book who (taken ∷ []) new.node
-      node = ends.3.running runs
+      node : IsNodeAhead view table rows world.book who (taken ∷ []) new.node
+      node = ends.2.running runs
 
       changes : changes_in world.book.members situation.standing row.turn row.event ≡ option_to_list taken.out.delta
       changes =
           ap (λ (s : Standing). changes_in world.book.members s row.turn row.event) is.ahead.at.standing
-          ∙ changes_by table rows world.book who taken node.first node.took.0 does.made row (next_step seen may_leave honest told_of table rows world.book situation who taken [] new.node is.ahead.at node)
+          ∙ changes_by table rows world.book who taken node.first node.took.0 does.made row (next_step view table rows world.book situation who taken [] new.node is.ahead.at node)
           (does.is ∙ ap (λ (c : Cause). Did who c does.made) (sym ends.0))
           (last_may table rows row world.book new_world.book (had.members_are ∙ n_is) ahead.at.behind)
 
@@ -259,8 +257,8 @@ module _ {D : Type 0} (seen : D → Image) (may_leave : D → Image → Type 0) 
 
       middle_steps : (k : ℕ) → steps_at middle k ≡ []
       middle_steps k = ap (λ members. steps_left_to (slice_get members k)) members ∙ elim (cases_number k who) [
-        | inl here ↦ rw here (ap steps_left_to (get_set_here world.members.items who new (slice_get_within world.members.items who old there)) ∙ ap (λ steps. steps.items) ends.2 ∙ is.idle who old there)
-        | inr other ↦ ap steps_left_to (get_set_there world.members.items who new k other) ∙ idle_steps seen may_leave honest told_of table rows world situation k is
+        | inl here ↦ rw here (ap steps_left_to (get_set_here world.members.items who new (slice_get_within world.members.items who old there)) ∙ ap (λ steps. steps.items) kept_steps ∙ is.idle who old there)
+        | inr other ↦ ap steps_left_to (get_set_there world.members.items who new k other) ∙ idle_steps view table rows world situation k is
       ]
 
       idle : (k : ℕ) (x : Member D) → slice_get new_world.members.items k ≡ Some x → x.steps.items ≡ []
@@ -270,7 +268,7 @@ module _ {D : Type 0} (seen : D → Image) (may_leave : D → Image → Type 0) 
 
   -- the turn of the stop
   pub turn_stopped : (rows : List Row) (book : BookState) (who : ℕ) (cause : Cause) (arm : Arm) (answer : Option Delta) (node : Node D)
-      → (stopped : HasStopped seen may_leave honest told_of table rows book who cause arm answer node)
+      → (stopped : HasStopped view table rows book who cause arm answer node)
       → IsStopOf table rows book who (Some cause) answer (kept_after answer stopped.old.state.kept)
   turn_stopped rows book who cause arm answer node stopped =
       let kept : Bool = is_kept (bases_behind table rows book who) stopped.change arm.left arm.image in
@@ -278,14 +276,14 @@ module _ {D : Type 0} (seen : D → Image) (may_leave : D → Image → Type 0) 
       (stop_turn table rows book who cause stopped.old stopped.change kept stopped.next)
 
   pub alone_stopped : (rows : List Row) (world : World D) (situation : Situation) (who : ℕ) (cause : Cause) (arm : Arm) (answer : Option Delta)
-      → (may : MayCommitStopped seen may_leave honest told_of table rows world situation who cause arm answer)
+      → (may : MayCommitStopped view table rows world situation who cause arm answer)
       → IsAlone table rows world.book (Stopped who (Some cause) (is_some answer)) answer (turn_stopped rows may.before.book who cause arm answer may.new.node may.stopped).row
   alone_stopped rows world situation who cause arm answer may =
       let stop = turn_stopped rows may.before.book who cause arm answer may.new.node may.stopped in
       record { behind = rw may.book may.is.ahead.at.behind; rest = rw may.book may.is.ahead.at.rest; call = refl; is = stop.is; may = rw may.book stop.may }
 
   module _ (rows : List Row) (world new : World D) (situation : Situation) (who : ℕ) (cause : Cause) (arm : Arm) (answer : Option Delta) (next : Member D)
-      (may : MayCommitStopped seen may_leave honest told_of table rows world situation who cause arm answer)
+      (may : MayCommitStopped view table rows world situation who cause arm answer)
       (joined : HasJoinedAlone table rows world.book new.book (turn_stopped rows may.before.book who cause arm answer may.new.node may.stopped).row)
       (members : new.members.items ≡ set world.members.items who next) (node : next.node ≡ may.new.node) (steps : next.steps ≡ may.new.steps) (halted : IsHalted may.new.mail next.mail)
       (cuts : new.cuts ≡ world.cuts) (latest : new.latest.0 ≡ latest_with cause world.latest.0) where
@@ -311,7 +309,7 @@ module _ {D : Type 0} (seen : D → Image) (may_leave : D → Image → Type 0) 
     n_is : new.book.members ≡ before.book.members
     n_is = joined.members ∙ ap (λ (b : BookState). b.members) may.book
 
-    was : IsMemberAhead seen may_leave honest told_of table rows before.book situation who [] may.old
+    was : IsMemberAhead view table rows before.book situation who [] may.old
     was = may.is.ahead.each who may.old may.there
 
     changes : changes_in before.book.members situation.standing row.turn row.event ≡ may.stopped.change ∷ []
@@ -335,16 +333,16 @@ module _ {D : Type 0} (seen : D → Image) (may_leave : D → Image → Type 0) 
     stands_stopped : StandsStopped table (rows ++ row ∷ []) new.book who (kept_after answer may.stopped.old.state.kept)
     stands_stopped = stop.stands new.book n_is
 
-    disk_is : IsDiskAt told_of (bases_behind table (rows ++ row ∷ []) new.book who) may.new.node
+    disk_is : IsDiskAt view (bases_behind table (rows ++ row ∷ []) new.book who) may.new.node
     disk_is =
-        subst (λ (count : ℕ). IsDiskAt told_of count may.new.node)
+        subst (λ (count : ℕ). IsDiskAt view count may.new.node)
         (sym (bases_stopped table rows before.book new.book who cause may.stopped.old may.stopped.change kept row n_is may.stopped.next turn stop.may
         ∙ ap (λ (a : Option Delta). bases_with (option_to_list a) (bases_behind table rows before.book who)) (sym may.stopped.is_kept))) may.stopped.attached.disk
 
     behind : StandsBehind table (rows ++ row ∷ []) new.book
     behind = joined.behind
 
-    mine : IsMemberAhead seen may_leave honest told_of table (rows ++ row ∷ []) new.book after who [] next
+    mine : IsMemberAhead view table (rows ++ row ∷ []) new.book after who [] next
     unfolding after_row
     mine = record {
       mail = record {
@@ -358,7 +356,7 @@ module _ {D : Type 0} (seen : D → Image) (may_leave : D → Image → Type 0) 
         sent = λ number has. nothing_in (subst (λ items. Contains items number) halted.letters has);
       };
       running = λ running. absurd (let e : true ≡ false = sym running ∙ stands_stopped.stopped in cc);
-      stopped = λ stopped. subst (λ (n : Node D). IsNodeStopped seen may_leave honest told_of table new.book.members (standing_behind table (rows ++ row ∷ []) new.book) (bases_behind table (rows ++ row ∷ []) new.book who) who [] n)
+      stopped = λ stopped. subst (λ (n : Node D). IsNodeStopped view table new.book.members (standing_behind table (rows ++ row ∷ []) new.book) (bases_behind table (rows ++ row ∷ []) new.book who) who [] n)
           (sym node) (record {
             at_rest = may.stopped.attached.at_rest;
             trusted = may.stopped.attached.trusted;
@@ -369,13 +367,13 @@ module _ {D : Type 0} (seen : D → Image) (may_leave : D → Image → Type 0) 
           });
     }
 
-    each : (k : ℕ) (x : Member D) → slice_get new.members.items k ≡ Some x → IsMemberAhead seen may_leave honest told_of table (rows ++ row ∷ []) new.book after k [] x
+    each : (k : ℕ) (x : Member D) → slice_get new.members.items k ≡ Some x → IsMemberAhead view table (rows ++ row ∷ []) new.book after k [] x
     each k x found = elim (set_cases world.members.items who next k x (subst (λ members. slice_get members k ≡ Some x) members found)) [
       | inl here ↦
-          subst (λ k. IsMemberAhead seen may_leave honest told_of table (rows ++ row ∷ []) new.book after k [] x) (sym here.0)
-          (subst (λ x. IsMemberAhead seen may_leave honest told_of table (rows ++ row ∷ []) new.book after who [] x) (sym here.1) mine)
+          subst (λ k. IsMemberAhead view table (rows ++ row ∷ []) new.book after k [] x) (sym here.0)
+          (subst (λ x. IsMemberAhead view table (rows ++ row ∷ []) new.book after who [] x) (sym here.1) mine)
       | inr other ↦
-          member_stays seen may_leave honest told_of table rows row before.book new.book situation k [] x may.is.ahead.at n_is
+          member_stays view table rows row before.book new.book situation k [] x may.is.ahead.at n_is
           (has_same before.book new.book (joined.letters ∙ ap (λ (b : BookState). b.letters) may.book))
           (leaves_other before.book.members situation row k (λ same. other.0 (same ∙ ap turn_of turn)))
           (elim (set_cases before.members.items who may.new k x (subst (λ members. slice_get members k ≡ Some x) may.members other.1)) [
@@ -393,14 +391,14 @@ module _ {D : Type 0} (seen : D → Image) (may_leave : D → Image → Type 0) 
       ]
     ]
 
-    pub stops_goes : HasStepped seen may_leave honest told_of table world.book.members rows situation who cause false new
-    stops_goes = subst (λ (n : ℕ). HasStepped seen may_leave honest told_of table n rows situation who cause false new) (sym (ap (λ (b : BookState). b.members) may.book)) (record {
+    pub stops_goes : HasStepped view table world.book.members rows situation who cause false new
+    stops_goes = subst (λ (n : ℕ). HasStepped view table n rows situation who cause false new) (sym (ap (λ (b : BookState). b.members) may.book)) (record {
       row = row;
       turn = by_arm;
       goes_is = ap goes_on turn;
       at = record {
         ahead =
-            world_on seen may_leave honest told_of table rows before new situation none_taken none_taken row may.is.ahead behind joined.rest n_is
+            world_on view table rows before new situation none_taken none_taken row may.is.ahead behind joined.rest n_is
             (ap length members ∙ length-set world.members.items who next ∙ ap length may.members ∙ length-set before.members.items who may.new) (cuts ∙ may.cuts)
             (latest ∙ ap (λ minute. latest_with cause minute.0) may.latest ∙ ap (latest_with cause) may.is.ahead.latest ∙ sym (ap (λ (t : Turn). latest_after t situation.latest) turn)) each;
         idle = idle;

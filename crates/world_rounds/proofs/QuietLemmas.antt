@@ -4,8 +4,7 @@ use Rattle.std.specs.List.{Contains, slice_get}
 use Rattle.std.proofs.lemmas.Bool.{eqb-true, eq-eqb}
 use Rattle.std.proofs.lemmas.List.{drop_all}
 use Rattle.std.proofs.lemmas.Option.{slice_get_within}
-use Rattle.disk_model.specs.Images.{Image}
-use Rattle.disk_model.specs.Told.{Told}
+use Rattle.disk_model.specs.View.{DiskView}
 use Rattle.due_set.specs.Table.{Table}
 use Rattle.paxos_base.specs.declared.entry.Vote.{Vote}
 use Rattle.paxos_base.specs.declared.rows.JobRow.{JobRow}
@@ -95,38 +94,38 @@ each_among holds (x ∷ xs) at = λ y has. elim (cons_cases x xs y has) [
   | inr more ↦ each_among holds xs (λ k z there. at (suc k) z there) y more
 ]
 
-module _ {D : Type 0} (seen : D → Image) (may_leave : D → Image → Type 0) (honest : D → Type 0) (told_of : D → Option Told) (table : Table) where
-  node_ahead : (rows : List Row) (world : World D) (situation : Situation) (who : ℕ) (member : Member D) → IsWorldAt seen may_leave honest told_of table rows world situation
-      → slice_get world.members.items who ≡ Some member → member.mail.runs ≡ true → IsNodeAhead seen may_leave honest told_of table rows world.book who [] member.node
+module _ {D : Type 0} (view : DiskView D) (table : Table) where
+  node_ahead : (rows : List Row) (world : World D) (situation : Situation) (who : ℕ) (member : Member D) → IsWorldAt view table rows world situation
+      → slice_get world.members.items who ≡ Some member → member.mail.runs ≡ true → IsNodeAhead view table rows world.book who [] member.node
   node_ahead rows world situation who member is there runs =
       let ahead = is.ahead.each who member there in
       ahead.running (sym (ap (λ (s : Standing). s.runs who) is.ahead.at.standing) ∙ sym ahead.mail.runs ∙ runs)
 
   -- a replica that runs is as the situation has it
-  pub node_state : (rows : List Row) (world : World D) (situation : Situation) (who : ℕ) (member : Member D) → IsWorldAt seen may_leave honest told_of table rows world situation
+  pub node_state : (rows : List Row) (world : World D) (situation : Situation) (who : ℕ) (member : Member D) → IsWorldAt view table rows world situation
       → slice_get world.members.items who ≡ Some member → member.mail.runs ≡ true → (replica_of member.node).state ≡ situation.standing.replicas who
   node_state rows world situation who member is there runs =
       let node = node_ahead rows world situation who member is there runs in
       ap (λ (r : ReplicaState). r.state) node.took ∙ (node.stands.state ∙ (ap (λ me. (standing_behind table rows world.book).replicas me) node.me ∙ sym (ap (λ (s : Standing). s.replicas who) is.ahead.at.standing)))
 
-  pub node_table : (rows : List Row) (world : World D) (situation : Situation) (who : ℕ) (member : Member D) → IsWorldAt seen may_leave honest told_of table rows world situation
+  pub node_table : (rows : List Row) (world : World D) (situation : Situation) (who : ℕ) (member : Member D) → IsWorldAt view table rows world situation
       → slice_get world.members.items who ≡ Some member → member.mail.runs ≡ true → IsOfTable table (replica_of member.node)
   node_table rows world situation who member is there runs = (node_ahead rows world situation who member is there runs).at_rest.of_table
 
-  pub node_waits : (rows : List Row) (world : World D) (situation : Situation) (who : ℕ) (member : Member D) → IsWorldAt seen may_leave honest told_of table rows world situation
+  pub node_waits : (rows : List Row) (world : World D) (situation : Situation) (who : ℕ) (member : Member D) → IsWorldAt view table rows world situation
       → slice_get world.members.items who ≡ Some member → member.mail.waits ≡ situation.standing.waits who
   node_waits rows world situation who member is there = (is.ahead.each who member there).mail.waits
 
   -- what holds of the state of its replica
   pub tells_state : (world : World D) (who : ℕ) (member : Member D) (holds : State → Type 0) (answer : Bool) → AllRun world → slice_get world.members.items who ≡ Some member
-      → IsTrue answer ↔ holds (replica_of member.node).state → AnswersFor seen may_leave honest told_of table (λ situation. holds (situation.standing.replicas who)) world answer
+      → IsTrue answer ↔ holds (replica_of member.node).state → AnswersFor view table (λ situation. holds (situation.standing.replicas who)) world answer
   tells_state world who member holds answer run there tells = λ rows situation is.
       subst (λ state. IsTrue answer ↔ holds state) (node_state rows world situation who member is there (run who member there)) tells
 
   -- it is at rest
   pub tells_rest : (world : World D) (who : ℕ) (at : ℤ) (member : Member D) (answer : Bool) → AllRun world → slice_get world.members.items who ≡ Some member
       → IsTrue answer ↔ ((member.mail.waits ≡ None) × IsFreeTerm (prefix_of (replica_of member.node).state) (replica_of member.node).state.term × AsksNothing table at (replica_of member.node).state)
-      → AnswersFor seen may_leave honest told_of table (IsAtRest table who at) world answer
+      → AnswersFor view table (IsAtRest table who at) world answer
   tells_rest world who at member answer run there tells = λ rows situation is.
       let state = node_state rows world situation who member is there (run who member there) in
       let waits = node_waits rows world situation who member is there in (
@@ -149,9 +148,9 @@ module _ {D : Type 0} (seen : D → Image) (may_leave : D → Image → Type 0) 
   AreLevel members prefix = (who : ℕ) (member : Member D) → slice_get members who ≡ Some member → prefix_of (replica_of member.node).state ≡ prefix
 
   -- it is quiet where it is at rest and all are level
-  pub tells_quiet : (world : World D) (who : ℕ) (at : ℤ) (member : Member D) (answer : Bool) → IsWorld seen may_leave honest told_of table world → AllRun world → slice_get world.members.items who ≡ Some member
-      → AnswersFor seen may_leave honest told_of table (IsAtRest table who at) world true → IsTrue answer ↔ AreLevel world.members.items (prefix_of (replica_of member.node).state)
-      → AnswersFor seen may_leave honest told_of table (IsQuiet world.book.members table who at) world answer
+  pub tells_quiet : (world : World D) (who : ℕ) (at : ℤ) (member : Member D) (answer : Bool) → IsWorld view table world → AllRun world → slice_get world.members.items who ≡ Some member
+      → AnswersFor view table (IsAtRest table who at) world true → IsTrue answer ↔ AreLevel world.members.items (prefix_of (replica_of member.node).state)
+      → AnswersFor view table (IsQuiet world.book.members table who at) world answer
   tells_quiet world who at member answer some run there rest level = λ rows situation is.
       let state = node_state rows world situation who member is there (run who member there) in
       let count : length world.members.items ≡ world.book.members = is.ahead.count in (
@@ -171,8 +170,8 @@ module _ {D : Type 0} (seen : D → Image) (may_leave : D → Image → Type 0) 
             ap prefix_of (node_state rows world situation other found is there (run other found there)) ∙ (quiet.level other (omega (arith, below, count)) ∙ ap prefix_of (sym state))),
       )
 
-  pub tells_no_quiet : (world : World D) (who : ℕ) (at : ℤ) → AnswersFor seen may_leave honest told_of table (IsAtRest table who at) world false
-      → AnswersFor seen may_leave honest told_of table (IsQuiet world.book.members table who at) world false
+  pub tells_no_quiet : (world : World D) (who : ℕ) (at : ℤ) → AnswersFor view table (IsAtRest table who at) world false
+      → AnswersFor view table (IsQuiet world.book.members table who at) world false
   tells_no_quiet world who at rest = λ rows situation is. (
     λ holds. absurd (let no : false ≡ true = holds in cc),
     λ quiet. (rest rows situation is).1 (record { free = quiet.free; answered = quiet.answered; rests = quiet.rests }),

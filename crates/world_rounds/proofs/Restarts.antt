@@ -1,11 +1,10 @@
 -- Replicas that start again.
-use Rattle.std.proofs.Common.{◌≡◌, ℕ, zero, suc, ◌<◌, true, false, List, [], ◌∷◌, ◌++◌, length, None, Some, refl, sym, ap, ◌∙◌, subst, inl, inr, arith, if◌then◌else◌, Option}
+use Rattle.std.proofs.Common.{◌≡◌, ℕ, zero, suc, ◌<◌, true, false, List, [], ◌∷◌, ◌++◌, length, None, Some, refl, sym, ap, ◌∙◌, subst, inl, inr, arith, if◌then◌else◌}
 use Rattle.std.specs.List.{Contains, insert, remove, slice_get}
 use Rattle.std.proofs.Math.ListN.{set}
 use Rattle.std.proofs.lemmas.List.{length-set}
 use Rattle.std.proofs.lemmas.Option.{slice_get_within}
-use Rattle.disk_model.specs.Images.{Image}
-use Rattle.disk_model.specs.Told.{Told}
+use Rattle.disk_model.specs.View.{DiskView}
 use Rattle.due_set.specs.Table.{Table}
 use Rattle.step_spec.specs.State.{Identity, started}
 use Rattle.step_spec.specs.Step.{Event}
@@ -51,11 +50,11 @@ restart_waits : (n : ℕ) (s : Standing) (who : ℕ) (event : Event) (letters : 
 unfolding after_row
 restart_waits n s who event letters = refl
 
-module _ {D : Type 0} (seen : D → Image) (may_leave : D → Image → Type 0) (honest : D → Type 0) (told_of : D → Option Told) (table : Table) where
+module _ {D : Type 0} (view : DiskView D) (table : Table) where
   -- what a replica that is stopped keeps
-  pub node_stopped : (rows : List Row) (world : World D) (situation : Situation) (who : ℕ) (member : Member D) → IsWorldAt seen may_leave honest told_of table rows world situation
+  pub node_stopped : (rows : List Row) (world : World D) (situation : Situation) (who : ℕ) (member : Member D) → IsWorldAt view table rows world situation
       → slice_get world.members.items who ≡ Some member → member.mail.runs ≡ false
-      → ((standing_behind table rows world.book).runs who ≡ false) × IsNodeStopped seen may_leave honest told_of table world.book.members (standing_behind table rows world.book) (bases_behind table rows world.book who) who [] member.node
+      → ((standing_behind table rows world.book).runs who ≡ false) × IsNodeStopped view table world.book.members (standing_behind table rows world.book) (bases_behind table rows world.book who) who [] member.node
   node_stopped rows world situation who member is there runs =
       let ahead = is.ahead.each who member there in
       let stopped : (standing_behind table rows world.book).runs who ≡ false = sym (ap (λ (s : Standing). s.runs who) is.ahead.at.standing) ∙ sym ahead.mail.runs ∙ runs in
@@ -67,8 +66,8 @@ module _ {D : Type 0} (seen : D → Image) (may_leave : D → Image → Type 0) 
     pub alone : IsAlone table rows world.book (Restarted who) None row
     pub stands : (after : BookState) → after.members ≡ world.book.members → StandsAt table (rows ++ row ∷ []) after (replica_of next.node)
 
-  can_restart : (rows : List Row) (world : World D) (situation : Situation) (who : ℕ) (member next : Member D) → IsWorldAt seen may_leave honest told_of table rows world situation
-      → slice_get world.members.items who ≡ Some member → member.mail.runs ≡ false → HasStartedAgain seen may_leave honest told_of table world.book.members who member next
+  can_restart : (rows : List Row) (world : World D) (situation : Situation) (who : ℕ) (member next : Member D) → IsWorldAt view table rows world situation
+      → slice_get world.members.items who ≡ Some member → member.mail.runs ≡ false → HasStartedAgain view table world.book.members who member next
       → CanRestart rows world who next
   can_restart rows world situation who member next is there runs again = record {
     row = start.row;
@@ -99,30 +98,30 @@ module _ {D : Type 0} (seen : D → Image) (may_leave : D → Image → Type 0) 
           restarts table rows world.book kept (replica_of next.node) (subst (λ who. StandsStopped table rows world.book who kept) (sym me) stopped)
           (again.identity ∙ ap (identity_of world.book.members) (sym me)) (again.state ∙ ap (λ who. started who kept) (sym me)) again.at_rest.of_table
 
-  pub may_restart : (world : World D) (who : ℕ) (member next : Member D) → IsWorld seen may_leave honest told_of table world → slice_get world.members.items who ≡ Some member → member.mail.runs ≡ false
-      → HasStartedAgain seen may_leave honest told_of table world.book.members who member next → (rows : List Row) × (row : Row) × IsAlone table rows world.book (Restarted who) None row
+  pub may_restart : (world : World D) (who : ℕ) (member next : Member D) → IsWorld view table world → slice_get world.members.items who ≡ Some member → member.mail.runs ≡ false
+      → HasStartedAgain view table world.book.members who member next → (rows : List Row) × (row : Row) × IsAlone table rows world.book (Restarted who) None row
   may_restart world who member next is there runs again =
       let can = can_restart is.rows world is.situation who member next is.is there runs again in (is.rows, can.row, can.alone)
 
   pub restart_goes : (world new : World D) (who : ℕ) (member next : Member D) → slice_get world.members.items who ≡ Some member → member.mail.runs ≡ false
-      → HasStartedAgain seen may_leave honest told_of table world.book.members who member next
+      → HasStartedAgain view table world.book.members who member next
       → new.members.items ≡ set world.members.items who next → new.cuts ≡ world.cuts → new.latest ≡ world.latest
       → ((rows : List Row) (row : Row) → IsAlone table rows world.book (Restarted who) None row → HasJoinedAlone table rows world.book new.book row)
-      → GoesOnBy seen may_leave honest told_of table (Plain world.book.members (λ situation. if situation.standing.runs who then [] else Restart who ∷ []) (λ situation. situation)) world new
+      → GoesOnBy view table (Plain world.book.members (λ situation. if situation.standing.runs who then [] else Restart who ∷ []) (λ situation. situation)) world new
   restart_goes world new who member next there runs again members cuts latest joins = λ rows situation is.
       let can = can_restart rows world situation who member next is there runs again in
       let joined = joins rows can.row can.alone in
       let stands : situation.standing.runs who ≡ false = sym (is.ahead.each who member there).mail.runs ∙ runs in
-      goes_alone seen may_leave honest told_of table rows world new situation can.row (Restart who) (λ situation. if situation.standing.runs who then [] else Restart who ∷ []) is joined can.alone.is.turn_is
+      goes_alone view table rows world new situation can.row (Restart who) (λ situation. if situation.standing.runs who then [] else Restart who ∷ []) is joined can.alone.is.turn_is
       (rw stands refl) (ap length members ∙ length-set world.members.items who next) cuts
       (ap (λ minute. minute.0) latest ∙ is.ahead.latest ∙ sym (ap (λ turn. latest_after turn situation.latest) can.alone.is.turn_is))
       (λ k x found. elim (set_cases world.members.items who next k x (subst (λ members. slice_get members k ≡ Some x) members found)) [
         | inl here ↦
-            subst (λ k. IsMemberAhead seen may_leave honest told_of table (rows ++ can.row ∷ []) new.book (after_turn world.book.members situation can.row) k [] x) (sym here.0)
-            (subst (λ x. IsMemberAhead seen may_leave honest told_of table (rows ++ can.row ∷ []) new.book (after_turn world.book.members situation can.row) who [] x) (sym here.1)
+            subst (λ k. IsMemberAhead view table (rows ++ can.row ∷ []) new.book (after_turn world.book.members situation can.row) k [] x) (sym here.0)
+            (subst (λ x. IsMemberAhead view table (rows ++ can.row ∷ []) new.book (after_turn world.book.members situation can.row) who [] x) (sym here.1)
             (mine rows situation is can joined))
         | inr other ↦
-            member_stays seen may_leave honest told_of table rows can.row world.book new.book situation k [] x is.ahead.at joined.members (has_same world.book new.book joined.letters)
+            member_stays view table rows can.row world.book new.book situation k [] x is.ahead.at joined.members (has_same world.book new.book joined.letters)
             (leaves_other world.book.members situation can.row k (λ same. other.0 (same ∙ ap turn_of can.alone.is.turn_is))) (is.ahead.each k x other.1)
       ])
       (λ k x found. elim (set_cases world.members.items who next k x (subst (λ members. slice_get members k ≡ Some x) members found)) [
@@ -134,7 +133,7 @@ module _ {D : Type 0} (seen : D → Image) (may_leave : D → Image → Type 0) 
       me = ap (λ (self : Identity). self.me) again.identity
 
       -- its store goes on in the area that it had
-      area : (rows : List Row) (situation : Situation) → IsWorldAt seen may_leave honest told_of table rows world situation → (can : CanRestart rows world who next)
+      area : (rows : List Row) (situation : Situation) → IsWorldAt view table rows world situation → (can : CanRestart rows world who next)
           → HasJoinedAlone table rows world.book new.book can.row → area_of (store_of next.node) ≡ area_by (bases_behind table (rows ++ can.row ∷ []) new.book who)
       area rows situation is can joined =
           let node = (node_stopped rows world situation who member is there runs).1 in
@@ -142,9 +141,9 @@ module _ {D : Type 0} (seen : D → Image) (may_leave : D → Image → Type 0) 
           ∙ ap area_by (sym (ap (λ (counts : ℕ → ℕ). counts who) (bases_same table rows can.row world.book new.book joined.members
           (λ changes counts. ap (λ (turn : Turn). bases_kept turn changes counts) can.alone.is.turn_is))))
 
-      mine : (rows : List Row) (situation : Situation) → IsWorldAt seen may_leave honest told_of table rows world situation → (can : CanRestart rows world who next)
+      mine : (rows : List Row) (situation : Situation) → IsWorldAt view table rows world situation → (can : CanRestart rows world who next)
           → HasJoinedAlone table rows world.book new.book can.row
-          → IsMemberAhead seen may_leave honest told_of table (rows ++ can.row ∷ []) new.book (after_turn world.book.members situation can.row) who [] next
+          → IsMemberAhead view table (rows ++ can.row ∷ []) new.book (after_turn world.book.members situation can.row) who [] next
       mine rows situation is can joined =
           let was = is.ahead.each who member there in
           let turn = can.alone.is.turn_is in

@@ -5,12 +5,11 @@ use Rattle.std.specs.List.{Contains}
 use Rattle.std.proofs.lemmas.Int.{clamps, ints}
 use Rattle.std.proofs.lemmas.List.{map-append}
 use Rattle.std.proofs.lemmas.List.Concat.{flat_map-append}
+use Rattle.disk_model.specs.View.{DiskView}
 use Rattle.zone_minutes.specs.Window.{IsInWindow}
 use Rattle.zone_minutes.specs.declared.minute.Minute.{Minute}
 use Rattle.zone_minutes.specs.declared.minute.Window.{Window}
 use Rattle.cluster_sched.specs.declared.row.SchedRow.{SchedRow}
-use Rattle.disk_model.specs.Images.{Image}
-use Rattle.disk_model.specs.Told.{Told}
 use Rattle.due_set.specs.Table.{Table}
 use Rattle.step_spec.proofs.Lists.{nothing_in}
 use Rattle.history.specs.Book.{Row, Standing}
@@ -64,15 +63,15 @@ tasks_all who waits letters now =
     ∙ ap (λ back. answer_tasks who waits ++ back) (hears_by who letters))
     ∙ append_assoc (answer_tasks who waits) (hear_tasks who letters) (Do who (Tick now) ∷ [])
 
-module _ {D : Type 0} (seen : D → Image) (may_leave : D → Image → Type 0) (honest : D → Type 0) (told_of : D → Option Told) (table : Table) (book : BookState) where
+module _ {D : Type 0} (view : DiskView D) (table : Table) (book : BookState) where
   -- ---- what is known when it takes a step
 
-  idle_runs : (rows : List Row) (situation : Situation) (who : ℕ) (member : Member D) → IsMemberIdle seen may_leave honest told_of table rows book situation who member → member.mail.runs ≡ true
+  idle_runs : (rows : List Row) (situation : Situation) (who : ℕ) (member : Member D) → IsMemberIdle view table rows book situation who member → member.mail.runs ≡ true
       → (standing_behind table rows book).runs who ≡ true
   idle_runs rows situation who member idle runs = sym (ap (λ (s : Standing). s.runs who) idle.at.standing) ∙ sym idle.ahead.mail.runs ∙ runs
 
-  pub idle_beside : (rows : List Row) (situation : Situation) (who : ℕ) (member : Member D) → IsMemberIdle seen may_leave honest told_of table rows book situation who member → member.mail.runs ≡ true
-      → IsBeside seen may_leave honest told_of table rows book who [] member.node
+  pub idle_beside : (rows : List Row) (situation : Situation) (who : ℕ) (member : Member D) → IsMemberIdle view table rows book situation who member → member.mail.runs ≡ true
+      → IsBeside view table rows book who [] member.node
   idle_beside rows situation who member idle runs = record {
     sound = idle.at.sound;
     behind = idle.at.behind;
@@ -81,28 +80,28 @@ module _ {D : Type 0} (seen : D → Image) (may_leave : D → Image → Type 0) 
     ahead = idle.ahead.running (idle_runs rows situation who member idle runs);
   }
 
-  pub may_answer : (rows : List Row) (situation : Situation) (who : ℕ) (member : Member D) → IsMemberIdle seen may_leave honest told_of table rows book situation who member → member.mail.runs ≡ true
-      → MayTakeAnswer seen may_leave honest told_of table rows book who member.mail.waits member.node
+  pub may_answer : (rows : List Row) (situation : Situation) (who : ℕ) (member : Member D) → IsMemberIdle view table rows book situation who member → member.mail.runs ≡ true
+      → MayTakeAnswer view table rows book who member.mail.waits member.node
   may_answer rows situation who member idle runs =
       record { beside = idle_beside rows situation who member idle runs; waiting = idle.ahead.mail.waits ∙ ap (λ (s : Standing). s.waits who) idle.at.standing }
 
-  pub may_hear : (rows : List Row) (situation : Situation) (who : ℕ) (member : Member D) (steps : List Taken) (node : Node D) → IsMemberIdle seen may_leave honest told_of table rows book situation who member
-      → IsBeside seen may_leave honest told_of table rows book who steps node → MayHear seen may_leave honest told_of table rows book who steps node member.mail.letters.items
+  pub may_hear : (rows : List Row) (situation : Situation) (who : ℕ) (member : Member D) (steps : List Taken) (node : Node D) → IsMemberIdle view table rows book situation who member
+      → IsBeside view table rows book who steps node → MayHear view table rows book who steps node member.mail.letters.items
   may_hear rows situation who member steps node idle beside = record { beside = beside; sent = idle.ahead.mail.sent }
 
   pub told_tick : (rows : List Row) (who : ℕ) (steps : List Taken) (node : Node D) (now : Minute) (at skew : ℤ) → table.window.from.0 <ℤ table.window.until.0
-      → IsBeside seen may_leave honest told_of table rows book who steps node → now ≡ clock_reading table.window at skew
-      → WasToldOf seen may_leave honest told_of table rows book who steps node (Tick now) (told.Tick now)
+      → IsBeside view table rows book who steps node → now ≡ clock_reading table.window at skew
+      → WasToldOf view table rows book who steps node (Tick now) (told.Tick now)
   told_tick rows who steps node now at skew ordered beside is =
       record { beside = beside; is_told = refl; inside = rw is (clock_inside table.window at skew ordered) }
 
   -- ---- what it has taken
 
-  pub round_taken : (rows : List Row) (situation : Situation) (who : ℕ) (at : ℤ) (now : Minute) (old new : Member D) → IsMemberIdle seen may_leave honest told_of table rows book situation who old
-      → old.mail.runs ≡ true → IsBeside seen may_leave honest told_of table rows book who new.steps.items new.node
+  pub round_taken : (rows : List Row) (situation : Situation) (who : ℕ) (at : ℤ) (now : Minute) (old new : Member D) → IsMemberIdle view table rows book situation who old
+      → old.mail.runs ≡ true → IsBeside view table rows book who new.steps.items new.node
       → causes_of new.steps.items ≡ (answer_causes old.mail.waits ++ hear_causes old.mail.letters.items) ++ Tick now ∷ [] → now ≡ clock_reading table.window at old.mail.skew
       → new.mail.letters.items ≡ [] → new.mail.runs ≡ old.mail.runs → new.mail.skew ≡ old.mail.skew → new.mail.fate ≡ old.mail.fate → new.mail.waits ≡ old.mail.waits → new.mail.arm ≡ old.mail.arm
-      → HasTakenRound seen may_leave honest told_of table rows book situation at who new
+      → HasTakenRound view table rows book situation at who new
   round_taken rows situation who at now old new idle runs beside causes reading none running skew fate waits arm = record {
     ahead = record {
       mail = record {
@@ -128,14 +127,14 @@ module _ {D : Type 0} (seen : D → Image) (may_leave : D → Image → Type 0) 
         ∙ sym (rw (sym idle.ahead.mail.runs ∙ runs) refl);
   }
 
-  no_tasks : (rows : List Row) (situation : Situation) (who : ℕ) (at : ℤ) (member : Member D) → IsMemberIdle seen may_leave honest told_of table rows book situation who member
+  no_tasks : (rows : List Row) (situation : Situation) (who : ℕ) (at : ℤ) (member : Member D) → IsMemberIdle view table rows book situation who member
       → member.mail.runs ≡ false → tasks_of table.window at situation who ≡ []
   no_tasks rows situation who at member idle stopped = let e : situation.standing.runs who ≡ false = sym idle.ahead.mail.runs ∙ stopped in rw e refl
 
   -- nothing, where it is stopped
-  pub round_skipped : (rows : List Row) (situation : Situation) (who : ℕ) (at : ℤ) (member : Member D) → IsMemberIdle seen may_leave honest told_of table rows book situation who member
-      → member.mail.runs ≡ false → HasTakenRound seen may_leave honest told_of table rows book situation at who member
+  pub round_skipped : (rows : List Row) (situation : Situation) (who : ℕ) (at : ℤ) (member : Member D) → IsMemberIdle view table rows book situation who member
+      → member.mail.runs ≡ false → HasTakenRound view table rows book situation at who member
   round_skipped rows situation who at member idle stopped = record {
-    ahead = subst (λ steps. IsMemberAhead seen may_leave honest told_of table rows book situation who steps member) (sym idle.none) idle.ahead;
+    ahead = subst (λ steps. IsMemberAhead view table rows book situation who steps member) (sym idle.none) idle.ahead;
     tasks = ap (λ steps. tasks_by who (causes_of steps)) idle.none ∙ sym (no_tasks rows situation who at member idle stopped);
   }

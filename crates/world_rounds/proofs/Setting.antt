@@ -1,12 +1,11 @@
 -- What a command sets in a world.
-use Rattle.std.proofs.Common.{List, Option, Some, [], ap, append-nil as append_nil, arith, eqb, if◌then◌else◌, inl, inr, length, refl, subst, sym, true, ℕ, ℤ, ◌&&◌, ◌++◌, ◌-◌, ◌∙◌, ◌∷◌, ◌≡◌, ◌≢◌, ◌≤ℤ◌, false}
+use Rattle.std.proofs.Common.{List, Some, [], ap, append-nil as append_nil, arith, eqb, if◌then◌else◌, inl, inr, length, refl, subst, sym, true, ℕ, ℤ, ◌&&◌, ◌++◌, ◌-◌, ◌∙◌, ◌∷◌, ◌≡◌, ◌≢◌, ◌≤ℤ◌, false}
 use Rattle.std.specs.List.{slice_get}
 use Rattle.std.proofs.Math.ListN.{set}
 use Rattle.std.proofs.lemmas.Bool.{cases_Bool}
 use Rattle.std.proofs.lemmas.List.{length-set}
+use Rattle.disk_model.specs.View.{DiskView}
 use Rattle.cluster_sched.specs.declared.fate.Fate.{Fate}
-use Rattle.disk_model.specs.Images.{Image}
-use Rattle.disk_model.specs.Told.{Told}
 use Rattle.due_set.specs.Table.{Table}
 use Rattle.history.specs.Book.{Row, Standing, with_fact}
 use Rattle.script_semantics.specs.Commands.{Plain}
@@ -50,16 +49,16 @@ mail_as letters one other who mail standing mails skews fates arms is = record {
   sent = is.sent;
 }
 
-module _ {D : Type 0} (seen : D → Image) (may_leave : D → Image → Type 0) (honest : D → Type 0) (told_of : D → Option Told) where
+module _ {D : Type 0} (view : DiskView D) where
   -- of each replica of a world there was one before with the same node
   abbrev pub AreSet : (old new : World D) → Situation → Type 0
   AreSet old new situation =
       (who : ℕ) (next : Member D) → slice_get new.members.items who ≡ Some next
       → (member : Member D) × (slice_get old.members.items who ≡ Some member) × (next.node ≡ member.node) × (next.steps ≡ member.steps) × IsMailOf old.book.letters situation who [] next.mail
 
-  pub world_set : (table : Table) (rows : List Row) (old new : World D) (situation other : Situation) → IsWorldAt seen may_leave honest told_of table rows old situation → new.book ≡ old.book → new.latest ≡ old.latest
+  pub world_set : (table : Table) (rows : List Row) (old new : World D) (situation other : Situation) → IsWorldAt view table rows old situation → new.book ≡ old.book → new.latest ≡ old.latest
       → length new.members.items ≡ length old.members.items → other.standing ≡ situation.standing → other.latest ≡ situation.latest → other.bases ≡ situation.bases
-      → ((from to : ℕ) → is_cut from to new.cuts.items ≡ is_cut from to other.cuts) → AreSet old new other → IsWorldAt seen may_leave honest told_of table rows new other
+      → ((from to : ℕ) → is_cut from to new.cuts.items ≡ is_cut from to other.cuts) → AreSet old new other → IsWorldAt view table rows new other
   world_set table rows old new situation other is book latest count standing last bases cuts each = record {
     ahead = record {
       at = record {
@@ -85,7 +84,7 @@ module _ {D : Type 0} (seen : D → Image) (may_leave : D → Image → Type 0) 
   -- cuts alone
   pub cuts_set : (old new : World D) (change : List (ℕ × ℕ) → List (ℕ × ℕ)) → new.book ≡ old.book → new.latest ≡ old.latest → new.members ≡ old.members
       → ((situation : List (ℕ × ℕ)) → ((from to : ℕ) → is_cut from to old.cuts.items ≡ is_cut from to situation) → (from to : ℕ) → is_cut from to new.cuts.items ≡ is_cut from to (change situation))
-      → Changes seen may_leave honest told_of (λ situation. record situation { cuts = change situation.cuts }) old new
+      → Changes view (λ situation. record situation { cuts = change situation.cuts }) old new
   cuts_set old new change book latest members cuts = λ table rows situation is.
       world_set table rows old new situation (record situation { cuts = change situation.cuts }) is book latest (ap (λ members. length members.items) members) refl refl refl (cuts situation.cuts is.ahead.cuts)
       (λ who next found.
@@ -101,9 +100,9 @@ module _ {D : Type 0} (seen : D → Image) (may_leave : D → Image → Type 0) 
       → ((situation : Situation) (other : ℕ) → other ≢ who → (change situation).skews other ≡ situation.skews other)
       → ((situation : Situation) (other : ℕ) → other ≢ who → (change situation).fates other ≡ situation.fates other)
       → ((situation : Situation) (other : ℕ) → other ≢ who → (change situation).arms other ≡ situation.arms other)
-      → ((table : Table) (rows : List Row) (situation : Situation) → IsWorldAt seen may_leave honest told_of table rows old situation → IsMailOf old.book.letters situation who [] member.mail
+      → ((table : Table) (rows : List Row) (situation : Situation) → IsWorldAt view table rows old situation → IsMailOf old.book.letters situation who [] member.mail
       → IsMailOf old.book.letters (change situation) who [] next.mail)
-      → Changes seen may_leave honest told_of change old new
+      → Changes view change old new
   member_set old new who member next change book latest cuts there members node steps standing last same_cuts bases mails skews fates arms mine = λ table rows situation is.
       world_set table rows old new situation (change situation) is book latest (ap length members ∙ length-set old.members.items who next) (standing situation) (last situation) (bases situation)
       (λ from to. ap (λ cuts. is_cut from to cuts.items) cuts ∙ is.ahead.cuts from to ∙ ap (is_cut from to) (sym (same_cuts situation)))
@@ -128,7 +127,7 @@ module _ {D : Type 0} (seen : D → Image) (may_leave : D → Image → Type 0) 
 
   pub skew_set : (old new : World D) (who : ℕ) (minutes : ℤ) (member next : Member D) → new.book ≡ old.book → new.latest ≡ old.latest → new.cuts ≡ old.cuts → slice_get old.members.items who ≡ Some member
       → new.members.items ≡ set old.members.items who next → next.node ≡ member.node → next.steps ≡ member.steps → next.mail ≡ record member.mail { skew = minutes } → IsSkew minutes
-      → Changes seen may_leave honest told_of (λ situation. record situation { skews = with_fact who minutes situation.skews }) old new
+      → Changes view (λ situation. record situation { skews = with_fact who minutes situation.skews }) old new
   skew_set old new who minutes member next book latest cuts there members node steps mail small =
       member_set old new who member next (λ situation. record situation { skews = with_fact who minutes situation.skews }) book latest cuts there members node steps (λ s. refl) (λ s. refl) (λ s. refl) (λ s. refl)
       (λ s other differs. refl) (λ s other differs. fact_there who minutes s.skews other differs) (λ s other differs. refl) (λ s other differs. refl)
@@ -136,7 +135,7 @@ module _ {D : Type 0} (seen : D → Image) (may_leave : D → Image → Type 0) 
 
   pub fate_set : (old new : World D) (who : ℕ) (becomes : Fate) (member next : Member D) → new.book ≡ old.book → new.latest ≡ old.latest → new.cuts ≡ old.cuts → slice_get old.members.items who ≡ Some member
       → new.members.items ≡ set old.members.items who next → next.node ≡ member.node → next.steps ≡ member.steps → next.mail ≡ record member.mail { fate = becomes }
-      → Changes seen may_leave honest told_of (λ situation. record situation { fates = with_fact who becomes situation.fates }) old new
+      → Changes view (λ situation. record situation { fates = with_fact who becomes situation.fates }) old new
   fate_set old new who becomes member next book latest cuts there members node steps mail =
       member_set old new who member next (λ situation. record situation { fates = with_fact who becomes situation.fates }) book latest cuts there members node steps (λ s. refl) (λ s. refl) (λ s. refl) (λ s. refl)
       (λ s other differs. refl) (λ s other differs. refl) (λ s other differs. fact_there who becomes s.fates other differs) (λ s other differs. refl)
@@ -144,11 +143,11 @@ module _ {D : Type 0} (seen : D → Image) (may_leave : D → Image → Type 0) 
 
   pub arm_set : (old new : World D) (who pass image : ℕ) (member next : Member D) → new.book ≡ old.book → new.latest ≡ old.latest → new.cuts ≡ old.cuts → slice_get old.members.items who ≡ Some member
       → member.mail.runs ≡ true → new.members.items ≡ set old.members.items who next → next.node ≡ member.node → next.steps ≡ member.steps
-      → next.mail ≡ record member.mail { arm = Some (record { left = pass; image = image }) } → Changes seen may_leave honest told_of (armed_by who pass image) old new
+      → next.mail ≡ record member.mail { arm = Some (record { left = pass; image = image }) } → Changes view (armed_by who pass image) old new
   arm_set old new who pass image member next book latest cuts there runs members node steps mail = λ table rows situation is.
       let armed : armed_by who pass image situation ≡ record situation { arms = with_fact who (Some (record { left = pass; image = image })) situation.arms } =
       rw (sym (is.ahead.each who member there).mail.runs ∙ runs) refl in
-      subst (λ (here : Situation). IsWorldAt seen may_leave honest told_of table rows new here) (sym armed)
+      subst (λ (here : Situation). IsWorldAt view table rows new here) (sym armed)
       (member_set old new who member next (λ here. record here { arms = with_fact who (Some (record { left = pass; image = image })) here.arms }) book latest cuts there members node steps (λ s. refl)
       (λ s. refl) (λ s. refl) (λ s. refl) (λ s other differs. refl) (λ s other differs. refl) (λ s other differs. refl) (λ s other differs. fact_there who _ s.arms other differs)
       (λ table rows s at is. rw mail (record {
@@ -164,10 +163,10 @@ module _ {D : Type 0} (seen : D → Image) (may_leave : D → Image → Type 0) 
 
   -- a stopped replica's disk isn't armed, and the world is put back as it was
   pub put_back : (old new : World D) (who pass image : ℕ) (member : Member D) → slice_get old.members.items who ≡ Some member → member.mail.runs ≡ false → new.members.items ≡ set old.members.items who member
-      → new.book ≡ old.book → new.latest ≡ old.latest → new.cuts ≡ old.cuts → Changes seen may_leave honest told_of (armed_by who pass image) old new
+      → new.book ≡ old.book → new.latest ≡ old.latest → new.cuts ≡ old.cuts → Changes view (armed_by who pass image) old new
   put_back old new who pass image member there stopped members book latest cuts = λ table rows situation is.
       let unarmed : armed_by who pass image situation ≡ situation = rw (sym (is.ahead.each who member there).mail.runs ∙ stopped) refl in
-      subst (λ (here : Situation). IsWorldAt seen may_leave honest told_of table rows new here) (sym unarmed)
+      subst (λ (here : Situation). IsWorldAt view table rows new here) (sym unarmed)
       (world_set table rows old new situation situation is book latest (ap length members ∙ length-set old.members.items who member) refl refl refl (λ from to. ap (λ cuts. is_cut from to cuts.items) cuts ∙ is.ahead.cuts from to)
       (λ k x found. elim (set_cases old.members.items who member k x (subst (λ members. slice_get members k ≡ Some x) members found)) [
         | inl here ↦ (
@@ -183,12 +182,12 @@ module _ {D : Type 0} (seen : D → Image) (may_leave : D → Image → Type 0) 
 
   -- nobody has a turn, and something is set
   pub sets_go : (table : Table) (n : ℕ) (old new : World D) (tasks : Situation → List Task) (change : Situation → Situation)
-      → ((rows : List Row) (situation : Situation) → IsWorldAt seen may_leave honest told_of table rows old situation → tasks situation ≡ [])
-      → Changes seen may_leave honest told_of change old new → GoesOnBy seen may_leave honest told_of table (Plain n tasks change) old new
+      → ((rows : List Row) (situation : Situation) → IsWorldAt view table rows old situation → tasks situation ≡ [])
+      → Changes view change old new → GoesOnBy view table (Plain n tasks change) old new
   sets_go table n old new tasks change none changes = λ rows situation is.
       let middle : Situation = delivered (length situation.standing.posted) situation in
-      let same : IsWorldAt seen may_leave honest told_of table rows old middle =
-      same_mails seen may_leave honest told_of table rows old situation (λ who. situation.mails who ++ letters_for situation (length situation.standing.posted) who)
+      let same : IsWorldAt view table rows old middle =
+      same_mails view table rows old situation (λ who. situation.mails who ++ letters_for situation (length situation.standing.posted) who)
       (λ who. let e : length situation.standing.posted - length situation.standing.posted ≡ 0 = omega arith in rw e (sym (append_nil (situation.mails who)))) is in (
         [],
         change middle,
@@ -200,14 +199,14 @@ module _ {D : Type 0} (seen : D → Image) (may_leave : D → Image → Type 0) 
           one = record { turns = rw (none rows situation is) refl; is = refl };
           two = record { none = refl; is = refl };
         },
-        subst (λ rows. IsWorldAt seen may_leave honest told_of table rows new (change middle)) (sym (append_nil rows)) (changes table rows middle same),
+        subst (λ rows. IsWorldAt view table rows new (change middle)) (sym (append_nil rows)) (changes table rows middle same),
       )
 
   -- something is set, and nothing else comes of it
-  pub sets_alone : (table : Table) (old new : World D) (change : Situation → Situation) → Changes seen may_leave honest told_of change old new → GoesOnBy seen may_leave honest told_of table (Sets change) old new
+  pub sets_alone : (table : Table) (old new : World D) (change : Situation → Situation) → Changes view change old new → GoesOnBy view table (Sets change) old new
   sets_alone table old new change changes = λ rows situation is. (
     [],
     change situation,
     record { none = refl; is = refl },
-    subst (λ rows. IsWorldAt seen may_leave honest told_of table rows new (change situation)) (sym (append_nil rows)) (changes table rows situation is),
+    subst (λ rows. IsWorldAt view table rows new (change situation)) (sym (append_nil rows)) (changes table rows situation is),
   )

@@ -1,11 +1,10 @@
 -- A world that is put together.
-use Rattle.std.proofs.Common.{◌≡◌, ◌⊎◌, map, ℕ, zero, suc, ◌<◌, true, false, List, [], ◌∷◌, ◌++◌, length, Option, Some, refl, sym, ap, ◌∙◌, subst, inl, inr, arith, append_assoc, append-nil}
+use Rattle.std.proofs.Common.{◌≡◌, ◌⊎◌, map, ℕ, zero, suc, ◌<◌, true, false, List, [], ◌∷◌, ◌++◌, length, Some, refl, sym, ap, ◌∙◌, subst, inl, inr, arith, append_assoc, append-nil}
 use Rattle.std.specs.List.{remove, slice_get}
 use Rattle.std.specs.Prelude.{slice_index_or}
 use Rattle.std.proofs.lemmas.List.{length-map, map-append}
 use Rattle.std.proofs.lemmas.Option.{slice_get_within}
-use Rattle.disk_model.specs.Images.{Image}
-use Rattle.disk_model.specs.Told.{Told}
+use Rattle.disk_model.specs.View.{DiskView}
 use Rattle.due_set.specs.Table.{Table}
 use Rattle.step_spec.specs.State.{Identity, started}
 use Rattle.agreement.specs.Transition.{identity_of}
@@ -78,9 +77,9 @@ found_by of [] who x is = absurd cc
 found_by of (first ∷ xs) zero x is = let same : first ≡ x = cc in ap (λ x. Some (of x)) same
 found_by of (first ∷ xs) (suc who) x is = found_by of xs who x is
 
-module _ {D : Type 0} (seen : D → Image) (may_leave : D → Image → Type 0) (honest : D → Type 0) (told_of : D → Option Told) (table : Table) where
+module _ {D : Type 0} (view : DiskView D) (table : Table) where
   running : (rows : List Row) (book : BookState) (who : ℕ) (node : Node D) → who < book.members → (standing_behind table rows book).runs who ≡ true
-      → IsNodeOf seen may_leave honest told_of table rows book who node → IsNodeAhead seen may_leave honest told_of table rows book who [] node
+      → IsNodeOf view table rows book who node → IsNodeAhead view table rows book who [] node
   running rows book who node member runs is = record {
     at_rest = is.at_rest;
     trusted = is.trusted;
@@ -101,8 +100,8 @@ module _ {D : Type 0} (seen : D → Image) (may_leave : D → Image → Type 0) 
       me = ap (λ (self : Identity). self.me) is.identity
 
   ended : (rows : List Row) (book : BookState) (who : ℕ) (node : Node D) → StandsBehind table rows book → who < book.members → (standing_behind table rows book).runs who ≡ false
-      → IsNodeOf seen may_leave honest told_of table rows book who node
-      → IsNodeStopped seen may_leave honest told_of table book.members (standing_behind table rows book) (bases_behind table rows book who) who [] node
+      → IsNodeOf view table rows book who node
+      → IsNodeStopped view table book.members (standing_behind table rows book) (bases_behind table rows book who) who [] node
   ended rows book who node behind member stopped is = record {
     at_rest = is.at_rest;
     trusted = is.trusted;
@@ -112,16 +111,16 @@ module _ {D : Type 0} (seen : D → Image) (may_leave : D → Image → Type 0) 
     kept = (stands_stopped table rows book who behind member stopped).state ∙ ap (started who) (sym is.kept);
   }
 
-  pub world_at : (rows : List Row) (parts : Bundle (Node D) (MemberRoom D)) (situation : Situation) (world : World D) → ArePartsAt seen may_leave honest told_of table rows parts situation
+  pub world_at : (rows : List Row) (parts : Bundle (Node D) (MemberRoom D)) (situation : Situation) (world : World D) → ArePartsAt view table rows parts situation
       → world.book ≡ parts.book → AreNodesAndMails world.members.items parts.nodes.items parts.mail.members.items
       → ((who : ℕ) (member : Member D) → slice_get world.members.items who ≡ Some member → member.steps.items ≡ []) → world.cuts ≡ parts.mail.cuts → world.latest ≡ parts.mail.latest
-      → IsWorldAt seen may_leave honest told_of table rows world situation
+      → IsWorldAt view table rows world situation
   world_at rows parts situation world are book replicas idle cuts latest = record {
     ahead = record {
       at = subst (λ (b : BookState). IsBookAt table rows b situation) (sym book) are.at;
       count = count ∙ ap (λ (b : BookState). b.members) (sym book);
       each = λ who member found.
-          subst (λ (b : BookState). IsMemberAhead seen may_leave honest told_of table rows b situation who [] member) (sym book) (each who member found);
+          subst (λ (b : BookState). IsMemberAhead view table rows b situation who [] member) (sym book) (each who member found);
       cuts = λ from to. ap (λ cuts. is_cut from to cuts.items) cuts ∙ are.cuts from to;
       latest = ap (λ minute. minute.0) latest ∙ are.latest;
     };
@@ -131,7 +130,7 @@ module _ {D : Type 0} (seen : D → Image) (may_leave : D → Image → Type 0) 
       count : length world.members.items ≡ parts.book.members
       count = sym (length-map world.members.items (λ member. member.node)) ∙ ap length (sym replicas.nodes_are) ∙ are.nodes.count
 
-      each : (who : ℕ) (member : Member D) → slice_get world.members.items who ≡ Some member → IsMemberAhead seen may_leave honest told_of table rows parts.book situation who [] member
+      each : (who : ℕ) (member : Member D) → slice_get world.members.items who ≡ Some member → IsMemberAhead view table rows parts.book situation who [] member
       each who member found =
           let within : who < length world.members.items = slice_get_within world.members.items who member found in
           let below : who < parts.book.members = subst (λ n. who < n) count within in

@@ -1,12 +1,11 @@
 -- Walks, in a world.
-use Rattle.std.proofs.Common.{◌≡◌, ℕ, zero, suc, ◌+◌, ◌<◌, ◌≤◌, true, false, List, [], ◌++◌, ℤ, pos, negsuc, ◌+ℤ◌, ◌≤ℤ◌, ◌<ℤ◌, refl, sym, ap, ◌∙◌, subst, inl, inr, arith, append_assoc, Option, append-nil as append_nil}
+use Rattle.std.proofs.Common.{◌≡◌, ℕ, zero, suc, ◌+◌, ◌<◌, ◌≤◌, true, false, List, [], ◌++◌, ℤ, pos, negsuc, ◌+ℤ◌, ◌≤ℤ◌, ◌<ℤ◌, refl, sym, ap, ◌∙◌, subst, inl, inr, arith, append_assoc, append-nil as append_nil}
 use Rattle.std.specs.Prelude.{unsigned_abs, ◌-ℤ◌}
 use Rattle.std.specs.Int.{int_min}
 use Rattle.std.proofs.lemmas.Int.{clamps, ints}
+use Rattle.disk_model.specs.View.{DiskView}
 use Rattle.zone_minutes.specs.Window.{IsInWindow}
 use Rattle.zone_minutes.specs.declared.minute.Window.{Window}
-use Rattle.disk_model.specs.Images.{Image}
-use Rattle.disk_model.specs.Told.{Told}
 use Rattle.due_set.specs.Table.{Table}
 use Rattle.history.specs.Book.{Row}
 use Rattle.script_semantics.specs.Parts.{Then}
@@ -98,52 +97,52 @@ walked_whole n table who at above to start here rows so_far none =
     subst (λ rows. WalksOn n table who at to start rows here) (append_nil rows)
     (so_far [] here (zero, record { is_quiet = none; stays = record { none = refl; is = refl } }))
 
-module _ {D : Type 0} (seen : D → Image) (may_leave : D → Image → Type 0) (honest : D → Type 0) (told_of : D → Option Told) (table : Table) where
+module _ {D : Type 0} (view : DiskView D) (table : Table) where
   -- ---- the next minute
 
   -- at each of the minutes from one on, and before another, the launch table of a replica of the world asks for nothing
   abbrev pub RestsIn : World D → (who first end : ℕ) → Type 0
-  RestsIn world who first end = (situation : Situation) → IsIn seen may_leave honest told_of table world situation → AsksNothingIn table first end (situation.standing.replicas who)
+  RestsIn world who first end = (situation : Situation) → IsIn view table world situation → AsksNothingIn table first end (situation.standing.replicas who)
 
   pub rests_first : (world : World D) (who first : ℕ) → RestsIn world who first first
   rests_first world who first = λ situation here minute from below. absurd (omega arith)
 
   pub rests_next : (world : World D) (who first minute : ℕ) → RestsIn world who first minute
-      → AnswersFor seen may_leave honest told_of table (λ situation. AsksNothing table (pos minute) (situation.standing.replicas who)) world true → RestsIn world who first (minute + 1)
+      → AnswersFor view table (λ situation. AsksNothing table (pos minute) (situation.standing.replicas who)) world true → RestsIn world who first (minute + 1)
   rests_next world who first minute so_far tells = λ situation here.
       asks_none_next table first minute (situation.standing.replicas who) (so_far situation here) ((tells here.0 situation here.1).0 refl)
 
   pub minute_found : (world : World D) (who : ℕ) (above to : ℤ) (first minute : ℕ) → pos first ≡ above +ℤ pos 1 → pos 0 ≤ℤ above → RestsIn world who first minute → first ≤ minute → pos minute ≤ℤ to
-      → AnswersFor seen may_leave honest told_of table (λ situation. AsksNothing table (pos minute) (situation.standing.replicas who)) world false
-      → (situation : Situation) → IsIn seen may_leave honest told_of table world situation → IsNextMinute table (situation.standing.replicas who) above to (pos minute)
+      → AnswersFor view table (λ situation. AsksNothing table (pos minute) (situation.standing.replicas who)) world false
+      → (situation : Situation) → IsIn view table world situation → IsNextMinute table (situation.standing.replicas who) above to (pos minute)
   minute_found world who above to first minute is low so_far from within tells = λ situation here.
       next_found table above to first minute (situation.standing.replicas who) is low (so_far situation here) from within
       (λ asks. let no : false ≡ true = (tells here.0 situation here.1).1 asks in cc)
 
   pub no_minute : (world : World D) (who : ℕ) (above to : ℤ) (first end minute : ℕ) → pos first ≡ above +ℤ pos 1 → pos 0 ≤ℤ above → pos end ≡ to +ℤ pos 1 → end ≤ minute → RestsIn world who first minute
-      → (situation : Situation) → IsIn seen may_leave honest told_of table world situation → AsksNothingUntil table above to (situation.standing.replicas who)
+      → (situation : Situation) → IsIn view table world situation → AsksNothingUntil table above to (situation.standing.replicas who)
   no_minute world who above to first end minute is low last past so_far = λ situation here.
       none_found table above to first end minute (situation.standing.replicas who) is low last past (so_far situation here)
 
   -- ---- the walk
 
   pub record HasWalked (who : ℕ) (at above to : ℤ) (old now : World D) : Type 0 where
-    pub goes : GoesOnBy seen may_leave honest told_of table (WalkedOn old.book.members table who at above to) old now
-    pub world : IsWorld seen may_leave honest told_of table now
+    pub goes : GoesOnBy view table (WalkedOn old.book.members table who at above to) old now
+    pub world : IsWorld view table now
     pub run : AllRun now
     pub members : now.book.members ≡ old.book.members
 
-  pub has_walked_none : (who : ℕ) (at to : ℤ) (world : World D) → IsWorld seen may_leave honest told_of table world → AllRun world → HasWalked who at at to world world
+  pub has_walked_none : (who : ℕ) (at to : ℤ) (world : World D) → IsWorld view table world → AllRun world → HasWalked who at at to world world
   has_walked_none who at to world is run = record {
-    goes = λ rows situation here. ([], situation, walked_none world.book.members table who at to situation, subst (λ rows. IsWorldAt seen may_leave honest told_of table rows world situation) (sym (append_nil rows)) here);
+    goes = λ rows situation here. ([], situation, walked_none world.book.members table who at to situation, subst (λ rows. IsWorldAt view table rows world situation) (sym (append_nil rows)) here);
     world = is;
     run = run;
     members = refl;
   }
 
   pub has_walked_next : (who : ℕ) (at above minute to : ℤ) (old now new : World D) → HasWalked who at above to old now
-      → ((situation : Situation) → IsIn seen may_leave honest told_of table now situation → IsNextMinute table (situation.standing.replicas who) above to minute)
-      → GoesOnBy seen may_leave honest told_of table (Drains now.book.members table who minute) now new → AllRun new → new.book.members ≡ now.book.members → HasWalked who at minute to old new
+      → ((situation : Situation) → IsIn view table now situation → IsNextMinute table (situation.standing.replicas who) above to minute)
+      → GoesOnBy view table (Drains now.book.members table who minute) now new → AllRun new → new.book.members ≡ now.book.members → HasWalked who at minute to old new
   has_walked_next who at above minute to old now new so_far next goes run members = record {
     goes = λ rows situation is.
         let front = so_far.goes rows situation is in
@@ -152,7 +151,7 @@ module _ {D : Type 0} (seen : D → Image) (may_leave : D → Image → Type 0) 
           back.1,
           walked_next old.book.members table who at above minute to situation front.1 back.1 front.0 back.0 front.2 (next front.1 (rows ++ front.0, front.3))
               (subst (λ n. Drains n table who minute front.1 back.0 back.1) so_far.members back.2),
-          subst (λ rows. IsWorldAt seen may_leave honest told_of table rows new back.1) (append_assoc rows front.0 back.0) back.3,
+          subst (λ rows. IsWorldAt view table rows new back.1) (append_assoc rows front.0 back.0) back.3,
         );
     world = let here = so_far.world in let back = goes here.rows here.situation here.is in record { rows = here.rows ++ back.0; situation = back.1; is = back.3 };
     run = run;
@@ -160,21 +159,21 @@ module _ {D : Type 0} (seen : D → Image) (may_leave : D → Image → Type 0) 
   }
 
   pub has_walked_whole : (who : ℕ) (at above to : ℤ) (old now : World D) → HasWalked who at above to old now
-      → ((situation : Situation) → IsIn seen may_leave honest told_of table now situation → AsksNothingUntil table above to (situation.standing.replicas who))
-      → GoesOnBy seen may_leave honest told_of table (WalksOn old.book.members table who at to) old now
+      → ((situation : Situation) → IsIn view table now situation → AsksNothingUntil table above to (situation.standing.replicas who))
+      → GoesOnBy view table (WalksOn old.book.members table who at to) old now
   has_walked_whole who at above to old now so_far none = λ rows situation is.
       let gone = so_far.goes rows situation is in
       (gone.0, gone.1, walked_whole old.book.members table who at above to situation gone.1 gone.0 gone.2 (none gone.1 (rows ++ gone.0, gone.3)), gone.3)
 
   -- its latest clock reading is not before the window
-  pub since_in : (world : World D) → IsWorld seen may_leave honest told_of table world → table.window.from.0 ≤ℤ world.latest.0
+  pub since_in : (world : World D) → IsWorld view table world → table.window.from.0 ≤ℤ world.latest.0
   since_in world is = subst (λ latest. table.window.from.0 ≤ℤ latest) (sym is.is.ahead.latest) is.is.ahead.at.since
 
   -- it settles, and walks on
   pub walks : (at to : ℤ) (who : ℕ) (old middle new : World D) → at ≡ int_min old.latest.0 to
-      → GoesOnBy seen may_leave honest told_of table (Settles old.book.members table at) old middle → middle.book.members ≡ old.book.members
-      → ((situation : Situation) → IsIn seen may_leave honest told_of table old situation → who ≡ coordinator old.book.members situation)
-      → GoesOnBy seen may_leave honest told_of table (WalksOn middle.book.members table who at to) middle new → GoesOnBy seen may_leave honest told_of table (Walks old.book.members table to) old new
+      → GoesOnBy view table (Settles old.book.members table at) old middle → middle.book.members ≡ old.book.members
+      → ((situation : Situation) → IsIn view table old situation → who ≡ coordinator old.book.members situation)
+      → GoesOnBy view table (WalksOn middle.book.members table who at to) middle new → GoesOnBy view table (Walks old.book.members table to) old new
   walks at to who old middle new is settles members leads on = λ rows situation here.
       let n = old.book.members in
       let one = settles rows situation here in
@@ -191,5 +190,5 @@ module _ {D : Type 0} (seen : D → Image) (may_leave : D → Image → Type 0) 
               one = one.2;
               two = subst (λ who. WalksOn n table who at to one.1 two.0 two.1) (leads situation (rows, here)) (subst (λ n. WalksOn n table who at to one.1 two.0 two.1) members two.2);
             }),
-        subst (λ rows. IsWorldAt seen may_leave honest told_of table rows new two.1) (append_assoc rows one.0 two.0) two.3,
+        subst (λ rows. IsWorldAt view table rows new two.1) (append_assoc rows one.0 two.0) two.3,
       )

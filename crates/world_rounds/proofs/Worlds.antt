@@ -5,8 +5,7 @@ use Rattle.std.specs.Option.{option_to_list}
 use Rattle.std.proofs.Math.ListN.{set}
 use Rattle.std.proofs.lemmas.Int.{clamps, ints}
 use Rattle.std.proofs.lemmas.List.{length-set}
-use Rattle.disk_model.specs.Images.{Image}
-use Rattle.disk_model.specs.Told.{Told}
+use Rattle.disk_model.specs.View.{DiskView}
 use Rattle.due_set.specs.Table.{Table}
 use Rattle.history.specs.Book.{Row, turn_of, with_fact}
 use Rattle.history.specs.declared.turn.CallRow.{CallRow}
@@ -54,14 +53,14 @@ later_reading low (Stopped who None kept) latest since = since
 later_reading low (Restarted who) latest since = since
 later_reading low (Arrived late) latest since = since
 
-module _ {D : Type 0} (seen : D → Image) (may_leave : D → Image → Type 0) (honest : D → Type 0) (told_of : D → Option Told) (table : Table) where
+module _ {D : Type 0} (view : DiskView D) (table : Table) where
   -- the world after one turn, by its replicas
-  pub world_on : (rows : List Row) (world after : World D) (situation : Situation) (steps left : ℕ → List Taken) (row : Row) → IsWorldAhead seen may_leave honest told_of table rows world situation steps
+  pub world_on : (rows : List Row) (world after : World D) (situation : Situation) (steps left : ℕ → List Taken) (row : Row) → IsWorldAhead view table rows world situation steps
       → StandsBehind table (rows ++ row ∷ []) after.book → after.book.pending ≡ None → after.book.members ≡ world.book.members
       → length after.members.items ≡ length world.members.items → after.cuts ≡ world.cuts → after.latest.0 ≡ latest_after row.turn situation.latest
       → ((k : ℕ) (member : Member D) → slice_get after.members.items k ≡ Some member
-      → IsMemberAhead seen may_leave honest told_of table (rows ++ row ∷ []) after.book (after_turn world.book.members situation row) k (left k) member)
-      → IsWorldAhead seen may_leave honest told_of table (rows ++ row ∷ []) after (after_turn world.book.members situation row) left
+      → IsMemberAhead view table (rows ++ row ∷ []) after.book (after_turn world.book.members situation row) k (left k) member)
+      → IsWorldAhead view table (rows ++ row ∷ []) after (after_turn world.book.members situation row) left
   world_on rows world after situation steps left row ahead behind rest members count cuts latest each = record {
     at = record {
       sound = ahead.at.sound;
@@ -79,11 +78,11 @@ module _ {D : Type 0} (seen : D → Image) (may_leave : D → Image → Type 0) 
   }
 
   pub world_did : (rows : List Row) (world after : World D) (situation : Situation) (ahead_by : ℕ → List Taken) (who : ℕ) (taken : Taken) (more : List Taken) (member : Member D) (made : Option CallRow)
-      → IsWorldAhead seen may_leave honest told_of table rows world situation ahead_by → ahead_by who ≡ taken ∷ more → slice_get world.members.items who ≡ Some member
+      → IsWorldAhead view table rows world situation ahead_by → ahead_by who ≡ taken ∷ more → slice_get world.members.items who ≡ Some member
       → ((rows : List Row) (old new : ReplicaState) → IsNextStep table rows world.book who taken old new → HasJoinedAt table rows world.book after.book who taken member.mail.fate made new)
       → after.members.items ≡ set world.members.items who (record member { mail = noted made (calls_for (option_to_list taken.out.delta)) member.mail }) → after.cuts ≡ world.cuts
       → after.latest.0 ≡ latest_with taken.cause world.latest.0
-      → HasTakenTurns seen may_leave honest told_of table world.book.members rows situation (tasks_by who (causes_of (taken ∷ []))) (with_fact who more ahead_by) after
+      → HasTakenTurns view table world.book.members rows situation (tasks_by who (causes_of (taken ∷ []))) (with_fact who more ahead_by) after
   world_did rows world after situation ahead_by who taken more member made ahead mine there joins members cuts latest =
       record {
         members_are = joined.joined.members;
@@ -95,35 +94,35 @@ module _ {D : Type 0} (seen : D → Image) (may_leave : D → Image → Type 0) 
             (latest ∙ ap (latest_with taken.cause) ahead.latest ∙ sym (ap (λ turn. latest_after turn situation.latest) joined.joined.turn)) each;
       }
     where
-      ahead_mine : IsMemberAhead seen may_leave honest told_of table rows world.book situation who (taken ∷ more) member
-      ahead_mine = subst (λ steps. IsMemberAhead seen may_leave honest told_of table rows world.book situation who steps member) mine (ahead.each who member there)
+      ahead_mine : IsMemberAhead view table rows world.book situation who (taken ∷ more) member
+      ahead_mine = subst (λ steps. IsMemberAhead view table rows world.book situation who steps member) mine (ahead.each who member there)
 
-      node : IsNodeAhead seen may_leave honest told_of table rows world.book who (taken ∷ more) member.node
-      node = ahead_mine.running (runs_ahead seen may_leave honest told_of table rows world.book situation who taken more member ahead_mine)
+      node : IsNodeAhead view table rows world.book who (taken ∷ more) member.node
+      node = ahead_mine.running (runs_ahead view table rows world.book situation who taken more member ahead_mine)
 
       joined : HasJoinedAt table rows world.book after.book who taken member.mail.fate made node.took.0
-      joined = joins rows node.first node.took.0 (next_step seen may_leave honest told_of table rows world.book situation who taken more member.node ahead.at node)
+      joined = joins rows node.first node.took.0 (next_step view table rows world.book situation who taken more member.node ahead.at node)
 
       here : (x : Member D) → x ≡ record member { mail = noted made (calls_for (option_to_list taken.out.delta)) member.mail }
-          → IsMemberAhead seen may_leave honest told_of table (rows ++ joined.row ∷ []) after.book (after_turn world.book.members situation joined.row) who (with_fact who more ahead_by who) x
+          → IsMemberAhead view table (rows ++ joined.row ∷ []) after.book (after_turn world.book.members situation joined.row) who (with_fact who more ahead_by who) x
       here x is =
-          subst (λ x. IsMemberAhead seen may_leave honest told_of table (rows ++ joined.row ∷ []) after.book (after_turn world.book.members situation joined.row) who (with_fact who more ahead_by who) x) (sym is)
-          (subst (λ steps. IsMemberAhead seen may_leave honest told_of table (rows ++ joined.row ∷ []) after.book (after_turn world.book.members situation joined.row) who steps
+          subst (λ x. IsMemberAhead view table (rows ++ joined.row ∷ []) after.book (after_turn world.book.members situation joined.row) who (with_fact who more ahead_by who) x) (sym is)
+          (subst (λ steps. IsMemberAhead view table (rows ++ joined.row ∷ []) after.book (after_turn world.book.members situation joined.row) who steps
           (record member { mail = noted made (calls_for (option_to_list taken.out.delta)) member.mail }))
-          (sym (fact_here who more ahead_by)) (member_did seen may_leave honest told_of table rows world.book after.book situation who taken more made member ahead.at ahead_mine node joined))
+          (sym (fact_here who more ahead_by)) (member_did view table rows world.book after.book situation who taken more made member ahead.at ahead_mine node joined))
 
       other : (k : ℕ) (x : Member D) → k ≢ who → slice_get world.members.items k ≡ Some x
-          → IsMemberAhead seen may_leave honest told_of table (rows ++ joined.row ∷ []) after.book (after_turn world.book.members situation joined.row) k (with_fact who more ahead_by k) x
+          → IsMemberAhead view table (rows ++ joined.row ∷ []) after.book (after_turn world.book.members situation joined.row) k (with_fact who more ahead_by k) x
       other k x differs found =
-          subst (λ steps. IsMemberAhead seen may_leave honest told_of table (rows ++ joined.row ∷ []) after.book (after_turn world.book.members situation joined.row) k steps x)
+          subst (λ steps. IsMemberAhead view table (rows ++ joined.row ∷ []) after.book (after_turn world.book.members situation joined.row) k steps x)
           (sym (fact_there who more ahead_by k differs))
-          (member_stays seen may_leave honest told_of table rows joined.row world.book after.book situation k (ahead_by k) x ahead.at joined.joined.members joined.joined.has
+          (member_stays view table rows joined.row world.book after.book situation k (ahead_by k) x ahead.at joined.joined.members joined.joined.has
           (leaves_other world.book.members situation joined.row k (λ same. differs (same ∙ ap turn_of joined.joined.turn))) (ahead.each k x found))
 
       each : (k : ℕ) (x : Member D) → slice_get after.members.items k ≡ Some x
-          → IsMemberAhead seen may_leave honest told_of table (rows ++ joined.row ∷ []) after.book (after_turn world.book.members situation joined.row) k (with_fact who more ahead_by k) x
+          → IsMemberAhead view table (rows ++ joined.row ∷ []) after.book (after_turn world.book.members situation joined.row) k (with_fact who more ahead_by k) x
       each k x found = elim (set_cases world.members.items who _ k x (subst (λ members. slice_get members k ≡ Some x) members found)) [
-        | inl mine ↦ subst (λ k. IsMemberAhead seen may_leave honest told_of table (rows ++ joined.row ∷ []) after.book (after_turn world.book.members situation joined.row) k (with_fact who more ahead_by k) x) (sym mine.0) (here x mine.1)
+        | inl mine ↦ subst (λ k. IsMemberAhead view table (rows ++ joined.row ∷ []) after.book (after_turn world.book.members situation joined.row) k (with_fact who more ahead_by k) x) (sym mine.0) (here x mine.1)
         | inr theirs ↦ other k x theirs.0 theirs.1
       ]
 
@@ -131,10 +130,10 @@ pub some_same : {X : Type 0} (found : Option X) (one other : X) → found ≡ So
 some_same found one other a b = cc
 
 -- a step of a replica that is ahead may become a turn
-pub may_join : {D : Type 0} (seen : D → Image) (may_leave : D → Image → Type 0) (honest : D → Type 0) (told_of : D → Option Told) (table : Table) (rows : List Row) (world : World D) (situation : Situation) (ahead_by : ℕ → List Taken)
-    (who : ℕ) (taken : Taken) (more : List Taken) (member : Member D) → IsWorldAhead seen may_leave honest told_of table rows world situation ahead_by → ahead_by who ≡ taken ∷ more
+pub may_join : {D : Type 0} (view : DiskView D) (table : Table) (rows : List Row) (world : World D) (situation : Situation) (ahead_by : ℕ → List Taken)
+    (who : ℕ) (taken : Taken) (more : List Taken) (member : Member D) → IsWorldAhead view table rows world situation ahead_by → ahead_by who ≡ taken ∷ more
     → slice_get world.members.items who ≡ Some member → MayJoin table world.book who taken
-may_join seen may_leave honest told_of table rows world situation ahead_by who taken more member ahead mine there =
-    let mine_ahead = subst (λ steps. IsMemberAhead seen may_leave honest told_of table rows world.book situation who steps member) mine (ahead.each who member there) in
-    let node = mine_ahead.running (runs_ahead seen may_leave honest told_of table rows world.book situation who taken more member mine_ahead) in
-    record { rows = rows; old = node.first; new = node.took.0; next = next_step seen may_leave honest told_of table rows world.book situation who taken more member.node ahead.at node }
+may_join view table rows world situation ahead_by who taken more member ahead mine there =
+    let mine_ahead = subst (λ steps. IsMemberAhead view table rows world.book situation who steps member) mine (ahead.each who member there) in
+    let node = mine_ahead.running (runs_ahead view table rows world.book situation who taken more member mine_ahead) in
+    record { rows = rows; old = node.first; new = node.took.0; next = next_step view table rows world.book situation who taken more member.node ahead.at node }

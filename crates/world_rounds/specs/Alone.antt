@@ -1,7 +1,6 @@
 -- A turn that is no step, and that joins a book; and a replica that starts again.
 use Rattle.std.specs.Prelude.{◌≡◌, ℕ, true, List, [], ◌∷◌, ◌++◌, None, Option}
-use Rattle.disk_model.specs.Images.{Image}
-use Rattle.disk_model.specs.Told.{Told}
+use Rattle.disk_model.specs.View.{DiskView}
 use Rattle.due_set.specs.Table.{Table}
 use Rattle.paxos_base.specs.declared.durable.Delta.{Delta}
 use Rattle.step_spec.specs.State.{started}
@@ -34,12 +33,12 @@ pub record HasJoinedAlone (table : Table) (rows : List Row) (old new : BookState
   pub letters : new.letters ≡ old.letters
 
 -- A replica of so many runs again, from what it kept while it was stopped; what is on its way to it and set for it stays.
-pub record HasStartedAgain {D : Type 0} (seen : D → Image) (may_leave : D → Image → Type 0) (honest : D → Type 0) (told_of : D → Option Told) (table : Table) (members who : ℕ) (old new : Member D) : Type 0 where
-  pub at_rest : IsNodeAtRest seen may_leave honest table new.node
-  pub trusted : honest (disk_of new.node)
-  pub reliable : IsReliable (told_of (disk_of new.node))
-  pub clean : IsNodeClean told_of new.node
-  pub area : area_of (store_of new.node) ≡ selected (seen (disk_of old.node))
+pub record HasStartedAgain {D : Type 0} (view : DiskView D) (table : Table) (members who : ℕ) (old new : Member D) : Type 0 where
+  pub at_rest : IsNodeAtRest view table new.node
+  pub trusted : view.honest (disk_of new.node)
+  pub reliable : IsReliable (view.told (disk_of new.node))
+  pub clean : IsNodeClean view new.node
+  pub area : area_of (store_of new.node) ≡ selected (view.seen (disk_of old.node))
   pub identity : (replica_of new.node).identity ≡ identity_of members who
   pub state : (replica_of new.node).state ≡ started who (replica_of old.node).state.kept
   pub runs : new.mail.runs ≡ true

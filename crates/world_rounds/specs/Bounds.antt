@@ -1,7 +1,6 @@
 -- The bounds in which letters are heard whole, and worlds within them of which something holds.
 use Rattle.std.specs.Prelude.{ℕ, ◌*◌, ◌^◌, ◌<◌, List, length, Contains, Option, None, Some, slice_get}
-use Rattle.disk_model.specs.Images.{Image}
-use Rattle.disk_model.specs.Told.{Told}
+use Rattle.disk_model.specs.View.{DiskView}
 use Rattle.due_set.specs.Table.{Table}
 use Rattle.replica_node.specs.Node.{replica_of}
 use Rattle.history.specs.Book.{Row}
@@ -24,10 +23,10 @@ pub record IsBookBounded (book : BookState) : Type 0 where
   pub letters : AreShort book.letters
 
 -- The world is within the bounds and without a fault, in a situation of which this holds.
-pub record IsFaultlessIn {D : Type 0} (seen : D → Image) (may_leave : D → Image → Type 0) (honest : D → Type 0) (told_of : D → Option Told) (table : Table) (holds : ℕ → Situation → Type 0) (world : World D) : Type 0 where
+pub record IsFaultlessIn {D : Type 0} (view : DiskView D) (table : Table) (holds : ℕ → Situation → Type 0) (world : World D) : Type 0 where
   pub rows : List Row
   pub situation : Situation
-  pub is : IsWorldAt seen may_leave honest told_of table rows world situation
+  pub is : IsWorldAt view table rows world situation
   pub faultless : IsFaultless world.book.members situation
   pub given : holds world.book.members situation
   pub bounded : IsBookBounded world.book

@@ -1,7 +1,6 @@
 -- What a replica takes that stands for leader, before its turn joins the book.
-use Rattle.std.specs.Prelude.{◌≡◌, ℕ, List, [], ◌∷◌, Option}
-use Rattle.disk_model.specs.Images.{Image}
-use Rattle.disk_model.specs.Told.{Told}
+use Rattle.std.specs.Prelude.{◌≡◌, ℕ, List, [], ◌∷◌}
+use Rattle.disk_model.specs.View.{DiskView}
 use Rattle.due_set.specs.Table.{Table}
 use Rattle.history.specs.Book.{Row}
 use Rattle.history.specs.declared.turn.Cause.TheVariants.{Campaign}
@@ -13,12 +12,12 @@ use Rattle.world_rounds.specs.World.{IsMemberAhead}
 use Rattle.world_rounds.specs.declared.member.Member.{Member}
 
 -- the replica is ahead of the book by its campaign
-pub record HasStood {D : Type 0} (seen : D → Image) (may_leave : D → Image → Type 0) (honest : D → Type 0) (told_of : D → Option Told) (table : Table) (rows : List Row) (book : BookState) (situation : Situation) (who : ℕ) (member : Member D) : Type 0 where
-  pub ahead : IsMemberAhead seen may_leave honest told_of table rows book situation who member.steps.items member
+pub record HasStood {D : Type 0} (view : DiskView D) (table : Table) (rows : List Row) (book : BookState) (situation : Situation) (who : ℕ) (member : Member D) : Type 0 where
+  pub ahead : IsMemberAhead view table rows book situation who member.steps.items member
   pub causes : causes_of member.steps.items ≡ Campaign ∷ []
 
 -- whatever rows stand behind the book
-abbrev pub TakesCampaign : {D : Type 0} → (seen : D → Image) → (may_leave : D → Image → Type 0) → (honest : D → Type 0) → (told_of : D → Option Told) → Table → BookState → (old new : Member D) → Type 0
-TakesCampaign seen may_leave honest told_of table book old new =
-    (rows : List Row) (situation : Situation) (who : ℕ) → IsMemberIdle seen may_leave honest told_of table rows book situation who old
-    → HasStood seen may_leave honest told_of table rows book situation who new
+abbrev pub TakesCampaign : {D : Type 0} → (view : DiskView D) → Table → BookState → (old new : Member D) → Type 0
+TakesCampaign view table book old new =
+    (rows : List Row) (situation : Situation) (who : ℕ) → IsMemberIdle view table rows book situation who old
+    → HasStood view table rows book situation who new

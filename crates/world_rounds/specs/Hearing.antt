@@ -1,8 +1,7 @@
 -- What a replica hears of a round beside a book, and the answer that it takes.
 use Rattle.std.specs.Prelude.{◌≡◌, ℕ, List, [], ◌∷◌, Option, None, Some, Contains, map}
+use Rattle.disk_model.specs.View.{DiskView}
 use Rattle.cluster_sched.specs.declared.row.SchedRow.{SchedRow}
-use Rattle.disk_model.specs.Images.{Image}
-use Rattle.disk_model.specs.Told.{Told}
 use Rattle.due_set.specs.Table.{Table}
 use Rattle.history.specs.Book.{Row}
 use Rattle.history.specs.declared.turn.Cause.{Cause}
@@ -14,13 +13,13 @@ use Rattle.world_steps.specs.Steps.{IsBeside, waits_in}
 use Rattle.world_steps.specs.declared.steps.Taken.{Taken}
 
 -- a node takes the answer that waits for it, where one does
-pub record MayTakeAnswer {D : Type 0} (seen : D → Image) (may_leave : D → Image → Type 0) (honest : D → Type 0) (told_of : D → Option Told) (table : Table) (rows : List Row) (book : BookState) (who : ℕ) (waits : Option SchedRow) (node : Node D) : Type 0 where
-  pub beside : IsBeside seen may_leave honest told_of table rows book who [] node
+pub record MayTakeAnswer {D : Type 0} (view : DiskView D) (table : Table) (rows : List Row) (book : BookState) (who : ℕ) (waits : Option SchedRow) (node : Node D) : Type 0 where
+  pub beside : IsBeside view table rows book who [] node
   pub waiting : waits ≡ waits_in table rows book who
 
 -- it hears letters that go to it
-pub record MayHear {D : Type 0} (seen : D → Image) (may_leave : D → Image → Type 0) (honest : D → Type 0) (told_of : D → Option Told) (table : Table) (rows : List Row) (book : BookState) (who : ℕ) (steps : List Taken) (node : Node D) (letters : List ℕ) : Type 0 where
-  pub beside : IsBeside seen may_leave honest told_of table rows book who steps node
+pub record MayHear {D : Type 0} (view : DiskView D) (table : Table) (rows : List Row) (book : BookState) (who : ℕ) (steps : List Taken) (node : Node D) (letters : List ℕ) : Type 0 where
+  pub beside : IsBeside view table rows book who steps node
   pub sent : (number : ℕ) → Contains letters number → IsSentTo book.letters who number
 
 -- an answer that waits is taken

@@ -1,7 +1,6 @@
 -- How letters join the mails of a world.
-use Rattle.std.specs.Prelude.{ℕ, List, [], ◌∷◌, ◌++◌, if◌then◌else◌, slice_get, Option}
-use Rattle.disk_model.specs.Images.{Image}
-use Rattle.disk_model.specs.Told.{Told}
+use Rattle.std.specs.Prelude.{ℕ, List, [], ◌∷◌, ◌++◌, if◌then◌else◌, slice_get}
+use Rattle.disk_model.specs.View.{DiskView}
 use Rattle.due_set.specs.Table.{Table}
 use Rattle.history.specs.Book.{Row}
 use Rattle.script_semantics.specs.Situation.{Situation, reaches}
@@ -17,7 +16,7 @@ abbrev pub arrived : ℕ → Situation → Situation
 arrived number situation = record situation { mails = λ who. situation.mails who ++ arrival_of situation number who }
 
 -- **The situation of the world changes**, and no turn is added.
-abbrev pub Changes : {D : Type 0} → (seen : D → Image) → (may_leave : D → Image → Type 0) → (honest : D → Type 0) → (told_of : D → Option Told) → (change : Situation → Situation) → (old new : World D) → Type 0
-Changes seen may_leave honest told_of change old new =
-    (table : Table) (rows : List Row) (situation : Situation) → IsWorldAt seen may_leave honest told_of table rows old situation
-    → IsWorldAt seen may_leave honest told_of table rows new (change situation)
+abbrev pub Changes : {D : Type 0} → (view : DiskView D) → (change : Situation → Situation) → (old new : World D) → Type 0
+Changes view change old new =
+    (table : Table) (rows : List Row) (situation : Situation) → IsWorldAt view table rows old situation
+    → IsWorldAt view table rows new (change situation)

@@ -4,9 +4,8 @@ use Rattle.std.specs.Option.{option_to_list}
 use Rattle.zone_minutes.specs.Window.{IsInWindow}
 use Rattle.zone_minutes.specs.declared.minute.Window.{Window}
 use Rattle.cluster_sched.specs.declared.row.SchedRow.{SchedRow}
-use Rattle.disk_model.specs.Images.{Image}
-use Rattle.disk_model.specs.Told.{Told}
 use Rattle.disk_model.specs.declared.armed.Arm.{Arm}
+use Rattle.disk_model.specs.View.{DiskView}
 use Rattle.due_set.specs.Table.{Table}
 use Rattle.paxos_base.specs.declared.durable.Delta.{Delta}
 use Rattle.history.specs.Book.{Row}
@@ -49,10 +48,10 @@ pub record MayStepFor (window : Window) (situation : Situation) (who : ℕ) (cau
   pub next : MayBeNext window situation who cause
 
 -- so it may beside a book, by some rows
-pub record MayTakeBeside {D : Type 0} (seen : D → Image) (may_leave : D → Image → Type 0) (honest : D → Type 0) (told_of : D → Option Told) (table : Table) (book : BookState) (who : ℕ) (cause : Cause) (member : Member D) : Type 0 where
+pub record MayTakeBeside {D : Type 0} (view : DiskView D) (table : Table) (book : BookState) (who : ℕ) (cause : Cause) (member : Member D) : Type 0 where
   pub rows : List Row
   pub situation : Situation
-  pub idle : IsMemberIdle seen may_leave honest told_of table rows book situation who member
+  pub idle : IsMemberIdle view table rows book situation who member
   pub may : MayStepFor table.window situation who cause
 
 -- a letter that is heard leaves the mail, as the first of it
@@ -60,33 +59,36 @@ abbrev pub letters_behind : Cause → List ℕ → List ℕ
 letters_behind (Hear number) letters = drop 1 letters
 letters_behind cause letters = letters
 
--- The disk has stopped within the step; what is set for the replica is as it was.
-pub record HasBroken {D : Type 0} (seen : D → Image) (may_leave : D → Image → Type 0) (honest : D → Type 0) (told_of : D → Option Told) (table : Table) (rows : List Row) (book : BookState) (situation : Situation) (who : ℕ) (cause : Cause) (answer : Option Delta) (old new : Member D) : Type 0 where
+-- the disk has stopped within the step, and no step waits to become a turn
+pub record HasBroken {D : Type 0} (view : DiskView D) (table : Table) (rows : List Row) (book : BookState) (situation : Situation) (who : ℕ) (cause : Cause) (answer : Option Delta) (new : Member D) : Type 0 where
   pub arm : Arm
   pub armed : armed_in (Some arm) ≡ situation.arms who
-  pub stopped : HasStopped seen may_leave honest told_of table rows book who cause arm answer new.node
-  pub mail : new.mail ≡ old.mail
+  pub stopped : HasStopped view table rows book who cause arm answer new.node
   pub none : new.steps.items ≡ []
 
 -- what came of the step: the replica is a step ahead of the book, or its disk has stopped
-abbrev pub EndsStep : {D : Type 0} → (seen : D → Image) → (may_leave : D → Image → Type 0) → (honest : D → Type 0) → (told_of : D → Option Told) → Table → List Row → BookState → Situation → (who : ℕ) → Cause → Outcome → (old new : Member D) → Type 0
-EndsStep seen may_leave honest told_of table rows book situation who cause (outcome.Taken taken) old new =
-    (taken.cause ≡ cause) × IsEnough (situation.arms who) (option_to_list taken.out.delta) × (new.steps ≡ old.steps)
-    × IsMemberAhead seen may_leave honest told_of table rows book situation who (taken ∷ []) new
-EndsStep seen may_leave honest told_of table rows book situation who cause (outcome.Stopped answer) old new =
-    HasBroken seen may_leave honest told_of table rows book situation who cause answer old new
+abbrev pub EndsStep : {D : Type 0} → DiskView D → Table → List Row → BookState → Situation → (who : ℕ) → Cause → Outcome → (new : Member D) → Type 0
+EndsStep view table rows book situation who cause (outcome.Taken taken) new =
+    (taken.cause ≡ cause) × IsEnough (situation.arms who) (option_to_list taken.out.delta) × IsMemberAhead view table rows book situation who (taken ∷ []) new
+EndsStep view table rows book situation who cause (outcome.Stopped answer) new =
+    HasBroken view table rows book situation who cause answer new
+
+-- what the step leaves as it was: the list of steps, where it was taken, and what is set for the replica, where its disk has stopped
+abbrev pub KeepsRest : {D : Type 0} → Outcome → (old new : Member D) → Type 0
+KeepsRest (outcome.Taken taken) old new = new.steps ≡ old.steps
+KeepsRest (outcome.Stopped answer) old new = new.mail ≡ old.mail
 
 -- the disk of a replica of the world has stopped within a step: all else is as before the step
-pub record MayCommitStopped {D : Type 0} (seen : D → Image) (may_leave : D → Image → Type 0) (honest : D → Type 0) (told_of : D → Option Told) (table : Table) (rows : List Row) (world : World D) (situation : Situation) (who : ℕ) (cause : Cause) (arm : Arm) (answer : Option Delta) : Type 0 where
+pub record MayCommitStopped {D : Type 0} (view : DiskView D) (table : Table) (rows : List Row) (world : World D) (situation : Situation) (who : ℕ) (cause : Cause) (arm : Arm) (answer : Option Delta) : Type 0 where
   pub before : World D
-  pub is : IsWorldAt seen may_leave honest told_of table rows before situation
+  pub is : IsWorldAt view table rows before situation
   pub may : MayStepFor table.window situation who cause
   pub armed : armed_in (Some arm) ≡ situation.arms who
   pub old : Member D
   pub there : slice_get before.members.items who ≡ Some old
   pub new : Member D
   pub members : world.members.items ≡ slice_set before.members.items who new
-  pub stopped : HasStopped seen may_leave honest told_of table rows before.book who cause arm answer new.node
+  pub stopped : HasStopped view table rows before.book who cause arm answer new.node
   pub mail : new.mail ≡ old.mail
   pub steps : new.steps.items ≡ []
   pub book : world.book ≡ before.book
@@ -101,11 +103,11 @@ goes_on (Stopped who cause kept) = false
 goes_on turn = true
 
 -- The world has taken the turn of a replica's step, and no letter of it has joined a mail yet.
-pub record HasStepped {D : Type 0} (seen : D → Image) (may_leave : D → Image → Type 0) (honest : D → Type 0) (told_of : D → Option Told) (table : Table) (members : ℕ) (rows : List Row) (situation : Situation) (who : ℕ) (cause : Cause) (goes : Bool) (new : World D) : Type 0 where
+pub record HasStepped {D : Type 0} (view : DiskView D) (table : Table) (members : ℕ) (rows : List Row) (situation : Situation) (who : ℕ) (cause : Cause) (goes : Bool) (new : World D) : Type 0 where
   pub row : Row
   pub turn : IsTurnByArm members situation (Do who cause) row
   pub goes_is : goes_on row.turn ≡ goes
-  pub at : IsWorldAt seen may_leave honest told_of table (rows ++ row ∷ []) new (after_turn members situation row)
+  pub at : IsWorldAt view table (rows ++ row ∷ []) new (after_turn members situation row)
 
 -- ---- the turns of one replica
 
@@ -122,21 +124,21 @@ LeadsOn members who situation tasks rows goes =
     → AreTurnsByArms members situation (tasks ++ more) (rows ++ rest)
 
 -- The world has taken such turns. Where the replica goes on it runs.
-pub record IsLed {D : Type 0} (seen : D → Image) (may_leave : D → Image → Type 0) (honest : D → Type 0) (told_of : D → Option Told) (table : Table) (members : ℕ) (rows : List Row) (situation : Situation) (who : ℕ) (tasks : List Task) (goes : Bool) (new : World D) : Type 0 where
+pub record IsLed {D : Type 0} (view : DiskView D) (table : Table) (members : ℕ) (rows : List Row) (situation : Situation) (who : ℕ) (tasks : List Task) (goes : Bool) (new : World D) : Type 0 where
   pub more : List Row
   pub leads : LeadsOn members who situation tasks more goes
-  pub at : IsWorldAt seen may_leave honest told_of table (rows ++ more) new (after_turns members situation more)
+  pub at : IsWorldAt view table (rows ++ more) new (after_turns members situation more)
   pub runs : goes ≡ true → (after_turns members situation more).standing.runs who ≡ true
 
 -- so it has, and where the replica goes on its mail is as it was
-pub record IsLedOn {D : Type 0} (seen : D → Image) (may_leave : D → Image → Type 0) (honest : D → Type 0) (told_of : D → Option Told) (table : Table) (members : ℕ) (rows : List Row) (situation : Situation) (who : ℕ) (tasks : List Task) (goes : Bool) (new : World D) : Type 0 where
-  pub led : IsLed seen may_leave honest told_of table members rows situation who tasks goes new
+pub record IsLedOn {D : Type 0} (view : DiskView D) (table : Table) (members : ℕ) (rows : List Row) (situation : Situation) (who : ℕ) (tasks : List Task) (goes : Bool) (new : World D) : Type 0 where
+  pub led : IsLed view table members rows situation who tasks goes new
   pub mail : goes ≡ true → (after_turns members situation led.more).mails who ≡ situation.mails who
 
 -- ---- the turns of all
 
 -- the world has taken the turns of these tasks, and no letter of them has joined a mail yet
-pub record HasPassed {D : Type 0} (seen : D → Image) (may_leave : D → Image → Type 0) (honest : D → Type 0) (told_of : D → Option Told) (table : Table) (members : ℕ) (rows : List Row) (situation : Situation) (tasks : List Task) (new : World D) : Type 0 where
+pub record HasPassed {D : Type 0} (view : DiskView D) (table : Table) (members : ℕ) (rows : List Row) (situation : Situation) (tasks : List Task) (new : World D) : Type 0 where
   pub more : List Row
   pub turns : AreTurnsByArms members situation tasks more
-  pub at : IsWorldAt seen may_leave honest told_of table (rows ++ more) new (after_turns members situation more)
+  pub at : IsWorldAt view table (rows ++ more) new (after_turns members situation more)

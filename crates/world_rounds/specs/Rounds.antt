@@ -1,8 +1,7 @@
 -- What a replica takes in a round, before its turns join the book.
-use Rattle.std.specs.Prelude.{◌≡◌, ℕ, List, [], ℤ, length, false, Some, slice_get, Option}
+use Rattle.std.specs.Prelude.{◌≡◌, ℕ, List, [], ℤ, length, false, Some, slice_get}
 use Rattle.std.specs.List.{flat_map, range_with_len}
-use Rattle.disk_model.specs.Images.{Image}
-use Rattle.disk_model.specs.Told.{Told}
+use Rattle.disk_model.specs.View.{DiskView}
 use Rattle.due_set.specs.Table.{Table}
 use Rattle.history.specs.Book.{Row}
 use Rattle.script_semantics.specs.Round.{tasks_of}
@@ -16,46 +15,46 @@ use Rattle.world_rounds.specs.declared.member.Member.{Member}
 use Rattle.world_rounds.specs.declared.world.World.{World}
 
 -- a replica beside a book at rest that has taken no step since
-pub record IsMemberIdle {D : Type 0} (seen : D → Image) (may_leave : D → Image → Type 0) (honest : D → Type 0) (told_of : D → Option Told) (table : Table) (rows : List Row) (book : BookState) (situation : Situation) (who : ℕ) (member : Member D) : Type 0 where
+pub record IsMemberIdle {D : Type 0} (view : DiskView D) (table : Table) (rows : List Row) (book : BookState) (situation : Situation) (who : ℕ) (member : Member D) : Type 0 where
   pub at : IsBookAt table rows book situation
-  pub ahead : IsMemberAhead seen may_leave honest told_of table rows book situation who [] member
+  pub ahead : IsMemberAhead view table rows book situation who [] member
   pub none : member.steps.items ≡ []
 
 -- so it is, by some rows
-pub record MayTakeRound {D : Type 0} (seen : D → Image) (may_leave : D → Image → Type 0) (honest : D → Type 0) (told_of : D → Option Told) (table : Table) (book : BookState) (member : Member D) : Type 0 where
+pub record MayTakeRound {D : Type 0} (view : DiskView D) (table : Table) (book : BookState) (member : Member D) : Type 0 where
   pub rows : List Row
   pub situation : Situation
   pub who : ℕ
-  pub idle : IsMemberIdle seen may_leave honest told_of table rows book situation who member
+  pub idle : IsMemberIdle view table rows book situation who member
 
 -- the replica has taken the steps of a round, and is ahead of the book by them
-pub record HasTakenRound {D : Type 0} (seen : D → Image) (may_leave : D → Image → Type 0) (honest : D → Type 0) (told_of : D → Option Told) (table : Table) (rows : List Row) (book : BookState) (situation : Situation) (at : ℤ) (who : ℕ) (member : Member D) : Type 0 where
-  pub ahead : IsMemberAhead seen may_leave honest told_of table rows book situation who member.steps.items member
+pub record HasTakenRound {D : Type 0} (view : DiskView D) (table : Table) (rows : List Row) (book : BookState) (situation : Situation) (at : ℤ) (who : ℕ) (member : Member D) : Type 0 where
+  pub ahead : IsMemberAhead view table rows book situation who member.steps.items member
   pub tasks : tasks_by who (causes_of member.steps.items) ≡ tasks_of table.window at situation who
 
 -- whatever rows stand behind the book
-abbrev pub TakesRound : {D : Type 0} → (seen : D → Image) → (may_leave : D → Image → Type 0) → (honest : D → Type 0) → (told_of : D → Option Told) → Table → BookState → (at : ℤ) → (old new : Member D) → Type 0
-TakesRound seen may_leave honest told_of table book at old new =
-    (rows : List Row) (situation : Situation) (who : ℕ) → IsMemberIdle seen may_leave honest told_of table rows book situation who old
-    → HasTakenRound seen may_leave honest told_of table rows book situation at who new
+abbrev pub TakesRound : {D : Type 0} → (view : DiskView D) → Table → BookState → (at : ℤ) → (old new : Member D) → Type 0
+TakesRound view table book at old new =
+    (rows : List Row) (situation : Situation) (who : ℕ) → IsMemberIdle view table rows book situation who old
+    → HasTakenRound view table rows book situation at who new
 
 -- so it does where memory was not wanting
-abbrev pub RunsRound : {D : Type 0} → (seen : D → Image) → (may_leave : D → Image → Type 0) → (honest : D → Type 0) → (told_of : D → Option Told) → Table → BookState → (at : ℤ) → (old new : Member D) → Type 0
-RunsRound seen may_leave honest told_of table book at old new = new.short ≡ false → TakesRound seen may_leave honest told_of table book at old new
+abbrev pub RunsRound : {D : Type 0} → (view : DiskView D) → Table → BookState → (at : ℤ) → (old new : Member D) → Type 0
+RunsRound view table book at old new = new.short ≡ false → TakesRound view table book at old new
 
 -- ---- all replicas
 
 -- each replica takes its steps of a round
-pub record AllTakeRounds {D : Type 0} (seen : D → Image) (may_leave : D → Image → Type 0) (honest : D → Type 0) (told_of : D → Option Told) (table : Table) (book : BookState) (at : ℤ) (old new : List (Member D)) : Type 0 where
+pub record AllTakeRounds {D : Type 0} (view : DiskView D) (table : Table) (book : BookState) (at : ℤ) (old new : List (Member D)) : Type 0 where
   pub count : length new ≡ length old
-  pub each : (who : ℕ) (one two : Member D) → slice_get old who ≡ Some one → slice_get new who ≡ Some two → TakesRound seen may_leave honest told_of table book at one two
+  pub each : (who : ℕ) (one two : Member D) → slice_get old who ≡ Some one → slice_get new who ≡ Some two → TakesRound view table book at one two
 
 -- what the steps of all replicas come to, in the order of their numbers
 abbrev pub tasks_at_hand : {D : Type 0} → World D → List Task
 tasks_at_hand world = flat_map (λ who. tasks_by who (causes_of (steps_at world who))) (range_with_len 0 (length world.members.items))
 
 -- **The world has taken the turns of all steps that its replicas have at hand.**
-pub record CommitsAll {D : Type 0} (seen : D → Image) (may_leave : D → Image → Type 0) (honest : D → Type 0) (told_of : D → Option Told) (table : Table) (old new : World D) : Type 0 where
-  pub commits : (rows : List Row) (situation : Situation) → IsAhead seen may_leave honest told_of table rows old situation
-      → HasTakenTurns seen may_leave honest told_of table (book_of old).members rows situation (tasks_at_hand old) (steps_at new) new
+pub record CommitsAll {D : Type 0} (view : DiskView D) (table : Table) (old new : World D) : Type 0 where
+  pub commits : (rows : List Row) (situation : Situation) → IsAhead view table rows old situation
+      → HasTakenTurns view table (book_of old).members rows situation (tasks_at_hand old) (steps_at new) new
   pub down : (who : ℕ) → steps_at new who ≡ []

@@ -1,8 +1,7 @@
 -- A world before any turn.
-use Rattle.std.specs.Prelude.{◌≡◌, ℕ, [], true, None, Option}
+use Rattle.std.specs.Prelude.{◌≡◌, ℕ, [], true, None}
 use Rattle.cluster_sched.specs.declared.fate.Fate.TheVariants.{Done}
 use Rattle.disk_model.specs.Images.{Image, file_of}
-use Rattle.disk_model.specs.Told.{Told}
 use Rattle.disk_model.specs.declared.fault.FileNo.{FileNo}
 use Rattle.due_set.specs.Table.{Table}
 use Rattle.launch_machine.specs.Clerk.{first_rows}
@@ -12,20 +11,21 @@ use Rattle.agreement.specs.World.{fresh}
 use Rattle.replica_node.specs.Node.{IsNodeAtRest, disk_of, replica_of}
 use Rattle.replica_node.specs.Reliable.{IsReliable}
 use Rattle.std.specs.Prelude.{pos}
+use Rattle.disk_model.specs.View.{DiskView}
 use Rattle.world_steps.specs.Nodes.{IsDiskAt}
 use Rattle.world_rounds.specs.declared.member.Member.{Member}
 
 -- The disk is honest and reliable: it is neither armed nor stopped, and can't fail. Its files are empty, whatever a stop leaves.
-pub record IsFreshDisk {D : Type 0} (may_leave : D → Image → Type 0) (honest : D → Type 0) (told_of : D → Option Told) (disk : D) : Type 0 where
-  pub trusted : honest disk
-  pub reliable : IsReliable (told_of disk)
-  pub empty : (image : Image) → may_leave disk image → (file : FileNo) → file_of file image ≡ []
+pub record IsFreshDisk {D : Type 0} (view : DiskView D) (disk : D) : Type 0 where
+  pub trusted : view.honest disk
+  pub reliable : IsReliable (view.told disk)
+  pub empty : (image : Image) → view.may_leave disk image → (file : FileNo) → file_of file image ≡ []
 
 -- a replica of so many that has done nothing yet
-pub record IsFreshMember {D : Type 0} (seen : D → Image) (may_leave : D → Image → Type 0) (honest : D → Type 0) (told_of : D → Option Told) (table : Table) (members who : ℕ) (member : Member D) : Type 0 where
-  pub at_rest : IsNodeAtRest seen may_leave honest table member.node
-  pub trusted : honest (disk_of member.node)
-  pub disk : IsDiskAt told_of 0 member.node
+pub record IsFreshMember {D : Type 0} (view : DiskView D) (table : Table) (members who : ℕ) (member : Member D) : Type 0 where
+  pub at_rest : IsNodeAtRest view table member.node
+  pub trusted : view.honest (disk_of member.node)
+  pub disk : IsDiskAt view 0 member.node
   pub identity : (replica_of member.node).identity ≡ identity_of members who
   pub state : (replica_of member.node).state ≡ started who (fresh (first_rows table))
   pub runs : member.mail.runs ≡ true

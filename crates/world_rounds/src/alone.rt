@@ -31,7 +31,8 @@ pub(crate) fn commit_alone(
     change: Option<Delta>,
 ) -> Result<(), OutOfMemory>
     requires alone { (rows : List Row) × (row : Row) × IsAlone table.now rows book.old turn change row }
-    ensures joins { OnOk result ((rows : List Row) (row : Row) → IsAlone table.now rows book.old turn change row → HasJoinedAlone table.now rows book.old book.new row) }
+    ensures joins { OnOk result ((rows : List Row) (row : Row) → IsAlone table.now rows book.old turn change row
+        → HasJoinedAlone table.now rows book.old book.new row) }
     ensures legal { OnErr result (IsLegalBook table.now book.new) }
 {
     let out = change_alone(alloc, change);
@@ -57,10 +58,10 @@ fn start_again<D: Disk>(
 ) -> Result<Member<D>, OutOfMemory>
     requires me { who < members }
     requires few { members ≤ 7 }
-    requires at_rest { IsNodeAtRest D.seen D.may_leave D.honest table.now stopped.node }
-    requires trusted { D.honest (disk_of stopped.node) }
-    requires reliable { IsReliable (D.told (disk_of stopped.node)) }
-    ensures { IfOk result (λ started. HasStartedAgain D.seen D.may_leave D.honest D.told table.now members who stopped started) }
+    requires at_rest { IsNodeAtRest D.view table.now stopped.node }
+    requires trusted { D.view.honest (disk_of stopped.node) }
+    requires reliable { IsReliable (D.view.told (disk_of stopped.node)) }
+    ensures { IfOk result (λ started. HasStartedAgain D.view table.now members who stopped started) }
 {
     let Member {
         node,
@@ -85,9 +86,9 @@ fn start_again<D: Disk>(
 impl<D: Disk> World<D> {
     // A replica stops, if it runs: it loses its mail and the answer that waits for it, and its disk isn't armed any more.
     pub(crate) fn stop(&mut self, table: &JobTable, who: u8) -> Result<(), OutOfMemory>
-        requires world { IsWorld D.seen D.may_leave D.honest D.told table.now self.old }
+        requires world { IsWorld D.view table.now self.old }
         requires member { who < length self.old.members.items }
-        ensures goes { OnOk result (GoesOnBy D.seen D.may_leave D.honest D.told table.now (IsPartOf (book_of self.old).members table.now (command.Stop who)) self.old self.new) }
+        ensures goes { OnOk result (GoesOnBy D.view table.now (IsPartOf (book_of self.old).members table.now (command.Stop who)) self.old self.new) }
         ensures members { OnOk result ((book_of self.new).members ≡ (book_of self.old).members) }
         ensures legal { OnErr result (IsLegalBook table.now (book_of self.new)) }
     {
@@ -106,9 +107,9 @@ impl<D: Disk> World<D> {
 
     // A replica that is stopped starts again with what its disk keeps.
     pub(crate) fn restart(&mut self, table: &JobTable, who: u8) -> Result<(), OutOfMemory>
-        requires world { IsWorld D.seen D.may_leave D.honest D.told table.now self.old }
+        requires world { IsWorld D.view table.now self.old }
         requires member { who < length self.old.members.items }
-        ensures goes { OnOk result (GoesOnBy D.seen D.may_leave D.honest D.told table.now (IsPartOf (book_of self.old).members table.now (command.Restart who)) self.old self.new) }
+        ensures goes { OnOk result (GoesOnBy D.view table.now (IsPartOf (book_of self.old).members table.now (command.Restart who)) self.old self.new) }
         ensures members { OnOk result ((book_of self.new).members ≡ (book_of self.old).members) }
         ensures legal { OnErr result (IsLegalBook table.now (book_of self.new)) }
     {
@@ -130,8 +131,8 @@ impl<D: Disk> World<D> {
 
     // A late call arrives, if there is one of this number that has not.
     pub(crate) fn arrive(&mut self, table: &JobTable, late: u32) -> Result<(), OutOfMemory>
-        requires world { IsWorld D.seen D.may_leave D.honest D.told table.now self.old }
-        ensures goes { OnOk result (GoesOnBy D.seen D.may_leave D.honest D.told table.now (IsPartOf (book_of self.old).members table.now (command.Arrive late)) self.old self.new) }
+        requires world { IsWorld D.view table.now self.old }
+        ensures goes { OnOk result (GoesOnBy D.view table.now (IsPartOf (book_of self.old).members table.now (command.Arrive late)) self.old self.new) }
         ensures members { OnOk result ((book_of self.new).members ≡ (book_of self.old).members) }
         ensures legal { OnErr result (IsLegalBook table.now (book_of self.new)) }
     {

@@ -63,8 +63,8 @@ fn furthest<D: Disk>(members: &[Member<D>]) -> u8
 impl<D: Disk> World<D> {
     // All that are stopped start again.
     fn restart_all(&mut self, table: &JobTable) -> Result<(), OutOfMemory>
-        requires world { IsWorld D.seen D.may_leave D.honest D.told table.now self.old }
-        ensures goes { OnOk result (GoesOnBy D.seen D.may_leave D.honest D.told table.now (RestartsAll (book_of self.old).members) self.old self.new) }
+        requires world { IsWorld D.view table.now self.old }
+        ensures goes { OnOk result (GoesOnBy D.view table.now (RestartsAll (book_of self.old).members) self.old self.new) }
         ensures members { OnOk result ((book_of self.new).members ≡ (book_of self.old).members) }
         ensures legal { OnErr result (IsLegalBook table.now (book_of self.new)) }
     {
@@ -77,7 +77,7 @@ impl<D: Disk> World<D> {
 
     // No letter waits or is lost, each clock is right, each call is answered, and no disk is armed.
     fn calm(&mut self)
-        ensures sets { Changes D.seen D.may_leave D.honest D.told calmed self.old self.new }
+        ensures sets { Changes D.view calmed self.old self.new }
         ensures book { book_of self.new ≡ book_of self.old }
     {
         self.cuts.clear();
@@ -86,8 +86,8 @@ impl<D: Disk> World<D> {
 
     // All start that are stopped, and faults end.
     pub(crate) fn start_over(&mut self, table: &JobTable) -> Result<(), OutOfMemory>
-        requires world { IsWorld D.seen D.may_leave D.honest D.told table.now self.old }
-        ensures goes { OnOk result (GoesOnBy D.seen D.may_leave D.honest D.told table.now
+        requires world { IsWorld D.view table.now self.old }
+        ensures goes { OnOk result (GoesOnBy D.view table.now
             (Plain (book_of self.old).members (restart_tasks (book_of self.old).members) calmed) self.old self.new) }
         ensures run { OnOk result (AllRun self.new) }
         ensures members { OnOk result ((book_of self.new).members ≡ (book_of self.old).members) }
@@ -100,10 +100,10 @@ impl<D: Disk> World<D> {
 
     // The replica that is to lead.
     pub(crate) fn coordinator(&self, table: &JobTable) -> u8
-        requires world { IsWorld D.seen D.may_leave D.honest D.told table.now self.now }
+        requires world { IsWorld D.view table.now self.now }
         requires run { AllRun self.now }
         requires some { 0 < (book_of self.now).members }
-        ensures is { (situation : Situation) → IsIn D.seen D.may_leave D.honest D.told table.now self.now situation → result ≡ coordinator (book_of self.now).members situation }
+        ensures is { (situation : Situation) → IsIn D.view table.now self.now situation → result ≡ coordinator (book_of self.now).members situation }
         ensures member { result < length self.now.members.items }
     {
         furthest(&self.members)

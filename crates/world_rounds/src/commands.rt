@@ -34,7 +34,7 @@ fn fate_of(word: FateWord) -> Fate
 impl<D: Disk> World<D> {
     // Letters from the one replica to the other are lost from now on.
     fn cut(&mut self, from: u8, to: u8) -> Result<(), OutOfMemory>
-        ensures sets { OnOk result (Changes D.seen D.may_leave D.honest D.told (set_by (command.Cut from to)) self.old self.new) }
+        ensures sets { OnOk result (Changes D.view (set_by (command.Cut from to)) self.old self.new) }
         ensures book { book_of self.new ≡ book_of self.old }
     {
         self.cuts.push((from, to))?;
@@ -43,7 +43,7 @@ impl<D: Disk> World<D> {
 
     // No letter is lost from now on.
     fn heal(&mut self)
-        ensures sets { Changes D.seen D.may_leave D.honest D.told (set_by command.Heal) self.old self.new }
+        ensures sets { Changes D.view (set_by command.Heal) self.old self.new }
         ensures book { book_of self.new ≡ book_of self.old }
     {
         self.cuts.clear();
@@ -53,7 +53,7 @@ impl<D: Disk> World<D> {
     fn skew(&mut self, who: u8, minutes: i64)
         requires member { who < length self.old.members.items }
         requires small { IsSkew minutes }
-        ensures sets { Changes D.seen D.may_leave D.honest D.told (set_by (command.Skew who minutes)) self.old self.new }
+        ensures sets { Changes D.view (set_by (command.Skew who minutes)) self.old self.new }
         ensures book { book_of self.new ≡ book_of self.old }
     {
         self.members[who as usize].mail.skew = minutes;
@@ -62,7 +62,7 @@ impl<D: Disk> World<D> {
     // What becomes of a replica's next call.
     fn set_fate(&mut self, who: u8, word: FateWord)
         requires member { who < length self.old.members.items }
-        ensures sets { Changes D.seen D.may_leave D.honest D.told (set_by (command.Fate who word)) self.old self.new }
+        ensures sets { Changes D.view (set_by (command.Fate who word)) self.old self.new }
         ensures book { book_of self.new ≡ book_of self.old }
     {
         self.members[who as usize].mail.fate = fate_of(word);
@@ -71,7 +71,7 @@ impl<D: Disk> World<D> {
     // The disk of a replica is armed anew, if the replica runs.
     fn arm(&mut self, who: u8, pass: u32, image: u32)
         requires member { who < length self.old.members.items }
-        ensures sets { Changes D.seen D.may_leave D.honest D.told (armed_by who pass image) self.old self.new }
+        ensures sets { Changes D.view (armed_by who pass image) self.old self.new }
         ensures book { book_of self.new ≡ book_of self.old }
     {
         let mail = &mut self.members[who as usize].mail;
@@ -82,9 +82,9 @@ impl<D: Disk> World<D> {
 
     // A replica stands for leader, if it runs, on a disk that isn't armed.
     pub(crate) fn stand(&mut self, table: &JobTable, who: u8) -> Result<(), OutOfMemory>
-        requires world { IsWorld D.seen D.may_leave D.honest D.told table.now self.old }
+        requires world { IsWorld D.view table.now self.old }
         requires member { who < length self.old.members.items }
-        ensures goes { OnOk result (GoesOnBy D.seen D.may_leave D.honest D.told table.now
+        ensures goes { OnOk result (GoesOnBy D.view table.now
             (Plain (book_of self.old).members (tasks_for (command.Campaign who)) (set_by (command.Campaign who))) self.old self.new) }
         ensures members { OnOk result ((book_of self.new).members ≡ (book_of self.old).members) }
         ensures legal { OnErr result (IsLegalBook table.now (book_of self.new)) }
@@ -114,9 +114,9 @@ impl<D: ArmedDisk + Send> World<D> {
         lanes: u8,
     ) -> Result<(), OutOfMemory>
         requires lanes { 0 < lanes }
-        requires world { IsWorld D.seen D.may_leave D.honest D.told table.now self.old }
+        requires world { IsWorld D.view table.now self.old }
         requires taken { IsTaken table.now.window (book_of self.old).members command.now }
-        ensures goes { OnOk result (GoesOnBy D.seen D.may_leave D.honest D.told table.now (IsPartOf (book_of self.old).members table.now command.now) self.old self.new) }
+        ensures goes { OnOk result (GoesOnBy D.view table.now (IsPartOf (book_of self.old).members table.now command.now) self.old self.new) }
         ensures members { OnOk result ((book_of self.new).members ≡ (book_of self.old).members) }
         ensures legal { OnErr result (IsLegalBook table.now (book_of self.new)) }
     {

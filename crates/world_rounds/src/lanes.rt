@@ -24,10 +24,10 @@ fn run_rounds<D: Disk + Send, R: Threads + Sync>(
 )
     requires lanes { 0 < lanes }
     requires inside { IsInWindow table.now.window at.0 }
-    requires may { All (MayTakeRound D.seen D.may_leave D.honest D.told table.now book.now) members.old }
+    requires may { All (MayTakeRound D.view table.now book.now) members.old }
     ensures count { length members.new ≡ length members.old }
     ensures runs { (who : ℕ) (none : Seat D) → who < length members.old
-        → RunsRound D.seen D.may_leave D.honest D.told table.now book.now at.0 (slice_index_or members.old who none) (slice_index_or members.new who none) }
+        → RunsRound D.view table.now book.now at.0 (slice_index_or members.old who none) (slice_index_or members.new who none) }
 {
     thread::for_each_mut(
         rt,
@@ -60,8 +60,8 @@ pub(crate) fn share_rounds<D: Disk + Send, R: Threads + Sync>(
 ) -> Result<(), OutOfMemory>
     requires lanes { 0 < lanes }
     requires inside { IsInWindow table.now.window at.0 }
-    requires may { (who : ℕ) (member : Seat D) → slice_get members.old who ≡ Some member → MayTakeRound D.seen D.may_leave D.honest D.told table.now book.now member }
-    ensures takes { OnOk result (AllTakeRounds D.seen D.may_leave D.honest D.told table.now book.now at.0 members.old members.new) }
+    requires may { (who : ℕ) (member : Seat D) → slice_get members.old who ≡ Some member → MayTakeRound D.view table.now book.now member }
+    ensures takes { OnOk result (AllTakeRounds D.view table.now book.now at.0 members.old members.new) }
 {
     run_rounds(rt, members, table, book, at, lanes);
     had_memory(members)

@@ -56,7 +56,7 @@ impl<D: Disk> World<D> {
     // The letters from the one replica leave the other's mail.
     pub(crate) fn drop_letters(&mut self, from: u8, to: u8)
         requires member { to < length self.old.members.items }
-        ensures sets { Changes D.seen D.may_leave D.honest D.told (set_by (command.Drop from to)) self.old self.new }
+        ensures sets { Changes D.view (set_by (command.Drop from to)) self.old self.new }
         ensures book { book_of self.new ≡ book_of self.old }
     {
         drop_from(
@@ -69,7 +69,7 @@ impl<D: Disk> World<D> {
     // Each letter from the one replica in the other's mail joins that mail once more.
     pub(crate) fn repeat_letters(&mut self, from: u8, to: u8) -> Result<(), OutOfMemory>
         requires member { to < length self.old.members.items }
-        ensures sets { OnOk result (Changes D.seen D.may_leave D.honest D.told (set_by (command.Repeat from to)) self.old self.new) }
+        ensures sets { OnOk result (Changes D.view (set_by (command.Repeat from to)) self.old self.new) }
         ensures book { book_of self.new ≡ book_of self.old }
     {
         let mail = &mut self.members[to as usize].mail.letters;
@@ -81,7 +81,7 @@ impl<D: Disk> World<D> {
     // A replica's mail is in the opposite order.
     pub(crate) fn reverse_letters(&mut self, who: u8)
         requires member { who < length self.old.members.items }
-        ensures sets { Changes D.seen D.may_leave D.honest D.told (set_by (command.Reverse who)) self.old self.new }
+        ensures sets { Changes D.view (set_by (command.Reverse who)) self.old self.new }
         ensures book { book_of self.new ≡ book_of self.old }
     {
         self.members[who as usize].mail.letters.reverse();
@@ -89,8 +89,8 @@ impl<D: Disk> World<D> {
 
     // A letter joins its addressee's mail once more, where there is such a letter and its addressee runs.
     pub(crate) fn send_again(&mut self, number: u32) -> Result<(), OutOfMemory>
-        requires world { (table : Table) × IsWorld D.seen D.may_leave D.honest D.told table self.old }
-        ensures sets { OnOk result (Changes D.seen D.may_leave D.honest D.told (set_by (command.Again number)) self.old self.new) }
+        requires world { (table : Table) × IsWorld D.view table self.old }
+        ensures sets { OnOk result (Changes D.view (set_by (command.Again number)) self.old self.new) }
         ensures book { book_of self.new ≡ book_of self.old }
     {
         if number as usize >= self.book.letters().len() {

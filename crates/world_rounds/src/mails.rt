@@ -13,9 +13,9 @@ use world_steps::{is_cut, letter_at};
 impl<D: Disk> World<D> {
     // The letter of a number joins the mail of its addressee, where that runs and the letter isn't lost.
     fn deliver_one(&mut self, number: u64) -> Result<(), OutOfMemory>
-        requires world { (table : Table) × IsWorld D.seen D.may_leave D.honest D.told table self.old }
+        requires world { (table : Table) × IsWorld D.view table self.old }
         requires there { number < length (book_of self.old).letters }
-        ensures arrives { OnOk result (Changes D.seen D.may_leave D.honest D.told (arrived number) self.old self.new) }
+        ensures arrives { OnOk result (Changes D.view (arrived number) self.old self.new) }
         ensures book { book_of self.new ≡ book_of self.old }
     {
         let letter = letter_at(&self.book, number);
@@ -32,8 +32,8 @@ impl<D: Disk> World<D> {
 
     // The letters from a number on join the mails.
     pub(crate) fn deliver(&mut self, first: u64) -> Result<(), OutOfMemory>
-        requires world { (table : Table) × IsWorld D.seen D.may_leave D.honest D.told table self.old }
-        ensures delivers { OnOk result (Changes D.seen D.may_leave D.honest D.told (delivered first) self.old self.new) }
+        requires world { (table : Table) × IsWorld D.view table self.old }
+        ensures delivers { OnOk result (Changes D.view (delivered first) self.old self.new) }
         ensures book { book_of self.new ≡ book_of self.old }
     {
         'numbers: for number in first..self.book.letters().len() as u64 {

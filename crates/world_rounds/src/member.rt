@@ -38,8 +38,8 @@ impl<D: Disk> Member<D> {
     // It stands for leader.
     pub(crate) fn take_campaign(&mut self, table: &JobTable, book: &Book) -> Result<(), OutOfMemory>
         requires runs { self.old.mail.runs ≡ true }
-        requires may { MayTakeRound D.seen D.may_leave D.honest D.told table.now book.now self.old }
-        ensures takes { OnOk result (TakesCampaign D.seen D.may_leave D.honest D.told table.now book.now self.old self.new) }
+        requires may { MayTakeRound D.view table.now book.now self.old }
+        ensures takes { OnOk result (TakesCampaign D.view table.now book.now self.old self.new) }
     {
         keep_step(
             &mut self.node,
@@ -60,8 +60,8 @@ impl<D: Disk> Member<D> {
         at: Minute,
     ) -> Result<(), OutOfMemory>
         requires inside { IsInWindow table.now.window at.0 }
-        requires may { MayTakeRound D.seen D.may_leave D.honest D.told table.now book.now self.old }
-        ensures takes { OnOk result (TakesRound D.seen D.may_leave D.honest D.told table.now book.now at.0 self.old self.new) }
+        requires may { MayTakeRound D.view table.now book.now self.old }
+        ensures takes { OnOk result (TakesRound D.view table.now book.now at.0 self.old self.new) }
     {
         if !self.mail.runs {
             return Ok(());
@@ -96,8 +96,8 @@ impl<D: Disk> Member<D> {
     // Takes its steps of a round, and notes whether want of memory ends them.
     pub(crate) fn run_round(&mut self, table: &JobTable, book: &Book, at: Minute)
         requires inside { IsInWindow table.now.window at.0 }
-        requires may { MayTakeRound D.seen D.may_leave D.honest D.told table.now book.now self.old }
-        ensures runs { RunsRound D.seen D.may_leave D.honest D.told table.now book.now at.0 self.old self.new }
+        requires may { MayTakeRound D.view table.now book.now self.old }
+        ensures runs { RunsRound D.view table.now book.now at.0 self.old self.new }
     {
         match self.take_round(table, book, at) {
             Ok(()) => self.short = false,

@@ -12,7 +12,7 @@ ghost use Rattle.script_semantics.specs.Situation.{Do, Situation};
 ghost use Rattle.script_text.specs.declared.command.Command.TheVariants as command;
 ghost use Rattle.world_law.specs.Book.{IsLegalBook};
 ghost use Rattle.world_steps.specs.Steps.{IsToldOf};
-ghost use Rattle.world_rounds.specs.OneByOne.{CanTell, EndsStep, HasPassed, HasStepped, IsLed, IsLedOn, MayCommitStopped, MayStepFor, MayTakeBeside, letters_behind};
+ghost use Rattle.world_rounds.specs.OneByOne.{CanTell, EndsStep, HasPassed, HasStepped, IsLed, IsLedOn, KeepsRest, MayCommitStopped, MayStepFor, MayTakeBeside, letters_behind};
 ghost use Rattle.world_rounds.specs.Rounds.{IsMemberIdle};
 ghost use Rattle.world_rounds.specs.World.{GoesOnBy, IsWorld, IsWorldAt, book_of};
 ghost use Rattle.world_rounds.specs.declared.member.Member.{Member as Seat};
@@ -81,10 +81,11 @@ impl<D: ArmedDisk> Member<D> {
     ) -> Result<Outcome, OutOfMemory>
         requires members { members ≡ book.now.members }
         requires member { who < members }
-        requires may { MayTakeBeside D.seen D.may_leave D.honest D.told table.now book.now who cause self.old }
+        requires may { MayTakeBeside D.view table.now book.now who cause self.old }
         ensures ends { IfOk result (λ ended. (rows : List Row) (situation : Situation)
-            → IsMemberIdle D.seen D.may_leave D.honest D.told table.now rows book.now situation who self.old → MayStepFor table.now.window situation who cause
-            → EndsStep D.seen D.may_leave D.honest D.told table.now rows book.now situation who cause ended self.old self.new) }
+            → IsMemberIdle D.view table.now rows book.now situation who self.old → MayStepFor table.now.window situation who cause
+            → EndsStep D.view table.now rows book.now situation who cause ended self.new) }
+        ensures rest { IfOk result (λ ended. KeepsRest ended self.old self.new) }
     {
         let input = input_for(book, self.mail.waits, cause);
         let ended = take_by_arm(
@@ -118,10 +119,11 @@ impl<D: ArmedDisk> World<D> {
         change: Option<Delta>,
     ) -> Result<(), OutOfMemory>
         requires may { (rows : List Row) × (situation : Situation) × (arm : Arm)
-            × MayCommitStopped D.seen D.may_leave D.honest D.told table.now rows self.old situation who cause arm change }
+            × MayCommitStopped D.view table.now rows self.old situation who cause arm change }
         requires member { who < length self.old.members.items }
-        ensures stops { OnOk result ((rows : List Row) (situation : Situation) (arm : Arm) → MayCommitStopped D.seen D.may_leave D.honest D.told table.now rows self.old situation who cause arm change
-            → HasStepped D.seen D.may_leave D.honest D.told table.now (book_of self.old).members rows situation who cause false self.new) }
+        ensures stops { OnOk result ((rows : List Row) (situation : Situation) (arm : Arm)
+            → MayCommitStopped D.view table.now rows self.old situation who cause arm change
+            → HasStepped D.view table.now (book_of self.old).members rows situation who cause false self.new) }
         ensures members { OnOk result ((book_of self.new).members ≡ (book_of self.old).members) }
         ensures legal { OnErr result (IsLegalBook table.now (book_of self.new)) }
     {
@@ -138,12 +140,12 @@ impl<D: ArmedDisk> World<D> {
 
     // A replica takes its step for a cause, and its turn joins the book. Whether the replica goes on.
     fn step_next(&mut self, table: &JobTable, who: u8, cause: Cause) -> Result<bool, OutOfMemory>
-        requires may { (rows : List Row) × (situation : Situation) × IsWorldAt D.seen D.may_leave D.honest D.told table.now rows self.old situation
+        requires may { (rows : List Row) × (situation : Situation) × IsWorldAt D.view table.now rows self.old situation
             × MayStepFor table.now.window situation who cause }
         requires member { who < length self.old.members.items }
-        ensures steps { IfOk result (λ goes. (rows : List Row) (situation : Situation) → IsWorldAt D.seen D.may_leave D.honest D.told table.now rows self.old situation
+        ensures steps { IfOk result (λ goes. (rows : List Row) (situation : Situation) → IsWorldAt D.view table.now rows self.old situation
             → MayStepFor table.now.window situation who cause
-            → HasStepped D.seen D.may_leave D.honest D.told table.now (book_of self.old).members rows situation who cause goes self.new) }
+            → HasStepped D.view table.now (book_of self.old).members rows situation who cause goes self.new) }
         ensures members { OnOk result ((book_of self.new).members ≡ (book_of self.old).members) }
         ensures legal { OnErr result (IsLegalBook table.now (book_of self.new)) }
     {
@@ -163,11 +165,11 @@ impl<D: ArmedDisk> World<D> {
 
     // A replica that runs takes the answer that waits for it, where one does. Whether it goes on.
     fn answer_next(&mut self, table: &JobTable, who: u8) -> Result<bool, OutOfMemory>
-        requires world { IsWorld D.seen D.may_leave D.honest D.told table.now self.old }
+        requires world { IsWorld D.view table.now self.old }
         requires member { who < length self.old.members.items }
         requires runs { (member : Seat D) → slice_get self.old.members.items who ≡ Some member → member.mail.runs ≡ true }
-        ensures led { IfOk result (λ goes. (rows : List Row) (situation : Situation) → IsWorldAt D.seen D.may_leave D.honest D.told table.now rows self.old situation
-            → IsLedOn D.seen D.may_leave D.honest D.told table.now (book_of self.old).members rows situation who (answer_tasks who (situation.standing.waits who)) goes self.new) }
+        ensures led { IfOk result (λ goes. (rows : List Row) (situation : Situation) → IsWorldAt D.view table.now rows self.old situation
+            → IsLedOn D.view table.now (book_of self.old).members rows situation who (answer_tasks who (situation.standing.waits who)) goes self.new) }
         ensures members { OnOk result ((book_of self.new).members ≡ (book_of self.old).members) }
         ensures legal { OnErr result (IsLegalBook table.now (book_of self.new)) }
     {
@@ -179,11 +181,11 @@ impl<D: ArmedDisk> World<D> {
 
     // A replica that runs hears the letters of its mail, one after another. Whether it goes on.
     fn hear_next(&mut self, table: &JobTable, who: u8) -> Result<bool, OutOfMemory>
-        requires world { IsWorld D.seen D.may_leave D.honest D.told table.now self.old }
+        requires world { IsWorld D.view table.now self.old }
         requires member { who < length self.old.members.items }
         requires runs { (member : Seat D) → slice_get self.old.members.items who ≡ Some member → member.mail.runs ≡ true }
-        ensures led { IfOk result (λ goes. (rows : List Row) (situation : Situation) → IsWorldAt D.seen D.may_leave D.honest D.told table.now rows self.old situation
-            → IsLed D.seen D.may_leave D.honest D.told table.now (book_of self.old).members rows situation who (hear_tasks who (situation.mails who)) goes self.new) }
+        ensures led { IfOk result (λ goes. (rows : List Row) (situation : Situation) → IsWorldAt D.view table.now rows self.old situation
+            → IsLed D.view table.now (book_of self.old).members rows situation who (hear_tasks who (situation.mails who)) goes self.new) }
         ensures members { OnOk result ((book_of self.new).members ≡ (book_of self.old).members) }
         ensures legal { OnErr result (IsLegalBook table.now (book_of self.new)) }
     {
@@ -199,12 +201,12 @@ impl<D: ArmedDisk> World<D> {
 
     // The clock of a replica that runs ticks.
     fn tick_next(&mut self, table: &JobTable, who: u8, at: Minute) -> Result<bool, OutOfMemory>
-        requires world { IsWorld D.seen D.may_leave D.honest D.told table.now self.old }
+        requires world { IsWorld D.view table.now self.old }
         requires inside { IsInWindow table.now.window at.0 }
         requires member { who < length self.old.members.items }
         requires runs { (member : Seat D) → slice_get self.old.members.items who ≡ Some member → member.mail.runs ≡ true }
-        ensures led { IfOk result (λ goes. (rows : List Row) (situation : Situation) → IsWorldAt D.seen D.may_leave D.honest D.told table.now rows self.old situation
-            → IsLed D.seen D.may_leave D.honest D.told table.now (book_of self.old).members rows situation who
+        ensures led { IfOk result (λ goes. (rows : List Row) (situation : Situation) → IsWorldAt D.view table.now rows self.old situation
+            → IsLed D.view table.now (book_of self.old).members rows situation who
             (Do who (because.Tick (clock_reading table.now.window at.0 (situation.skews who))) ∷ []) goes self.new) }
         ensures members { OnOk result ((book_of self.new).members ≡ (book_of self.old).members) }
         ensures legal { OnErr result (IsLegalBook table.now (book_of self.new)) }
@@ -215,11 +217,11 @@ impl<D: ArmedDisk> World<D> {
 
     // A replica takes what a round has for it, as far as it goes on.
     fn round_of(&mut self, table: &JobTable, who: u8, at: Minute) -> Result<(), OutOfMemory>
-        requires world { IsWorld D.seen D.may_leave D.honest D.told table.now self.old }
+        requires world { IsWorld D.view table.now self.old }
         requires inside { IsInWindow table.now.window at.0 }
         requires member { who < length self.old.members.items }
-        ensures passes { OnOk result ((rows : List Row) (situation : Situation) → IsWorldAt D.seen D.may_leave D.honest D.told table.now rows self.old situation
-            → HasPassed D.seen D.may_leave D.honest D.told table.now (book_of self.old).members rows situation (tasks_of table.now.window at.0 situation who) self.new) }
+        ensures passes { OnOk result ((rows : List Row) (situation : Situation) → IsWorldAt D.view table.now rows self.old situation
+            → HasPassed D.view table.now (book_of self.old).members rows situation (tasks_of table.now.window at.0 situation who) self.new) }
         ensures members { OnOk result ((book_of self.new).members ≡ (book_of self.old).members) }
         ensures legal { OnErr result (IsLegalBook table.now (book_of self.new)) }
     {
@@ -242,9 +244,9 @@ impl<D: ArmedDisk> World<D> {
         table: &JobTable,
         at: Minute,
     ) -> Result<(), OutOfMemory>
-        requires world { IsWorld D.seen D.may_leave D.honest D.told table.now self.old }
+        requires world { IsWorld D.view table.now self.old }
         requires inside { IsInWindow table.now.window at.0 }
-        ensures goes { OnOk result (GoesOnBy D.seen D.may_leave D.honest D.told table.now
+        ensures goes { OnOk result (GoesOnBy D.view table.now
             (PlaysByArms (book_of self.old).members (round_tasks (book_of self.old).members table.now.window at.0)) self.old self.new) }
         ensures members { OnOk result ((book_of self.new).members ≡ (book_of self.old).members) }
         ensures legal { OnErr result (IsLegalBook table.now (book_of self.new)) }
@@ -260,9 +262,9 @@ impl<D: ArmedDisk> World<D> {
 
     // A replica stands for leader, if it runs.
     pub(crate) fn campaign(&mut self, table: &JobTable, who: u8) -> Result<(), OutOfMemory>
-        requires world { IsWorld D.seen D.may_leave D.honest D.told table.now self.old }
+        requires world { IsWorld D.view table.now self.old }
         requires member { who < length self.old.members.items }
-        ensures goes { OnOk result (GoesOnBy D.seen D.may_leave D.honest D.told table.now (IsPartOf (book_of self.old).members table.now (command.Campaign who)) self.old self.new) }
+        ensures goes { OnOk result (GoesOnBy D.view table.now (IsPartOf (book_of self.old).members table.now (command.Campaign who)) self.old self.new) }
         ensures members { OnOk result ((book_of self.new).members ≡ (book_of self.old).members) }
         ensures legal { OnErr result (IsLegalBook table.now (book_of self.new)) }
     {

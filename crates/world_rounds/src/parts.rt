@@ -20,9 +20,9 @@ pub type Parts<D> = Bundle<Node<D>, MemberRoom<D>>;
 impl<D: Disk> World<D> {
     /// Its parts: what it has, as it stands. It takes no memory.
     pub fn take_parts(self) -> Parts<D>
-        requires world { (table : Table) × IsWorld D.seen D.may_leave D.honest D.told table self }
-        ensures parts { (table : Table) (rows : List Row) (situation : Situation) → IsWorldAt D.seen D.may_leave D.honest D.told table rows self situation
-            → ArePartsAt D.seen D.may_leave D.honest D.told table rows result situation }
+        requires world { (table : Table) × IsWorld D.view table self }
+        ensures parts { (table : Table) (rows : List Row) (situation : Situation) → IsWorldAt D.view table rows self situation
+            → ArePartsAt D.view table rows result situation }
         ensures book { result.book ≡ book_of self }
         ensures replicas { AreNodesAndMails (members_of self) result.nodes.items result.mail.members.items }
         ensures cuts { result.mail.cuts.items ≡ cuts_of self }
@@ -54,11 +54,11 @@ impl<D: Disk> World<D> {
     /// A world of these parts. They are those of a world, as [`World::take_parts`] gives them: their lists have room for seven
     /// replicas, and the room for as many as the book has is the one that came with them. It takes no memory.
     pub fn from_parts(parts: Parts<D>) -> World<D>
-        requires parts { (table : Table) × AreParts D.seen D.may_leave D.honest D.told table parts }
+        requires parts { (table : Table) × AreParts D.view table parts }
         requires lists { HasListRoom parts }
         requires room { IsRoomFor parts.book.members parts.room }
-        ensures world { (table : Table) (rows : List Row) (situation : Situation) → ArePartsAt D.seen D.may_leave D.honest D.told table rows parts situation
-            → IsWorldAt D.seen D.may_leave D.honest D.told table rows result situation }
+        ensures world { (table : Table) (rows : List Row) (situation : Situation) → ArePartsAt D.view table rows parts situation
+            → IsWorldAt D.view table rows result situation }
         ensures book { book_of result ≡ parts.book }
         ensures replicas { AreNodesAndMails (members_of result) parts.nodes.items parts.mail.members.items }
         ensures cuts { cuts_of result ≡ parts.mail.cuts.items }

@@ -72,32 +72,32 @@ fn are_level<D: Disk>(members: &[Member<D>], prefix: u64) -> bool
 impl<D: Disk> World<D> {
     // Whether the launch table of a replica asks for nothing at an instant.
     pub(crate) fn asks_nothing(&self, table: &JobTable, who: u8, at: Minute) -> bool
-        requires world { IsWorld D.seen D.may_leave D.honest D.told table.now self.now }
+        requires world { IsWorld D.view table.now self.now }
         requires run { AllRun self.now }
         requires member { who < length self.now.members.items }
         requires inside { IsInWindow table.now.window at.0 }
-        ensures { AnswersFor D.seen D.may_leave D.honest D.told table.now (λ situation. AsksNothing table.now at.0 (situation.standing.replicas who)) self.now result }
+        ensures { AnswersFor D.view table.now (λ situation. AsksNothing table.now at.0 (situation.standing.replicas who)) self.now result }
     {
         asks_nothing(self.members[who as usize].node.replica(), table, at)
     }
 
     // Whether a replica follows.
     pub(crate) fn follows(&self, table: &JobTable, who: u8) -> bool
-        requires world { IsWorld D.seen D.may_leave D.honest D.told table.now self.now }
+        requires world { IsWorld D.view table.now self.now }
         requires run { AllRun self.now }
         requires member { who < length self.now.members.items }
-        ensures { AnswersFor D.seen D.may_leave D.honest D.told table.now (λ situation. IsFollower (situation.standing.replicas who).term) self.now result }
+        ensures { AnswersFor D.view table.now (λ situation. IsFollower (situation.standing.replicas who).term) self.now result }
     {
         is_follower(self.members[who as usize].node.replica().term())
     }
 
     // Whether a replica leads and has nothing left to do at an instant.
     pub(crate) fn rests(&self, table: &JobTable, who: u8, at: Minute) -> bool
-        requires world { IsWorld D.seen D.may_leave D.honest D.told table.now self.now }
+        requires world { IsWorld D.view table.now self.now }
         requires run { AllRun self.now }
         requires member { who < length self.now.members.items }
         requires inside { IsInWindow table.now.window at.0 }
-        ensures { AnswersFor D.seen D.may_leave D.honest D.told table.now (IsAtRest table.now who at.0) self.now result }
+        ensures { AnswersFor D.view table.now (IsAtRest table.now who at.0) self.now result }
     {
         let member = &self.members[who as usize];
         if member.mail.waits.is_some() {
@@ -112,11 +112,11 @@ impl<D: Disk> World<D> {
 
     // Whether it is quiet: the replica leads and has nothing left to do, and all have learned as much.
     pub(crate) fn is_quiet(&self, table: &JobTable, who: u8, at: Minute) -> bool
-        requires world { IsWorld D.seen D.may_leave D.honest D.told table.now self.now }
+        requires world { IsWorld D.view table.now self.now }
         requires run { AllRun self.now }
         requires member { who < length self.now.members.items }
         requires inside { IsInWindow table.now.window at.0 }
-        ensures { AnswersFor D.seen D.may_leave D.honest D.told table.now (IsQuiet (book_of self.now).members table.now who at.0) self.now result }
+        ensures { AnswersFor D.view table.now (IsQuiet (book_of self.now).members table.now who at.0) self.now result }
     {
         let prefix = self.members[who as usize].prefix();
         self.rests(table, who, at) && are_level(&self.members, prefix)

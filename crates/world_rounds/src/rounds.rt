@@ -27,8 +27,8 @@ fn take_rounds<D: Disk>(
     at: Minute,
 ) -> Result<(), OutOfMemory>
     requires inside { IsInWindow table.now.window at.0 }
-    requires may { (who : ℕ) (member : Seat D) → slice_get members.old who ≡ Some member → MayTakeRound D.seen D.may_leave D.honest D.told table.now book.now member }
-    ensures takes { OnOk result (AllTakeRounds D.seen D.may_leave D.honest D.told table.now book.now at.0 members.old members.new) }
+    requires may { (who : ℕ) (member : Seat D) → slice_get members.old who ≡ Some member → MayTakeRound D.view table.now book.now member }
+    ensures takes { OnOk result (AllTakeRounds D.view table.now book.now at.0 members.old members.new) }
 {
     'members: for member in members {
         member.take_round(table, book, at)?;
@@ -39,8 +39,8 @@ fn take_rounds<D: Disk>(
 impl<D: Disk> World<D> {
     // The turns of the steps that the replicas have taken join the book, in the order of their numbers.
     fn commit_all(&mut self, table: &JobTable) -> Result<(), OutOfMemory>
-        requires may { MayCommitOwn D.seen D.may_leave D.honest D.told table.now self.old }
-        ensures commits { OnOk result (CommitsAll D.seen D.may_leave D.honest D.told table.now self.old self.new) }
+        requires may { MayCommitOwn D.view table.now self.old }
+        ensures commits { OnOk result (CommitsAll D.view table.now self.old self.new) }
         ensures legal { OnErr result (IsLegalBook table.now (book_of self.new)) }
     {
         let members = self.members.len() as u8;
@@ -52,9 +52,9 @@ impl<D: Disk> World<D> {
 
     // A round at an instant.
     pub(crate) fn round_once(&mut self, table: &JobTable, at: Minute) -> Result<(), OutOfMemory>
-        requires world { IsWorld D.seen D.may_leave D.honest D.told table.now self.old }
+        requires world { IsWorld D.view table.now self.old }
         requires inside { IsInWindow table.now.window at.0 }
-        ensures goes { OnOk result (GoesOnBy D.seen D.may_leave D.honest D.told table.now (IsRound (book_of self.old).members table.now.window at.0) self.old self.new) }
+        ensures goes { OnOk result (GoesOnBy D.view table.now (IsRound (book_of self.old).members table.now.window at.0) self.old self.new) }
         ensures members { OnOk result ((book_of self.new).members ≡ (book_of self.old).members) }
         ensures legal { OnErr result (IsLegalBook table.now (book_of self.new)) }
     {
@@ -76,9 +76,9 @@ impl<D: ArmedDisk + Send> World<D> {
         lanes: u8,
     ) -> Result<(), OutOfMemory>
         requires lanes { 0 < lanes }
-        requires world { IsWorld D.seen D.may_leave D.honest D.told table.now self.old }
+        requires world { IsWorld D.view table.now self.old }
         requires inside { IsInWindow table.now.window at.0 }
-        ensures goes { OnOk result (GoesOnBy D.seen D.may_leave D.honest D.told table.now (IsRound (book_of self.old).members table.now.window at.0) self.old self.new) }
+        ensures goes { OnOk result (GoesOnBy D.view table.now (IsRound (book_of self.old).members table.now.window at.0) self.old self.new) }
         ensures members { OnOk result ((book_of self.new).members ≡ (book_of self.old).members) }
         ensures legal { OnErr result (IsLegalBook table.now (book_of self.new)) }
     {
@@ -98,9 +98,9 @@ impl<D: ArmedDisk + Send> World<D> {
         lanes: u8,
     ) -> Result<(), OutOfMemory>
         requires lanes { 0 < lanes }
-        requires world { IsWorld D.seen D.may_leave D.honest D.told table.now self.old }
+        requires world { IsWorld D.view table.now self.old }
         requires inside { IsInWindow table.now.window at.0 }
-        ensures goes { OnOk result (GoesOnBy D.seen D.may_leave D.honest D.told table.now
+        ensures goes { OnOk result (GoesOnBy D.view table.now
             (PlaysByArms (book_of self.old).members (round_tasks (book_of self.old).members table.now.window at.0)) self.old self.new) }
         ensures members { OnOk result ((book_of self.new).members ≡ (book_of self.old).members) }
         ensures legal { OnErr result (IsLegalBook table.now (book_of self.new)) }
@@ -123,9 +123,9 @@ impl<D: ArmedDisk + Send> World<D> {
         lanes: u8,
     ) -> Result<(), OutOfMemory>
         requires lanes { 0 < lanes }
-        requires world { IsWorld D.seen D.may_leave D.honest D.told table.now self.old }
+        requires world { IsWorld D.view table.now self.old }
         requires inside { IsInWindow table.now.window at.0 }
-        ensures goes { OnOk result (GoesOnBy D.seen D.may_leave D.honest D.told table.now (AreRoundsByArms (book_of self.old).members table.now.window at.0 rounds) self.old self.new) }
+        ensures goes { OnOk result (GoesOnBy D.view table.now (AreRoundsByArms (book_of self.old).members table.now.window at.0 rounds) self.old self.new) }
         ensures members { OnOk result ((book_of self.new).members ≡ (book_of self.old).members) }
         ensures legal { OnErr result (IsLegalBook table.now (book_of self.new)) }
     {

@@ -22,10 +22,10 @@ use zone_minutes::Minute;
 impl<D: Disk> World<D> {
     // The replica stands for leader.
     fn lead(&mut self, table: &JobTable, who: u8) -> Result<(), OutOfMemory>
-        requires world { IsWorld D.seen D.may_leave D.honest D.told table.now self.old }
+        requires world { IsWorld D.view table.now self.old }
         requires run { AllRun self.old }
         requires member { who < length self.old.members.items }
-        ensures goes { OnOk result (GoesOnBy D.seen D.may_leave D.honest D.told table.now (Plays (book_of self.old).members (λ situation. Do who Campaign ∷ [])) self.old self.new) }
+        ensures goes { OnOk result (GoesOnBy D.view table.now (Plays (book_of self.old).members (λ situation. Do who Campaign ∷ [])) self.old self.new) }
         ensures run { OnOk result (AllRun self.new) }
         ensures members { OnOk result ((book_of self.new).members ≡ (book_of self.old).members) }
         ensures legal { OnErr result (IsLegalBook table.now (book_of self.new)) }
@@ -35,11 +35,11 @@ impl<D: Disk> World<D> {
 
     // The replica stands for leader where it follows, and a round comes after that.
     fn lead_round(&mut self, table: &JobTable, who: u8, at: Minute) -> Result<(), OutOfMemory>
-        requires world { IsWorld D.seen D.may_leave D.honest D.told table.now self.old }
+        requires world { IsWorld D.view table.now self.old }
         requires run { AllRun self.old }
         requires member { who < length self.old.members.items }
         requires inside { IsInWindow table.now.window at.0 }
-        ensures goes { OnOk result (GoesOnBy D.seen D.may_leave D.honest D.told table.now (IsDrainRound (book_of self.old).members table.now who at.0) self.old self.new) }
+        ensures goes { OnOk result (GoesOnBy D.view table.now (IsDrainRound (book_of self.old).members table.now who at.0) self.old self.new) }
         ensures members { OnOk result ((book_of self.new).members ≡ (book_of self.old).members) }
         ensures legal { OnErr result (IsLegalBook table.now (book_of self.new)) }
     {
@@ -51,12 +51,12 @@ impl<D: Disk> World<D> {
 
     // A round of a drain, within the bounds in which letters are heard whole.
     fn drain_round(&mut self, table: &JobTable, who: u8, at: Minute) -> Result<(), OutOfMemory>
-        requires world { IsWorld D.seen D.may_leave D.honest D.told table.now self.old }
+        requires world { IsWorld D.view table.now self.old }
         requires bounded { IsBookBounded (book_of self.old) }
         requires run { AllRun self.old }
         requires member { who < length self.old.members.items }
         requires inside { IsInWindow table.now.window at.0 }
-        ensures goes { OnOk result (GoesOnBy D.seen D.may_leave D.honest D.told table.now (IsDrainRound (book_of self.old).members table.now who at.0) self.old self.new) }
+        ensures goes { OnOk result (GoesOnBy D.view table.now (IsDrainRound (book_of self.old).members table.now who at.0) self.old self.new) }
         ensures bounded { OnOk result (IsBookBounded (book_of self.new)) }
         ensures run { OnOk result (AllRun self.new) }
         ensures members { OnOk result ((book_of self.new).members ≡ (book_of self.old).members) }
@@ -69,12 +69,12 @@ impl<D: Disk> World<D> {
 
     // Rounds of a drain until one leads, four at most.
     fn drain_until_led(&mut self, table: &JobTable, who: u8, at: Minute) -> Result<(), OutOfMemory>
-        requires given { IsFaultlessIn D.seen D.may_leave D.honest D.told table.now (λ members situation. LeadsSoon 4 members table.now who situation) self.old }
+        requires given { IsFaultlessIn D.view table.now (λ members situation. LeadsSoon 4 members table.now who situation) self.old }
         requires run { AllRun self.old }
         requires member { who < length self.old.members.items }
         requires inside { IsInWindow table.now.window at.0 }
-        ensures goes { OnOk result (GoesOnBy D.seen D.may_leave D.honest D.told table.now (DrainsOn (book_of self.old).members table.now who at.0) self.old self.new) }
-        ensures given { OnOk result (IsFaultlessIn D.seen D.may_leave D.honest D.told table.now (λ members situation. LeadsNow members table.now who situation) self.new) }
+        ensures goes { OnOk result (GoesOnBy D.view table.now (DrainsOn (book_of self.old).members table.now who at.0) self.old self.new) }
+        ensures given { OnOk result (IsFaultlessIn D.view table.now (λ members situation. LeadsNow members table.now who situation) self.new) }
         ensures run { OnOk result (AllRun self.new) }
         ensures members { OnOk result ((book_of self.new).members ≡ (book_of self.old).members) }
         ensures legal { OnErr result (IsLegalBook table.now (book_of self.new)) }
@@ -90,12 +90,12 @@ impl<D: Disk> World<D> {
 
     // Rounds of a drain until the one that leads is at rest.
     fn drain_until_rest(&mut self, table: &JobTable, who: u8, at: Minute) -> Result<(), OutOfMemory>
-        requires given { IsFaultlessIn D.seen D.may_leave D.honest D.told table.now (λ members situation. LeadsNow members table.now who situation) self.old }
+        requires given { IsFaultlessIn D.view table.now (λ members situation. LeadsNow members table.now who situation) self.old }
         requires run { AllRun self.old }
         requires member { who < length self.old.members.items }
         requires inside { IsInWindow table.now.window at.0 }
-        ensures goes { OnOk result (GoesOnBy D.seen D.may_leave D.honest D.told table.now (DrainsOn (book_of self.old).members table.now who at.0) self.old self.new) }
-        ensures given { OnOk result (IsFaultlessIn D.seen D.may_leave D.honest D.told table.now (λ members situation. HasRestedFor 0 members table.now who at.0 situation) self.new) }
+        ensures goes { OnOk result (GoesOnBy D.view table.now (DrainsOn (book_of self.old).members table.now who at.0) self.old self.new) }
+        ensures given { OnOk result (IsFaultlessIn D.view table.now (λ members situation. HasRestedFor 0 members table.now who at.0 situation) self.new) }
         ensures run { OnOk result (AllRun self.new) }
         ensures members { OnOk result ((book_of self.new).members ≡ (book_of self.old).members) }
         ensures legal { OnErr result (IsLegalBook table.now (book_of self.new)) }
@@ -113,12 +113,12 @@ impl<D: Disk> World<D> {
         who: u8,
         at: Minute,
     ) -> Result<(), OutOfMemory>
-        requires given { IsFaultlessIn D.seen D.may_leave D.honest D.told table.now (λ members situation. HasRestedFor 0 members table.now who at.0 situation) self.old }
+        requires given { IsFaultlessIn D.view table.now (λ members situation. HasRestedFor 0 members table.now who at.0 situation) self.old }
         requires run { AllRun self.old }
         requires member { who < length self.old.members.items }
         requires inside { IsInWindow table.now.window at.0 }
-        ensures goes { OnOk result (GoesOnBy D.seen D.may_leave D.honest D.told table.now (Drains (book_of self.old).members table.now who at.0) self.old self.new) }
-        ensures given { OnOk result (IsFaultlessIn D.seen D.may_leave D.honest D.told table.now (λ members situation. LeadsNow members table.now who situation) self.new) }
+        ensures goes { OnOk result (GoesOnBy D.view table.now (Drains (book_of self.old).members table.now who at.0) self.old self.new) }
+        ensures given { OnOk result (IsFaultlessIn D.view table.now (λ members situation. LeadsNow members table.now who situation) self.new) }
         ensures run { OnOk result (AllRun self.new) }
         ensures members { OnOk result ((book_of self.new).members ≡ (book_of self.old).members) }
         ensures legal { OnErr result (IsLegalBook table.now (book_of self.new)) }
@@ -134,12 +134,12 @@ impl<D: Disk> World<D> {
 
     // Rounds of a drain until it is quiet, where the replica leads.
     pub(crate) fn drain(&mut self, table: &JobTable, who: u8, at: Minute) -> Result<(), OutOfMemory>
-        requires given { IsFaultlessIn D.seen D.may_leave D.honest D.told table.now (λ members situation. LeadsNow members table.now who situation) self.old }
+        requires given { IsFaultlessIn D.view table.now (λ members situation. LeadsNow members table.now who situation) self.old }
         requires run { AllRun self.old }
         requires member { who < length self.old.members.items }
         requires inside { IsInWindow table.now.window at.0 }
-        ensures goes { OnOk result (GoesOnBy D.seen D.may_leave D.honest D.told table.now (Drains (book_of self.old).members table.now who at.0) self.old self.new) }
-        ensures given { OnOk result (IsFaultlessIn D.seen D.may_leave D.honest D.told table.now (λ members situation. LeadsNow members table.now who situation) self.new) }
+        ensures goes { OnOk result (GoesOnBy D.view table.now (Drains (book_of self.old).members table.now who at.0) self.old self.new) }
+        ensures given { OnOk result (IsFaultlessIn D.view table.now (λ members situation. LeadsNow members table.now who situation) self.new) }
         ensures run { OnOk result (AllRun self.new) }
         ensures members { OnOk result ((book_of self.new).members ≡ (book_of self.old).members) }
         ensures legal { OnErr result (IsLegalBook table.now (book_of self.new)) }
@@ -150,13 +150,13 @@ impl<D: Disk> World<D> {
 
     // Settles, and tells which replica leads.
     pub(crate) fn settle_led(&mut self, table: &JobTable, at: Minute) -> Result<u8, OutOfMemory>
-        requires world { IsWorld D.seen D.may_leave D.honest D.told table.now self.old }
+        requires world { IsWorld D.view table.now self.old }
         requires some { 0 < (book_of self.old).members }
         requires inside { IsInWindow table.now.window at.0 }
-        ensures goes { OnOk result (GoesOnBy D.seen D.may_leave D.honest D.told table.now (Settles (book_of self.old).members table.now at.0) self.old self.new) }
-        ensures leads { IfOk result (λ who. (situation : Situation) → IsIn D.seen D.may_leave D.honest D.told table.now self.old situation
+        ensures goes { OnOk result (GoesOnBy D.view table.now (Settles (book_of self.old).members table.now at.0) self.old self.new) }
+        ensures leads { IfOk result (λ who. (situation : Situation) → IsIn D.view table.now self.old situation
             → who ≡ coordinator (book_of self.old).members situation) }
-        ensures given { IfOk result (λ who. IsFaultlessIn D.seen D.may_leave D.honest D.told table.now (λ members situation. LeadsNow members table.now who situation) self.new) }
+        ensures given { IfOk result (λ who. IsFaultlessIn D.view table.now (λ members situation. LeadsNow members table.now who situation) self.new) }
         ensures member { IfOk result (λ who. who < length self.new.members.items) }
         ensures run { OnOk result (AllRun self.new) }
         ensures members { OnOk result ((book_of self.new).members ≡ (book_of self.old).members) }
@@ -178,10 +178,10 @@ impl<D: Disk> World<D> {
     ///
     /// Want of memory. The world takes no more calls then, and its book is legal.
     pub fn settle(&mut self, table: &JobTable, at: Minute) -> Result<(), OutOfMemory>
-        requires world { IsWorld D.seen D.may_leave D.honest D.told table.now self.old }
+        requires world { IsWorld D.view table.now self.old }
         requires some { 0 < (book_of self.old).members }
         requires inside { IsInWindow table.now.window at.0 }
-        ensures goes { OnOk result (GoesOnBy D.seen D.may_leave D.honest D.told table.now (Settles (book_of self.old).members table.now at.0) self.old self.new) }
+        ensures goes { OnOk result (GoesOnBy D.view table.now (Settles (book_of self.old).members table.now at.0) self.old self.new) }
         ensures bounded { OnOk result (IsBookBounded (book_of self.new)) }
         ensures members { OnOk result ((book_of self.new).members ≡ (book_of self.old).members) }
         ensures legal { OnErr result (IsLegalBook table.now (book_of self.new)) }

@@ -30,8 +30,8 @@ fn start_member<D: Disk>(
 ) -> Result<Member<D>, OutOfMemory>
     requires me { me < members }
     requires few { members ≤ 7 }
-    requires fresh { IsFreshDisk D.may_leave D.honest D.told disk }
-    ensures { IfOk result (λ member. IsFreshMember D.seen D.may_leave D.honest D.told table.now members me member) }
+    requires fresh { IsFreshDisk D.view disk }
+    ensures { IfOk result (λ member. IsFreshMember D.view table.now members me member) }
 {
     match Node::recover(alloc, me, members, table, disk) {
         Ok(node) => Ok(Member {
@@ -66,8 +66,8 @@ impl<D: Disk> World<D> {
     ) -> Result<World<D>, OutOfMemory>
         requires few { members ≤ 7 }
         requires count { length disks.items ≡ members }
-        requires fresh { (disk : D) → Contains disks.items disk → IsFreshDisk D.may_leave D.honest D.told disk }
-        ensures starts { IfOk result (λ world. IsWorldAt D.seen D.may_leave D.honest D.told table.now [] world (first_situation members table.now)) }
+        requires fresh { (disk : D) → Contains disks.items disk → IsFreshDisk D.view disk }
+        ensures starts { IfOk result (λ world. IsWorldAt D.view table.now [] world (first_situation members table.now)) }
         ensures members { IfOk result (λ world. (book_of world).members ≡ members) }
     {
         let mut started: Vec<Member<D>> = Vec::new(alloc);
@@ -101,8 +101,8 @@ impl<D: Disk> World<D> {
     /// takes no memory.
     pub fn into_book(self) -> (Book, Vec<Node<D>>)
         ensures book { result.0 ≡ book_of self }
-        ensures nodes { (table : Table) (rows : List Row) (situation : Situation) → IsWorldAt D.seen D.may_leave D.honest D.told table rows self situation
-            → AreNodesOf D.seen D.may_leave D.honest D.told table rows (book_of self) result.1.items }
+        ensures nodes { (table : Table) (rows : List Row) (situation : Situation) → IsWorldAt D.view table rows self situation
+            → AreNodesOf D.view table rows (book_of self) result.1.items }
     {
         let World {
             book,

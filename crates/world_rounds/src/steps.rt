@@ -26,10 +26,10 @@ pub(crate) fn keep_step<D: Disk>(
     cause: Cause,
     input: Input<'_>,
 ) -> Result<(), OutOfMemory>
-    requires told { (rows : List Row) × (who : ℕ) × WasToldOf D.seen D.may_leave D.honest D.told table.now rows book.now who steps.old.items node.old cause input }
+    requires told { (rows : List Row) × (who : ℕ) × WasToldOf D.view table.now rows book.now who steps.old.items node.old cause input }
     ensures causes { OnOk result (causes_of steps.new.items ≡ causes_of steps.old.items ++ cause ∷ []) }
-    ensures beside { (rows : List Row) (who : ℕ) → WasToldOf D.seen D.may_leave D.honest D.told table.now rows book.now who steps.old.items node.old cause input.entry
-        → OnOk result (IsBeside D.seen D.may_leave D.honest D.told table.now rows book.now who steps.new.items node.new) }
+    ensures beside { (rows : List Row) (who : ℕ) → WasToldOf D.view table.now rows book.now who steps.old.items node.old cause input.entry
+        → OnOk result (IsBeside D.view table.now rows book.now who steps.new.items node.new) }
 {
     if steps.len() >= MOST_STEPS {
         return Err(OutOfMemory);
@@ -48,10 +48,10 @@ pub(crate) fn take_answer<D: Disk>(
     waits: Option<SchedRow>,
 ) -> Result<(), OutOfMemory>
     requires none { steps.old.items ≡ [] }
-    requires may { (rows : List Row) × (who : ℕ) × MayTakeAnswer D.seen D.may_leave D.honest D.told table.now rows book.now who waits node.old }
+    requires may { (rows : List Row) × (who : ℕ) × MayTakeAnswer D.view table.now rows book.now who waits node.old }
     ensures causes { OnOk result (causes_of steps.new.items ≡ answer_causes waits) }
-    ensures beside { (rows : List Row) (who : ℕ) → MayTakeAnswer D.seen D.may_leave D.honest D.told table.now rows book.now who waits node.old
-        → OnOk result (IsBeside D.seen D.may_leave D.honest D.told table.now rows book.now who steps.new.items node.new) }
+    ensures beside { (rows : List Row) (who : ℕ) → MayTakeAnswer D.view table.now rows book.now who waits node.old
+        → OnOk result (IsBeside D.view table.now rows book.now who steps.new.items node.new) }
 {
     let Some(row) = waits else {
         return Ok(());
@@ -72,10 +72,10 @@ pub(crate) fn hear_letters<D: Disk>(
     book: &Book,
     letters: &[u64],
 ) -> Result<(), OutOfMemory>
-    requires may { (rows : List Row) × (who : ℕ) × MayHear D.seen D.may_leave D.honest D.told table.now rows book.now who steps.old.items node.old letters.now }
+    requires may { (rows : List Row) × (who : ℕ) × MayHear D.view table.now rows book.now who steps.old.items node.old letters.now }
     ensures causes { OnOk result (causes_of steps.new.items ≡ causes_of steps.old.items ++ hear_causes letters.now) }
-    ensures beside { (rows : List Row) (who : ℕ) → MayHear D.seen D.may_leave D.honest D.told table.now rows book.now who steps.old.items node.old letters.now
-        → OnOk result (IsBeside D.seen D.may_leave D.honest D.told table.now rows book.now who steps.new.items node.new) }
+    ensures beside { (rows : List Row) (who : ℕ) → MayHear D.view table.now rows book.now who steps.old.items node.old letters.now
+        → OnOk result (IsBeside D.view table.now rows book.now who steps.new.items node.new) }
 {
     'letters: for letter in letters {
         let letter = *letter;

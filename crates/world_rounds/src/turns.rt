@@ -20,8 +20,8 @@ impl<D: Disk> World<D> {
         who: u8,
         taken: Taken,
     ) -> Result<(), OutOfMemory>
-        requires may { (more : List Step) × MayCommit D.seen D.may_leave D.honest D.told table.now self.old who (taken ∷ more) }
-        ensures did { OnOk result ((more : List Step) → TakesTurns D.seen D.may_leave D.honest D.told table.now who (taken ∷ []) more self.old self.new) }
+        requires may { (more : List Step) × MayCommit D.view table.now self.old who (taken ∷ more) }
+        ensures did { OnOk result ((more : List Step) → TakesTurns D.view table.now who (taken ∷ []) more self.old self.new) }
         ensures steps { OnOk result (KeepsSteps self.old self.new) }
         ensures legal { OnErr result (IsLegalBook table.now (book_of self.new)) }
     {
@@ -41,8 +41,8 @@ impl<D: Disk> World<D> {
         who: u8,
         steps: Vec<Taken>,
     ) -> Result<(), OutOfMemory>
-        requires may { MayCommit D.seen D.may_leave D.honest D.told table.now self.old who steps.items }
-        ensures did { OnOk result (TakesTurns D.seen D.may_leave D.honest D.told table.now who steps.items [] self.old self.new) }
+        requires may { MayCommit D.view table.now self.old who steps.items }
+        ensures did { OnOk result (TakesTurns D.view table.now who steps.items [] self.old self.new) }
         ensures steps { OnOk result (KeepsSteps self.old self.new) }
         ensures legal { OnErr result (IsLegalBook table.now (book_of self.new)) }
     {
@@ -54,9 +54,9 @@ impl<D: Disk> World<D> {
 
     // The turns of the steps that a replica has taken join the book.
     pub(crate) fn commit_steps(&mut self, table: &JobTable, who: u8) -> Result<(), OutOfMemory>
-        requires may { MayCommitOwn D.seen D.may_leave D.honest D.told table.now self.old }
+        requires may { MayCommitOwn D.view table.now self.old }
         requires member { who < length self.old.members.items }
-        ensures did { OnOk result (CommitsOwn D.seen D.may_leave D.honest D.told table.now who self.old self.new) }
+        ensures did { OnOk result (CommitsOwn D.view table.now who self.old self.new) }
         ensures puts { OnOk result (PutsDown who self.old self.new) }
         ensures legal { OnErr result (IsLegalBook table.now (book_of self.new)) }
     {

@@ -35,14 +35,14 @@ fn earlier_of(one: Minute, other: Minute) -> Minute
 impl<D: Disk> World<D> {
     // The first minute above one, and at most another, at which the launch table of a replica asks for something.
     fn next_minute(&self, table: &JobTable, who: u8, above: Minute, to: Minute) -> Option<Minute>
-        requires world { IsWorld D.seen D.may_leave D.honest D.told table.now self.now }
+        requires world { IsWorld D.view table.now self.now }
         requires run { AllRun self.now }
         requires member { who < length self.now.members.items }
         requires inside { IsInWindow table.now.window above.0 }
         requires within { IsInWindow table.now.window to.0 }
-        ensures found { (situation : Situation) → IsIn D.seen D.may_leave D.honest D.told table.now self.now situation
+        ensures found { (situation : Situation) → IsIn D.view table.now self.now situation
             → IfSome result (λ minute. IsNextMinute table.now (situation.standing.replicas who) above.0 to.0 minute.0) }
-        ensures none { (situation : Situation) → IsIn D.seen D.may_leave D.honest D.told table.now self.now situation
+        ensures none { (situation : Situation) → IsIn D.view table.now self.now situation
             → IfNone result (AsksNothingUntil table.now above.0 to.0 (situation.standing.replicas who)) }
     {
         let first = number_behind(above);
@@ -64,13 +64,13 @@ impl<D: Disk> World<D> {
         at: Minute,
         to: Minute,
     ) -> Result<(), OutOfMemory>
-        requires world { IsWorld D.seen D.may_leave D.honest D.told table.now self.old }
-        requires given { IsFaultlessIn D.seen D.may_leave D.honest D.told table.now (λ members situation. LeadsNow members table.now who situation) self.old }
+        requires world { IsWorld D.view table.now self.old }
+        requires given { IsFaultlessIn D.view table.now (λ members situation. LeadsNow members table.now who situation) self.old }
         requires run { AllRun self.old }
         requires member { who < length self.old.members.items }
         requires inside { IsInWindow table.now.window at.0 }
         requires within { IsInWindow table.now.window to.0 }
-        ensures goes { OnOk result (GoesOnBy D.seen D.may_leave D.honest D.told table.now (WalksOn (book_of self.old).members table.now who at.0 to.0) self.old self.new) }
+        ensures goes { OnOk result (GoesOnBy D.view table.now (WalksOn (book_of self.old).members table.now who at.0 to.0) self.old self.new) }
         ensures bounded { OnOk result (IsBookBounded (book_of self.new)) }
         ensures members { OnOk result ((book_of self.new).members ≡ (book_of self.old).members) }
         ensures legal { OnErr result (IsLegalBook table.now (book_of self.new)) }
@@ -90,10 +90,10 @@ impl<D: Disk> World<D> {
     ///
     /// Those of [`World::settle`], of each of the drains.
     pub fn walk(&mut self, table: &JobTable, to: Minute) -> Result<(), OutOfMemory>
-        requires world { IsWorld D.seen D.may_leave D.honest D.told table.now self.old }
+        requires world { IsWorld D.view table.now self.old }
         requires some { 0 < (book_of self.old).members }
         requires inside { IsInWindow table.now.window to.0 }
-        ensures goes { OnOk result (GoesOnBy D.seen D.may_leave D.honest D.told table.now (Walks (book_of self.old).members table.now to.0) self.old self.new) }
+        ensures goes { OnOk result (GoesOnBy D.view table.now (Walks (book_of self.old).members table.now to.0) self.old self.new) }
         ensures bounded { OnOk result (IsBookBounded (book_of self.new)) }
         ensures members { OnOk result ((book_of self.new).members ≡ (book_of self.old).members) }
         ensures legal { OnErr result (IsLegalBook table.now (book_of self.new)) }

@@ -2,10 +2,9 @@
 use Rattle.std.proofs.Common.{◌≡◌, ◌≢◌, ℕ, ◌≤◌, Bool, true, List, [], ◌∷◌, ◌++◌, drop, Option, None, Some, refl, sym, ap, ◌∙◌, subst, append_assoc}
 use Rattle.std.proofs.lemmas.Bool.{ne_eqb}
 use Rattle.std.specs.Option.{option_to_list}
+use Rattle.disk_model.specs.View.{DiskView}
 use Rattle.cluster_sched.specs.declared.fate.Fate.{Fate}
 use Rattle.cluster_sched.specs.declared.row.SchedRow.{SchedRow}
-use Rattle.disk_model.specs.Images.{Image}
-use Rattle.disk_model.specs.Told.{Told}
 use Rattle.due_set.specs.Table.{Table}
 use Rattle.launch_machine.specs.Clerk.{first_rows}
 use Rattle.paxos_base.specs.declared.durable.Delta.{Delta}
@@ -122,16 +121,16 @@ stands_after table rows row book after situation at members =
     ap (λ n. standing_after n (first_rows table) (rows ++ row ∷ [])) members ∙ stands_next book.members (first_rows table) rows row
     ∙ ap (λ s. after_row book.members s row.turn row.event row.letters) (sym at.standing)
 
-module _ {D : Type 0} (seen : D → Image) (may_leave : D → Image → Type 0) (honest : D → Type 0) (told_of : D → Option Told) (table : Table) where
+module _ {D : Type 0} (view : DiskView D) (table : Table) where
   pub node_stays : (rows : List Row) (row : Row) (book after : BookState) (other : ℕ) (steps : List Taken) (node : Node D) → after.members ≡ book.members → HasLetters book.letters after
       → (standing_behind table (rows ++ row ∷ []) after).replicas other ≡ (standing_behind table rows book).replicas other
       → (standing_behind table (rows ++ row ∷ []) after).runs other ≡ true → (standing_behind table (rows ++ row ∷ []) after).waits other ≡ (standing_behind table rows book).waits other
       → bases_behind table (rows ++ row ∷ []) after other ≡ bases_behind table rows book other
-      → IsNodeAhead seen may_leave honest told_of table rows book other steps node → IsNodeAhead seen may_leave honest told_of table (rows ++ row ∷ []) after other steps node
+      → IsNodeAhead view table rows book other steps node → IsNodeAhead view table (rows ++ row ∷ []) after other steps node
   node_stays rows row book after other steps node members has replica runs waits bases ahead = record {
     at_rest = ahead.at_rest;
     trusted = ahead.trusted;
-    disk = subst (λ (count : ℕ). IsDiskAt told_of (bases_with (changes_of steps) count) node) (sym bases) ahead.disk;
+    disk = subst (λ (count : ℕ). IsDiskAt view (bases_with (changes_of steps) count) node) (sym bases) ahead.disk;
     first = ahead.first;
     stands = record {
       identity = rw members ahead.stands.identity;
@@ -146,11 +145,11 @@ module _ {D : Type 0} (seen : D → Image) (may_leave : D → Image → Type 0) 
 
   -- the node of a replica that is stopped keeps what the replica does
   pub stopped_stays : (members count other : ℕ) (old new : Standing) (before after : ℕ) (steps : List Taken) (node : Node D) → count ≡ members → new.replicas other ≡ old.replicas other → after ≡ before
-      → IsNodeStopped seen may_leave honest told_of table members old before other steps node → IsNodeStopped seen may_leave honest told_of table count new after other steps node
+      → IsNodeStopped view table members old before other steps node → IsNodeStopped view table count new after other steps node
   stopped_stays members count other old new before after steps node same replica bases was = record {
     at_rest = was.at_rest;
     trusted = was.trusted;
-    disk = subst (λ (count : ℕ). IsDiskAt told_of count node) (sym bases) was.disk;
+    disk = subst (λ (count : ℕ). IsDiskAt view count node) (sym bases) was.disk;
     identity = rw same was.identity;
     none = was.none;
     kept = replica ∙ was.kept;
@@ -224,21 +223,21 @@ mail_did n situation row who taken more made letters after mail turn changes has
   sent = λ number there. sent_later letters after who number has (is.sent number there);
 }
 
-module _ {D : Type 0} (seen : D → Image) (may_leave : D → Image → Type 0) (honest : D → Type 0) (told_of : D → Option Told) (table : Table) where
+module _ {D : Type 0} (view : DiskView D) (table : Table) where
   -- its first step may become a turn
   pub next_step : (rows : List Row) (book : BookState) (situation : Situation) (who : ℕ) (taken : Taken) (more : List Taken) (node : Node D) → IsBookAt table rows book situation
-      → (ahead : IsNodeAhead seen may_leave honest told_of table rows book who (taken ∷ more) node) → IsNextStep table rows book who taken ahead.first ahead.took.0
+      → (ahead : IsNodeAhead view table rows book who (taken ∷ more) node) → IsNextStep table rows book who taken ahead.first ahead.took.0
   next_step rows book situation who taken more node at ahead =
       record { behind = at.behind; rest = at.rest; few = at.few; stands = ahead.stands; me = ahead.me; step = ahead.took.1 }
 
   -- and is a turn then: the node is ahead by the other steps
   pub node_did : (rows : List Row) (book after : BookState) (who : ℕ) (taken : Taken) (more : List Taken) (set : Fate) (made : Option CallRow) (node : Node D)
-      → StandsBehind table rows book → book.pending ≡ None → book.members ≤ 7 → (ahead : IsNodeAhead seen may_leave honest told_of table rows book who (taken ∷ more) node) → (joined : HasJoinedAt table rows book after who taken set made ahead.took.0)
-      → IsNodeAhead seen may_leave honest told_of table (rows ++ joined.row ∷ []) after who more node
+      → StandsBehind table rows book → book.pending ≡ None → book.members ≤ 7 → (ahead : IsNodeAhead view table rows book who (taken ∷ more) node) → (joined : HasJoinedAt table rows book after who taken set made ahead.took.0)
+      → IsNodeAhead view table (rows ++ joined.row ∷ []) after who more node
   node_did rows book after who taken more set made node behind rest few ahead joined = record {
     at_rest = ahead.at_rest;
     trusted = ahead.trusted;
-    disk = subst (λ (count : ℕ). IsDiskAt told_of count node) (sym bases) ahead.disk;
+    disk = subst (λ (count : ℕ). IsDiskAt view count node) (sym bases) ahead.disk;
     first = ahead.took.0;
     stands = joined.stands;
     me = ap (λ (self : Identity). self.me) ahead.took.1.steps.took.identity ∙ ahead.me;

@@ -1,7 +1,7 @@
 -- The node of a replica that has no step left beside the book: it is that of the book's replica, and its files stand for what it keeps.
-use Rattle.std.proofs.Common.{◌≡◌, ℕ, true, false, List, [], length, Option, sym, ap, ◌∙◌, subst}
-use Rattle.disk_model.specs.Images.{Image, file_of}
-use Rattle.disk_model.specs.Told.{Told}
+use Rattle.std.proofs.Common.{◌≡◌, ℕ, true, false, List, [], length, sym, ap, ◌∙◌, subst}
+use Rattle.disk_model.specs.Images.{file_of}
+use Rattle.disk_model.specs.View.{DiskView}
 use Rattle.due_set.specs.Table.{Table}
 use Rattle.paxos_base.specs.declared.durable.Durable.{Durable}
 use Rattle.gate_file.proofs.GateLemmas.{has_at_rest}
@@ -18,17 +18,17 @@ use Rattle.world_law.specs.Book.{BookState, standing_behind}
 use Rattle.world_steps.specs.Nodes.{IsNodeOf, bases_behind}
 use Rattle.world_steps.specs.Steps.{IsNodeAhead, IsNodeStopped}
 
-module _ {D : Type 0} (seen : D → Image) (may_leave : D → Image → Type 0) (honest : D → Type 0) (told_of : D → Option Told) (table : Table) where
+module _ {D : Type 0} (view : DiskView D) (table : Table) where
   -- the files of a node at rest stand for what its replica keeps
-  pub files_of : (node : Node D) (kept : Durable) → IsNodeAtRest seen may_leave honest table node → (replica_of node).state.kept ≡ kept → FilesStand (length table.jobs) kept (seen (disk_of node))
+  pub files_of : (node : Node D) (kept : Durable) → IsNodeAtRest view table node → (replica_of node).state.kept ≡ kept → FilesStand (length table.jobs) kept (view.seen (disk_of node))
   files_of node kept rest is =
-      stands_in (length table.jobs) kept (seen (disk_of node)) (area_of (store_of node)) (records_of (store_of node)) rest.settled.selects
-      (has_at_rest (file_of (area_of (store_of node)) (seen (disk_of node))) (records_of (store_of node)) rest.settled.gates.at_rest)
+      stands_in (length table.jobs) kept (view.seen (disk_of node)) (area_of (store_of node)) (records_of (store_of node)) rest.settled.selects
+      (has_at_rest (file_of (area_of (store_of node)) (view.seen (disk_of node))) (records_of (store_of node)) rest.settled.gates.at_rest)
       (subst (λ (kept : Durable). BodiesStand (length table.jobs) (records_of (store_of node)) kept) is
       (subst (λ (jobs : ℕ). BodiesStand jobs (records_of (store_of node)) (replica_of node).state.kept) rest.jobs rest.keeps))
 
-  pub running_node : (rows : List Row) (book : BookState) (who : ℕ) (node : Node D) → IsNodeAhead seen may_leave honest told_of table rows book who [] node
-      → IsNodeOf seen may_leave honest told_of table rows book who node
+  pub running_node : (rows : List Row) (book : BookState) (who : ℕ) (node : Node D) → IsNodeAhead view table rows book who [] node
+      → IsNodeOf view table rows book who node
   running_node rows book who node ahead = record {
     at_rest = ahead.at_rest;
     trusted = ahead.trusted;
@@ -46,8 +46,8 @@ module _ {D : Type 0} (seen : D → Image) (may_leave : D → Image → Type 0) 
       kept_is = ap (λ (s : State). s.kept) state_is
 
   pub stopped_node : (rows : List Row) (book : BookState) (who : ℕ) (node : Node D) → (standing_behind table rows book).runs who ≡ false
-      → IsNodeStopped seen may_leave honest told_of table book.members (standing_behind table rows book) (bases_behind table rows book who) who [] node
-      → IsNodeOf seen may_leave honest told_of table rows book who node
+      → IsNodeStopped view table book.members (standing_behind table rows book) (bases_behind table rows book who) who [] node
+      → IsNodeOf view table rows book who node
   stopped_node rows book who node ended stopped = record {
     at_rest = stopped.at_rest;
     trusted = stopped.trusted;

@@ -2,8 +2,8 @@
 use Rattle.std.proofs.Common.{◌≡◌, ℕ, List, [], ◌∷◌, Option, None, Some, Result, Err, refl, sym, ap, ◌∙◌, subst}
 use Rattle.std.specs.List.{Contains, slice_get}
 use Rattle.cluster_sched.specs.declared.row.SchedRow.{SchedRow}
-use Rattle.disk_model.specs.Images.{Image}
 use Rattle.disk_model.specs.Told.{Told}
+use Rattle.disk_model.specs.View.{DiskView}
 use Rattle.due_set.specs.Table.{Table}
 use Rattle.paxos_letter.specs.Letters.{letter_fault_of}
 use Rattle.paxos_letter.specs.declared.fault.LetterFault.{LetterFault}
@@ -82,9 +82,9 @@ took_identity : (table : Table) (letters : List LetterRow) (waits : Option Sched
 took_identity table letters waits who [] old new took = ap (λ (replica : ReplicaState). replica.identity) took
 took_identity table letters waits who (taken ∷ more) old new took = took_identity table letters None who more took.0 new took.2 ∙ took.1.steps.took.identity
 
-module _ {D : Type 0} (seen : D → Image) (may_leave : D → Image → Type 0) (honest : D → Type 0) (told_of : D → Option Told) where
+module _ {D : Type 0} (view : DiskView D) where
   -- what a node is told of a cause is no letter that breaks a rule
-  pub cause_breaks_none : (table : Table) (rows : List Row) (book : BookState) (who : ℕ) (steps : List Taken) (node : Seat D) (cause : Cause) (told : Input) → WasToldOf seen may_leave honest told_of table rows book who steps node cause told
+  pub cause_breaks_none : (table : Table) (rows : List Row) (book : BookState) (who : ℕ) (steps : List Taken) (node : Seat D) (cause : Cause) (told : Input) → WasToldOf view table rows book who steps node cause told
       → fault_in (replica_of node).identity.members told ≡ None
   cause_breaks_none table rows book who steps node cause told was =
       let ahead = was.beside.ahead in

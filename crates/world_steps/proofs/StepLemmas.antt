@@ -3,9 +3,8 @@ use Rattle.std.proofs.Common.{◌≡◌, ℕ, ◌+◌, ◌<◌, ◌≤◌, ◌^�
 use Rattle.std.proofs.lemmas.List.{length-map}
 use Rattle.std.proofs.lemmas.List.Concat.{flat_map-append}
 use Rattle.std.specs.Option.{option_to_list}
+use Rattle.disk_model.specs.View.{DiskView}
 use Rattle.cluster_sched.specs.declared.row.SchedRow.{SchedRow}
-use Rattle.disk_model.specs.Images.{Image}
-use Rattle.disk_model.specs.Told.{Told}
 use Rattle.due_set.specs.Table.{Table}
 use Rattle.paxos_base.specs.declared.durable.Delta.{Delta}
 use Rattle.step_spec.specs.Step.{IsLaunchTable}
@@ -57,10 +56,10 @@ change_in table input old new out steps = record { event = steps.event; event_is
 pub changes_next : (steps : List Taken) (taken : Taken) → changes_of (steps ++ taken ∷ []) ≡ changes_of steps ++ option_to_list taken.out.delta
 changes_next steps taken = flat_map-append (λ (t : Taken). option_to_list t.out.delta) steps (taken ∷ []) ∙ ap (λ (last : List Delta). changes_of steps ++ last) (append_nil (option_to_list taken.out.delta))
 
-module _ {D : Type 0} (seen : D → Image) (may_leave : D → Image → Type 0) (honest : D → Type 0) (told_of : D → Option Told) where
+module _ {D : Type 0} (view : DiskView D) where
   -- a node ahead of a book is small
   pub ahead_small : (table : Table) (rows : List Row) (book : BookState) (who : ℕ) (steps : List Taken) (node : Node D)
-      → IsBeside seen may_leave honest told_of table rows book who steps node → length book.turns < 2 ^ 31 → length steps < 2 ^ 31
+      → IsBeside view table rows book who steps node → length book.turns < 2 ^ 31 → length steps < 2 ^ 31
       → IsSmall (replica_of node).state (replica_of node).machine.rows
   ahead_small table rows book who steps node beside turns more =
       record { tried = small.tried; seen = small.seen; prefix = small.prefix; counts = small.counts (replica_of node).machine.rows launches }
@@ -107,9 +106,9 @@ module _ {D : Type 0} (seen : D → Image) (may_leave : D → Image → Type 0) 
 
   -- and is one step more ahead of it after the next
   pub beside_next : (table : Table) (rows : List Row) (book : BookState) (who : ℕ) (steps : List Taken) (old new : Node D) (cause : Cause) (input : Input) (out : StepOut)
-      → WasToldOf seen may_leave honest told_of table rows book who steps old cause input → IsNodeAtRest seen may_leave honest table new → honest (disk_of new)
-      → IsReliable (told_of (disk_of new)) → IsNodeClean told_of new → area_of (store_of new) ≡ area_for out.delta (area_of (store_of old))
-      → Steps table input (replica_of old) (replica_of new) out → IsBeside seen may_leave honest told_of table rows book who (steps ++ record { cause = cause; out = out } ∷ []) new
+      → WasToldOf view table rows book who steps old cause input → IsNodeAtRest view table new → view.honest (disk_of new)
+      → IsReliable (view.told (disk_of new)) → IsNodeClean view new → area_of (store_of new) ≡ area_for out.delta (area_of (store_of old))
+      → Steps table input (replica_of old) (replica_of new) out → IsBeside view table rows book who (steps ++ record { cause = cause; out = out } ∷ []) new
   beside_next table rows book who steps old new cause input out told rest trusted reliable clean area stepped = record {
     sound = told.beside.sound;
     behind = told.beside.behind;

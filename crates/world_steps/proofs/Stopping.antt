@@ -3,9 +3,9 @@ use Rattle.std.proofs.Common.{◌≡◌, ℕ, ◌+◌, ◌<◌, ◌≤◌, Bool,
 use Rattle.std.specs.Prelude.{IsErrOf, IsSome, IsSomeAnd, IsTrue, is_some}
 use Rattle.std.specs.Option.{option_to_list}
 use Rattle.std.proofs.lemmas.Bool.{cases_Bool}
-use Rattle.disk_model.specs.Images.{Image}
 use Rattle.disk_model.specs.Told.{Told}
 use Rattle.disk_model.specs.declared.armed.Arm.{Arm}
+use Rattle.disk_model.specs.View.{DiskView}
 use Rattle.due_set.specs.Table.{Table}
 use Rattle.paxos_base.specs.declared.durable.Delta.{Delta}
 use Rattle.paxos_base.specs.declared.durable.Durable.{Durable}
@@ -69,20 +69,20 @@ pub kept_is : (kept : Bool) (change : Delta) → is_some (change_kept kept chang
 kept_is true change = refl
 kept_is false change = refl
 
-module _ {D : Type 0} (seen : D → Image) (may_leave : D → Image → Type 0) (honest : D → Type 0) (told_of : D → Option Told) (table : Table) where
+module _ {D : Type 0} (view : DiskView D) (table : Table) where
   -- a replica that is no step ahead stands where the book has it
-  pub stands_beside : (rows : List Row) (book : BookState) (who : ℕ) (node : Node D) (cause : Cause) (input : Input) → WasToldOf seen may_leave honest told_of table rows book who [] node cause input
+  pub stands_beside : (rows : List Row) (book : BookState) (who : ℕ) (node : Node D) (cause : Cause) (input : Input) → WasToldOf view table rows book who [] node cause input
       → StandsAt table rows book (replica_of node)
   stands_beside rows book who node cause input told = subst (λ (replica : ReplicaState). StandsAt table rows book replica) (sym told.beside.ahead.took) told.beside.ahead.stands
 
   pub has_stopped : (rows : List Row) (book : BookState) (who members : ℕ) (node new : Node D) (cause : Cause) (input : Input) (arm : Arm) (answer : Option Delta) (change : Delta)
-      → WasToldOf seen may_leave honest told_of table rows book who [] node cause input → IsChangeOf table input (replica_of node) (Some change) → arm.left < saved.calls_of_change (Some change)
+      → WasToldOf view table rows book who [] node cause input → IsChangeOf table input (replica_of node) (Some change) → arm.left < saved.calls_of_change (Some change)
       → IsAnsweredByArm (area_of (store_of node)) (replica_of node).state.kept change arm answer
       → ((KeepsChange (area_of (store_of node)) change arm → ⊥) → answer ≡ None)
-      → IsNodeAtRest seen may_leave honest table new → honest (disk_of new) → IsReliable (told_of (disk_of new)) → IsNodeClean told_of new
+      → IsNodeAtRest view table new → view.honest (disk_of new) → IsReliable (view.told (disk_of new)) → IsNodeClean view new
       → area_of (store_of new) ≡ area_for answer (area_of (store_of node)) → (replica_of new).identity ≡ identity_of members who → book.members ≡ members
       → (replica_of new).state ≡ started who (replica_of new).state.kept → (replica_of new).state.kept ≡ kept_after answer (replica_of node).state.kept
-      → HasStopped seen may_leave honest told_of table rows book who cause arm answer new
+      → HasStopped view table rows book who cause arm answer new
   has_stopped rows book who members node new cause input arm answer change told changes few answered lost rest trusted reliable clean area identity same start keeps = record {
     old = replica_of node;
     change = change;

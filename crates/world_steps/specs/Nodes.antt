@@ -1,7 +1,6 @@
 -- The nodes of a book's replicas, and their disks.
-use Rattle.std.specs.Prelude.{◌≡◌, ℕ, true, List, length, Option, Some, slice_get}
-use Rattle.disk_model.specs.Images.{Image}
-use Rattle.disk_model.specs.Told.{Told}
+use Rattle.std.specs.Prelude.{◌≡◌, ℕ, true, List, length, Some, slice_get}
+use Rattle.disk_model.specs.View.{DiskView}
 use Rattle.due_set.specs.Table.{Table}
 use Rattle.agreement.specs.Transition.{identity_of}
 use Rattle.history.specs.Book.{Row}
@@ -20,23 +19,23 @@ bases_behind table rows book = (after_turns book.members (first_situation book.m
 
 -- The disk of a node that has kept so many bases: it can't fail and isn't armed, nothing that the node uses of it waits for a sync, and
 -- the area in use is the one to which so many bases have led.
-pub record IsDiskAt {D : Type 0} (told_of : D → Option Told) (bases : ℕ) (node : Node D) : Type 0 where
-  pub reliable : IsReliable (told_of (disk_of node))
-  pub clean : IsNodeClean told_of node
+pub record IsDiskAt {D : Type 0} (view : DiskView D) (bases : ℕ) (node : Node D) : Type 0 where
+  pub reliable : IsReliable (view.told (disk_of node))
+  pub clean : IsNodeClean view node
   pub area : area_of (store_of node) ≡ area_by bases
 
 -- A node between two calls is that of a replica of the book, behind which these rows stand: it has the replica's state, where that runs,
 -- and keeps what the replica keeps. Its disk is such as the rows have left it, and the files, as a read gives them, stand for what the replica keeps.
-pub record IsNodeOf {D : Type 0} (seen : D → Image) (may_leave : D → Image → Type 0) (honest : D → Type 0) (told_of : D → Option Told) (table : Table) (rows : List Row) (book : BookState) (who : ℕ) (node : Node D) : Type 0 where
-  pub at_rest : IsNodeAtRest seen may_leave honest table node
-  pub trusted : honest (disk_of node)
-  pub disk : IsDiskAt told_of (bases_behind table rows book who) node
+pub record IsNodeOf {D : Type 0} (view : DiskView D) (table : Table) (rows : List Row) (book : BookState) (who : ℕ) (node : Node D) : Type 0 where
+  pub at_rest : IsNodeAtRest view table node
+  pub trusted : view.honest (disk_of node)
+  pub disk : IsDiskAt view (bases_behind table rows book who) node
   pub identity : (replica_of node).identity ≡ identity_of book.members who
   pub state : (standing_behind table rows book).runs who ≡ true → (replica_of node).state ≡ (standing_behind table rows book).replicas who
   pub kept : (replica_of node).state.kept ≡ ((standing_behind table rows book).replicas who).kept
-  pub stand : FilesStand (length table.jobs) ((standing_behind table rows book).replicas who).kept (seen (disk_of node))
+  pub stand : FilesStand (length table.jobs) ((standing_behind table rows book).replicas who).kept (view.seen (disk_of node))
 
 -- **The nodes are those of the book's replicas**: one of each, in the order of their numbers.
-pub record AreNodesOf {D : Type 0} (seen : D → Image) (may_leave : D → Image → Type 0) (honest : D → Type 0) (told_of : D → Option Told) (table : Table) (rows : List Row) (book : BookState) (nodes : List (Node D)) : Type 0 where
+pub record AreNodesOf {D : Type 0} (view : DiskView D) (table : Table) (rows : List Row) (book : BookState) (nodes : List (Node D)) : Type 0 where
   pub count : length nodes ≡ book.members
-  pub each : (who : ℕ) (node : Node D) → slice_get nodes who ≡ Some node → IsNodeOf seen may_leave honest told_of table rows book who node
+  pub each : (who : ℕ) (node : Node D) → slice_get nodes who ≡ Some node → IsNodeOf view table rows book who node

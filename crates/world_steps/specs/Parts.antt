@@ -1,8 +1,7 @@
 -- The parts of a world, by the situation in which they are.
 use Rattle.std.specs.Prelude.{◌≡◌, ℕ, ◌≤◌, ◌≤ℤ◌, List, [], ◌++◌, length, Option, None, Some, Contains, slice_get, vec_capacity}
 use Rattle.disk_model.specs.declared.armed.Arm.{Arm}
-use Rattle.disk_model.specs.Images.{Image}
-use Rattle.disk_model.specs.Told.{Told}
+use Rattle.disk_model.specs.View.{DiskView}
 use Rattle.due_set.specs.Table.{IsSound, Table}
 use Rattle.history.specs.Book.{Row}
 use Rattle.replica_node.specs.declared.node.Node.{Node}
@@ -50,19 +49,19 @@ pub record IsMailOf (letters : List LetterRow) (situation : Situation) (who : �
 
 -- **The parts are those of a world in this situation**, and behind their book stand these rows: there is a node and a mail for each of
 -- the book's replicas.
-pub record ArePartsAt {D R : Type 0} (seen : D → Image) (may_leave : D → Image → Type 0) (honest : D → Type 0) (told_of : D → Option Told) (table : Table) (rows : List Row) (parts : Bundle (Node D) R) (situation : Situation) : Type 0 where
+pub record ArePartsAt {D R : Type 0} (view : DiskView D) (table : Table) (rows : List Row) (parts : Bundle (Node D) R) (situation : Situation) : Type 0 where
   pub at : IsBookAt table rows parts.book situation
-  pub nodes : AreNodesOf seen may_leave honest told_of table rows parts.book parts.nodes.items
+  pub nodes : AreNodesOf view table rows parts.book parts.nodes.items
   pub count : length parts.mail.members.items ≡ parts.book.members
   pub mails : (who : ℕ) (mail : MemberMail) → slice_get parts.mail.members.items who ≡ Some mail → IsMailOf parts.book.letters situation who [] mail
   pub cuts : (from to : ℕ) → is_cut from to parts.mail.cuts.items ≡ is_cut from to situation.cuts
   pub latest : parts.mail.latest.0 ≡ situation.latest
 
 -- so they are, for some rows and in some situation
-pub record AreParts {D R : Type 0} (seen : D → Image) (may_leave : D → Image → Type 0) (honest : D → Type 0) (told_of : D → Option Told) (table : Table) (parts : Bundle (Node D) R) : Type 0 where
+pub record AreParts {D R : Type 0} (view : DiskView D) (table : Table) (parts : Bundle (Node D) R) : Type 0 where
   pub rows : List Row
   pub situation : Situation
-  pub are : ArePartsAt seen may_leave honest told_of table rows parts situation
+  pub are : ArePartsAt view table rows parts situation
 
 -- the lists of the parts have room for as many replicas as a world has at most
 pub record HasListRoom {N R : Type 0} (parts : Bundle N R) : Type 0 where

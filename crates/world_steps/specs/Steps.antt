@@ -2,9 +2,8 @@
 use Rattle.std.specs.Prelude.{◌≡◌, ℕ, ◌<◌, ◌≤◌, ◌^◌, List, [], ◌∷◌, Option, None, Some, length, map}
 use Rattle.std.specs.List.{flat_map}
 use Rattle.std.specs.Option.{option_to_list}
+use Rattle.disk_model.specs.View.{DiskView}
 use Rattle.cluster_sched.specs.declared.row.SchedRow.{SchedRow}
-use Rattle.disk_model.specs.Images.{Image}
-use Rattle.disk_model.specs.Told.{Told}
 use Rattle.due_set.specs.Table.{IsSound, Table}
 use Rattle.paxos_base.specs.declared.durable.Delta.{Delta}
 use Rattle.step_spec.specs.State.{started}
@@ -72,45 +71,45 @@ changes_of steps = flat_map (λ taken. option_to_list taken.out.delta) steps
 
 -- A node that runs, and is as many steps ahead of the book behind which these rows stand: its replica stood where the book has it, and
 -- has taken the steps since.
-pub record IsNodeAhead {D : Type 0} (seen : D → Image) (may_leave : D → Image → Type 0) (honest : D → Type 0) (told_of : D → Option Told) (table : Table) (rows : List Row) (book : BookState) (who : ℕ) (steps : List Taken) (node : Node D) : Type 0 where
-  pub at_rest : IsNodeAtRest seen may_leave honest table node
-  pub trusted : honest (disk_of node)
-  pub disk : IsDiskAt told_of (bases_with (changes_of steps) (bases_behind table rows book who)) node
+pub record IsNodeAhead {D : Type 0} (view : DiskView D) (table : Table) (rows : List Row) (book : BookState) (who : ℕ) (steps : List Taken) (node : Node D) : Type 0 where
+  pub at_rest : IsNodeAtRest view table node
+  pub trusted : view.honest (disk_of node)
+  pub disk : IsDiskAt view (bases_with (changes_of steps) (bases_behind table rows book who)) node
   pub first : ReplicaState
   pub stands : StandsAt table rows book first
   pub me : first.identity.me ≡ who
   pub took : TookSteps table book.letters (waits_in table rows book who) who steps first (replica_of node)
 
 -- the node of a replica that is stopped and has kept so many bases: it keeps what the replica does, and has taken no step
-pub record IsNodeStopped {D : Type 0} (seen : D → Image) (may_leave : D → Image → Type 0) (honest : D → Type 0) (told_of : D → Option Told) (table : Table) (members : ℕ) (standing : Standing) (bases : ℕ) (who : ℕ) (steps : List Taken) (node : Node D) : Type 0 where
-  pub at_rest : IsNodeAtRest seen may_leave honest table node
-  pub trusted : honest (disk_of node)
-  pub disk : IsDiskAt told_of bases node
+pub record IsNodeStopped {D : Type 0} (view : DiskView D) (table : Table) (members : ℕ) (standing : Standing) (bases : ℕ) (who : ℕ) (steps : List Taken) (node : Node D) : Type 0 where
+  pub at_rest : IsNodeAtRest view table node
+  pub trusted : view.honest (disk_of node)
+  pub disk : IsDiskAt view bases node
   pub identity : (replica_of node).identity ≡ identity_of members who
   pub none : steps ≡ []
   pub kept : standing.replicas who ≡ started who (replica_of node).state.kept
 
 -- the node is so many steps ahead of a book at rest, behind which these rows stand
-pub record IsBeside {D : Type 0} (seen : D → Image) (may_leave : D → Image → Type 0) (honest : D → Type 0) (told_of : D → Option Told) (table : Table) (rows : List Row) (book : BookState) (who : ℕ) (steps : List Taken) (node : Node D) : Type 0 where
+pub record IsBeside {D : Type 0} (view : DiskView D) (table : Table) (rows : List Row) (book : BookState) (who : ℕ) (steps : List Taken) (node : Node D) : Type 0 where
   pub sound : IsSound table
   pub behind : StandsBehind table rows book
   pub rest : book.pending ≡ None
   pub few : book.members ≤ 7
-  pub ahead : IsNodeAhead seen may_leave honest told_of table rows book who steps node
+  pub ahead : IsNodeAhead view table rows book who steps node
 
 -- and is told of a cause
-pub record WasToldOf {D : Type 0} (seen : D → Image) (may_leave : D → Image → Type 0) (honest : D → Type 0) (told_of : D → Option Told) (table : Table) (rows : List Row) (book : BookState) (who : ℕ) (steps : List Taken) (node : Node D) (cause : Cause) (input : Input) : Type 0 where
-  pub beside : IsBeside seen may_leave honest told_of table rows book who steps node
+pub record WasToldOf {D : Type 0} (view : DiskView D) (table : Table) (rows : List Row) (book : BookState) (who : ℕ) (steps : List Taken) (node : Node D) (cause : Cause) (input : Input) : Type 0 where
+  pub beside : IsBeside view table rows book who steps node
   pub is_told : IsToldOf book.letters (waits_behind steps (waits_in table rows book who)) who cause input
   pub inside : IsInputInside table input
 
 -- it may step for the cause: it is told of it beside a book of at most so many turns, and is few steps ahead
-pub record MayStep {D : Type 0} (seen : D → Image) (may_leave : D → Image → Type 0) (honest : D → Type 0) (told_of : D → Option Told) (table : Table) (turns : ℕ) (node : Node D) (cause : Cause) (input : Input) : Type 0 where
+pub record MayStep {D : Type 0} (view : DiskView D) (table : Table) (turns : ℕ) (node : Node D) (cause : Cause) (input : Input) : Type 0 where
   pub rows : List Row
   pub book : BookState
   pub who : ℕ
   pub steps : List Taken
-  pub told : WasToldOf seen may_leave honest told_of table rows book who steps node cause input
+  pub told : WasToldOf view table rows book who steps node cause input
   pub counted : length book.turns ≤ turns
   pub few : length steps < 2 ^ 31
 

@@ -2,9 +2,8 @@
 use Rattle.std.specs.Prelude.{◌≡◌, ℕ, ◌<◌, ◌≤◌, Bool, true, false, List, [], ◌∷◌, Option, None, Some}
 use Rattle.std.specs.Option.{option_to_list}
 use Rattle.cluster_sched.specs.declared.row.SchedRow.{SchedRow}
-use Rattle.disk_model.specs.Images.{Image}
-use Rattle.disk_model.specs.Told.{Told}
 use Rattle.disk_model.specs.declared.armed.Arm.{Arm}
+use Rattle.disk_model.specs.View.{DiskView}
 use Rattle.due_set.specs.Table.{Table}
 use Rattle.paxos_base.specs.declared.durable.Delta.{Delta}
 use Rattle.save_calls.specs.Save.{calls_of_delta, is_kept}
@@ -55,27 +54,27 @@ pub record IsNextStop (table : Table) (rows : List Row) (book : BookState) (who 
   pub began : BeganStep table book.letters (waits_in table rows book who) who cause old change
 
 -- The node of one of so many replicas that has stopped and was attached again: it keeps this, and has kept so many bases.
-pub record IsAttached {D : Type 0} (seen : D → Image) (may_leave : D → Image → Type 0) (honest : D → Type 0) (told_of : D → Option Told) (table : Table) (members who bases : ℕ) (node : Node D) : Type 0 where
-  pub at_rest : IsNodeAtRest seen may_leave honest table node
-  pub trusted : honest (disk_of node)
-  pub disk : IsDiskAt told_of bases node
+pub record IsAttached {D : Type 0} (view : DiskView D) (table : Table) (members who bases : ℕ) (node : Node D) : Type 0 where
+  pub at_rest : IsNodeAtRest view table node
+  pub trusted : view.honest (disk_of node)
+  pub disk : IsDiskAt view bases node
   pub identity : (replica_of node).identity ≡ identity_of members who
   pub started_with : (replica_of node).state ≡ started who (replica_of node).state.kept
 
 -- **The disk has stopped within the save of the step's change**: there were too few calls left, and the numbers of the arm say whether the
 -- change is kept. The node is attached again, and keeps what it kept before the step, with the change or without.
-pub record HasStopped {D : Type 0} (seen : D → Image) (may_leave : D → Image → Type 0) (honest : D → Type 0) (told_of : D → Option Told) (table : Table) (rows : List Row) (book : BookState) (who : ℕ) (cause : Cause) (arm : Arm) (answer : Option Delta) (node : Node D) : Type 0 where
+pub record HasStopped {D : Type 0} (view : DiskView D) (table : Table) (rows : List Row) (book : BookState) (who : ℕ) (cause : Cause) (arm : Arm) (answer : Option Delta) (node : Node D) : Type 0 where
   pub old : ReplicaState
   pub change : Delta
   pub next : IsNextStop table rows book who cause old change
   pub few : arm.left < calls_of_delta change
   pub is_kept : answer ≡ change_kept (is_kept (bases_behind table rows book who) change arm.left arm.image) change
-  pub attached : IsAttached seen may_leave honest told_of table book.members who (bases_with (option_to_list answer) (bases_behind table rows book who)) node
+  pub attached : IsAttached view table book.members who (bases_with (option_to_list answer) (bases_behind table rows book who)) node
   pub keeps : (replica_of node).state.kept ≡ kept_after answer old.state.kept
 
 -- what came of a step on a disk that is armed so, or not: it was taken, and the calls that were left were enough, or the disk has stopped
-abbrev pub HasOutcome : {D : Type 0} → (seen : D → Image) → (may_leave : D → Image → Type 0) → (honest : D → Type 0) → (told_of : D → Option Told) → Table → List Row → BookState → (who : ℕ) → Cause → Option Arm → Outcome → Node D → Type 0
-HasOutcome seen may_leave honest told_of table rows book who cause arm (Taken taken) node =
-    (taken.cause ≡ cause) × IsEnough (armed_in arm) (option_to_list taken.out.delta) × IsBeside seen may_leave honest told_of table rows book who (taken ∷ []) node
-HasOutcome seen may_leave honest told_of table rows book who cause arm (Stopped answer) node =
-    (some : Arm) × (arm ≡ Some some) × HasStopped seen may_leave honest told_of table rows book who cause some answer node
+abbrev pub HasOutcome : {D : Type 0} → (view : DiskView D) → Table → List Row → BookState → (who : ℕ) → Cause → Option Arm → Outcome → Node D → Type 0
+HasOutcome view table rows book who cause arm (Taken taken) node =
+    (taken.cause ≡ cause) × IsEnough (armed_in arm) (option_to_list taken.out.delta) × IsBeside view table rows book who (taken ∷ []) node
+HasOutcome view table rows book who cause arm (Stopped answer) node =
+    (some : Arm) × (arm ≡ Some some) × HasStopped view table rows book who cause some answer node

@@ -38,10 +38,10 @@ fn take_armed<D: ArmedDisk>(
 ) -> Result<Outcome, OutOfMemory>
     requires me { who < members }
     requires few { members ≤ 7 }
-    requires may { (turns : ℕ) × (turns < 2 ^ 31) × MayStep D.seen D.may_leave D.honest D.told table.now turns node.old cause input }
+    requires may { (turns : ℕ) × (turns < 2 ^ 31) × MayStep D.view table.now turns node.old cause input }
     ensures ended { IfOk result (λ ended. (rows : List Row) (book : BookState) → book.members ≡ members
-        → WasToldOf D.seen D.may_leave D.honest D.told table.now rows book who [] node.old cause input.entry
-        → HasOutcome D.seen D.may_leave D.honest D.told table.now rows book who cause (Some arm) ended node.new) }
+        → WasToldOf D.view table.now rows book who [] node.old cause input.entry
+        → HasOutcome D.view table.now rows book who cause (Some arm) ended node.new) }
 {
     node.arm(arm.left, arm.image);
     let fault = match node.handle(table, input) {
@@ -79,10 +79,10 @@ pub fn take_by_arm<D: ArmedDisk>(
 ) -> Result<Outcome, OutOfMemory>
     requires me { who < members }
     requires few { members ≤ 7 }
-    requires may { MayStep D.seen D.may_leave D.honest D.told table.now turns node.old cause input }
+    requires may { MayStep D.view table.now turns node.old cause input }
     ensures ended { IfOk result (λ ended. (rows : List Row) (book : BookState) → book.members ≡ members
-        → WasToldOf D.seen D.may_leave D.honest D.told table.now rows book who [] node.old cause input.entry
-        → HasOutcome D.seen D.may_leave D.honest D.told table.now rows book who cause arm ended node.new) }
+        → WasToldOf D.view table.now rows book who [] node.old cause input.entry
+        → HasOutcome D.view table.now rows book who cause arm ended node.new) }
 {
     if turns >= MOST_TURNS {
         return Err(OutOfMemory);

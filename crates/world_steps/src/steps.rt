@@ -36,11 +36,11 @@ pub fn take_step<D: Disk>(
     cause: Cause,
     input: Input<'_>,
 ) -> Result<Taken, OutOfMemory>
-    requires may { MayStep D.seen D.may_leave D.honest D.told table.now turns node.old cause input }
+    requires may { MayStep D.view table.now turns node.old cause input }
     ensures cause { IfOk result (λ taken. taken.cause ≡ cause) }
     ensures beside { IfOk result (λ taken. (rows : List Row) (book : BookState) (who : ℕ) (steps : List Step)
-        → WasToldOf D.seen D.may_leave D.honest D.told table.now rows book who steps node.old cause input.entry
-        → IsBeside D.seen D.may_leave D.honest D.told table.now rows book who (steps ++ taken ∷ []) node.new) }
+        → WasToldOf D.view table.now rows book who steps node.old cause input.entry
+        → IsBeside D.view table.now rows book who (steps ++ taken ∷ []) node.new) }
 {
     if turns >= MOST_TURNS {
         return Err(OutOfMemory);

@@ -62,44 +62,44 @@ returns-clause-recoverable g c = rw (← c.jobs.ensures.count) c.attach.ensures.
 
 pub returns-clause-clean : goal.returns-clause-clean
 returns-clause-clean g c tells =
-    let image = g.D.Disk.seen c.args.disk.now in
+    let image = g.D.Disk.view.seen c.args.disk.now in
     let found = c.in_ok-store.ensures.stand in
-    tells_attached image (length found.bodies) (area_of c.in_ok-store.store) (c.in_ok-store.store, c.in_ok-store.kept) (g.D.Disk.told c.args.disk.now) (g.D.Disk.told c.attach.new.disk) tells c.in_ok-store.ensures.area
+    tells_attached image (length found.bodies) (area_of c.in_ok-store.store) (c.in_ok-store.store, c.in_ok-store.kept) (g.D.Disk.view.told c.args.disk.now) (g.D.Disk.view.told c.attach.new.disk) tells c.in_ok-store.ensures.area
     (c.in_ok-store.ensures.told found.bodies found.has)
 
 -- ---- from a disk that is reliable
 
 pub returns-clause-reliable : goal.returns-clause-reliable
 returns-clause-reliable g c sure =
-    let image = g.D.Disk.seen c.args.disk.now in
+    let image = g.D.Disk.view.seen c.args.disk.now in
     let found = c.in_ok-store.ensures.stand in
-    reliable_done (attach_calls image (length found.bodies)) (c.in_ok-store.store, c.in_ok-store.kept) (g.D.Disk.told c.args.disk.now) (g.D.Disk.told c.attach.new.disk) sure (c.in_ok-store.ensures.told found.bodies found.has)
+    reliable_done (attach_calls image (length found.bodies)) (c.in_ok-store.store, c.in_ok-store.kept) (g.D.Disk.view.told c.args.disk.now) (g.D.Disk.view.told c.attach.new.disk) sure (c.in_ok-store.ensures.told found.bodies found.has)
 
 pub returns-in_err-store-clause-unended : goal.returns-in_err-store-clause-unended
 returns-in_err-store-clause-unended g c sure ends =
-    let image = g.D.Disk.seen c.args.disk.now in
+    let image = g.D.Disk.view.seen c.args.disk.now in
     let found = some_list (file_of (selected image) image) in
-    reliable_never (attach_calls image (length found.0)) c.attach.result (g.D.Disk.told c.args.disk.now) (g.D.Disk.told c.attach.new.disk) sure (c.attach.ensures.told found.0 found.1)
+    reliable_never (attach_calls image (length found.0)) c.attach.result (g.D.Disk.view.told c.args.disk.now) (g.D.Disk.view.told c.attach.new.disk) sure (c.attach.ensures.told found.0 found.1)
     (ends_below c.in_err-store.field-0.0 c.attach.result c.from_residual.result c.in_err-store.was c.from_residual.ensures.1 ends)
 
 -- ---- from a disk that can't fail, and may be armed
 
 pub returns-clause-unfailing : goal.returns-clause-unfailing
 returns-clause-unfailing g c sure =
-    let image = g.D.Disk.seen c.args.disk.now in
+    let image = g.D.Disk.view.seen c.args.disk.now in
     let found = c.in_ok-store.ensures.stand in
-    unfailing_done (attach_calls image (length found.bodies)) (c.in_ok-store.store, c.in_ok-store.kept) (g.D.Disk.told c.args.disk.now) (g.D.Disk.told c.attach.new.disk) sure (c.in_ok-store.ensures.told found.bodies found.has)
+    unfailing_done (attach_calls image (length found.bodies)) (c.in_ok-store.store, c.in_ok-store.kept) (g.D.Disk.view.told c.args.disk.now) (g.D.Disk.view.told c.attach.new.disk) sure (c.in_ok-store.ensures.told found.bodies found.has)
 
 pub returns-in_err-replica-clause-unfailing : goal.returns-in_err-replica-clause-unfailing
 returns-in_err-replica-clause-unfailing g c sure =
-    let image = g.D.Disk.seen c.args.disk.now in
+    let image = g.D.Disk.view.seen c.args.disk.now in
     let found = c.in_ok-store.ensures.stand in
-    let here = unfailing_done (attach_calls image (length found.bodies)) (c.in_ok-store.store, c.in_ok-store.kept) (g.D.Disk.told c.args.disk.now) (g.D.Disk.told c.attach.new.disk) sure (c.in_ok-store.ensures.told found.bodies found.has) in
-    unfailing_memory c.from_residual-in_err-replica.result (g.D.Disk.told c.attach.new.disk) c.from_residual-in_err-replica.ensures.1 here
+    let here = unfailing_done (attach_calls image (length found.bodies)) (c.in_ok-store.store, c.in_ok-store.kept) (g.D.Disk.view.told c.args.disk.now) (g.D.Disk.view.told c.attach.new.disk) sure (c.in_ok-store.ensures.told found.bodies found.has) in
+    unfailing_memory c.from_residual-in_err-replica.result (g.D.Disk.view.told c.attach.new.disk) c.from_residual-in_err-replica.ensures.1 here
 
 pub returns-in_err-store-clause-unfailing : goal.returns-in_err-store-clause-unfailing
 returns-in_err-store-clause-unfailing g c sure =
-    let image = g.D.Disk.seen c.args.disk.now in
+    let image = g.D.Disk.view.seen c.args.disk.now in
     let found = some_list (file_of (selected image) image) in
-    unfailing_below (attach_calls image (length found.0)) (look_calls image) c.in_err-store.field-0.0 c.attach.result c.from_residual.result (g.D.Disk.told c.args.disk.now) (g.D.Disk.told c.attach.new.disk)
+    unfailing_below (attach_calls image (length found.0)) (look_calls image) c.in_err-store.field-0.0 c.attach.result c.from_residual.result (g.D.Disk.view.told c.args.disk.now) (g.D.Disk.view.told c.attach.new.disk)
     c.in_err-store.was c.from_residual.ensures.1 sure (c.attach.ensures.told found.0 found.1) c.attach.ensures.told_damaged

@@ -17,13 +17,13 @@ use Rattle.replica_node.proofs.reopen.attach_stopped.Goals as goal
 pub returns-in_err-attach-clause-sound : goal.returns-in_err-attach-clause-sound
 returns-in_err-attach-clause-sound g c before after gate honest recoverable is =
     c.attach.ensures.sound before after gate (c.revive.ensures.honest.1 honest)
-    (fewer_recoverable c.args.jobs before after (g.D.Disk.may_leave c.args.disk.now) (g.D.Disk.may_leave c.revive.new.self) (c.revive.ensures.no_new_image honest) recoverable)
+    (fewer_recoverable c.args.jobs before after (g.D.Disk.view.may_leave c.args.disk.now) (g.D.Disk.view.may_leave c.revive.new.self) (c.revive.ensures.no_new_image honest) recoverable)
     (damaged_below c.in_err-attach.field-0.0 gate c.attach.result c.from_residual.result c.in_err-attach.was c.from_residual.ensures.1 is)
 
 pub returns-in_err-attach-clause-recoverable : goal.returns-in_err-attach-clause-recoverable
 returns-in_err-attach-clause-recoverable g c before after honest recoverable =
     c.attach.ensures.recoverable before after (c.revive.ensures.honest.1 honest)
-    (fewer_recoverable c.args.jobs before after (g.D.Disk.may_leave c.args.disk.now) (g.D.Disk.may_leave c.revive.new.self) (c.revive.ensures.no_new_image honest) recoverable)
+    (fewer_recoverable c.args.jobs before after (g.D.Disk.view.may_leave c.args.disk.now) (g.D.Disk.view.may_leave c.revive.new.self) (c.revive.ensures.no_new_image honest) recoverable)
 
 pub returns-in_err-attach-clause-damaged : goal.returns-in_err-attach-clause-damaged
 returns-in_err-attach-clause-damaged g c gate bodies is has =
@@ -33,38 +33,38 @@ returns-in_err-attach-clause-damaged g c gate bodies is has =
 pub returns-in_err-attach-clause-quiet : goal.returns-in_err-attach-clause-quiet
 returns-in_err-attach-clause-quiet g c =
     let mid = c.revive.new.self in
-    let seen = g.D.Disk.seen mid in
+    let seen = g.D.Disk.view.seen mid in
     let found = some_list (file_of (selected seen) seen) in
-    attach_quiet (attach_calls seen (length found.0)) (look_calls seen) c.attach.result (g.D.Disk.told mid) (g.D.Disk.told c.attach.new.disk) (g.met.D.ArmedDisk.tells mid)
-    (tells_revived (g.D.Disk.told c.args.disk.now) (g.D.Disk.told mid) c.requires.stopped c.revive.ensures.told) (c.attach.ensures.told found.0 found.1) c.attach.ensures.told_damaged
+    attach_quiet (attach_calls seen (length found.0)) (look_calls seen) c.attach.result (g.D.Disk.view.told mid) (g.D.Disk.view.told c.attach.new.disk) (g.met.D.ArmedDisk.tells mid)
+    (tells_revived (g.D.Disk.view.told c.args.disk.now) (g.D.Disk.view.told mid) c.requires.stopped c.revive.ensures.told) (c.attach.ensures.told found.0 found.1) c.attach.ensures.told_damaged
 
 pub returns-in_err-attach-clause-never_stopped : goal.returns-in_err-attach-clause-never_stopped
 returns-in_err-attach-clause-never_stopped g c is =
     let mid = c.revive.new.self in
-    let seen = g.D.Disk.seen mid in
+    let seen = g.D.Disk.view.seen mid in
     let found = some_list (file_of (selected seen) seen) in
-    attach_never (attach_calls seen (length found.0)) c.attach.result (g.D.Disk.told mid) (g.D.Disk.told c.attach.new.disk) (g.met.D.ArmedDisk.tells mid) (g.met.D.ArmedDisk.tells c.attach.new.disk)
-    (tells_revived (g.D.Disk.told c.args.disk.now) (g.D.Disk.told mid) c.requires.stopped c.revive.ensures.told) (c.attach.ensures.told found.0 found.1)
+    attach_never (attach_calls seen (length found.0)) c.attach.result (g.D.Disk.view.told mid) (g.D.Disk.view.told c.attach.new.disk) (g.met.D.ArmedDisk.tells mid) (g.met.D.ArmedDisk.tells c.attach.new.disk)
+    (tells_revived (g.D.Disk.view.told c.args.disk.now) (g.D.Disk.view.told mid) c.requires.stopped c.revive.ensures.told) (c.attach.ensures.told found.0 found.1)
     (stopped_below c.in_err-attach.field-0.0 c.attach.result c.from_residual.result c.in_err-attach.was c.from_residual.ensures.1 is)
 
 pub returns-in_err-attach-clause-unended : goal.returns-in_err-attach-clause-unended
 returns-in_err-attach-clause-unended g c sure ends =
     let mid = c.revive.new.self in
-    let seen = g.D.Disk.seen mid in
+    let seen = g.D.Disk.view.seen mid in
     let found = some_list (file_of (selected seen) seen) in
-    reliable_never (attach_calls seen (length found.0)) c.attach.result (g.D.Disk.told mid) (g.D.Disk.told c.attach.new.disk)
-    (revived_reliable (g.D.Disk.told c.args.disk.now) (g.D.Disk.told mid) c.requires.stopped sure c.revive.ensures.told) (c.attach.ensures.told found.0 found.1)
+    reliable_never (attach_calls seen (length found.0)) c.attach.result (g.D.Disk.view.told mid) (g.D.Disk.view.told c.attach.new.disk)
+    (revived_reliable (g.D.Disk.view.told c.args.disk.now) (g.D.Disk.view.told mid) c.requires.stopped sure c.revive.ensures.told) (c.attach.ensures.told found.0 found.1)
     (ends_below c.in_err-attach.field-0.0 c.attach.result c.from_residual.result c.in_err-attach.was c.from_residual.ensures.1 ends)
 
 pub returns-in_err-attach-clause-reliable : goal.returns-in_err-attach-clause-reliable
 returns-in_err-attach-clause-reliable g c sure =
     let mid = c.revive.new.self in
-    let seen = g.D.Disk.seen mid in
+    let seen = g.D.Disk.view.seen mid in
     let found = some_list (file_of (selected seen) seen) in
-    let revived = reliable_unfailing (g.D.Disk.told mid) (revived_reliable (g.D.Disk.told c.args.disk.now) (g.D.Disk.told mid) c.requires.stopped sure c.revive.ensures.told) in
-    quiet_reliable (g.D.Disk.told c.attach.new.disk) (g.met.D.ArmedDisk.tells c.attach.new.disk)
-    (after_cant_fail c.from_residual.result (g.D.Disk.told c.attach.new.disk)
-    (unfailing_below (attach_calls seen (length found.0)) (look_calls seen) c.in_err-attach.field-0.0 c.attach.result c.from_residual.result (g.D.Disk.told mid) (g.D.Disk.told c.attach.new.disk)
+    let revived = reliable_unfailing (g.D.Disk.view.told mid) (revived_reliable (g.D.Disk.view.told c.args.disk.now) (g.D.Disk.view.told mid) c.requires.stopped sure c.revive.ensures.told) in
+    quiet_reliable (g.D.Disk.view.told c.attach.new.disk) (g.met.D.ArmedDisk.tells c.attach.new.disk)
+    (after_cant_fail c.from_residual.result (g.D.Disk.view.told c.attach.new.disk)
+    (unfailing_below (attach_calls seen (length found.0)) (look_calls seen) c.in_err-attach.field-0.0 c.attach.result c.from_residual.result (g.D.Disk.view.told mid) (g.D.Disk.view.told c.attach.new.disk)
     c.in_err-attach.was c.from_residual.ensures.1 revived.0 (c.attach.ensures.told found.0 found.1) c.attach.ensures.told_damaged))
     (returns-in_err-attach-clause-quiet g c)
 
@@ -74,42 +74,42 @@ pub returns-clause-reliable : goal.returns-clause-reliable
 returns-clause-reliable g c sure =
     let mid = c.revive.new.self in
     let found = c.in_ok-attach.ensures.stand in
-    reliable_done (attach_calls (g.D.Disk.seen mid) (length found.bodies)) c.in_ok-attach.field-0 (g.D.Disk.told mid) (g.D.Disk.told c.attach.new.disk)
-    (revived_reliable (g.D.Disk.told c.args.disk.now) (g.D.Disk.told mid) c.requires.stopped sure c.revive.ensures.told) (c.in_ok-attach.ensures.told found.bodies found.has)
+    reliable_done (attach_calls (g.D.Disk.view.seen mid) (length found.bodies)) c.in_ok-attach.field-0 (g.D.Disk.view.told mid) (g.D.Disk.view.told c.attach.new.disk)
+    (revived_reliable (g.D.Disk.view.told c.args.disk.now) (g.D.Disk.view.told mid) c.requires.stopped sure c.revive.ensures.told) (c.in_ok-attach.ensures.told found.bodies found.has)
 
 pub returns-clause-quiet : goal.returns-clause-quiet
 returns-clause-quiet g c =
     let mid = c.revive.new.self in
-    let seen = g.D.Disk.seen mid in
+    let seen = g.D.Disk.view.seen mid in
     let found = some_list (file_of (selected seen) seen) in
-    attach_quiet (attach_calls seen (length found.0)) (look_calls seen) c.attach.result (g.D.Disk.told mid) (g.D.Disk.told c.attach.new.disk) (g.met.D.ArmedDisk.tells mid)
-    (tells_revived (g.D.Disk.told c.args.disk.now) (g.D.Disk.told mid) c.requires.stopped c.revive.ensures.told) (c.attach.ensures.told found.0 found.1) c.attach.ensures.told_damaged
+    attach_quiet (attach_calls seen (length found.0)) (look_calls seen) c.attach.result (g.D.Disk.view.told mid) (g.D.Disk.view.told c.attach.new.disk) (g.met.D.ArmedDisk.tells mid)
+    (tells_revived (g.D.Disk.view.told c.args.disk.now) (g.D.Disk.view.told mid) c.requires.stopped c.revive.ensures.told) (c.attach.ensures.told found.0 found.1) c.attach.ensures.told_damaged
 
 pub returns-clause-image : goal.returns-clause-image
 returns-clause-image g c told is =
     let mid = c.revive.new.self in
     subst (λ (image : Image). FilesStand c.args.jobs c.in_ok-attach.field-0.1 image)
-    (revived_seen (g.D.Disk.told c.args.disk.now) (g.D.Disk.told mid) told (g.D.Disk.seen mid) (g.met.D.ArmedDisk.tells mid) c.requires.stopped c.revive.ensures.told is (g.met.D.Disk.done_is_seen mid)) c.in_ok-attach.ensures.stand
+    (revived_seen (g.D.Disk.view.told c.args.disk.now) (g.D.Disk.view.told mid) told (g.D.Disk.view.seen mid) (g.met.D.ArmedDisk.tells mid) c.requires.stopped c.revive.ensures.told is (g.met.D.Disk.done_is_seen mid)) c.in_ok-attach.ensures.stand
 
 pub returns-clause-area : goal.returns-clause-area
 returns-clause-area g c told is =
     let mid = c.revive.new.self in
-    c.in_ok-attach.ensures.area ∙ ap selected (revived_seen (g.D.Disk.told c.args.disk.now) (g.D.Disk.told mid) told (g.D.Disk.seen mid) (g.met.D.ArmedDisk.tells mid) c.requires.stopped c.revive.ensures.told is (g.met.D.Disk.done_is_seen mid))
+    c.in_ok-attach.ensures.area ∙ ap selected (revived_seen (g.D.Disk.view.told c.args.disk.now) (g.D.Disk.view.told mid) told (g.D.Disk.view.seen mid) (g.met.D.ArmedDisk.tells mid) c.requires.stopped c.revive.ensures.told is (g.met.D.Disk.done_is_seen mid))
 
 pub returns-clause-either : goal.returns-clause-either
 returns-clause-either g c before after honest recoverable =
     c.in_ok-attach.ensures.either before after (c.revive.ensures.honest.1 honest)
-    (fewer_recoverable c.args.jobs before after (g.D.Disk.may_leave c.args.disk.now) (g.D.Disk.may_leave c.revive.new.self) (c.revive.ensures.no_new_image honest) recoverable)
+    (fewer_recoverable c.args.jobs before after (g.D.Disk.view.may_leave c.args.disk.now) (g.D.Disk.view.may_leave c.revive.new.self) (c.revive.ensures.no_new_image honest) recoverable)
 
 pub returns-clause-recoverable : goal.returns-clause-recoverable
 returns-clause-recoverable g c before after honest recoverable =
     c.attach.ensures.recoverable before after (c.revive.ensures.honest.1 honest)
-    (fewer_recoverable c.args.jobs before after (g.D.Disk.may_leave c.args.disk.now) (g.D.Disk.may_leave c.revive.new.self) (c.revive.ensures.no_new_image honest) recoverable)
+    (fewer_recoverable c.args.jobs before after (g.D.Disk.view.may_leave c.args.disk.now) (g.D.Disk.view.may_leave c.revive.new.self) (c.revive.ensures.no_new_image honest) recoverable)
 
 pub returns-clause-clean : goal.returns-clause-clean
 returns-clause-clean g c =
     let mid = c.revive.new.self in
-    let image = g.D.Disk.seen mid in
+    let image = g.D.Disk.view.seen mid in
     let found = c.in_ok-attach.ensures.stand in
-    tells_attached image (length found.bodies) (area_of c.in_ok-attach.field-0.0) c.in_ok-attach.field-0 (g.D.Disk.told mid) (g.D.Disk.told c.attach.new.disk) (g.met.D.ArmedDisk.tells mid)
+    tells_attached image (length found.bodies) (area_of c.in_ok-attach.field-0.0) c.in_ok-attach.field-0 (g.D.Disk.view.told mid) (g.D.Disk.view.told c.attach.new.disk) (g.met.D.ArmedDisk.tells mid)
     c.in_ok-attach.ensures.area (c.in_ok-attach.ensures.told found.bodies found.has)

@@ -4,5 +4,5 @@ use Rattle.rounds_tests.proofs.worlds.take.Goals as goal
 
 pub returns-in-Ok-clause-world : goal.returns-in-Ok-clause-world
 returns-in-Ok-clause-world g c =
-    is_world g.D.Disk.seen g.D.Disk.may_leave g.D.Disk.honest g.D.Disk.told c.args.table.now (IsPartOf c.args.world.now.book.members c.args.table.now c.args.command.now) c.args.world.now c.command.new.self
+    is_world g.D.Disk.view c.args.table.now (IsPartOf c.args.world.now.book.members c.args.table.now c.args.command.now) c.args.world.now c.command.new.self
     c.requires.world c.in-Ok.ensures.goes

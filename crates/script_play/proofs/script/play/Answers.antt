@@ -14,8 +14,8 @@ default_command = Round (record { 0 = pos 0 }) 0
 
 pub commands-init : goal.commands-init
 commands-init g c =
-    subst (λ (l : List ℕ). HasDone g.D.Disk.seen g.D.Disk.may_leave g.D.Disk.honest g.D.Disk.told c.args.table.now [] l c.args.world c.args.world) (sym c.in_ok-starts.ensures.items)
-    (done_none g.D.Disk.seen g.D.Disk.may_leave g.D.Disk.honest g.D.Disk.told c.args.table.now c.args.world c.requires.world)
+    subst (λ (l : List ℕ). HasDone g.D.Disk.view c.args.table.now [] l c.args.world c.args.world) (sym c.in_ok-starts.ensures.items)
+    (done_none g.D.Disk.view c.args.table.now c.args.world c.requires.world)
 
 pub play_command-requires-clause-world : goal.play_command-requires-clause-world
 play_command-requires-clause-world g c = λ lives borrowed. c.commands.invariant.world
@@ -27,18 +27,18 @@ play_command-requires-clause-taken g c = λ lives borrowed.
 
 pub commands-preserved : goal.commands-preserved
 commands-preserved g c =
-    subst (λ (l : List ℕ). HasDone g.D.Disk.seen g.D.Disk.may_leave g.D.Disk.honest g.D.Disk.told c.args.table.now (take (c.commands.command-index + 1) c.args.commands.now) l c.args.world c.in_ok-world.world)
+    subst (λ (l : List ℕ). HasDone g.D.Disk.view c.args.table.now (take (c.commands.command-index + 1) c.args.commands.now) l c.args.world c.in_ok-world.world)
     (sym c.in_ok-push.ensures.items)
-    (subst (λ script. HasDone g.D.Disk.seen g.D.Disk.may_leave g.D.Disk.honest g.D.Disk.told c.args.table.now script (c.commands.starts.items ++ (length c.turns.result.now) ∷ []) c.args.world c.in_ok-world.world)
+    (subst (λ script. HasDone g.D.Disk.view c.args.table.now script (c.commands.starts.items ++ (length c.turns.result.now) ∷ []) c.args.world c.in_ok-world.world)
     (sym (take_more c.args.commands.now c.commands.command-index default_command c.commands-test.true))
-    (done_next g.D.Disk.seen g.D.Disk.may_leave g.D.Disk.honest g.D.Disk.told c.args.table.now _ _ c.commands.starts.items (length c.turns.result.now) c.args.world c.commands.world c.in_ok-world.world
+    (done_next g.D.Disk.view c.args.table.now _ _ c.commands.starts.items (length c.turns.result.now) c.args.world c.commands.world c.in_ok-world.world
     c.commands.invariant (ap length c.turns.ensures ∙ ap (λ (b : BookState). length b.turns) c.book.ensures) c.in_ok-world.ensures.goes c.in_ok-world.ensures.members))
 
 pub returns-clause-goes : goal.returns-clause-goes
 returns-clause-goes g c =
     let whole : take c.commands.command-index c.args.commands.now ≡ c.args.commands.now =
     take_all c.commands.command-index c.args.commands.now (omega (arith, c.commands-test.false)) in
-    subst (λ script. GoesOnBy g.D.Disk.seen g.D.Disk.may_leave g.D.Disk.honest g.D.Disk.told c.args.table.now (ArePartsFrom c.args.world.book.members c.args.table.now script (length c.args.world.book.turns) c.commands.starts.items) c.args.world c.commands.world)
+    subst (λ script. GoesOnBy g.D.Disk.view c.args.table.now (ArePartsFrom c.args.world.book.members c.args.table.now script (length c.args.world.book.turns) c.commands.starts.items) c.args.world c.commands.world)
     whole c.commands.invariant.goes
 
 pub returns-clause-members : goal.returns-clause-members

@@ -3,4 +3,4 @@ use Rattle.script_play.proofs.Commands.{HasDone}
 use Rattle.script_play.proofs.script.play.Given as goal
 
 abbrev pub invariant-commands : goal.invariant-commands
-invariant-commands g l = HasDone g.D.Disk.seen g.D.Disk.may_leave g.D.Disk.honest g.D.Disk.told l.table (take l.command-index l.commands) l.starts.items l.fn.world l.world
+invariant-commands g l = HasDone g.D.Disk.view l.table (take l.command-index l.commands) l.starts.items l.fn.world l.world

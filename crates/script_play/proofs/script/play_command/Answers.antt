@@ -14,7 +14,7 @@ play_free-requires-clause-inside g c = λ lives borrowed. (subst (IsPlayable c.a
 
 pub returns-in-Free-clause-goes : goal.returns-in-Free-clause-goes
 returns-in-Free-clause-goes g c =
-    subst (λ command. IfOk c.play_free.result (GoesOnBy g.D.Disk.seen g.D.Disk.may_leave g.D.Disk.honest g.D.Disk.told c.args.table.now (IsPartOf c.args.world.book.members c.args.table.now command) c.args.world))
+    subst (λ command. IfOk c.play_free.result (GoesOnBy g.D.Disk.view c.args.table.now (IsPartOf c.args.world.book.members c.args.table.now command) c.args.world))
     (sym c.in-Free.is) c.play_free.ensures.goes
 
 pub command-requires-clause-taken : goal.command-requires-clause-taken

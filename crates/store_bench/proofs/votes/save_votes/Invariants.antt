@@ -1,8 +1,7 @@
 -- What is kept takes a vote in the ballot, at a slot from the base on.
 use Rattle.std.proofs.Common.{◌≤◌}
-use Rattle.std.specs.Bool.{⊤}
 use Rattle.paxos_base.specs.Ballot.{IsAtLeast}
-use Rattle.disk_model.specs.MemDisk.{seen_of, left_by}
+use Rattle.disk_model.specs.MemDisk.{view_of}
 use Rattle.paxos_base.specs.declared.durable.Durable.{Durable}
 use Rattle.replica_store.specs.Store.{StoreKeeps, IsStoreSettled}
 use Rattle.store_bench.proofs.votes.save_votes.Given as goal
@@ -10,6 +9,6 @@ use Rattle.store_bench.proofs.votes.save_votes.Given as goal
 abbrev pub invariant-loop-slot : goal.invariant-loop-slot
 invariant-loop-slot l =
     record {
-      settled : IsStoreSettled seen_of left_by (λ disk. ⊤) l.disk l.store;
+      settled : IsStoreSettled view_of l.disk l.store;
       takes : (kept : Durable) × (StoreKeeps l.store kept × (IsAtLeast l.ballot kept.promised × (kept.base ≤ l.base)));
     }

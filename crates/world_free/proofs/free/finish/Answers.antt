@@ -8,14 +8,14 @@ use Rattle.world_free.proofs.free.finish.Goals as goal
 
 pub close-book-requires : goal.close-book-requires
 close-book-requires g c =
-    all_seats g.D.Disk.seen g.D.Disk.may_leave g.D.Disk.honest g.D.Disk.told c.args.book c.args.setting c.requires.taken.0 c.args.jobs.items c.requires.taken.1
+    all_seats g.D.Disk.view c.args.book c.args.setting c.requires.taken.0 c.args.jobs.items c.requires.taken.1
     c.requires.count c.in_ok-nodes.nodes.items c.in_ok-nodes.mails.items c.in_ok-nodes.seats.items c.in_ok-nodes.ensures.jobs
 
 pub mails_ended-requires-clause-looked : goal.mails_ended-requires-clause-looked
 mails_ended-requires-clause-looked g c =
     let closed = is_closed c.args.book c.requires.taken.0 c.args.setting c.in_ok-nodes.seats.items c.close-book.result c.close-book.ensures in
     subst (λ letters. HaveLooked letters c.in_ok-nodes.mails.items) (sym c.letters.ensures)
-    (all_looked g.D.Disk.seen g.D.Disk.may_leave g.D.Disk.honest g.D.Disk.told c.args.book c.args.setting c.requires.taken.0 c.args.jobs.items
+    (all_looked g.D.Disk.view c.args.book c.args.setting c.requires.taken.0 c.args.jobs.items
     c.requires.taken.1 c.requires.count c.in_ok-nodes.nodes.items c.in_ok-nodes.mails.items c.in_ok-nodes.seats.items c.in_ok-nodes.ensures.jobs c.close-book.result closed)
 
 pub returns-clause-ends : goal.returns-clause-ends
@@ -35,9 +35,9 @@ returns-clause-ends g c = λ rows situation run begins.
     let latest = c.latest_reading-latest.ensures.latest ∙ ap (λ turns. latest_by c.args.latest.0 (drop c.args.first turns)) c.turns.ensures in (
       _,
       _,
-      free_part g.D.Disk.seen g.D.Disk.may_leave g.D.Disk.honest g.D.Disk.told c.args.book c.args.setting situation c.args.jobs.items run c.requires.count
+      free_part g.D.Disk.view c.args.book c.args.setting situation c.args.jobs.items run c.requires.count
           c.in_ok-nodes.nodes.items c.in_ok-nodes.mails.items c.in_ok-nodes.seats.items c.in_ok-nodes.ensures.jobs new closed rows c.args.latest.0 begins c.requires.members,
-      parts_there g.D.Disk.seen g.D.Disk.may_leave g.D.Disk.honest g.D.Disk.told c.args.book c.args.setting situation c.args.jobs.items run c.requires.count
+      parts_there g.D.Disk.view c.args.book c.args.setting situation c.args.jobs.items run c.requires.count
           c.in_ok-nodes.nodes.items c.in_ok-nodes.mails.items c.in_ok-nodes.seats.items c.in_ok-nodes.ensures.jobs new closed rows c.args.latest.0 begins c.requires.members c.args.first
           refl ended refl c.requires.first latest,
     )

@@ -16,7 +16,7 @@ for_each_mut-requires-clause-accepts g c κs within who job below is lives calle
         (
           (
             begun.0,
-            subst (λ (j : FreeJob g.row.D.Denot). IsJobAt g.D.Disk.seen g.D.Disk.may_leave g.D.Disk.honest g.D.Disk.told plan c.args.book.now who 0 j)
+            subst (λ (j : FreeJob g.row.D.Denot). IsJobAt g.D.Disk.view plan c.args.book.now who 0 j)
                 (sym is) begun.1,
           ),
           ap (λ (j : FreeJob g.row.D.Denot). j.short) is ∙ c.requires.memory who job.now below,
@@ -29,15 +29,15 @@ returns-clause-runs g c = λ who none within had situation begun.
     let at = (c.for_each_mut.ensures who none within).1 in
     let plan = plan_of c.args.table.now c.args.book.now situation c.args.setting.now in
     let runs : at.after_call.now.short ≡ false → (other : Situation)
-    → IsJobAt g.D.Disk.seen g.D.Disk.may_leave g.D.Disk.honest g.D.Disk.told
+    → IsJobAt g.D.Disk.view
     (plan_of c.args.table.now c.args.book.now other c.args.setting.now) c.args.book.now who 0 at.argument.now
-    → IsJobAt g.D.Disk.seen g.D.Disk.may_leave g.D.Disk.honest g.D.Disk.told
+    → IsJobAt g.D.Disk.view
     (plan_of c.args.table.now c.args.book.now other c.args.setting.now) c.args.book.now who c.args.setting.now.turns at.after_call.now =
     grind (arith, common_steps, at.call) in
     let short : at.after_call.now.short ≡ false = ap (λ (j : FreeJob g.row.D.Denot). j.short) at.left ∙ had in
-    let old : IsJobAt g.D.Disk.seen g.D.Disk.may_leave g.D.Disk.honest g.D.Disk.told plan c.args.book.now who 0 at.argument.now =
-    subst (λ (j : FreeJob g.row.D.Denot). IsJobAt g.D.Disk.seen g.D.Disk.may_leave g.D.Disk.honest g.D.Disk.told plan c.args.book.now who 0 j)
+    let old : IsJobAt g.D.Disk.view plan c.args.book.now who 0 at.argument.now =
+    subst (λ (j : FreeJob g.row.D.Denot). IsJobAt g.D.Disk.view plan c.args.book.now who 0 j)
     (sym at.argument_is) begun in
     let turns = c.args.setting.now.turns in
-    subst (λ (j : FreeJob g.row.D.Denot). IsJobAt g.D.Disk.seen g.D.Disk.may_leave g.D.Disk.honest g.D.Disk.told plan c.args.book.now who turns j) at.left
+    subst (λ (j : FreeJob g.row.D.Denot). IsJobAt g.D.Disk.view plan c.args.book.now who turns j) at.left
     (runs short situation old)

@@ -19,7 +19,7 @@ run_jobs-requires-clause-begun g c =
     c.in_ok-shared.places.items c.in_ok-jobs.jobs.items c.in_ok-shared.ensures.began refl (c.len-seats.ensures ∙ c.args.parts.nodes.ok.0 ∙ c.requires.parts.are.nodes.count) c.turns-first.ensures few c.in_ok-mails.ensures.mails c.letters.ensures
     c.in_ok-mails.ensures.kept c.in_ok-shared.ensures.seats c.in_ok-jobs.ensures.jobs in
     let all =
-    begun g.D.Disk.seen g.D.Disk.may_leave g.D.Disk.honest g.D.Disk.told c.args.table.now c.args.parts c.in_ok-shared.shared setting
+    begun g.D.Disk.view c.args.table.now c.args.parts c.in_ok-shared.shared setting
     c.in_ok-jobs.jobs.items handed c.requires.parts.rows c.requires.parts.situation c.requires.parts.are c.as_mut_slice.result.now c.as_mut_slice.ensures.value in
     λ lives borrowed. (c.requires.parts.situation, all)
 
@@ -37,7 +37,7 @@ finish-requires-clause-taken g c =
     c.in_ok-shared.places.items c.in_ok-jobs.jobs.items c.in_ok-shared.ensures.began refl (c.len-seats.ensures ∙ c.args.parts.nodes.ok.0 ∙ c.requires.parts.are.nodes.count) c.turns-first.ensures few c.in_ok-mails.ensures.mails c.letters.ensures
     c.in_ok-mails.ensures.kept c.in_ok-shared.ensures.seats c.in_ok-jobs.ensures.jobs in
     let run =
-    ran g.D.Disk.seen g.D.Disk.may_leave g.D.Disk.honest g.D.Disk.told c.args.table.now c.args.parts c.in_ok-shared.shared setting
+    ran g.D.Disk.view c.args.table.now c.args.parts c.in_ok-shared.shared setting
     c.in_ok-jobs.jobs.items handed c.requires.parts.rows c.requires.parts.situation c.requires.parts.are
     c.as_mut_slice.result.now c.run_jobs.new.jobs c.in_ok-jobs.jobs.len c.as_mut_slice.ensures.value c.run_jobs.ensures.count c.in_ok-jobs.jobs.ok.0
     (c.in_ok-run_jobs.ensures.taken c.requires.parts.situation) in
@@ -54,14 +54,14 @@ returns-clause-goes g c =
     if_ok c.finish.result _ _
     (λ new ends rows situation are.
     let run =
-    ran g.D.Disk.seen g.D.Disk.may_leave g.D.Disk.honest g.D.Disk.told c.args.table.now c.args.parts c.in_ok-shared.shared setting
+    ran g.D.Disk.view c.args.table.now c.args.parts c.in_ok-shared.shared setting
     c.in_ok-jobs.jobs.items handed rows situation are
     c.as_mut_slice.result.now c.run_jobs.new.jobs c.in_ok-jobs.jobs.len c.as_mut_slice.ensures.value c.run_jobs.ensures.count c.in_ok-jobs.jobs.ok.0
     (c.in_ok-run_jobs.ensures.taken situation) in
     let begins =
-    begins_at g.D.Disk.seen g.D.Disk.may_leave g.D.Disk.honest g.D.Disk.told c.args.table.now c.args.parts c.in_ok-shared.shared setting
+    begins_at g.D.Disk.view c.args.table.now c.args.parts c.in_ok-shared.shared setting
     c.in_ok-jobs.jobs.items handed rows situation are in
-    goes_to g.D.Disk.seen g.D.Disk.may_leave g.D.Disk.honest g.D.Disk.told c.args.table.now c.args.parts c.in_ok-shared.shared setting
+    goes_to g.D.Disk.view c.args.table.now c.args.parts c.in_ok-shared.shared setting
     c.in_ok-jobs.jobs.items handed rows situation new
     (ends rows situation run begins))
     c.finish.ensures.ends

@@ -9,6 +9,6 @@ run_all-requires-clause-begun g c =
 pub returns-clause-taken : goal.returns-clause-taken
 returns-clause-taken g c =
     on_ok c.had_memory.result _ _
-    (all_run g.D.Disk.seen g.D.Disk.may_leave g.D.Disk.honest g.D.Disk.told c.args.table.now c.args.book.now c.args.setting.now
+    (all_run g.D.Disk.view c.args.table.now c.args.book.now c.args.setting.now
     c.args.jobs.now c.run_all.new.jobs c.run_all.ensures.count c.run_all.ensures.runs)
     c.had_memory.ensures

@@ -12,16 +12,16 @@ use Rattle.world_rounds.proofs.alone.start_again.Goals as goal
 pub returns-in-Ok : goal.returns-in-Ok
 returns-in-Ok g c =
     let kept = (replica_of c.args.stopped.node).state.kept in
-    let trusted : g.D.Disk.honest c.into_disk.result = subst g.D.Disk.honest (sym c.into_disk.ensures) c.requires.trusted in
-    let recoverable = recoverable_at_rest g.D.Disk.seen g.D.Disk.may_leave g.D.Disk.honest c.args.table.now c.args.stopped.node c.requires.at_rest c.requires.trusted in
+    let trusted : g.D.Disk.view.honest c.into_disk.result = subst g.D.Disk.view.honest (sym c.into_disk.ensures) c.requires.trusted in
+    let recoverable = recoverable_at_rest g.D.Disk.view c.args.table.now c.args.stopped.node c.requires.at_rest c.requires.trusted in
     let found =
-    c.in-Ok.ensures.either kept kept trusted (subst (λ disk. IsRecoverable (length c.args.table.now.jobs) kept kept (g.D.Disk.may_leave disk)) (sym c.into_disk.ensures) recoverable) in
+    c.in-Ok.ensures.either kept kept trusted (subst (λ disk. IsRecoverable (length c.args.table.now.jobs) kept kept (g.D.Disk.view.may_leave disk)) (sym c.into_disk.ensures) recoverable) in
     record {
       at_rest = c.in-Ok.ensures.at_rest;
       trusted = c.in-Ok.ensures.answer.honest_still.1 trusted;
-      reliable = c.in-Ok.ensures.reliable (subst (λ disk. IsReliable (g.D.Disk.told disk)) (sym c.into_disk.ensures) c.requires.reliable);
-      clean = c.in-Ok.ensures.clean (and_some _ (g.D.Disk.told c.into_disk.result) (subst (λ disk. IsReliable (g.D.Disk.told disk)) (sym c.into_disk.ensures) c.requires.reliable));
-      area = c.in-Ok.ensures.area ∙ ap (λ disk. selected (g.D.Disk.seen disk)) c.into_disk.ensures;
+      reliable = c.in-Ok.ensures.reliable (subst (λ disk. IsReliable (g.D.Disk.view.told disk)) (sym c.into_disk.ensures) c.requires.reliable);
+      clean = c.in-Ok.ensures.clean (and_some _ (g.D.Disk.view.told c.into_disk.result) (subst (λ disk. IsReliable (g.D.Disk.view.told disk)) (sym c.into_disk.ensures) c.requires.reliable));
+      area = c.in-Ok.ensures.area ∙ ap (λ disk. selected (g.D.Disk.view.seen disk)) c.into_disk.ensures;
       identity = c.in-Ok.ensures.identity;
       state = c.in-Ok.ensures.started ∙ ap (started c.args.who) (either_way _ kept found);
       runs = refl;
@@ -36,11 +36,11 @@ returns-in-Ok g c =
 pub memory_of-requires : goal.memory_of-requires
 memory_of-requires g c =
     let kept = (replica_of c.args.stopped.node).state.kept in
-    let trusted : g.D.Disk.honest c.into_disk.result = subst g.D.Disk.honest (sym c.into_disk.ensures) c.requires.trusted in
-    let here = recoverable_at_rest g.D.Disk.seen g.D.Disk.may_leave g.D.Disk.honest c.args.table.now c.args.stopped.node c.requires.at_rest c.requires.trusted in
-    let recoverable = subst (λ disk. IsRecoverable (length c.args.table.now.jobs) kept kept (g.D.Disk.may_leave disk)) (sym c.into_disk.ensures) here in
+    let trusted : g.D.Disk.view.honest c.into_disk.result = subst g.D.Disk.view.honest (sym c.into_disk.ensures) c.requires.trusted in
+    let here = recoverable_at_rest g.D.Disk.view c.args.table.now c.args.stopped.node c.requires.at_rest c.requires.trusted in
+    let recoverable = subst (λ disk. IsRecoverable (length c.args.table.now.jobs) kept kept (g.D.Disk.view.may_leave disk)) (sym c.into_disk.ensures) here in
     record {
       alone = memory_alone (fault_of c.recover.result) c.in-Err.fault (ap fault_of c.in-Err.is)
-          (c.recover.ensures.unended (subst (λ disk. IsReliable (g.D.Disk.told disk)) (sym c.into_disk.ensures) c.requires.reliable))
+          (c.recover.ensures.unended (subst (λ disk. IsReliable (g.D.Disk.view.told disk)) (sym c.into_disk.ensures) c.requires.reliable))
           (λ gate. c.recover.ensures.sound kept kept gate trusted recoverable) c.recover.ensures.no_letter;
     }

@@ -9,6 +9,6 @@ run_rounds-requires-clause-may g c = λ lives borrowed who none within. c.requir
 pub returns : goal.returns
 returns g c = record {
   takes = on_ok c.had_memory.result _ _
-      (all_run g.D.Disk.seen g.D.Disk.may_leave g.D.Disk.honest g.D.Disk.told c.args.table.now c.args.book.now c.args.at.0 c.args.members.now c.run_rounds.new.members
+      (all_run g.D.Disk.view c.args.table.now c.args.book.now c.args.at.0 c.args.members.now c.run_rounds.new.members
       c.run_rounds.ensures.count c.run_rounds.ensures.runs) c.had_memory.ensures;
 }

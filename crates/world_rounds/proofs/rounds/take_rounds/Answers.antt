@@ -11,7 +11,7 @@ take_round-requires-clause-may g c =
 
 pub members-preserved : goal.members-preserved
 members-preserved g c =
-    taken_next g.D.Disk.seen g.D.Disk.may_leave g.D.Disk.honest g.D.Disk.told c.args.table.now c.args.book.now c.args.at.0 c.members.member-index c.args.members.now c.members.member-items _
+    taken_next g.D.Disk.view c.args.table.now c.args.book.now c.args.at.0 c.members.member-index c.args.members.now c.members.member-items _
     c.take_round.new.self c.members.invariant
     (slice_get-get_or c.members.member-items c.members.member-index c.member-item.result (omega (arith, c.members.auto.member-items, c.members-test.true)))
     c.in_ok-take_round.ensures.takes
@@ -19,6 +19,6 @@ members-preserved g c =
 pub returns : goal.returns
 returns g c = record {
   takes =
-      all_taken g.D.Disk.seen g.D.Disk.may_leave g.D.Disk.honest g.D.Disk.told c.args.table.now c.args.book.now c.args.at.0 c.members.member-index c.args.members.now c.members.member-items
+      all_taken g.D.Disk.view c.args.table.now c.args.book.now c.args.at.0 c.members.member-index c.args.members.now c.members.member-items
       (omega (arith, c.members-test.false, c.members.auto.member-index-end)) c.members.invariant;
 }

@@ -13,14 +13,14 @@ pub returns-in-Ok : goal.returns-in-Ok
 returns-in-Ok g c =
     let start = fresh (first_rows c.args.table.now) in
     let found =
-    c.in-Ok.ensures.either start start c.requires.fresh.trusted (empty_recoverable (length c.args.table.now.jobs) (g.D.Disk.may_leave c.args.disk) c.requires.fresh.empty) in
+    c.in-Ok.ensures.either start start c.requires.fresh.trusted (empty_recoverable (length c.args.table.now.jobs) (g.D.Disk.view.may_leave c.args.disk) c.requires.fresh.empty) in
     record {
       at_rest = c.in-Ok.ensures.at_rest;
       trusted = c.in-Ok.ensures.answer.honest_still.1 c.requires.fresh.trusted;
       disk = record {
         reliable = c.in-Ok.ensures.reliable c.requires.fresh.reliable;
-        clean = c.in-Ok.ensures.clean (and_some _ (g.D.Disk.told c.args.disk) c.requires.fresh.reliable);
-        area = c.in-Ok.ensures.area ∙ first_area g.D.Disk.seen g.D.Disk.may_leave c.args.disk c.requires.fresh.empty (g.met.D.Disk.seen_is_left c.args.disk c.requires.fresh.trusted);
+        clean = c.in-Ok.ensures.clean (and_some _ (g.D.Disk.view.told c.args.disk) c.requires.fresh.reliable);
+        area = c.in-Ok.ensures.area ∙ first_area g.D.Disk.view c.args.disk c.requires.fresh.empty (g.met.D.Disk.seen_is_left c.args.disk c.requires.fresh.trusted);
       };
       identity = c.in-Ok.ensures.identity;
       state = c.in-Ok.ensures.started ∙ ap (started c.args.me) (either_way _ start found);
@@ -36,7 +36,7 @@ returns-in-Ok g c =
 pub memory_of-requires : goal.memory_of-requires
 memory_of-requires g c =
     let start = fresh (first_rows c.args.table.now) in
-    let empty = empty_recoverable (length c.args.table.now.jobs) (g.D.Disk.may_leave c.args.disk) c.requires.fresh.empty in
+    let empty = empty_recoverable (length c.args.table.now.jobs) (g.D.Disk.view.may_leave c.args.disk) c.requires.fresh.empty in
     record {
       alone = memory_alone (fault_of c.recover.result) c.in-Err.fault (ap fault_of c.in-Err.is) (c.recover.ensures.unended c.requires.fresh.reliable)
           (λ gate. c.recover.ensures.sound start start gate c.requires.fresh.trusted empty) c.recover.ensures.no_letter;

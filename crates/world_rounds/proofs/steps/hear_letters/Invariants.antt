@@ -3,4 +3,4 @@ use Rattle.world_rounds.proofs.steps.hear_letters.Given as goal
 
 abbrev pub invariant-letters : goal.invariant-letters
 invariant-letters g l =
-    HasHeard g.D.Disk.seen g.D.Disk.may_leave g.D.Disk.honest g.D.Disk.told l.table l.book l.letters l.letter-index l.fn.steps.items l.fn.node l.steps.items l.node
+    HasHeard g.D.Disk.view l.table l.book l.letters l.letter-index l.fn.steps.items l.fn.node l.steps.items l.node

@@ -27,5 +27,5 @@ returns-clause-causes g c =
 pub returns-clause-beside : goal.returns-clause-beside
 returns-clause-beside g c =
     λ rows who told.
-    subst (λ steps. IsBeside g.D.Disk.seen g.D.Disk.may_leave g.D.Disk.honest g.D.Disk.told c.args.table.now rows c.args.book.now who steps c.take_step.new.node) (sym c.in_ok-push.ensures.items)
+    subst (λ steps. IsBeside g.D.Disk.view c.args.table.now rows c.args.book.now who steps c.take_step.new.node) (sym c.in_ok-push.ensures.items)
     (c.in_ok-taken.ensures.beside rows c.args.book.now who c.args.steps.now.items told)

@@ -15,55 +15,55 @@ pub returns-in_err-cut-clause-images : goal.returns-in_err-cut-clause-images
 returns-in_err-cut-clause-images g c honest =
     let old = c.args.disk.now in
     let file = c.args.file in
-    let zero = none_yet g.D.Disk.moment g.D.Disk.left_since g.D.Disk.may_leave file old (λ image left. g.met.D.Disk.only_now old image honest left) in
-    let cut_all = next g.D.Disk.moment g.D.Disk.left_since g.D.Disk.may_leave file old old c.cut.new.self (Cut 0) (at_first g.D.Disk.moment g.D.Disk.left_since g.D.Disk.may_leave file old) (c.cut.ensures.images honest) in
-    let cut_run = next_leaves g.D.Disk.moment g.D.Disk.left_since g.D.Disk.may_leave file old old c.cut.new.self zero (c.cut.ensures.time honest) cut_all in
+    let zero = none_yet g.D.Disk.view file old (λ image left. g.met.D.Disk.only_now old image honest left) in
+    let cut_all = next g.D.Disk.view file old old c.cut.new.self (Cut 0) (at_first g.D.Disk.view file old) (c.cut.ensures.images honest) in
+    let cut_run = next_leaves g.D.Disk.view file old old c.cut.new.self zero (c.cut.ensures.time honest) cut_all in
     cut_run
 
 pub returns-in_err-write_at-clause-images : goal.returns-in_err-write_at-clause-images
 returns-in_err-write_at-clause-images g c honest =
     let old = c.args.disk.now in
     let file = c.args.file in
-    let zero = none_yet g.D.Disk.moment g.D.Disk.left_since g.D.Disk.may_leave file old (λ image left. g.met.D.Disk.only_now old image honest left) in
-    let cut_all = next g.D.Disk.moment g.D.Disk.left_since g.D.Disk.may_leave file old old c.cut.new.self (Cut 0) (at_first g.D.Disk.moment g.D.Disk.left_since g.D.Disk.may_leave file old) (c.cut.ensures.images honest) in
-    let cut_run = next_leaves g.D.Disk.moment g.D.Disk.left_since g.D.Disk.may_leave file old old c.cut.new.self zero (c.cut.ensures.time honest) cut_all in
+    let zero = none_yet g.D.Disk.view file old (λ image left. g.met.D.Disk.only_now old image honest left) in
+    let cut_all = next g.D.Disk.view file old old c.cut.new.self (Cut 0) (at_first g.D.Disk.view file old) (c.cut.ensures.images honest) in
+    let cut_run = next_leaves g.D.Disk.view file old old c.cut.new.self zero (c.cut.ensures.time honest) cut_all in
     let still = c.cut.ensures.honest.1 honest in
-    let write_all = next g.D.Disk.moment g.D.Disk.left_since g.D.Disk.may_leave file old c.cut.new.self c.write_at.new.self (Torn 0 _) cut_all (c.write_at.ensures.images still) in
-    let write_run = next_leaves g.D.Disk.moment g.D.Disk.left_since g.D.Disk.may_leave file old c.cut.new.self c.write_at.new.self cut_run (c.write_at.ensures.time still) write_all in
+    let write_all = next g.D.Disk.view file old c.cut.new.self c.write_at.new.self (Torn 0 _) cut_all (c.write_at.ensures.images still) in
+    let write_run = next_leaves g.D.Disk.view file old c.cut.new.self c.write_at.new.self cut_run (c.write_at.ensures.time still) write_all in
     write_run
 
 pub returns-in_err-sync-clause-images : goal.returns-in_err-sync-clause-images
 returns-in_err-sync-clause-images g c honest =
     let old = c.args.disk.now in
     let file = c.args.file in
-    let zero = none_yet g.D.Disk.moment g.D.Disk.left_since g.D.Disk.may_leave file old (λ image left. g.met.D.Disk.only_now old image honest left) in
-    let cut_all = next g.D.Disk.moment g.D.Disk.left_since g.D.Disk.may_leave file old old c.cut.new.self (Cut 0) (at_first g.D.Disk.moment g.D.Disk.left_since g.D.Disk.may_leave file old) (c.cut.ensures.images honest) in
-    let cut_run = next_leaves g.D.Disk.moment g.D.Disk.left_since g.D.Disk.may_leave file old old c.cut.new.self zero (c.cut.ensures.time honest) cut_all in
+    let zero = none_yet g.D.Disk.view file old (λ image left. g.met.D.Disk.only_now old image honest left) in
+    let cut_all = next g.D.Disk.view file old old c.cut.new.self (Cut 0) (at_first g.D.Disk.view file old) (c.cut.ensures.images honest) in
+    let cut_run = next_leaves g.D.Disk.view file old old c.cut.new.self zero (c.cut.ensures.time honest) cut_all in
     let still = c.cut.ensures.honest.1 honest in
-    let write_all = next g.D.Disk.moment g.D.Disk.left_since g.D.Disk.may_leave file old c.cut.new.self c.write_at.new.self (Torn 0 _) cut_all (c.write_at.ensures.images still) in
-    let write_run = next_leaves g.D.Disk.moment g.D.Disk.left_since g.D.Disk.may_leave file old c.cut.new.self c.write_at.new.self cut_run (c.write_at.ensures.time still) write_all in
+    let write_all = next g.D.Disk.view file old c.cut.new.self c.write_at.new.self (Torn 0 _) cut_all (c.write_at.ensures.images still) in
+    let write_run = next_leaves g.D.Disk.view file old c.cut.new.self c.write_at.new.self cut_run (c.write_at.ensures.time still) write_all in
     let still-2 = c.write_at.ensures.honest.1 still in
-    next_leaves g.D.Disk.moment g.D.Disk.left_since g.D.Disk.may_leave file old c.write_at.new.self c.sync.new.self write_run (c.sync.ensures.time still-2) (in_file_still file (g.D.Disk.may_leave old) (g.D.Disk.may_leave c.write_at.new.self) (g.D.Disk.may_leave c.sync.new.self) Any write_all (c.sync.ensures.images still-2))
+    next_leaves g.D.Disk.view file old c.write_at.new.self c.sync.new.self write_run (c.sync.ensures.time still-2) (in_file_still file (g.D.Disk.view.may_leave old) (g.D.Disk.view.may_leave c.write_at.new.self) (g.D.Disk.view.may_leave c.sync.new.self) Any write_all (c.sync.ensures.images still-2))
 
 pub returns-clause-images : goal.returns-clause-images
 returns-clause-images g c honest =
     let old = c.args.disk.now in
     let file = c.args.file in
-    let zero = none_yet g.D.Disk.moment g.D.Disk.left_since g.D.Disk.may_leave file old (λ image left. g.met.D.Disk.only_now old image honest left) in
-    let cut_all = next g.D.Disk.moment g.D.Disk.left_since g.D.Disk.may_leave file old old c.cut.new.self (Cut 0) (at_first g.D.Disk.moment g.D.Disk.left_since g.D.Disk.may_leave file old) (c.cut.ensures.images honest) in
-    let cut_run = next_leaves g.D.Disk.moment g.D.Disk.left_since g.D.Disk.may_leave file old old c.cut.new.self zero (c.cut.ensures.time honest) cut_all in
+    let zero = none_yet g.D.Disk.view file old (λ image left. g.met.D.Disk.only_now old image honest left) in
+    let cut_all = next g.D.Disk.view file old old c.cut.new.self (Cut 0) (at_first g.D.Disk.view file old) (c.cut.ensures.images honest) in
+    let cut_run = next_leaves g.D.Disk.view file old old c.cut.new.self zero (c.cut.ensures.time honest) cut_all in
     let still = c.cut.ensures.honest.1 honest in
-    let write_all = next g.D.Disk.moment g.D.Disk.left_since g.D.Disk.may_leave file old c.cut.new.self c.write_at.new.self (Torn 0 _) cut_all (c.write_at.ensures.images still) in
-    let write_run = next_leaves g.D.Disk.moment g.D.Disk.left_since g.D.Disk.may_leave file old c.cut.new.self c.write_at.new.self cut_run (c.write_at.ensures.time still) write_all in
+    let write_all = next g.D.Disk.view file old c.cut.new.self c.write_at.new.self (Torn 0 _) cut_all (c.write_at.ensures.images still) in
+    let write_run = next_leaves g.D.Disk.view file old c.cut.new.self c.write_at.new.self cut_run (c.write_at.ensures.time still) write_all in
     let still-2 = c.write_at.ensures.honest.1 still in
-    next_leaves g.D.Disk.moment g.D.Disk.left_since g.D.Disk.may_leave file old c.write_at.new.self c.sync.new.self write_run (c.sync.ensures.time still-2) (in_file_still file (g.D.Disk.may_leave old) (g.D.Disk.may_leave c.write_at.new.self) (g.D.Disk.may_leave c.sync.new.self) Any write_all (c.sync.ensures.images still-2))
+    next_leaves g.D.Disk.view file old c.write_at.new.self c.sync.new.self write_run (c.sync.ensures.time still-2) (in_file_still file (g.D.Disk.view.may_leave old) (g.D.Disk.view.may_leave c.write_at.new.self) (g.D.Disk.view.may_leave c.sync.new.self) Any write_all (c.sync.ensures.images still-2))
 
 pub returns-clause-settled : goal.returns-clause-settled
 returns-clause-settled g c =
     let file = c.args.file in
     let bytes = c.in_ok-bytes.bytes.items in
-    let alone = written_alone c.deref-2.result.now (file_of file (g.D.Disk.seen c.args.disk.now)) (file_of file (g.D.Disk.seen c.cut.new.self)) (file_of file (g.D.Disk.seen c.write_at.new.self)) c.in_ok-cut.ensures.cut.step c.in_ok-write_at.ensures.written.step in
-    let is : file_of file (g.D.Disk.seen c.sync.new.self) ≡ gated c.args.bodies.items =
+    let alone = written_alone c.deref-2.result.now (file_of file (g.D.Disk.view.seen c.args.disk.now)) (file_of file (g.D.Disk.view.seen c.cut.new.self)) (file_of file (g.D.Disk.view.seen c.write_at.new.self)) c.in_ok-cut.ensures.cut.step c.in_ok-write_at.ensures.written.step in
+    let is : file_of file (g.D.Disk.view.seen c.sync.new.self) ≡ gated c.args.bodies.items =
     ap (file_of file) c.sync.ensures.seen ∙ alone ∙ c.deref-2.ensures.value ∙ c.in_ok-bytes.ensures.bytes ∙ ap gated c.deref.ensures.value in
     let whole : AreWhole c.args.bodies.items = subst AreWhole c.deref.ensures.value c.in_ok-bytes.ensures.whole in
     record {
@@ -74,7 +74,7 @@ returns-clause-settled g c =
 pub returns-clause-whole : goal.returns-clause-whole
 returns-clause-whole g c =
     let file = c.args.file in
-    let alone = written_alone c.deref-2.result.now (file_of file (g.D.Disk.seen c.args.disk.now)) (file_of file (g.D.Disk.seen c.cut.new.self)) (file_of file (g.D.Disk.seen c.write_at.new.self)) c.in_ok-cut.ensures.cut.step c.in_ok-write_at.ensures.written.step in
+    let alone = written_alone c.deref-2.result.now (file_of file (g.D.Disk.view.seen c.args.disk.now)) (file_of file (g.D.Disk.view.seen c.cut.new.self)) (file_of file (g.D.Disk.view.seen c.write_at.new.self)) c.in_ok-cut.ensures.cut.step c.in_ok-write_at.ensures.written.step in
     ap (file_of file) c.sync.ensures.seen ∙ alone ∙ c.deref-2.ensures.value ∙ c.in_ok-bytes.ensures.bytes ∙ ap gated c.deref.ensures.value
 
 -- ---- which of its calls were done
@@ -84,9 +84,9 @@ returns-in_err-write_at-clause-told g c =
     let file = c.args.file in
     let bytes = gated c.args.bodies.items in
     let is : c.deref-2.result.now ≡ bytes = c.deref-2.ensures.value ∙ c.in_ok-bytes.ensures.bytes ∙ ap gated c.deref.ensures.value in
-    let old = g.D.Disk.told c.args.disk.now in
-    let mid = g.D.Disk.told c.cut.new.self in
-    let new = g.D.Disk.told c.write_at.new.self in
+    let old = g.D.Disk.view.told c.args.disk.now in
+    let mid = g.D.Disk.view.told c.cut.new.self in
+    let new = g.D.Disk.view.told c.write_at.new.self in
     let fault = c.in_err-write_at.field-0.0 in
     let first : TellsThen (AllDone (CutTo file 0 ∷ [])) old mid = tells_weaker (one_done (CutTo file 0)) old mid c.in_ok-cut.ensures.told in
     let second : TellsThen (BreaksOff fault (WriteAt file 0 bytes ∷ SyncOf file ∷ [])) mid new =
@@ -99,10 +99,10 @@ returns-in_err-sync-clause-told g c =
     let file = c.args.file in
     let bytes = gated c.args.bodies.items in
     let is : c.deref-2.result.now ≡ bytes = c.deref-2.ensures.value ∙ c.in_ok-bytes.ensures.bytes ∙ ap gated c.deref.ensures.value in
-    let old = g.D.Disk.told c.args.disk.now in
-    let mid = g.D.Disk.told c.cut.new.self in
-    let last = g.D.Disk.told c.write_at.new.self in
-    let new = g.D.Disk.told c.sync.new.self in
+    let old = g.D.Disk.view.told c.args.disk.now in
+    let mid = g.D.Disk.view.told c.cut.new.self in
+    let last = g.D.Disk.view.told c.write_at.new.self in
+    let new = g.D.Disk.view.told c.sync.new.self in
     let fault = c.in_err-sync.field-0.0 in
     let first : TellsThen (AllDone (CutTo file 0 ∷ [])) old mid = tells_weaker (one_done (CutTo file 0)) old mid c.in_ok-cut.ensures.told in
     let second : TellsThen (AllDone (WriteAt file 0 bytes ∷ [])) mid last =

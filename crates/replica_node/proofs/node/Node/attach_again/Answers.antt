@@ -68,7 +68,7 @@ returns-clause-kept g c honest =
     let found = c.in_ok-store.kept in
     let planned =
     planned_as c.args.table.now c.args.self.now.replica c.in-Some.planned stop.planned stop.change c.args.self.now.stopped (sym c.take.ensures.value ∙ c.in-Some.is) stop.is_cut_short stop.has_planned in
-    let recoverable : IsRecoverable c.jobs.result before after (g.D.Disk.may_leave c.args.self.now.disk) = rw c.jobs.ensures.count (stop.recoverable honest) in
+    let recoverable : IsRecoverable c.jobs.result before after (g.D.Disk.view.may_leave c.args.self.now.disk) = rw c.jobs.ensures.count (stop.recoverable honest) in
     let kept = c.take_kept-change.ensures.kept stop.change planned in
     let facts : Reopens (length c.args.table.now.jobs) before found c.take_kept-change.new.replica.state.kept stop.change c.take_kept-change.result =
     reopens (length c.args.table.now.jobs) before found c.take_kept-change.new.replica.state.kept stop.change c.take_kept-change.result c.in_ok-store.store c.in_ok-store.ensures.keeps stop.has_planned.follows
@@ -84,15 +84,15 @@ returns-clause-answer_by_arm g c stop area arm honest left =
     let now = c.take_kept-change.new.replica.state.kept in
     let planned =
     planned_as c.args.table.now c.args.self.now.replica c.in-Some.planned stop.planned stop.change c.args.self.now.stopped (sym c.take.ensures.value ∙ c.in-Some.is) stop.is_cut_short stop.has_planned in
-    let recoverable : IsRecoverable c.jobs.result before after (g.D.Disk.may_leave c.args.self.now.disk) = rw c.jobs.ensures.count (stop.recoverable honest) in
+    let recoverable : IsRecoverable c.jobs.result before after (g.D.Disk.view.may_leave c.args.self.now.disk) = rw c.jobs.ensures.count (stop.recoverable honest) in
     let decided = c.take_kept-change.ensures.answer stop.change planned in
     let kept = c.take_kept-change.ensures.kept stop.change planned in
     let facts : Reopens jobs before found now stop.change c.take_kept-change.result =
     reopens jobs before found now stop.change c.take_kept-change.result c.in_ok-store.store c.in_ok-store.ensures.keeps stop.has_planned.follows (c.in_ok-store.ensures.either before after honest recoverable) decided
     kept in
-    let image : (told : Told) → g.D.Disk.told c.args.self.now.disk ≡ Some told → FilesStand jobs now (image_left told) =
+    let image : (told : Told) → g.D.Disk.view.told c.args.self.now.disk ≡ Some told → FilesStand jobs now (image_left told) =
     λ told is. subst (λ (k : Durable). FilesStand jobs k (image_left told)) (sym facts.same) (subst (λ (n : ℕ). FilesStand n found (image_left told)) c.jobs.ensures.count (c.in_ok-store.ensures.image told is)) in
-    tells_answer jobs area before found now stop.change arm c.take_kept-change.result (g.D.Disk.told c.args.self.now.disk) facts kept image (change_or_none stop.change found c.take_kept-change.result decided) left
+    tells_answer jobs area before found now stop.change arm c.take_kept-change.result (g.D.Disk.view.told c.args.self.now.disk) facts kept image (change_or_none stop.change found c.take_kept-change.result decided) left
 
 pub returns-clause-lost_by_arm : goal.returns-clause-lost_by_arm
 returns-clause-lost_by_arm g c stop area arm honest left anew loses =
@@ -102,7 +102,7 @@ pub returns-clause-area_by_arm : goal.returns-clause-area_by_arm
 returns-clause-area_by_arm g c stop area arm honest left =
     let planned =
     planned_as c.args.table.now c.args.self.now.replica c.in-Some.planned stop.planned stop.change c.args.self.now.stopped (sym c.take.ensures.value ∙ c.in-Some.is) stop.is_cut_short stop.has_planned in
-    tells_area (length c.args.table.now.jobs) area c.args.self.now.replica.state.kept stop.change arm c.take_kept-change.result (g.D.Disk.told c.args.self.now.disk) (area_of c.in_ok-store.store) stop.has_planned.follows
+    tells_area (length c.args.table.now.jobs) area c.args.self.now.replica.state.kept stop.change arm c.take_kept-change.result (g.D.Disk.view.told c.args.self.now.disk) (area_of c.in_ok-store.store) stop.has_planned.follows
     left (returns-clause-answer_by_arm g c stop area arm honest left)
     (change_or_none stop.change c.in_ok-store.kept c.take_kept-change.result (c.take_kept-change.ensures.answer stop.change planned)) c.in_ok-store.ensures.area
 
@@ -113,7 +113,7 @@ returns-in_err-store-clause-memory_alone g c fault honest sure is =
     let stop = c.requires.stopped in
     let before = c.args.self.now.replica.state.kept in
     let after = after_delta stop.change before in
-    let recoverable : IsRecoverable c.jobs.result before after (g.D.Disk.may_leave c.args.self.now.disk) = rw c.jobs.ensures.count (stop.recoverable honest) in
+    let recoverable : IsRecoverable c.jobs.result before after (g.D.Disk.view.may_leave c.args.self.now.disk) = rw c.jobs.ensures.count (stop.recoverable honest) in
     let other = c.in_err-store.field-0.0 in
     let gives = err_from_is_err_and c.from_residual.result c.from_residual.ensures.1 in
     let handed : c.from_residual.result ≡ Err other = gives.1 ∙ ap Err gives.2 in

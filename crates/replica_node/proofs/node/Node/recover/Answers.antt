@@ -38,4 +38,4 @@ returns-in-Err-clause-damaged g c gate bodies is has = c.start.ensures.damaged g
 
 pub returns-in-Err-clause-unfailing : goal.returns-in-Err-clause-unfailing
 returns-in-Err-clause-unfailing g c sure =
-    unfailing_handed (Node g.row.D.Denot) c.in-Err.fault c.start.result (g.D.Disk.told c.start.new.disk) c.in-Err.is (c.start.ensures.unfailing sure)
+    unfailing_handed (Node g.row.D.Denot) c.in-Err.fault c.start.result (g.D.Disk.view.told c.start.new.disk) c.in-Err.is (c.start.ensures.unfailing sure)

@@ -35,13 +35,13 @@ returns-in-Ok-clause-recoverable g c honest =
     let store = c.in-Ok.store in
     let now = c.take_kept-change.new.replica.state.kept in
     let planned = planned_as c.args.table.now c.args.self.replica c.in-Some.planned stop.planned stop.change c.args.self.stopped c.in-Some.is stop.is_cut_short stop.has_planned in
-    let recoverable : IsRecoverable c.jobs.result before after (g.D.Disk.may_leave c.args.self.disk) = rw count (stop.recoverable honest) in
+    let recoverable : IsRecoverable c.jobs.result before after (g.D.Disk.view.may_leave c.args.self.disk) = rw count (stop.recoverable honest) in
     let facts : Reopens jobs before found now stop.change c.take_kept-change.result =
     reopens jobs before found now stop.change c.take_kept-change.result store c.in-Ok.ensures.keeps stop.has_planned.follows (c.in-Ok.ensures.either before after honest recoverable)
     (c.take_kept-change.ensures.answer stop.change planned) (c.take_kept-change.ensures.kept stop.change planned) in
     let still = c.attach_stopped.ensures.answer.honest_still.1 honest in
-    let here : IsRecoverable jobs now now (g.D.Disk.may_leave disk) =
-    found_recoverable g.D.Disk.seen g.D.Disk.may_leave g.D.Disk.honest disk store jobs found now c.in-Ok.ensures.settled c.in-Ok.ensures.keeps (c.in-Ok.ensures.jobs ∙ count) facts.same still in
+    let here : IsRecoverable jobs now now (g.D.Disk.view.may_leave disk) =
+    found_recoverable g.D.Disk.view disk store jobs found now c.in-Ok.ensures.settled c.in-Ok.ensures.keeps (c.in-Ok.ensures.jobs ∙ count) facts.same still in
     here
 
 pub returns-in-Ok-clause-stand : goal.returns-in-Ok-clause-stand
@@ -56,14 +56,14 @@ returns-in-Ok-clause-stand g c honest =
     let store = c.in-Ok.store in
     let now = c.take_kept-change.new.replica.state.kept in
     let planned = planned_as c.args.table.now c.args.self.replica c.in-Some.planned stop.planned stop.change c.args.self.stopped c.in-Some.is stop.is_cut_short stop.has_planned in
-    let recoverable : IsRecoverable c.jobs.result before after (g.D.Disk.may_leave c.args.self.disk) = rw count (stop.recoverable honest) in
+    let recoverable : IsRecoverable c.jobs.result before after (g.D.Disk.view.may_leave c.args.self.disk) = rw count (stop.recoverable honest) in
     let facts : Reopens jobs before found now stop.change c.take_kept-change.result =
     reopens jobs before found now stop.change c.take_kept-change.result store c.in-Ok.ensures.keeps stop.has_planned.follows (c.in-Ok.ensures.either before after honest recoverable)
     (c.take_kept-change.ensures.answer stop.change planned) (c.take_kept-change.ensures.kept stop.change planned) in
     let still = c.attach_stopped.ensures.answer.honest_still.1 honest in
-    let here : IsRecoverable jobs now now (g.D.Disk.may_leave disk) =
-    found_recoverable g.D.Disk.seen g.D.Disk.may_leave g.D.Disk.honest disk store jobs found now c.in-Ok.ensures.settled c.in-Ok.ensures.keeps (c.in-Ok.ensures.jobs ∙ count) facts.same still in
-    found_stands jobs now (g.D.Disk.may_leave disk) (g.D.Disk.seen disk) here (g.met.D.Disk.seen_is_left disk still)
+    let here : IsRecoverable jobs now now (g.D.Disk.view.may_leave disk) =
+    found_recoverable g.D.Disk.view disk store jobs found now c.in-Ok.ensures.settled c.in-Ok.ensures.keeps (c.in-Ok.ensures.jobs ∙ count) facts.same still in
+    found_stands jobs now (g.D.Disk.view.may_leave disk) (g.D.Disk.view.seen disk) here (g.met.D.Disk.seen_is_left disk still)
 
 pub returns-in-Ok-clause-image : goal.returns-in-Ok-clause-image
 returns-in-Ok-clause-image g c told honest is =
@@ -77,13 +77,13 @@ returns-in-Ok-clause-image g c told honest is =
     let store = c.in-Ok.store in
     let now = c.take_kept-change.new.replica.state.kept in
     let planned = planned_as c.args.table.now c.args.self.replica c.in-Some.planned stop.planned stop.change c.args.self.stopped c.in-Some.is stop.is_cut_short stop.has_planned in
-    let recoverable : IsRecoverable c.jobs.result before after (g.D.Disk.may_leave c.args.self.disk) = rw count (stop.recoverable honest) in
+    let recoverable : IsRecoverable c.jobs.result before after (g.D.Disk.view.may_leave c.args.self.disk) = rw count (stop.recoverable honest) in
     let facts : Reopens jobs before found now stop.change c.take_kept-change.result =
     reopens jobs before found now stop.change c.take_kept-change.result store c.in-Ok.ensures.keeps stop.has_planned.follows (c.in-Ok.ensures.either before after honest recoverable)
     (c.take_kept-change.ensures.answer stop.change planned) (c.take_kept-change.ensures.kept stop.change planned) in
     let still = c.attach_stopped.ensures.answer.honest_still.1 honest in
-    let here : IsRecoverable jobs now now (g.D.Disk.may_leave disk) =
-    found_recoverable g.D.Disk.seen g.D.Disk.may_leave g.D.Disk.honest disk store jobs found now c.in-Ok.ensures.settled c.in-Ok.ensures.keeps (c.in-Ok.ensures.jobs ∙ count) facts.same still in
+    let here : IsRecoverable jobs now now (g.D.Disk.view.may_leave disk) =
+    found_recoverable g.D.Disk.view disk store jobs found now c.in-Ok.ensures.settled c.in-Ok.ensures.keeps (c.in-Ok.ensures.jobs ∙ count) facts.same still in
     subst (λ (k : Durable). FilesStand jobs k (image_left told)) (sym facts.same) (subst (λ (n : ℕ). FilesStand n found (image_left told)) count (c.in-Ok.ensures.image told is))
 
 pub returns-in-Ok-clause-answer_by_arm : goal.returns-in-Ok-clause-answer_by_arm
@@ -95,12 +95,12 @@ returns-in-Ok-clause-answer_by_arm g c stop area arm honest left =
     let found = c.in-Ok.kept in
     let now = c.take_kept-change.new.replica.state.kept in
     let planned = planned_as c.args.table.now c.args.self.replica c.in-Some.planned stop.planned stop.change c.args.self.stopped c.in-Some.is stop.is_cut_short stop.has_planned in
-    let recoverable : IsRecoverable c.jobs.result before after (g.D.Disk.may_leave c.args.self.disk) = rw count (stop.recoverable honest) in
+    let recoverable : IsRecoverable c.jobs.result before after (g.D.Disk.view.may_leave c.args.self.disk) = rw count (stop.recoverable honest) in
     let decided = c.take_kept-change.ensures.answer stop.change planned in
     let kept = c.take_kept-change.ensures.kept stop.change planned in
     let facts : Reopens jobs before found now stop.change c.take_kept-change.result =
     reopens jobs before found now stop.change c.take_kept-change.result c.in-Ok.store c.in-Ok.ensures.keeps stop.has_planned.follows (c.in-Ok.ensures.either before after honest recoverable) decided kept in
-    tells_answer jobs area before found now stop.change arm c.take_kept-change.result (g.D.Disk.told c.args.self.disk) facts kept (λ told is. returns-in-Ok-clause-image g c told honest is)
+    tells_answer jobs area before found now stop.change arm c.take_kept-change.result (g.D.Disk.view.told c.args.self.disk) facts kept (λ told is. returns-in-Ok-clause-image g c told honest is)
     (change_or_none stop.change found c.take_kept-change.result decided) left
 
 pub returns-in-Ok-clause-lost_by_arm : goal.returns-in-Ok-clause-lost_by_arm
@@ -114,7 +114,7 @@ pub returns-in-Ok-clause-area_by_arm : goal.returns-in-Ok-clause-area_by_arm
 returns-in-Ok-clause-area_by_arm g c stop area arm honest left =
     let before = c.args.self.replica.state.kept in
     let planned = planned_as c.args.table.now c.args.self.replica c.in-Some.planned stop.planned stop.change c.args.self.stopped c.in-Some.is stop.is_cut_short stop.has_planned in
-    tells_area (length c.args.table.now.jobs) area before stop.change arm c.take_kept-change.result (g.D.Disk.told c.args.self.disk) (selected (g.D.Disk.seen c.attach_stopped.new.disk)) stop.has_planned.follows left
+    tells_area (length c.args.table.now.jobs) area before stop.change arm c.take_kept-change.result (g.D.Disk.view.told c.args.self.disk) (selected (g.D.Disk.view.seen c.attach_stopped.new.disk)) stop.has_planned.follows left
     (returns-in-Ok-clause-answer_by_arm g c stop area arm honest left) (change_or_none stop.change c.in-Ok.kept c.take_kept-change.result (c.take_kept-change.ensures.answer stop.change planned))
     (returns-in-Ok-clause-area g c)
 
@@ -129,14 +129,14 @@ returns-in-Ok-clause-lost g c stop honest none =
     let store = c.in-Ok.store in
     let now = c.take_kept-change.new.replica.state.kept in
     let planned = planned_as c.args.table.now c.args.self.replica c.in-Some.planned stop.planned stop.change c.args.self.stopped c.in-Some.is stop.is_cut_short stop.has_planned in
-    let recoverable : IsRecoverable c.jobs.result before after (g.D.Disk.may_leave c.args.self.disk) = rw count (stop.recoverable honest) in
+    let recoverable : IsRecoverable c.jobs.result before after (g.D.Disk.view.may_leave c.args.self.disk) = rw count (stop.recoverable honest) in
     let facts : Reopens jobs before found now stop.change c.take_kept-change.result =
     reopens jobs before found now stop.change c.take_kept-change.result store c.in-Ok.ensures.keeps stop.has_planned.follows (c.in-Ok.ensures.either before after honest recoverable)
     (c.take_kept-change.ensures.answer stop.change planned) (c.take_kept-change.ensures.kept stop.change planned) in
     let still = c.attach_stopped.ensures.answer.honest_still.1 honest in
-    let here : IsRecoverable jobs now now (g.D.Disk.may_leave disk) =
-    found_recoverable g.D.Disk.seen g.D.Disk.may_leave g.D.Disk.honest disk store jobs found now c.in-Ok.ensures.settled c.in-Ok.ensures.keeps (c.in-Ok.ensures.jobs ∙ count) facts.same still in
-    not_both jobs found now after (g.D.Disk.seen disk) facts.same (facts.lost none) (found_stands jobs now (g.D.Disk.may_leave disk) (g.D.Disk.seen disk) here (g.met.D.Disk.seen_is_left disk still))
+    let here : IsRecoverable jobs now now (g.D.Disk.view.may_leave disk) =
+    found_recoverable g.D.Disk.view disk store jobs found now c.in-Ok.ensures.settled c.in-Ok.ensures.keeps (c.in-Ok.ensures.jobs ∙ count) facts.same still in
+    not_both jobs found now after (g.D.Disk.view.seen disk) facts.same (facts.lost none) (found_stands jobs now (g.D.Disk.view.may_leave disk) (g.D.Disk.view.seen disk) here (g.met.D.Disk.seen_is_left disk still))
 
 pub returns-in-Ok-clause-still_recoverable : goal.returns-in-Ok-clause-still_recoverable
 returns-in-Ok-clause-still_recoverable g c stop honest =

@@ -40,8 +40,8 @@ returns-in_err-gates-clause-images g c kept keeps honest =
     let old = c.args.disk.now in
     let store = c.args.self.now in
     let after = after_delta c.args.delta.now kept in
-    let recoverable = other_recoverable g.D.Disk.seen g.D.Disk.may_leave g.D.Disk.honest old store c.requires.settled kept after (λ bytes. ⊤) keeps honest in
-    run_stands g.D.Disk.moment g.D.Disk.left_since store.jobs kept after old c.write_area.new.disk (InFileOnly (other_area (area_of store)) (g.D.Disk.may_leave old) (λ bytes. ⊤)) recoverable (c.write_area.ensures.images honest)
+    let recoverable = other_recoverable g.D.Disk.view old store c.requires.settled kept after (λ bytes. ⊤) keeps honest in
+    run_stands g.D.Disk.view store.jobs kept after old c.write_area.new.disk (InFileOnly (other_area (area_of store)) (g.D.Disk.view.may_leave old) (λ bytes. ⊤)) recoverable (c.write_area.ensures.images honest)
 
 pub returns-in_err-gates-clause-recoverable : goal.returns-in_err-gates-clause-recoverable
 returns-in_err-gates-clause-recoverable g c kept keeps honest =
@@ -49,8 +49,8 @@ returns-in_err-gates-clause-recoverable g c kept keeps honest =
     let mid = c.write_area.new.disk in
     let store = c.args.self.now in
     let after = after_delta c.args.delta.now kept in
-    let recoverable = other_recoverable g.D.Disk.seen g.D.Disk.may_leave g.D.Disk.honest old store c.requires.settled kept after (λ bytes. ⊤) keeps honest in
-    run_recoverable g.D.Disk.moment g.D.Disk.left_since store.jobs kept after g.D.Disk.may_leave old mid (InFileOnly (other_area (area_of store)) (g.D.Disk.may_leave old) (λ bytes. ⊤))
+    let recoverable = other_recoverable g.D.Disk.view old store c.requires.settled kept after (λ bytes. ⊤) keeps honest in
+    run_recoverable g.D.Disk.view store.jobs kept after old mid (InFileOnly (other_area (area_of store)) (g.D.Disk.view.may_leave old) (λ bytes. ⊤))
     (λ start image le left. g.met.D.Disk.counts_now mid start image (c.write_area.ensures.answer.honest_still.1 honest) le left) recoverable (c.write_area.ensures.images honest)
 
 pub returns-in_err-gates-clause-memory : goal.returns-in_err-gates-clause-memory
@@ -58,8 +58,8 @@ returns-in_err-gates-clause-memory g c memory =
     let old = c.args.disk.now in
     let mid = c.write_area.new.disk in
     let store = c.args.self.now in
-    settled_in_other g.D.Disk.seen g.D.Disk.may_leave g.D.Disk.honest old store c.requires.settled mid (λ bytes. ⊤) c.write_area.ensures.answer.honest_still.0 (c.write_area.ensures.memory_others (search rules))
-    (λ honest. now_in_run g.D.Disk.moment g.D.Disk.left_since g.D.Disk.may_leave old mid (InFileOnly (other_area (area_of store)) (g.D.Disk.may_leave old) (λ bytes. ⊤))
+    settled_in_other g.D.Disk.view old store c.requires.settled mid (λ bytes. ⊤) c.write_area.ensures.answer.honest_still.0 (c.write_area.ensures.memory_others (search rules))
+    (λ honest. now_in_run g.D.Disk.view old mid (InFileOnly (other_area (area_of store)) (g.D.Disk.view.may_leave old) (λ bytes. ⊤))
     (λ start image le left. g.met.D.Disk.counts_now mid start image (c.write_area.ensures.answer.honest_still.1 honest) le left) (c.write_area.ensures.images honest))
 
 -- ---- the chooser
@@ -70,8 +70,8 @@ write_synced-requires-clause-durable g c honest =
     let mid = c.write_area.new.disk in
     let other = other_area (area_of c.args.self.now) in
     let before = c.write_area.ensures.answer.honest_still.0 honest in
-    stays_durable Chooser other (λ is. other_is_area (area_of c.args.self.now) (sym is)) (g.D.Disk.seen old) (g.D.Disk.seen mid) (g.D.Disk.may_leave old) (g.D.Disk.may_leave mid) (λ bytes. ⊤) (c.requires.settled.chooser before) c.in_ok-gates.ensures.others
-    (now_in_run g.D.Disk.moment g.D.Disk.left_since g.D.Disk.may_leave old mid (InFileOnly other (g.D.Disk.may_leave old) (λ bytes. ⊤)) (λ start image le left. g.met.D.Disk.counts_now mid start image honest le left) (c.write_area.ensures.images before))
+    stays_durable Chooser other (λ is. other_is_area (area_of c.args.self.now) (sym is)) (g.D.Disk.view.seen old) (g.D.Disk.view.seen mid) (g.D.Disk.view.may_leave old) (g.D.Disk.view.may_leave mid) (λ bytes. ⊤) (c.requires.settled.chooser before) c.in_ok-gates.ensures.others
+    (now_in_run g.D.Disk.view old mid (InFileOnly other (g.D.Disk.view.may_leave old) (λ bytes. ⊤)) (λ start image le left. g.met.D.Disk.counts_now mid start image honest le left) (c.write_area.ensures.images before))
 
 pub returns-in_err-write_synced-clause-images : goal.returns-in_err-write_synced-clause-images
 returns-in_err-write_synced-clause-images g c kept keeps honest =
@@ -82,15 +82,15 @@ returns-in_err-write_synced-clause-images g c kept keeps honest =
     let other = other_area (area_of store) in
     let after = after_delta c.args.delta.now kept in
     let there = c.write_area.ensures.answer.honest_still.1 honest in
-    let first = other_recoverable g.D.Disk.seen g.D.Disk.may_leave g.D.Disk.honest old store c.requires.settled kept after (λ bytes. ⊤) keeps honest in
-    let settled = settled_in_other g.D.Disk.seen g.D.Disk.may_leave g.D.Disk.honest old store c.requires.settled mid (λ bytes. ⊤) c.write_area.ensures.answer.honest_still.0 c.in_ok-gates.ensures.others
-    (λ is. now_in_run g.D.Disk.moment g.D.Disk.left_since g.D.Disk.may_leave old mid (InFileOnly other (g.D.Disk.may_leave old) (λ bytes. ⊤)) (λ start image le left. g.met.D.Disk.counts_now mid start image (c.write_area.ensures.answer.honest_still.1 is) le left) (c.write_area.ensures.images is)) in
+    let first = other_recoverable g.D.Disk.view old store c.requires.settled kept after (λ bytes. ⊤) keeps honest in
+    let settled = settled_in_other g.D.Disk.view old store c.requires.settled mid (λ bytes. ⊤) c.write_area.ensures.answer.honest_still.0 c.in_ok-gates.ensures.others
+    (λ is. now_in_run g.D.Disk.view old mid (InFileOnly other (g.D.Disk.view.may_leave old) (λ bytes. ⊤)) (λ start image le left. g.met.D.Disk.counts_now mid start image (c.write_area.ensures.answer.honest_still.1 is) le left) (c.write_area.ensures.images is)) in
     let stand : BodiesStand store.jobs (bodies_of c.in_ok-gates.gates) after = subst (λ delta. BodiesStand store.jobs (bodies_of c.in_ok-gates.gates) (after_delta delta kept)) (sym c.in-Base.is) (c.in_ok-gates.ensures.stand kept keeps) in
-    let T = Torn 0 1 (file_of Chooser (g.D.Disk.seen mid)) in
-    let second = chooser_recoverable g.D.Disk.seen g.D.Disk.may_leave g.D.Disk.honest mid store settled kept after T c.in_ok-gates.gates c.in_ok-gates.ensures.file c.in_ok-gates.ensures.settled keeps there stand in
-    two_runs g.D.Disk.moment g.D.Disk.left_since store.jobs kept after old mid new
-    (run_stands g.D.Disk.moment g.D.Disk.left_since store.jobs kept after old mid (InFileOnly other (g.D.Disk.may_leave old) (λ bytes. ⊤)) first (c.write_area.ensures.images honest))
-    (run_stands g.D.Disk.moment g.D.Disk.left_since store.jobs kept after mid new (InFileOnly Chooser (g.D.Disk.may_leave mid) T) second (c.write_synced.ensures.images there))
+    let T = Torn 0 1 (file_of Chooser (g.D.Disk.view.seen mid)) in
+    let second = chooser_recoverable g.D.Disk.view mid store settled kept after T c.in_ok-gates.gates c.in_ok-gates.ensures.file c.in_ok-gates.ensures.settled keeps there stand in
+    two_runs g.D.Disk.view store.jobs kept after old mid new
+    (run_stands g.D.Disk.view store.jobs kept after old mid (InFileOnly other (g.D.Disk.view.may_leave old) (λ bytes. ⊤)) first (c.write_area.ensures.images honest))
+    (run_stands g.D.Disk.view store.jobs kept after mid new (InFileOnly Chooser (g.D.Disk.view.may_leave mid) T) second (c.write_synced.ensures.images there))
 
 pub returns-in_err-write_synced-clause-recoverable : goal.returns-in_err-write_synced-clause-recoverable
 returns-in_err-write_synced-clause-recoverable g c kept keeps honest =
@@ -101,13 +101,13 @@ returns-in_err-write_synced-clause-recoverable g c kept keeps honest =
     let other = other_area (area_of store) in
     let after = after_delta c.args.delta.now kept in
     let there = c.write_area.ensures.answer.honest_still.1 honest in
-    let first = other_recoverable g.D.Disk.seen g.D.Disk.may_leave g.D.Disk.honest old store c.requires.settled kept after (λ bytes. ⊤) keeps honest in
-    let settled = settled_in_other g.D.Disk.seen g.D.Disk.may_leave g.D.Disk.honest old store c.requires.settled mid (λ bytes. ⊤) c.write_area.ensures.answer.honest_still.0 c.in_ok-gates.ensures.others
-    (λ is. now_in_run g.D.Disk.moment g.D.Disk.left_since g.D.Disk.may_leave old mid (InFileOnly other (g.D.Disk.may_leave old) (λ bytes. ⊤)) (λ start image le left. g.met.D.Disk.counts_now mid start image (c.write_area.ensures.answer.honest_still.1 is) le left) (c.write_area.ensures.images is)) in
+    let first = other_recoverable g.D.Disk.view old store c.requires.settled kept after (λ bytes. ⊤) keeps honest in
+    let settled = settled_in_other g.D.Disk.view old store c.requires.settled mid (λ bytes. ⊤) c.write_area.ensures.answer.honest_still.0 c.in_ok-gates.ensures.others
+    (λ is. now_in_run g.D.Disk.view old mid (InFileOnly other (g.D.Disk.view.may_leave old) (λ bytes. ⊤)) (λ start image le left. g.met.D.Disk.counts_now mid start image (c.write_area.ensures.answer.honest_still.1 is) le left) (c.write_area.ensures.images is)) in
     let stand : BodiesStand store.jobs (bodies_of c.in_ok-gates.gates) after = subst (λ delta. BodiesStand store.jobs (bodies_of c.in_ok-gates.gates) (after_delta delta kept)) (sym c.in-Base.is) (c.in_ok-gates.ensures.stand kept keeps) in
-    let T = Torn 0 1 (file_of Chooser (g.D.Disk.seen mid)) in
-    let second = chooser_recoverable g.D.Disk.seen g.D.Disk.may_leave g.D.Disk.honest mid store settled kept after T c.in_ok-gates.gates c.in_ok-gates.ensures.file c.in_ok-gates.ensures.settled keeps there stand in
-    run_recoverable g.D.Disk.moment g.D.Disk.left_since store.jobs kept after g.D.Disk.may_leave mid new (InFileOnly Chooser (g.D.Disk.may_leave mid) T)
+    let T = Torn 0 1 (file_of Chooser (g.D.Disk.view.seen mid)) in
+    let second = chooser_recoverable g.D.Disk.view mid store settled kept after T c.in_ok-gates.gates c.in_ok-gates.ensures.file c.in_ok-gates.ensures.settled keeps there stand in
+    run_recoverable g.D.Disk.view store.jobs kept after mid new (InFileOnly Chooser (g.D.Disk.view.may_leave mid) T)
     (λ start image le left. g.met.D.Disk.counts_now new start image (c.write_synced.ensures.honest.1 there) le left) second (c.write_synced.ensures.images there)
 
 pub returns-in-Base-clause-images : goal.returns-in-Base-clause-images
@@ -119,15 +119,15 @@ returns-in-Base-clause-images g c kept keeps honest =
     let other = other_area (area_of store) in
     let after = after_delta c.args.delta.now kept in
     let there = c.write_area.ensures.answer.honest_still.1 honest in
-    let first = other_recoverable g.D.Disk.seen g.D.Disk.may_leave g.D.Disk.honest old store c.requires.settled kept after (λ bytes. ⊤) keeps honest in
-    let settled = settled_in_other g.D.Disk.seen g.D.Disk.may_leave g.D.Disk.honest old store c.requires.settled mid (λ bytes. ⊤) c.write_area.ensures.answer.honest_still.0 c.in_ok-gates.ensures.others
-    (λ is. now_in_run g.D.Disk.moment g.D.Disk.left_since g.D.Disk.may_leave old mid (InFileOnly other (g.D.Disk.may_leave old) (λ bytes. ⊤)) (λ start image le left. g.met.D.Disk.counts_now mid start image (c.write_area.ensures.answer.honest_still.1 is) le left) (c.write_area.ensures.images is)) in
+    let first = other_recoverable g.D.Disk.view old store c.requires.settled kept after (λ bytes. ⊤) keeps honest in
+    let settled = settled_in_other g.D.Disk.view old store c.requires.settled mid (λ bytes. ⊤) c.write_area.ensures.answer.honest_still.0 c.in_ok-gates.ensures.others
+    (λ is. now_in_run g.D.Disk.view old mid (InFileOnly other (g.D.Disk.view.may_leave old) (λ bytes. ⊤)) (λ start image le left. g.met.D.Disk.counts_now mid start image (c.write_area.ensures.answer.honest_still.1 is) le left) (c.write_area.ensures.images is)) in
     let stand : BodiesStand store.jobs (bodies_of c.in_ok-gates.gates) after = subst (λ delta. BodiesStand store.jobs (bodies_of c.in_ok-gates.gates) (after_delta delta kept)) (sym c.in-Base.is) (c.in_ok-gates.ensures.stand kept keeps) in
-    let T = Torn 0 1 (file_of Chooser (g.D.Disk.seen mid)) in
-    let second = chooser_recoverable g.D.Disk.seen g.D.Disk.may_leave g.D.Disk.honest mid store settled kept after T c.in_ok-gates.gates c.in_ok-gates.ensures.file c.in_ok-gates.ensures.settled keeps there stand in
-    two_runs g.D.Disk.moment g.D.Disk.left_since store.jobs kept after old mid new
-    (run_stands g.D.Disk.moment g.D.Disk.left_since store.jobs kept after old mid (InFileOnly other (g.D.Disk.may_leave old) (λ bytes. ⊤)) first (c.write_area.ensures.images honest))
-    (run_stands g.D.Disk.moment g.D.Disk.left_since store.jobs kept after mid new (InFileOnly Chooser (g.D.Disk.may_leave mid) T) second (c.write_synced.ensures.images there))
+    let T = Torn 0 1 (file_of Chooser (g.D.Disk.view.seen mid)) in
+    let second = chooser_recoverable g.D.Disk.view mid store settled kept after T c.in_ok-gates.gates c.in_ok-gates.ensures.file c.in_ok-gates.ensures.settled keeps there stand in
+    two_runs g.D.Disk.view store.jobs kept after old mid new
+    (run_stands g.D.Disk.view store.jobs kept after old mid (InFileOnly other (g.D.Disk.view.may_leave old) (λ bytes. ⊤)) first (c.write_area.ensures.images honest))
+    (run_stands g.D.Disk.view store.jobs kept after mid new (InFileOnly Chooser (g.D.Disk.view.may_leave mid) T) second (c.write_synced.ensures.images there))
 
 pub returns-in-Base-clause-recoverable : goal.returns-in-Base-clause-recoverable
 returns-in-Base-clause-recoverable g c kept keeps honest =
@@ -138,13 +138,13 @@ returns-in-Base-clause-recoverable g c kept keeps honest =
     let other = other_area (area_of store) in
     let after = after_delta c.args.delta.now kept in
     let there = c.write_area.ensures.answer.honest_still.1 honest in
-    let first = other_recoverable g.D.Disk.seen g.D.Disk.may_leave g.D.Disk.honest old store c.requires.settled kept after (λ bytes. ⊤) keeps honest in
-    let settled = settled_in_other g.D.Disk.seen g.D.Disk.may_leave g.D.Disk.honest old store c.requires.settled mid (λ bytes. ⊤) c.write_area.ensures.answer.honest_still.0 c.in_ok-gates.ensures.others
-    (λ is. now_in_run g.D.Disk.moment g.D.Disk.left_since g.D.Disk.may_leave old mid (InFileOnly other (g.D.Disk.may_leave old) (λ bytes. ⊤)) (λ start image le left. g.met.D.Disk.counts_now mid start image (c.write_area.ensures.answer.honest_still.1 is) le left) (c.write_area.ensures.images is)) in
+    let first = other_recoverable g.D.Disk.view old store c.requires.settled kept after (λ bytes. ⊤) keeps honest in
+    let settled = settled_in_other g.D.Disk.view old store c.requires.settled mid (λ bytes. ⊤) c.write_area.ensures.answer.honest_still.0 c.in_ok-gates.ensures.others
+    (λ is. now_in_run g.D.Disk.view old mid (InFileOnly other (g.D.Disk.view.may_leave old) (λ bytes. ⊤)) (λ start image le left. g.met.D.Disk.counts_now mid start image (c.write_area.ensures.answer.honest_still.1 is) le left) (c.write_area.ensures.images is)) in
     let stand : BodiesStand store.jobs (bodies_of c.in_ok-gates.gates) after = subst (λ delta. BodiesStand store.jobs (bodies_of c.in_ok-gates.gates) (after_delta delta kept)) (sym c.in-Base.is) (c.in_ok-gates.ensures.stand kept keeps) in
-    let T = Torn 0 1 (file_of Chooser (g.D.Disk.seen mid)) in
-    let second = chooser_recoverable g.D.Disk.seen g.D.Disk.may_leave g.D.Disk.honest mid store settled kept after T c.in_ok-gates.gates c.in_ok-gates.ensures.file c.in_ok-gates.ensures.settled keeps there stand in
-    run_recoverable g.D.Disk.moment g.D.Disk.left_since store.jobs kept after g.D.Disk.may_leave mid new (InFileOnly Chooser (g.D.Disk.may_leave mid) T)
+    let T = Torn 0 1 (file_of Chooser (g.D.Disk.view.seen mid)) in
+    let second = chooser_recoverable g.D.Disk.view mid store settled kept after T c.in_ok-gates.gates c.in_ok-gates.ensures.file c.in_ok-gates.ensures.settled keeps there stand in
+    run_recoverable g.D.Disk.view store.jobs kept after mid new (InFileOnly Chooser (g.D.Disk.view.may_leave mid) T)
     (λ start image le left. g.met.D.Disk.counts_now new start image (c.write_synced.ensures.honest.1 there) le left) second (c.write_synced.ensures.images there)
 
 pub returns-in_err-write_synced-clause-memory : goal.returns-in_err-write_synced-clause-memory
@@ -154,12 +154,12 @@ returns-in_err-write_synced-clause-memory g c memory =
     let new = c.write_synced.new.disk in
     let store = c.args.self.now in
     let other = other_area (area_of store) in
-    let settled = settled_in_other g.D.Disk.seen g.D.Disk.may_leave g.D.Disk.honest old store c.requires.settled mid (λ bytes. ⊤) c.write_area.ensures.answer.honest_still.0 c.in_ok-gates.ensures.others
-    (λ is. now_in_run g.D.Disk.moment g.D.Disk.left_since g.D.Disk.may_leave old mid (InFileOnly other (g.D.Disk.may_leave old) (λ bytes. ⊤)) (λ start image le left. g.met.D.Disk.counts_now mid start image (c.write_area.ensures.answer.honest_still.1 is) le left) (c.write_area.ensures.images is)) in
-    let T = Torn 0 1 (file_of Chooser (g.D.Disk.seen mid)) in
-    let only : g.D.Disk.honest mid → (image : Image) → g.D.Disk.may_leave new image → InFileOnly Chooser (g.D.Disk.may_leave mid) T image = λ is. now_in_run g.D.Disk.moment g.D.Disk.left_since g.D.Disk.may_leave mid new (InFileOnly Chooser (g.D.Disk.may_leave mid) T) (λ start image le left. g.met.D.Disk.counts_now new start image (c.write_synced.ensures.honest.1 is) le left) (c.write_synced.ensures.images is) in
+    let settled = settled_in_other g.D.Disk.view old store c.requires.settled mid (λ bytes. ⊤) c.write_area.ensures.answer.honest_still.0 c.in_ok-gates.ensures.others
+    (λ is. now_in_run g.D.Disk.view old mid (InFileOnly other (g.D.Disk.view.may_leave old) (λ bytes. ⊤)) (λ start image le left. g.met.D.Disk.counts_now mid start image (c.write_area.ensures.answer.honest_still.1 is) le left) (c.write_area.ensures.images is)) in
+    let T = Torn 0 1 (file_of Chooser (g.D.Disk.view.seen mid)) in
+    let only : g.D.Disk.view.honest mid → (image : Image) → g.D.Disk.view.may_leave new image → InFileOnly Chooser (g.D.Disk.view.may_leave mid) T image = λ is. now_in_run g.D.Disk.view mid new (InFileOnly Chooser (g.D.Disk.view.may_leave mid) T) (λ start image le left. g.met.D.Disk.counts_now new start image (c.write_synced.ensures.honest.1 is) le left) (c.write_synced.ensures.images is) in
     let none = handed_on c.in_err-write_synced.field-0.0 c.write_synced.result c.from_residual-in_err-write_synced.result c.in_err-write_synced.was c.from_residual-in_err-write_synced.ensures.1 memory in
-    settled_in_chooser g.D.Disk.seen g.D.Disk.may_leave g.D.Disk.honest mid store settled new T c.write_synced.ensures.honest.0 (c.write_synced.ensures.unchanged none) (c.write_synced.ensures.still_durable none) only
+    settled_in_chooser g.D.Disk.view mid store settled new T c.write_synced.ensures.honest.0 (c.write_synced.ensures.unchanged none) (c.write_synced.ensures.still_durable none) only
 
 pub returns-in-Base-clause-keeps : goal.returns-in-Base-clause-keeps
 returns-in-Base-clause-keeps g c kept keeps = subst (λ delta. BodiesStand c.args.self.now.jobs (bodies_of c.in_ok-gates.gates) (after_delta delta kept)) (sym c.in-Base.is) (c.in_ok-gates.ensures.stand kept keeps)
@@ -171,15 +171,15 @@ returns-in-Base-clause-settled g c =
     let new = c.write_synced.new.disk in
     let store = c.args.self.now in
     let other = other_area (area_of store) in
-    let settled = settled_in_other g.D.Disk.seen g.D.Disk.may_leave g.D.Disk.honest old store c.requires.settled mid (λ bytes. ⊤) c.write_area.ensures.answer.honest_still.0 c.in_ok-gates.ensures.others
-    (λ is. now_in_run g.D.Disk.moment g.D.Disk.left_since g.D.Disk.may_leave old mid (InFileOnly other (g.D.Disk.may_leave old) (λ bytes. ⊤)) (λ start image le left. g.met.D.Disk.counts_now mid start image (c.write_area.ensures.answer.honest_still.1 is) le left) (c.write_area.ensures.images is)) in
-    let T = Torn 0 1 (file_of Chooser (g.D.Disk.seen mid)) in
-    let only : g.D.Disk.honest mid → (image : Image) → g.D.Disk.may_leave new image → InFileOnly Chooser (g.D.Disk.may_leave mid) T image = λ is. now_in_run g.D.Disk.moment g.D.Disk.left_since g.D.Disk.may_leave mid new (InFileOnly Chooser (g.D.Disk.may_leave mid) T) (λ start image le left. g.met.D.Disk.counts_now new start image (c.write_synced.ensures.honest.1 is) le left) (c.write_synced.ensures.images is) in
+    let settled = settled_in_other g.D.Disk.view old store c.requires.settled mid (λ bytes. ⊤) c.write_area.ensures.answer.honest_still.0 c.in_ok-gates.ensures.others
+    (λ is. now_in_run g.D.Disk.view old mid (InFileOnly other (g.D.Disk.view.may_leave old) (λ bytes. ⊤)) (λ start image le left. g.met.D.Disk.counts_now mid start image (c.write_area.ensures.answer.honest_still.1 is) le left) (c.write_area.ensures.images is)) in
+    let T = Torn 0 1 (file_of Chooser (g.D.Disk.view.seen mid)) in
+    let only : g.D.Disk.view.honest mid → (image : Image) → g.D.Disk.view.may_leave new image → InFileOnly Chooser (g.D.Disk.view.may_leave mid) T image = λ is. now_in_run g.D.Disk.view mid new (InFileOnly Chooser (g.D.Disk.view.may_leave mid) T) (λ start image le left. g.met.D.Disk.counts_now new start image (c.write_synced.ensures.honest.1 is) le left) (c.write_synced.ensures.images is) in
     let gates = c.in_ok-gates.gates in
     let keeps = c.requires.settled.keeps in
     let differs : file_no gates ≢ Chooser = λ is. other_is_area (area_of store) (sym c.in_ok-gates.ensures.file ∙ is) in
-    let byte = subst (λ bit. InFile Chooser (HoldsPiece 0 (bit ∷ [])) (g.D.Disk.seen mid) (g.D.Disk.seen new)) (c.bit_of.ensures ∙ ap bit_of c.file.ensures) c.in_ok-write_synced.ensures.written in
-    settled_by_chooser g.D.Disk.seen g.D.Disk.may_leave g.D.Disk.honest mid store settled new (record { alloc = store.alloc; jobs = store.jobs; gates = gates }) T c.write_synced.ensures.honest.0 differs c.in_ok-gates.ensures.settled byte c.in_ok-write_synced.ensures.durable only
+    let byte = subst (λ bit. InFile Chooser (HoldsPiece 0 (bit ∷ [])) (g.D.Disk.view.seen mid) (g.D.Disk.view.seen new)) (c.bit_of.ensures ∙ ap bit_of c.file.ensures) c.in_ok-write_synced.ensures.written in
+    settled_by_chooser g.D.Disk.view mid store settled new (record { alloc = store.alloc; jobs = store.jobs; gates = gates }) T c.write_synced.ensures.honest.0 differs c.in_ok-gates.ensures.settled byte c.in_ok-write_synced.ensures.durable only
     (after_delta c.args.delta.now keeps.0, subst (λ delta. BodiesStand store.jobs (bodies_of gates) (after_delta delta keeps.0)) (sym c.in-Base.is) (c.in_ok-gates.ensures.stand keeps.0 keeps.1))
 
 -- ---- a record
@@ -191,10 +191,10 @@ returns-in_err-append-clause-images g c kept keeps honest =
     let store = c.args.self.now in
     let after = after_delta c.args.delta.now kept in
     let body = c.record_bytes.result in
-    let Q = InFileOnly (area_of store) (g.D.Disk.may_leave old) (IsStaged (bodies_of store.gates) (Some body)) in
+    let Q = InFileOnly (area_of store) (g.D.Disk.view.may_leave old) (IsStaged (bodies_of store.gates) (Some body)) in
     let stand = change_stands store.jobs (bodies_of store.gates) body c.in-Some.item kept c.args.delta.now keeps (c.requires.follows kept keeps) (sym c.delta_record.ensures ∙ c.in-Some.is) c.record_bytes.ensures.is_record in
-    let recoverable = append_recoverable g.D.Disk.seen g.D.Disk.may_leave g.D.Disk.honest old store c.requires.settled kept after body keeps honest stand in
-    run_stands g.D.Disk.moment g.D.Disk.left_since store.jobs kept after old new Q recoverable (c.append.ensures.images honest)
+    let recoverable = append_recoverable g.D.Disk.view old store c.requires.settled kept after body keeps honest stand in
+    run_stands g.D.Disk.view store.jobs kept after old new Q recoverable (c.append.ensures.images honest)
 
 pub returns-in_err-append-clause-recoverable : goal.returns-in_err-append-clause-recoverable
 returns-in_err-append-clause-recoverable g c kept keeps honest =
@@ -203,10 +203,10 @@ returns-in_err-append-clause-recoverable g c kept keeps honest =
     let store = c.args.self.now in
     let after = after_delta c.args.delta.now kept in
     let body = c.record_bytes.result in
-    let Q = InFileOnly (area_of store) (g.D.Disk.may_leave old) (IsStaged (bodies_of store.gates) (Some body)) in
+    let Q = InFileOnly (area_of store) (g.D.Disk.view.may_leave old) (IsStaged (bodies_of store.gates) (Some body)) in
     let stand = change_stands store.jobs (bodies_of store.gates) body c.in-Some.item kept c.args.delta.now keeps (c.requires.follows kept keeps) (sym c.delta_record.ensures ∙ c.in-Some.is) c.record_bytes.ensures.is_record in
-    let recoverable = append_recoverable g.D.Disk.seen g.D.Disk.may_leave g.D.Disk.honest old store c.requires.settled kept after body keeps honest stand in
-    run_recoverable g.D.Disk.moment g.D.Disk.left_since store.jobs kept after g.D.Disk.may_leave old new Q (λ start image le left. g.met.D.Disk.counts_now new start image (c.append.ensures.answer.honest_still.1 honest) le left) recoverable (c.append.ensures.images honest)
+    let recoverable = append_recoverable g.D.Disk.view old store c.requires.settled kept after body keeps honest stand in
+    run_recoverable g.D.Disk.view store.jobs kept after old new Q (λ start image le left. g.met.D.Disk.counts_now new start image (c.append.ensures.answer.honest_still.1 honest) le left) recoverable (c.append.ensures.images honest)
 
 pub returns-clause-images : goal.returns-clause-images
 returns-clause-images g c kept keeps honest =
@@ -215,10 +215,10 @@ returns-clause-images g c kept keeps honest =
     let store = c.args.self.now in
     let after = after_delta c.args.delta.now kept in
     let body = c.record_bytes.result in
-    let Q = InFileOnly (area_of store) (g.D.Disk.may_leave old) (IsStaged (bodies_of store.gates) (Some body)) in
+    let Q = InFileOnly (area_of store) (g.D.Disk.view.may_leave old) (IsStaged (bodies_of store.gates) (Some body)) in
     let stand = change_stands store.jobs (bodies_of store.gates) body c.in-Some.item kept c.args.delta.now keeps (c.requires.follows kept keeps) (sym c.delta_record.ensures ∙ c.in-Some.is) c.record_bytes.ensures.is_record in
-    let recoverable = append_recoverable g.D.Disk.seen g.D.Disk.may_leave g.D.Disk.honest old store c.requires.settled kept after body keeps honest stand in
-    run_stands g.D.Disk.moment g.D.Disk.left_since store.jobs kept after old new Q recoverable (c.append.ensures.images honest)
+    let recoverable = append_recoverable g.D.Disk.view old store c.requires.settled kept after body keeps honest stand in
+    run_stands g.D.Disk.view store.jobs kept after old new Q recoverable (c.append.ensures.images honest)
 
 pub returns-clause-recoverable : goal.returns-clause-recoverable
 returns-clause-recoverable g c kept keeps honest =
@@ -227,10 +227,10 @@ returns-clause-recoverable g c kept keeps honest =
     let store = c.args.self.now in
     let after = after_delta c.args.delta.now kept in
     let body = c.record_bytes.result in
-    let Q = InFileOnly (area_of store) (g.D.Disk.may_leave old) (IsStaged (bodies_of store.gates) (Some body)) in
+    let Q = InFileOnly (area_of store) (g.D.Disk.view.may_leave old) (IsStaged (bodies_of store.gates) (Some body)) in
     let stand = change_stands store.jobs (bodies_of store.gates) body c.in-Some.item kept c.args.delta.now keeps (c.requires.follows kept keeps) (sym c.delta_record.ensures ∙ c.in-Some.is) c.record_bytes.ensures.is_record in
-    let recoverable = append_recoverable g.D.Disk.seen g.D.Disk.may_leave g.D.Disk.honest old store c.requires.settled kept after body keeps honest stand in
-    run_recoverable g.D.Disk.moment g.D.Disk.left_since store.jobs kept after g.D.Disk.may_leave old new Q (λ start image le left. g.met.D.Disk.counts_now new start image (c.append.ensures.answer.honest_still.1 honest) le left) recoverable (c.append.ensures.images honest)
+    let recoverable = append_recoverable g.D.Disk.view old store c.requires.settled kept after body keeps honest stand in
+    run_recoverable g.D.Disk.view store.jobs kept after old new Q (λ start image le left. g.met.D.Disk.counts_now new start image (c.append.ensures.answer.honest_still.1 honest) le left) recoverable (c.append.ensures.images honest)
 
 pub returns-in_err-append-clause-memory : goal.returns-in_err-append-clause-memory
 returns-in_err-append-clause-memory g c memory =
@@ -240,10 +240,10 @@ returns-in_err-append-clause-memory g c memory =
     let now : Store = record { alloc = store.alloc; jobs = store.jobs; gates = c.append.new.self } in
     let keeps = c.requires.settled.keeps in
     let P = IsStaged (bodies_of store.gates) (Some c.record_bytes.result) in
-    let only : g.D.Disk.honest old → (image : Image) → g.D.Disk.may_leave new image → InFileOnly (area_of store) (g.D.Disk.may_leave old) P image =
-    λ is. now_in_run g.D.Disk.moment g.D.Disk.left_since g.D.Disk.may_leave old new (InFileOnly (area_of store) (g.D.Disk.may_leave old) P) (λ start image le left. g.met.D.Disk.counts_now new start image (c.append.ensures.answer.honest_still.1 is) le left) (c.append.ensures.images is) in
+    let only : g.D.Disk.view.honest old → (image : Image) → g.D.Disk.view.may_leave new image → InFileOnly (area_of store) (g.D.Disk.view.may_leave old) P image =
+    λ is. now_in_run g.D.Disk.view old new (InFileOnly (area_of store) (g.D.Disk.view.may_leave old) P) (λ start image le left. g.met.D.Disk.counts_now new start image (c.append.ensures.answer.honest_still.1 is) le left) (c.append.ensures.images is) in
     let none = gates_handed_on c.in_err-append.field-0.0 c.append.result c.from_residual-in_err-append.result c.in_err-append.was c.from_residual-in_err-append.ensures.1 memory in
-    settled_in_area g.D.Disk.seen g.D.Disk.may_leave g.D.Disk.honest old store c.requires.settled new now P c.append.ensures.answer.honest_still.0 (c.append.ensures.memory none) c.append.ensures.file (c.append.ensures.memory_others none) only
+    settled_in_area g.D.Disk.view old store c.requires.settled new now P c.append.ensures.answer.honest_still.0 (c.append.ensures.memory none) c.append.ensures.file (c.append.ensures.memory_others none) only
     (keeps.0, subst (λ bodies. BodiesStand store.jobs bodies keeps.0) (sym c.in_err-append.ensures.kept) keeps.1)
 
 pub returns-in_err-append-clause-memory_keeps : goal.returns-in_err-append-clause-memory_keeps
@@ -263,10 +263,10 @@ returns-clause-settled g c =
     let now : Store = record { alloc = store.alloc; jobs = store.jobs; gates = c.append.new.self } in
     let keeps = c.requires.settled.keeps in
     let P = IsStaged (bodies_of store.gates) (Some c.record_bytes.result) in
-    let only : g.D.Disk.honest old → (image : Image) → g.D.Disk.may_leave new image → InFileOnly (area_of store) (g.D.Disk.may_leave old) P image =
-    λ is. now_in_run g.D.Disk.moment g.D.Disk.left_since g.D.Disk.may_leave old new (InFileOnly (area_of store) (g.D.Disk.may_leave old) P) (λ start image le left. g.met.D.Disk.counts_now new start image (c.append.ensures.answer.honest_still.1 is) le left) (c.append.ensures.images is) in
+    let only : g.D.Disk.view.honest old → (image : Image) → g.D.Disk.view.may_leave new image → InFileOnly (area_of store) (g.D.Disk.view.may_leave old) P image =
+    λ is. now_in_run g.D.Disk.view old new (InFileOnly (area_of store) (g.D.Disk.view.may_leave old) P) (λ start image le left. g.met.D.Disk.counts_now new start image (c.append.ensures.answer.honest_still.1 is) le left) (c.append.ensures.images is) in
     let stand = change_stands store.jobs (bodies_of store.gates) c.record_bytes.result c.in-Some.item keeps.0 c.args.delta.now keeps.1 (c.requires.follows keeps.0 keeps.1) (sym c.delta_record.ensures ∙ c.in-Some.is) c.record_bytes.ensures.is_record in
-    settled_in_area g.D.Disk.seen g.D.Disk.may_leave g.D.Disk.honest old store c.requires.settled new now P c.append.ensures.answer.honest_still.0 c.in_ok-append.ensures.settled c.append.ensures.file c.in_ok-append.ensures.others only
+    settled_in_area g.D.Disk.view old store c.requires.settled new now P c.append.ensures.answer.honest_still.0 c.in_ok-append.ensures.settled c.append.ensures.file c.in_ok-append.ensures.others only
     (after_delta c.args.delta.now keeps.0, subst (λ bodies. BodiesStand store.jobs bodies (after_delta c.args.delta.now keeps.0)) (sym c.in_ok-append.ensures.bodies) stand)
 
 -- ---- which calls were done
@@ -276,9 +276,9 @@ returns-in_err-gates-clause-told g c kept own stand =
     let store = c.args.self.now in
     let area = area_of store in
     let count = length (records_of store) in
-    let old = g.D.Disk.told c.args.disk.now in
+    let old = g.D.Disk.view.told c.args.disk.now in
     let other = other_area area in
-    let new = g.D.Disk.told c.write_area.new.disk in
+    let new = g.D.Disk.view.told c.write_area.new.disk in
     let given = c.in_err-gates.field-0.0 in
     let result = c.from_residual.result in
     let records = rewrite_calls other (map record_bytes (base_records kept own c.in-Base.slot c.in-Base.rows)) in
@@ -291,11 +291,11 @@ returns-in_err-write_synced-clause-told g c kept own stand =
     let store = c.args.self.now in
     let area = area_of store in
     let count = length (records_of store) in
-    let old = g.D.Disk.told c.args.disk.now in
+    let old = g.D.Disk.view.told c.args.disk.now in
     let other = other_area area in
     let records = rewrite_calls other (map record_bytes (base_records kept own c.in-Base.slot c.in-Base.rows)) in
-    let mid = g.D.Disk.told c.write_area.new.disk in
-    let new = g.D.Disk.told c.write_synced.new.disk in
+    let mid = g.D.Disk.view.told c.write_area.new.disk in
+    let new = g.D.Disk.view.told c.write_synced.new.disk in
     let written = tells_weaker (made_done of_disk records c.in_ok-gates.gates) old mid (c.in_ok-gates.ensures.told kept own stand) in
     let bit = c.bit_of.ensures ∙ ap bit_of (c.file.ensures ∙ c.in_ok-gates.ensures.file) in
     let given = c.in_err-write_synced.field-0.0 in
@@ -311,11 +311,11 @@ returns-in-Base-clause-told g c kept own stand =
     let store = c.args.self.now in
     let area = area_of store in
     let count = length (records_of store) in
-    let old = g.D.Disk.told c.args.disk.now in
+    let old = g.D.Disk.view.told c.args.disk.now in
     let other = other_area area in
     let records = rewrite_calls other (map record_bytes (base_records kept own c.in-Base.slot c.in-Base.rows)) in
-    let mid = g.D.Disk.told c.write_area.new.disk in
-    let new = g.D.Disk.told c.write_synced.new.disk in
+    let mid = g.D.Disk.view.told c.write_area.new.disk in
+    let new = g.D.Disk.view.told c.write_synced.new.disk in
     let written = tells_weaker (made_done of_disk records c.in_ok-gates.gates) old mid (c.in_ok-gates.ensures.told kept own stand) in
     let bit = c.bit_of.ensures ∙ ap bit_of (c.file.ensures ∙ c.in_ok-gates.ensures.file) in
     let chosen : TellsThen (AfterWriteSynced Chooser 0 (bit_of other ∷ []) (Ok tt)) mid new =
@@ -328,8 +328,8 @@ returns-in_err-append-clause-told g c kept own stand =
     let store = c.args.self.now in
     let area = area_of store in
     let count = length (records_of store) in
-    let old = g.D.Disk.told c.args.disk.now in
-    let new = g.D.Disk.told c.append.new.disk in
+    let old = g.D.Disk.view.told c.args.disk.now in
+    let new = g.D.Disk.view.told c.append.new.disk in
     let item = c.in-Some.item in
     let calls = saves_record area count kept own c.args.delta.now item (sym c.delta_record.ensures ∙ c.in-Some.is) in
     let given = c.in_err-append.field-0.0 in
@@ -344,8 +344,8 @@ returns-clause-told g c kept own stand =
     let store = c.args.self.now in
     let area = area_of store in
     let count = length (records_of store) in
-    let old = g.D.Disk.told c.args.disk.now in
-    let new = g.D.Disk.told c.append.new.disk in
+    let old = g.D.Disk.view.told c.args.disk.now in
+    let new = g.D.Disk.view.told c.append.new.disk in
     let item = c.in-Some.item in
     let calls = saves_record area count kept own c.args.delta.now item (sym c.delta_record.ensures ∙ c.in-Some.is) in
     subst (λ list. TellsThen (MadeCalls of_disk list (Ok tt)) old new) (sym calls)

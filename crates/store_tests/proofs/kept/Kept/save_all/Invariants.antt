@@ -5,7 +5,7 @@ use Rattle.store_tests.proofs.kept.Kept.save_all.Given as goal
 abbrev pub invariant-loop-change : goal.invariant-loop-change
 invariant-loop-change g l =
     record {
-      settled : IsStoreSettled g.D.Disk.seen g.D.Disk.may_leave g.D.Disk.honest l.disk l.self.store;
+      settled : IsStoreSettled g.D.Disk.view l.disk l.self.store;
       keeps : StoreKeeps l.self.store l.self.durable;
       jobs : jobs_of_store l.self.store ≡ 2;
     }

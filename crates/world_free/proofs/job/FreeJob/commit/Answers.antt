@@ -9,13 +9,13 @@ use Rattle.world_free.proofs.job.FreeJob.commit.Goals as goal
 pub make_ready-requires-clause-may : goal.make_ready-requires-clause-may
 make_ready-requires-clause-may g c =
     let may = c.requires.may in
-    may_join_in g.D.Disk.seen g.D.Disk.may_leave g.D.Disk.honest g.D.Disk.told (plan_of c.args.table.now c.args.book.now may.0 c.args.setting.now) c.args.book.now c.args.who may.1 c.args.taken c.args.self.now may.2
+    may_join_in g.D.Disk.view (plan_of c.args.table.now c.args.book.now may.0 c.args.setting.now) c.args.book.now c.args.who may.1 c.args.taken c.args.self.now may.2
     c.enter-turn.result c.enter-turn.ensures.turn c.enter-turn.ensures.history c.enter-turn.ensures.rest c.state.result.now c.state.ensures.state
 
 pub make_ready-requires-clause-looked : goal.make_ready-requires-clause-looked
 make_ready-requires-clause-looked g c =
     let may = c.requires.may in
-    looked_in g.D.Disk.seen g.D.Disk.may_leave g.D.Disk.honest g.D.Disk.told (plan_of c.args.table.now c.args.book.now may.0 c.args.setting.now) c.args.book.now c.args.who may.1 c.args.taken c.args.self.now may.2
+    looked_in g.D.Disk.view (plan_of c.args.table.now c.args.book.now may.0 c.args.setting.now) c.args.book.now c.args.who may.1 c.args.taken c.args.self.now may.2
     c.enter-turn.result c.enter-turn.ensures.turn c.enter-turn.ensures.history c.enter-turn.ensures.rest c.state.result.now c.state.ensures.state
 
 pub commit-requires-clause-follows : goal.commit-requires-clause-follows
@@ -26,7 +26,7 @@ commit-requires-clause-follows g c =
 pub returns-in-Ok : goal.returns-in-Ok
 returns-in-Ok g c = record {
   goes = λ situation turn stepper.
-      has_committed_in g.D.Disk.seen g.D.Disk.may_leave g.D.Disk.honest g.D.Disk.told (plan_of c.args.table.now c.args.book.now situation c.args.setting.now) c.args.book.now c.args.who turn c.args.taken
+      has_committed_in g.D.Disk.view (plan_of c.args.table.now c.args.book.now situation c.args.setting.now) c.args.book.now c.args.who turn c.args.taken
       c.args.self.now stepper c.enter-turn.result c.enter-turn.ensures.turn c.enter-turn.ensures.history c.enter-turn.ensures.rest c.state.result.now c.state.ensures.state c.in-Ok.call c.make_ready.new.book
       c.make_ready.new.mail _ c.in-Ok.ensures.made c.in-Ok.ensures.stands c.in-Ok.ensures.pending c.in-Ok.ensures.members c.in-Ok.ensures.few c.in-Ok.ensures.fate
       (subst (λ (cuts : List (ℕ × ℕ)). HasLooked cuts c.state.result.now.letters c.args.who c.args.taken c.args.self.now.mail c.make_ready.new.mail) c.deref.ensures.value c.in-Ok.ensures.looks) refl

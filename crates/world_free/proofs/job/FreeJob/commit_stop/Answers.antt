@@ -14,13 +14,13 @@ commit-requires-clause-follows g c =
     (sym (stop_row c.args.who c.args.cause c.args.change c.is_some-kept.result c.change_alone-out.result c.is_some-kept.ensures c.change_alone-out.ensures.alone))
     (follows_there c.args.table.now c.args.book.now c.args.self.now.seat c.enter-turn.result (row_of_stop c.args.who c.args.cause c.args.change) c.state.result.now may.2.of_plan.key
     c.enter-turn.ensures.turn c.enter-turn.ensures.rest c.state.ensures.state
-    (stop_comes_in g.D.Disk.seen g.D.Disk.may_leave g.D.Disk.honest g.D.Disk.told (plan_of c.args.table.now c.args.book.now may.0 c.args.setting.now) c.args.book.now c.args.who may.1 c.args.cause
+    (stop_comes_in g.D.Disk.view (plan_of c.args.table.now c.args.book.now may.0 c.args.setting.now) c.args.book.now c.args.who may.1 c.args.cause
     c.args.change c.args.self.now may.2 c.enter-turn.result c.enter-turn.ensures.turn c.enter-turn.ensures.history c.enter-turn.ensures.rest c.state.result.now c.state.ensures.state))
 
 pub returns-in-Ok : goal.returns-in-Ok
 returns-in-Ok g c = record {
   stops = λ situation turn stopper.
-      has_broken g.D.Disk.seen g.D.Disk.may_leave g.D.Disk.honest g.D.Disk.told (plan_of c.args.table.now c.args.book.now situation c.args.setting.now) c.args.book.now c.args.who turn c.args.cause
+      has_broken g.D.Disk.view (plan_of c.args.table.now c.args.book.now situation c.args.setting.now) c.args.book.now c.args.who turn c.args.cause
       c.args.change c.args.self.now stopper c.enter-turn.result c.enter-turn.ensures.turn c.enter-turn.ensures.history c.enter-turn.ensures.rest _ _
       (stop_row c.args.who c.args.cause c.args.change c.is_some-kept.result c.change_alone-out.result c.is_some-kept.ensures c.change_alone-out.ensures.alone) refl
       c.note_stop.ensures.stopped c.commit.ensures.seat_of c.commit.ensures.number c.commit.ensures.first c.commit.ensures.owns c.commit.ensures.saw;

@@ -13,7 +13,7 @@ turns-preserved g c = λ situation job. c.in-Ok.ensures.goes situation ((c.turns
 pub returns-then-not-self : goal.returns-then-not-self
 returns-then-not-self g c = record {
   runs = λ had situation job.
-      has_rested g.D.Disk.seen g.D.Disk.may_leave g.D.Disk.honest g.D.Disk.told (plan_of c.args.table.now c.args.book.now situation c.args.setting.now) c.args.book.now c.args.who c.turns.turn
+      has_rested g.D.Disk.view (plan_of c.args.table.now c.args.book.now situation c.args.setting.now) c.args.book.now c.args.who c.turns.turn
       c.args.setting.now.turns c.turns.self c.if-not-self.true (c.turns.invariant situation job);
 }
 
@@ -21,6 +21,6 @@ pub returns : goal.returns
 returns g c = record {
   runs = λ had situation job.
       let all : c.turns.turn ≡ c.args.setting.now.turns = omega (arith, c.turns-test.false, c.turns.auto.turn-end) in
-      subst (λ (turns : ℕ). IsJobAt g.D.Disk.seen g.D.Disk.may_leave g.D.Disk.honest g.D.Disk.told (plan_of c.args.table.now c.args.book.now situation c.args.setting.now) c.args.book.now c.args.who turns c.turns.self) all
+      subst (λ (turns : ℕ). IsJobAt g.D.Disk.view (plan_of c.args.table.now c.args.book.now situation c.args.setting.now) c.args.book.now c.args.who turns c.turns.self) all
       (c.turns.invariant situation job);
 }

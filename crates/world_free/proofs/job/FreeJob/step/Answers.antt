@@ -10,10 +10,10 @@ pub take_by_arm-requires : goal.take_by_arm-requires
 take_by_arm-requires g c =
     let plan : FreePlan = plan_of c.args.table.now c.requires.may.0 c.requires.may.1 c.args.setting.now in
     record {
-      me = is_member g.D.Disk.seen g.D.Disk.may_leave g.D.Disk.honest g.D.Disk.told plan c.requires.may.0 c.args.who c.args.turn c.args.self.now c.requires.may.2;
-      few = few_members g.D.Disk.seen g.D.Disk.may_leave g.D.Disk.honest g.D.Disk.told plan c.requires.may.0 c.args.who c.args.turn c.args.self.now c.requires.may.2;
+      me = is_member g.D.Disk.view plan c.requires.may.0 c.args.who c.args.turn c.args.self.now c.requires.may.2;
+      few = few_members g.D.Disk.view plan c.requires.may.0 c.args.who c.args.turn c.args.self.now c.requires.may.2;
       may =
-          may_step g.D.Disk.seen g.D.Disk.may_leave g.D.Disk.honest g.D.Disk.told plan c.requires.may.0 c.args.who c.args.turn c.args.self.now c.requires.may.2 c.next_cause-cause.result c.input_for-input.result
+          may_step g.D.Disk.view plan c.requires.may.0 c.args.who c.args.turn c.args.self.now c.requires.may.2 c.next_cause-cause.result c.input_for-input.result
           (c.next_cause-cause.ensures.cause ∙ rw (c.window.ensures.window, c.term.ensures, c.replica.ensures) refl) c.input_for-input.ensures.told;
     }
 
@@ -22,10 +22,10 @@ returns g c = record {
   steps = λ book situation runner.
       let plan : FreePlan = plan_of c.args.table.now book situation c.args.setting.now in
       let is = c.next_cause-cause.ensures.cause ∙ rw (c.window.ensures.window, c.term.ensures, c.replica.ensures) refl in
-      tried g.D.Disk.seen g.D.Disk.may_leave g.D.Disk.honest g.D.Disk.told plan book c.args.who c.args.turn c.args.self.now runner c.next_cause-cause.result c.in_ok-ended.ended _ is
+      tried g.D.Disk.view plan book c.args.who c.args.turn c.args.self.now runner c.next_cause-cause.result c.in_ok-ended.ended _ is
       c.requires.left
       (c.in_ok-ended.ensures.ended _ _
-      (members_then g.D.Disk.seen g.D.Disk.may_leave g.D.Disk.honest g.D.Disk.told plan book c.args.who c.args.turn c.args.self.now runner)
-      (was_told g.D.Disk.seen g.D.Disk.may_leave g.D.Disk.honest g.D.Disk.told plan book c.args.who c.args.turn c.args.self.now runner c.next_cause-cause.result c.input_for-input.result is c.input_for-input.ensures.told))
+      (members_then g.D.Disk.view plan book c.args.who c.args.turn c.args.self.now runner)
+      (was_told g.D.Disk.view plan book c.args.who c.args.turn c.args.self.now runner c.next_cause-cause.result c.input_for-input.result is c.input_for-input.ensures.told))
       refl refl;
 }

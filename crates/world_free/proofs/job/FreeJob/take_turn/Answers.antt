@@ -13,7 +13,7 @@ commit-requires g c =
       may = (
         may.0,
         c.args.turn,
-        subst (λ (o : Outcome). HasTried g.D.Disk.seen g.D.Disk.may_leave g.D.Disk.honest g.D.Disk.told (plan_of c.args.table.now c.args.book.now may.0 c.args.setting.now) c.args.book.now c.args.who
+        subst (λ (o : Outcome). HasTried g.D.Disk.view (plan_of c.args.table.now c.args.book.now may.0 c.args.setting.now) c.args.book.now c.args.who
             c.args.turn c.in_ok-cause.cause o c.step.new.self) c.in-Taken.is (c.in_ok-cause.ensures.steps c.args.book.now may.0 may.1),
       );
     }
@@ -25,7 +25,7 @@ commit_stop-requires g c =
       may = (
         may.0,
         c.args.turn,
-        subst (λ (o : Outcome). HasTried g.D.Disk.seen g.D.Disk.may_leave g.D.Disk.honest g.D.Disk.told (plan_of c.args.table.now c.args.book.now may.0 c.args.setting.now) c.args.book.now c.args.who
+        subst (λ (o : Outcome). HasTried g.D.Disk.view (plan_of c.args.table.now c.args.book.now may.0 c.args.setting.now) c.args.book.now c.args.who
             c.args.turn c.in_ok-cause.cause o c.step.new.self) c.in-Stopped.is (c.in_ok-cause.ensures.steps c.args.book.now may.0 may.1),
       );
     }
@@ -36,9 +36,9 @@ returns-in-Taken g c = record {
       on_ok c.commit.result _ _
       (λ goes situation runner.
       let plan = plan_of c.args.table.now c.args.book.now situation c.args.setting.now in
-      has_run g.D.Disk.seen g.D.Disk.may_leave g.D.Disk.honest g.D.Disk.told plan c.args.book.now c.args.who _ c.commit.new.self
+      has_run g.D.Disk.view plan c.args.book.now c.args.who _ c.commit.new.self
       (goes situation c.args.turn
-      (subst (λ (o : Outcome). HasTried g.D.Disk.seen g.D.Disk.may_leave g.D.Disk.honest g.D.Disk.told plan c.args.book.now c.args.who c.args.turn c.in_ok-cause.cause o c.step.new.self) c.in-Taken.is
+      (subst (λ (o : Outcome). HasTried g.D.Disk.view plan c.args.book.now c.args.who c.args.turn c.in_ok-cause.cause o c.step.new.self) c.in-Taken.is
       (c.in_ok-cause.ensures.steps c.args.book.now situation runner))))
       c.commit.ensures.goes;
 }
@@ -49,9 +49,9 @@ returns-in-Stopped g c = record {
       on_ok c.commit_stop.result _ _
       (λ stops situation runner.
       let plan = plan_of c.args.table.now c.args.book.now situation c.args.setting.now in
-      has_stopped g.D.Disk.seen g.D.Disk.may_leave g.D.Disk.honest g.D.Disk.told plan c.args.book.now c.args.who _ c.commit_stop.new.self
+      has_stopped g.D.Disk.view plan c.args.book.now c.args.who _ c.commit_stop.new.self
       (stops situation c.args.turn
-      (subst (λ (o : Outcome). HasTried g.D.Disk.seen g.D.Disk.may_leave g.D.Disk.honest g.D.Disk.told plan c.args.book.now c.args.who c.args.turn c.in_ok-cause.cause o c.step.new.self) c.in-Stopped.is
+      (subst (λ (o : Outcome). HasTried g.D.Disk.view plan c.args.book.now c.args.who c.args.turn c.in_ok-cause.cause o c.step.new.self) c.in-Stopped.is
       (c.in_ok-cause.ensures.steps c.args.book.now situation runner))))
       c.commit_stop.ensures.stops;
 }

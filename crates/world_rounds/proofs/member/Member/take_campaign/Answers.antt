@@ -9,15 +9,15 @@ keep_step-requires g c =
       told = (
         may.rows,
         may.who,
-        told_campaign g.D.Disk.seen g.D.Disk.may_leave g.D.Disk.honest g.D.Disk.told c.args.table.now may.rows c.args.book.now may.situation may.who c.args.self.now may.idle c.requires.runs,
+        told_campaign g.D.Disk.view c.args.table.now may.rows c.args.book.now may.situation may.who c.args.self.now may.idle c.requires.runs,
       );
     }
 
 pub returns : goal.returns
 returns g c = record {
   takes = λ rows situation who idle.
-      campaign_taken g.D.Disk.seen g.D.Disk.may_leave g.D.Disk.honest g.D.Disk.told c.args.table.now rows c.args.book.now situation who c.args.self.now _ idle c.requires.runs
+      campaign_taken g.D.Disk.view c.args.table.now rows c.args.book.now situation who c.args.self.now _ idle c.requires.runs
       (c.in_ok-keep_step.ensures.beside rows who
-      (told_campaign g.D.Disk.seen g.D.Disk.may_leave g.D.Disk.honest g.D.Disk.told c.args.table.now rows c.args.book.now situation who c.args.self.now idle c.requires.runs))
+      (told_campaign g.D.Disk.view c.args.table.now rows c.args.book.now situation who c.args.self.now idle c.requires.runs))
       refl c.in_ok-keep_step.ensures.causes;
 }

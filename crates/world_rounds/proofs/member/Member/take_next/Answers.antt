@@ -10,21 +10,21 @@ input_for-input-requires g c =
     record {
       can = (
         c.args.who,
-        can_tell g.D.Disk.seen g.D.Disk.may_leave g.D.Disk.honest g.D.Disk.told c.args.table.now may.rows c.args.book.now may.situation c.args.who c.args.cause c.args.self.now may.idle may.may,
+        can_tell g.D.Disk.view c.args.table.now may.rows c.args.book.now may.situation c.args.who c.args.cause c.args.self.now may.idle may.may,
       );
     }
 
 pub take_by_arm-requires-clause-may : goal.take_by_arm-requires-clause-may
 take_by_arm-requires-clause-may g c =
     let may = c.requires.may in
-    let can = can_tell g.D.Disk.seen g.D.Disk.may_leave g.D.Disk.honest g.D.Disk.told c.args.table.now may.rows c.args.book.now may.situation c.args.who c.args.cause c.args.self.now may.idle may.may in
+    let can = can_tell g.D.Disk.view c.args.table.now may.rows c.args.book.now may.situation c.args.who c.args.cause c.args.self.now may.idle may.may in
     record {
       rows = may.rows;
       book = c.args.book.now;
       who = c.args.who;
       steps = [];
       told =
-          was_told g.D.Disk.seen g.D.Disk.may_leave g.D.Disk.honest g.D.Disk.told c.args.table.now may.rows c.args.book.now may.situation c.args.who c.args.cause c.input_for-input.result c.args.self.now may.idle may.may
+          was_told g.D.Disk.view c.args.table.now may.rows c.args.book.now may.situation c.args.who c.args.cause c.input_for-input.result c.args.self.now may.idle may.may
           (c.input_for-input.ensures.told c.args.who can);
       counted = let same = ap length c.turns.ensures in omega (arith, same);
       few = omega arith;
@@ -33,30 +33,31 @@ take_by_arm-requires-clause-may g c =
 pub returns-in-Taken : goal.returns-in-Taken
 returns-in-Taken g c = record {
   ends = λ rows situation idle may.
-      let can = can_tell g.D.Disk.seen g.D.Disk.may_leave g.D.Disk.honest g.D.Disk.told c.args.table.now rows c.args.book.now situation c.args.who c.args.cause c.args.self.now idle may in
+      let can = can_tell g.D.Disk.view c.args.table.now rows c.args.book.now situation c.args.who c.args.cause c.args.self.now idle may in
       let told =
-      was_told g.D.Disk.seen g.D.Disk.may_leave g.D.Disk.honest g.D.Disk.told c.args.table.now rows c.args.book.now situation c.args.who c.args.cause c.input_for-input.result c.args.self.now idle may
+      was_told g.D.Disk.view c.args.table.now rows c.args.book.now situation c.args.who c.args.cause c.input_for-input.result c.args.self.now idle may
       (c.input_for-input.ensures.told c.args.who can) in
-      let ended = subst (λ e. HasOutcome g.D.Disk.seen g.D.Disk.may_leave g.D.Disk.honest g.D.Disk.told c.args.table.now rows c.args.book.now c.args.who c.args.cause c.args.self.now.mail.arm e c.take_by_arm.new.node) c.in-Taken.is
+      let ended = subst (λ e. HasOutcome g.D.Disk.view c.args.table.now rows c.args.book.now c.args.who c.args.cause c.args.self.now.mail.arm e c.take_by_arm.new.node) c.in-Taken.is
       (c.in_ok-ended.ensures.ended rows c.args.book.now (sym c.requires.members) told) in
-      ends_taken g.D.Disk.seen g.D.Disk.may_leave g.D.Disk.honest g.D.Disk.told c.args.table.now rows c.args.book.now situation c.args.who c.args.cause c.in-Taken.taken c.args.self.now _ idle may
-      ended.0 ended.1 ended.2 refl c.hear.ensures.set c.hear.ensures.letters;
+      ends_taken g.D.Disk.view c.args.table.now rows c.args.book.now situation c.args.who c.args.cause c.in-Taken.taken c.args.self.now _ idle may
+      ended.0 ended.1 ended.2 c.hear.ensures.set c.hear.ensures.letters;
+  rest = refl;
 }
 
 pub returns-in-Stopped : goal.returns-in-Stopped
 returns-in-Stopped g c = record {
   ends = λ rows situation idle may.
-      let can = can_tell g.D.Disk.seen g.D.Disk.may_leave g.D.Disk.honest g.D.Disk.told c.args.table.now rows c.args.book.now situation c.args.who c.args.cause c.args.self.now idle may in
+      let can = can_tell g.D.Disk.view c.args.table.now rows c.args.book.now situation c.args.who c.args.cause c.args.self.now idle may in
       let told =
-      was_told g.D.Disk.seen g.D.Disk.may_leave g.D.Disk.honest g.D.Disk.told c.args.table.now rows c.args.book.now situation c.args.who c.args.cause c.input_for-input.result c.args.self.now idle may
+      was_told g.D.Disk.view c.args.table.now rows c.args.book.now situation c.args.who c.args.cause c.input_for-input.result c.args.self.now idle may
       (c.input_for-input.ensures.told c.args.who can) in
-      let ended = subst (λ e. HasOutcome g.D.Disk.seen g.D.Disk.may_leave g.D.Disk.honest g.D.Disk.told c.args.table.now rows c.args.book.now c.args.who c.args.cause c.args.self.now.mail.arm e c.take_by_arm.new.node) c.in-Stopped.is
+      let ended = subst (λ e. HasOutcome g.D.Disk.view c.args.table.now rows c.args.book.now c.args.who c.args.cause c.args.self.now.mail.arm e c.take_by_arm.new.node) c.in-Stopped.is
       (c.in_ok-ended.ensures.ended rows c.args.book.now (sym c.requires.members) told) in
       record {
         arm = ended.0;
         armed = ap armed_in (sym ended.1) ∙ idle.ahead.mail.arm;
         stopped = ended.2;
-        mail = refl;
         none = idle.none;
       };
+  rest = refl;
 }

@@ -6,14 +6,14 @@ use Rattle.world_rounds.proofs.member.Member.take_round.Goals as goal
 pub keep_step-requires : goal.keep_step-requires
 keep_step-requires g c =
     let may = c.requires.may in
-    let answered = c.in_ok-take_answer.ensures.beside may.rows may.who (may_answer g.D.Disk.seen g.D.Disk.may_leave g.D.Disk.honest g.D.Disk.told c.args.table.now c.args.book.now may.rows may.situation may.who c.args.self.now may.idle c.if-not-self.false) in
-    let hears = may_hear g.D.Disk.seen g.D.Disk.may_leave g.D.Disk.honest g.D.Disk.told c.args.table.now c.args.book.now may.rows may.situation may.who c.args.self.now c.take_answer.new.steps.items c.take_answer.new.node may.idle answered in
+    let answered = c.in_ok-take_answer.ensures.beside may.rows may.who (may_answer g.D.Disk.view c.args.table.now c.args.book.now may.rows may.situation may.who c.args.self.now may.idle c.if-not-self.false) in
+    let hears = may_hear g.D.Disk.view c.args.table.now c.args.book.now may.rows may.situation may.who c.args.self.now c.take_answer.new.steps.items c.take_answer.new.node may.idle answered in
     let heard = c.in_ok-hear_letters.ensures.beside may.rows may.who (rw c.deref.ensures.value hears) in
     record {
       told = (
         may.rows,
         may.who,
-        told_tick g.D.Disk.seen g.D.Disk.may_leave g.D.Disk.honest g.D.Disk.told c.args.table.now c.args.book.now may.rows may.who c.hear_letters.new.steps.items c.hear_letters.new.node c.reading_of-now.result
+        told_tick g.D.Disk.view c.args.table.now c.args.book.now may.rows may.who c.hear_letters.new.steps.items c.hear_letters.new.node c.reading_of-now.result
             c.args.at.0 c.args.self.now.mail.skew (rw (sym c.window.ensures.window) c.window.ensures.limits.ordered) heard (rw (sym c.window.ensures.window) c.reading_of-now.ensures.reading),
       );
     }
@@ -21,12 +21,12 @@ keep_step-requires g c =
 pub returns : goal.returns
 returns g c = record {
   takes = λ rows situation who idle.
-      let answered = c.in_ok-take_answer.ensures.beside rows who (may_answer g.D.Disk.seen g.D.Disk.may_leave g.D.Disk.honest g.D.Disk.told c.args.table.now c.args.book.now rows situation who c.args.self.now idle c.if-not-self.false) in
-      let hears = may_hear g.D.Disk.seen g.D.Disk.may_leave g.D.Disk.honest g.D.Disk.told c.args.table.now c.args.book.now rows situation who c.args.self.now c.take_answer.new.steps.items c.take_answer.new.node idle answered in
+      let answered = c.in_ok-take_answer.ensures.beside rows who (may_answer g.D.Disk.view c.args.table.now c.args.book.now rows situation who c.args.self.now idle c.if-not-self.false) in
+      let hears = may_hear g.D.Disk.view c.args.table.now c.args.book.now rows situation who c.args.self.now c.take_answer.new.steps.items c.take_answer.new.node idle answered in
       let heard = c.in_ok-hear_letters.ensures.beside rows who (rw c.deref.ensures.value hears) in
-      let told = told_tick g.D.Disk.seen g.D.Disk.may_leave g.D.Disk.honest g.D.Disk.told c.args.table.now c.args.book.now rows who c.hear_letters.new.steps.items c.hear_letters.new.node c.reading_of-now.result
+      let told = told_tick g.D.Disk.view c.args.table.now c.args.book.now rows who c.hear_letters.new.steps.items c.hear_letters.new.node c.reading_of-now.result
       c.args.at.0 c.args.self.now.mail.skew (rw (sym c.window.ensures.window) c.window.ensures.limits.ordered) heard (rw (sym c.window.ensures.window) c.reading_of-now.ensures.reading) in
-      round_taken g.D.Disk.seen g.D.Disk.may_leave g.D.Disk.honest g.D.Disk.told c.args.table.now c.args.book.now rows situation who c.args.at.0 c.reading_of-now.result c.args.self.now _ idle c.if-not-self.false
+      round_taken g.D.Disk.view c.args.table.now c.args.book.now rows situation who c.args.at.0 c.reading_of-now.result c.args.self.now _ idle c.if-not-self.false
       (c.in_ok-keep_step.ensures.beside rows who told)
       (c.in_ok-keep_step.ensures.causes ∙ ap (λ causes. causes ++ Tick c.reading_of-now.result ∷ []) (c.in_ok-hear_letters.ensures.causes ∙ rw (c.in_ok-take_answer.ensures.causes, c.deref.ensures.value) refl))
       (rw (sym c.window.ensures.window) c.reading_of-now.ensures.reading) c.clear.ensures.items refl refl refl refl refl;
@@ -35,5 +35,5 @@ returns g c = record {
 pub returns-then-not-self : goal.returns-then-not-self
 returns-then-not-self g c = record {
   takes = λ rows situation who idle.
-      round_skipped g.D.Disk.seen g.D.Disk.may_leave g.D.Disk.honest g.D.Disk.told c.args.table.now c.args.book.now rows situation who c.args.at.0 c.args.self.now idle c.if-not-self.true;
+      round_skipped g.D.Disk.view c.args.table.now c.args.book.now rows situation who c.args.at.0 c.args.self.now idle c.if-not-self.true;
 }

@@ -11,8 +11,8 @@ returns-then-is_none-clause-led g c =
     λ rows situation is.
     let there : slice_get c.args.self.now.members.items c.args.who ≡ Some c.index.result.now =
     slice_get_read c.args.self.now.members.items (length c.args.self.now.members.items) c.args.who c.index.result.now refl c.requires.member c.index.ensures in
-    let runs = runs_here g.D.Disk.seen g.D.Disk.may_leave g.D.Disk.honest g.D.Disk.told c.args.table.now rows c.args.self.now situation c.args.who c.index.result.now is there (c.requires.runs c.index.result.now there) in
-    led_unanswered g.D.Disk.seen g.D.Disk.may_leave g.D.Disk.honest g.D.Disk.told c.args.table.now c.args.self.now.book.members rows c.args.self.now situation c.args.who is runs
+    let runs = runs_here g.D.Disk.view c.args.table.now rows c.args.self.now situation c.args.who c.index.result.now is there (c.requires.runs c.index.result.now there) in
+    led_unanswered g.D.Disk.view c.args.table.now c.args.self.now.book.members rows c.args.self.now situation c.args.who is runs
     (sym (is.ahead.each c.args.who c.index.result.now there).mail.waits ∙ none_waits c.index.result.now.mail.waits (c.is_none.ensures ∙ ap not c.if-is_none.true))
 
 pub step_next-requires-clause-may : goal.step_next-requires-clause-may
@@ -20,7 +20,7 @@ step_next-requires-clause-may g c =
     let there : slice_get c.args.self.now.members.items c.args.who ≡ Some c.index.result.now =
     slice_get_read c.args.self.now.members.items (length c.args.self.now.members.items) c.args.who c.index.result.now refl c.requires.member c.index.ensures in
     let world = c.requires.world in
-    let runs = runs_here g.D.Disk.seen g.D.Disk.may_leave g.D.Disk.honest g.D.Disk.told c.args.table.now world.rows c.args.self.now world.situation c.args.who c.index.result.now world.is there (c.requires.runs c.index.result.now there) in (
+    let runs = runs_here g.D.Disk.view c.args.table.now world.rows c.args.self.now world.situation c.args.who c.index.result.now world.is there (c.requires.runs c.index.result.now there) in (
       world.rows,
       world.situation,
       world.is,
@@ -36,8 +36,8 @@ returns-clause-led g c =
     slice_get_read c.args.self.now.members.items (length c.args.self.now.members.items) c.args.who c.index.result.now refl c.requires.member c.index.ensures in
     let some = one_waits c.index.result.now.mail.waits (c.is_none.ensures ∙ ap not c.if-is_none.false) in
     if_ok_to c.step_next.result _ _ (λ goes steps rows situation is.
-    let runs = runs_here g.D.Disk.seen g.D.Disk.may_leave g.D.Disk.honest g.D.Disk.told c.args.table.now rows c.args.self.now situation c.args.who c.index.result.now is there (c.requires.runs c.index.result.now there) in
+    let runs = runs_here g.D.Disk.view c.args.table.now rows c.args.self.now situation c.args.who c.index.result.now is there (c.requires.runs c.index.result.now there) in
     let waits = (is.ahead.each c.args.who c.index.result.now there).mail.waits in
-    led_answer g.D.Disk.seen g.D.Disk.may_leave g.D.Disk.honest g.D.Disk.told c.args.table.now c.args.self.now.book.members rows situation c.args.who some.0 goes c.step_next.new.self runs (sym waits ∙ some.1)
+    led_answer g.D.Disk.view c.args.table.now c.args.self.now.book.members rows situation c.args.who some.0 goes c.step_next.new.self runs (sym waits ∙ some.1)
     (steps rows situation is (record { runs = runs; next = subst (λ waits. IsSome waits) waits (c.is_none.ensures ∙ ap not c.if-is_none.false) })))
     c.step_next.ensures.steps

@@ -8,11 +8,11 @@ pub returns-then-mail-clause-sets : goal.returns-then-mail-clause-sets
 returns-then-mail-clause-sets g c =
     let there : slice_get c.args.self.now.members.items c.args.who ≡ Some c.index_mut.result.now =
     slice_get_read c.args.self.now.members.items (length c.args.self.now.members.items) c.args.who c.index_mut.result.now refl c.requires.member c.index_mut.ensures.value in
-    arm_set g.D.Disk.seen g.D.Disk.may_leave g.D.Disk.honest g.D.Disk.told c.args.self.now _ c.args.who c.args.pass c.args.image c.index_mut.result.now _ refl refl refl there c.if-mail.true refl refl refl refl
+    arm_set g.D.Disk.view c.args.self.now _ c.args.who c.args.pass c.args.image c.index_mut.result.now _ refl refl refl there c.if-mail.true refl refl refl refl
 
 pub returns-else-mail-clause-sets : goal.returns-else-mail-clause-sets
 returns-else-mail-clause-sets g c =
     let there : slice_get c.args.self.now.members.items c.args.who ≡ Some c.index_mut.result.now =
     slice_get_read c.args.self.now.members.items (length c.args.self.now.members.items) c.args.who c.index_mut.result.now refl c.requires.member c.index_mut.ensures.value in
     λ table rows situation is.
-    put_back g.D.Disk.seen g.D.Disk.may_leave g.D.Disk.honest g.D.Disk.told c.args.self.now _ c.args.who c.args.pass c.args.image c.index_mut.result.now there c.if-mail.false refl refl refl refl table rows situation is
+    put_back g.D.Disk.view c.args.self.now _ c.args.who c.args.pass c.args.image c.index_mut.result.now there c.if-mail.false refl refl refl refl table rows situation is

@@ -6,4 +6,4 @@ use Rattle.world_rounds.proofs.world.World.calm.Goals as goal
 pub returns-clause-sets : goal.returns-clause-sets
 returns-clause-sets g c =
     let all : AreCalmed c.args.self.now.members.items c.calm_all.new.members = subst (λ items. AreCalmed items c.calm_all.new.members) c.deref_mut.ensures.value c.calm_all.ensures in
-    world_calmed g.D.Disk.seen g.D.Disk.may_leave g.D.Disk.honest g.D.Disk.told c.args.self.now _ refl refl c.clear.ensures.items (calmed_held c.args.self.now c.calm_all.new.members all)
+    world_calmed g.D.Disk.view c.args.self.now _ refl refl c.clear.ensures.items (calmed_held c.args.self.now c.calm_all.new.members all)

@@ -13,20 +13,20 @@ pub returns-then-not-index-clause-goes : goal.returns-then-not-index-clause-goes
 returns-then-not-index-clause-goes g c =
     let there : slice_get c.args.self.now.members.items c.args.who ≡ Some c.index.result.now =
     slice_get_read c.args.self.now.members.items (length c.args.self.now.members.items) c.args.who c.index.result.now refl c.requires.member c.index.ensures in
-    campaign_stopped g.D.Disk.seen g.D.Disk.may_leave g.D.Disk.honest g.D.Disk.told c.args.table.now c.args.who c.args.self.now c.index.result.now there c.if-not-index.true
+    campaign_stopped g.D.Disk.view c.args.table.now c.args.who c.args.self.now c.index.result.now there c.if-not-index.true
 
 pub step_next-requires-clause-may : goal.step_next-requires-clause-may
 step_next-requires-clause-may g c =
     let there : slice_get c.args.self.now.members.items c.args.who ≡ Some c.index.result.now =
     slice_get_read c.args.self.now.members.items (length c.args.self.now.members.items) c.args.who c.index.result.now refl c.requires.member c.index.ensures in
     let world = c.requires.world in
-    (world.rows, world.situation, world.is, (record { runs = runs_here g.D.Disk.seen g.D.Disk.may_leave g.D.Disk.honest g.D.Disk.told c.args.table.now world.rows c.args.self.now world.situation c.args.who c.index.result.now world.is there c.if-not-index.false; next = tt }))
+    (world.rows, world.situation, world.is, (record { runs = runs_here g.D.Disk.view c.args.table.now world.rows c.args.self.now world.situation c.args.who c.index.result.now world.is there c.if-not-index.false; next = tt }))
 
 pub deliver-requires : goal.deliver-requires
 deliver-requires g c =
     let there : slice_get c.args.self.now.members.items c.args.who ≡ Some c.index.result.now =
     slice_get_read c.args.self.now.members.items (length c.args.self.now.members.items) c.args.who c.index.result.now refl c.requires.member c.index.ensures in
-    record { world = (c.args.table.now, campaign_world g.D.Disk.seen g.D.Disk.may_leave g.D.Disk.honest g.D.Disk.told c.args.table.now c.args.who c.args.self.now c.step_next.new.self c.index.result.now there c.if-not-index.false c.requires.world _ c.in_ok-step_next.ensures.steps) }
+    record { world = (c.args.table.now, campaign_world g.D.Disk.view c.args.table.now c.args.who c.args.self.now c.step_next.new.self c.index.result.now there c.if-not-index.false c.requires.world _ c.in_ok-step_next.ensures.steps) }
 
 pub returns-in_err-deliver-clause-legal : goal.returns-in_err-deliver-clause-legal
 returns-in_err-deliver-clause-legal g c =
@@ -34,12 +34,12 @@ returns-in_err-deliver-clause-legal g c =
     slice_get_read c.args.self.now.members.items (length c.args.self.now.members.items) c.args.who c.index.result.now refl c.requires.member c.index.ensures in
     on_err _ (IsLegalBook c.args.table.now c.deliver.new.self.book)
     (subst (λ book. IsLegalBook c.args.table.now book) (sym c.deliver.ensures.book)
-    (legal_world g.D.Disk.seen g.D.Disk.may_leave g.D.Disk.honest g.D.Disk.told c.args.table.now c.step_next.new.self
-    (campaign_world g.D.Disk.seen g.D.Disk.may_leave g.D.Disk.honest g.D.Disk.told c.args.table.now c.args.who c.args.self.now c.step_next.new.self c.index.result.now there c.if-not-index.false c.requires.world _ c.in_ok-step_next.ensures.steps)))
+    (legal_world g.D.Disk.view c.args.table.now c.step_next.new.self
+    (campaign_world g.D.Disk.view c.args.table.now c.args.who c.args.self.now c.step_next.new.self c.index.result.now there c.if-not-index.false c.requires.world _ c.in_ok-step_next.ensures.steps)))
 
 pub returns-clause-goes : goal.returns-clause-goes
 returns-clause-goes g c =
     let there : slice_get c.args.self.now.members.items c.args.who ≡ Some c.index.result.now =
     slice_get_read c.args.self.now.members.items (length c.args.self.now.members.items) c.args.who c.index.result.now refl c.requires.member c.index.ensures in
-    campaign_passed g.D.Disk.seen g.D.Disk.may_leave g.D.Disk.honest g.D.Disk.told c.args.table.now c.args.who c.in_ok-step_next.field-0 c.args.self.now c.step_next.new.self c.deliver.new.self c.index.result.now there c.if-not-index.false c.in_ok-step_next.ensures.steps
-    (subst (λ n. Changes g.D.Disk.seen g.D.Disk.may_leave g.D.Disk.honest g.D.Disk.told (delivered n) c.step_next.new.self c.deliver.new.self) (ap length c.letters.ensures) c.in_ok-deliver.ensures.delivers)
+    campaign_passed g.D.Disk.view c.args.table.now c.args.who c.in_ok-step_next.field-0 c.args.self.now c.step_next.new.self c.deliver.new.self c.index.result.now there c.if-not-index.false c.in_ok-step_next.ensures.steps
+    (subst (λ n. Changes g.D.Disk.view (delivered n) c.step_next.new.self c.deliver.new.self) (ap length c.letters.ensures) c.in_ok-deliver.ensures.delivers)

@@ -10,7 +10,7 @@ commit_list-requires g c =
     slice_get_read c.args.self.now.members.items (length c.args.self.now.members.items) c.args.who c.index_mut.result.now refl c.requires.member c.index_mut.ensures.value in
     record {
       may =
-          may_commit_own g.D.Disk.seen g.D.Disk.may_leave g.D.Disk.honest g.D.Disk.told c.args.table.now c.args.who c.replace-steps.result.items c.args.self.now _ c.index_mut.result.now _ there c.requires.member
+          may_commit_own g.D.Disk.view c.args.table.now c.args.who c.replace-steps.result.items c.args.self.now _ c.index_mut.result.now _ there c.requires.member
           refl refl refl refl refl refl (ap (λ steps. steps.items) c.replace-steps.ensures.value) c.requires.may;
     }
 
@@ -18,7 +18,7 @@ pub returns-clause-did : goal.returns-clause-did
 returns-clause-did g c =
     let there : slice_get c.args.self.now.members.items c.args.who ≡ Some c.index_mut.result.now =
     slice_get_read c.args.self.now.members.items (length c.args.self.now.members.items) c.args.who c.index_mut.result.now refl c.requires.member c.index_mut.ensures.value in
-    (commits_own g.D.Disk.seen g.D.Disk.may_leave g.D.Disk.honest g.D.Disk.told c.args.table.now c.args.who c.replace-steps.result.items c.args.self.now _ c.commit_list.new.self c.index_mut.result.now _ there
+    (commits_own g.D.Disk.view c.args.table.now c.args.who c.replace-steps.result.items c.args.self.now _ c.commit_list.new.self c.index_mut.result.now _ there
     c.requires.member refl refl refl (ap (λ steps. steps.items) c.replace-steps.ensures.after ∙ c.new.ensures.items) refl refl refl (ap (λ steps. steps.items) c.replace-steps.ensures.value)
     c.in_ok-commit_list.ensures.did c.in_ok-commit_list.ensures.steps).0
 
@@ -26,6 +26,6 @@ pub returns-clause-puts : goal.returns-clause-puts
 returns-clause-puts g c =
     let there : slice_get c.args.self.now.members.items c.args.who ≡ Some c.index_mut.result.now =
     slice_get_read c.args.self.now.members.items (length c.args.self.now.members.items) c.args.who c.index_mut.result.now refl c.requires.member c.index_mut.ensures.value in
-    (commits_own g.D.Disk.seen g.D.Disk.may_leave g.D.Disk.honest g.D.Disk.told c.args.table.now c.args.who c.replace-steps.result.items c.args.self.now _ c.commit_list.new.self c.index_mut.result.now _ there
+    (commits_own g.D.Disk.view c.args.table.now c.args.who c.replace-steps.result.items c.args.self.now _ c.commit_list.new.self c.index_mut.result.now _ there
     c.requires.member refl refl refl (ap (λ steps. steps.items) c.replace-steps.ensures.after ∙ c.new.ensures.items) refl refl refl (ap (λ steps. steps.items) c.replace-steps.ensures.value)
     c.in_ok-commit_list.ensures.did c.in_ok-commit_list.ensures.steps).1

@@ -13,8 +13,8 @@ commit_alone-requires g c =
     record {
       alone = (
         c.requires.may.0,
-        (turn_stopped g.D.Disk.seen g.D.Disk.may_leave g.D.Disk.honest g.D.Disk.told c.args.table.now c.requires.may.0 may.before.book c.args.who c.args.cause c.requires.may.2 c.args.change may.new.node may.stopped).row,
-        rw c.is_some.ensures (alone_stopped g.D.Disk.seen g.D.Disk.may_leave g.D.Disk.honest g.D.Disk.told c.args.table.now c.requires.may.0 c.args.self.now c.requires.may.1 c.args.who c.args.cause c.requires.may.2 c.args.change may),
+        (turn_stopped g.D.Disk.view c.args.table.now c.requires.may.0 may.before.book c.args.who c.args.cause c.requires.may.2 c.args.change may.new.node may.stopped).row,
+        rw c.is_some.ensures (alone_stopped g.D.Disk.view c.args.table.now c.requires.may.0 c.args.self.now c.requires.may.1 c.args.who c.args.cause c.requires.may.2 c.args.change may),
       );
     }
 
@@ -26,16 +26,16 @@ returns-clause-stops g c =
     let put : slice_get c.args.self.now.members.items c.args.who ≡ Some may.new =
     ap (λ items. slice_get items c.args.who) may.members ∙ get_set_here may.before.members.items c.args.who may.new (slice_get_within may.before.members.items c.args.who may.old may.there) in
     let same : c.index_mut.result.now ≡ may.new = some_same (slice_get c.args.self.now.members.items c.args.who) c.index_mut.result.now may.new there put in
-    let alone = alone_stopped g.D.Disk.seen g.D.Disk.may_leave g.D.Disk.honest g.D.Disk.told c.args.table.now rows c.args.self.now situation c.args.who c.args.cause arm c.args.change may in
-    let joined = c.in_ok-commit_alone.ensures.joins rows (turn_stopped g.D.Disk.seen g.D.Disk.may_leave g.D.Disk.honest g.D.Disk.told c.args.table.now rows may.before.book c.args.who c.args.cause arm c.args.change may.new.node may.stopped).row
+    let alone = alone_stopped g.D.Disk.view c.args.table.now rows c.args.self.now situation c.args.who c.args.cause arm c.args.change may in
+    let joined = c.in_ok-commit_alone.ensures.joins rows (turn_stopped g.D.Disk.view c.args.table.now rows may.before.book c.args.who c.args.cause arm c.args.change may.new.node may.stopped).row
     (rw c.is_some.ensures alone) in
-    stops_goes g.D.Disk.seen g.D.Disk.may_leave g.D.Disk.honest g.D.Disk.told c.args.table.now rows c.args.self.now _ situation c.args.who c.args.cause arm c.args.change _ may joined refl
+    stops_goes g.D.Disk.view c.args.table.now rows c.args.self.now _ situation c.args.who c.args.cause arm c.args.change _ may joined refl
     (ap (λ member. member.node) same) (ap (λ member. member.steps) same) (subst (λ member. IsHalted member.mail c.note_stop.new.mail) same c.note_stop.ensures.stopped) refl c.reading_with-self.ensures.latest
 
 pub returns-clause-members : goal.returns-clause-members
 returns-clause-members g c =
     let may = c.requires.may.3 in
-    let alone = alone_stopped g.D.Disk.seen g.D.Disk.may_leave g.D.Disk.honest g.D.Disk.told c.args.table.now c.requires.may.0 c.args.self.now c.requires.may.1 c.args.who c.args.cause c.requires.may.2 c.args.change may in
+    let alone = alone_stopped g.D.Disk.view c.args.table.now c.requires.may.0 c.args.self.now c.requires.may.1 c.args.who c.args.cause c.requires.may.2 c.args.change may in
     (c.in_ok-commit_alone.ensures.joins c.requires.may.0
-    (turn_stopped g.D.Disk.seen g.D.Disk.may_leave g.D.Disk.honest g.D.Disk.told c.args.table.now c.requires.may.0 may.before.book c.args.who c.args.cause c.requires.may.2 c.args.change may.new.node may.stopped).row
+    (turn_stopped g.D.Disk.view c.args.table.now c.requires.may.0 may.before.book c.args.who c.args.cause c.requires.may.2 c.args.change may.new.node may.stopped).row
     (rw c.is_some.ensures alone)).members

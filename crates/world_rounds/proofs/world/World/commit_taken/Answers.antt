@@ -12,7 +12,7 @@ commit_step-requires g c =
     slice_get_read c.args.self.now.members.items (length c.args.self.now.members.items) c.args.who c.index.result.now refl may.member c.index.ensures in
     record {
       may =
-          may_join g.D.Disk.seen g.D.Disk.may_leave g.D.Disk.honest g.D.Disk.told c.args.table.now may.rows c.args.self.now may.situation may.ahead_by c.args.who c.args.taken c.requires.may.0
+          may_join g.D.Disk.view c.args.table.now may.rows c.args.self.now may.situation may.ahead_by c.args.who c.args.taken c.requires.may.0
           c.index.result.now may.ahead may.mine there;
     }
 
@@ -25,7 +25,7 @@ returns-clause-did g c =
     let there : slice_get c.args.self.now.members.items c.args.who ≡ Some c.index_mut.result.now =
     slice_get_read c.args.self.now.members.items (length c.args.self.now.members.items) c.args.who c.index_mut.result.now refl may.member c.index_mut.ensures.value in
     let same : c.index.result.now ≡ c.index_mut.result.now = some_same (slice_get c.args.self.now.members.items c.args.who) c.index.result.now c.index_mut.result.now one there in
-    world_did g.D.Disk.seen g.D.Disk.may_leave g.D.Disk.honest g.D.Disk.told c.args.table.now rows c.args.self.now _ situation ahead_by c.args.who c.args.taken more c.index_mut.result.now c.in_ok-call.call
+    world_did g.D.Disk.view c.args.table.now rows c.args.self.now _ situation ahead_by c.args.who c.args.taken more c.index_mut.result.now c.in_ok-call.call
     ahead mine there
     (λ rows old new next.
     subst (λ member. HasJoinedAt c.args.table.now rows c.args.self.now.book c.commit_step.new.book c.args.who c.args.taken member.mail.fate c.in_ok-call.call new) same

@@ -6,6 +6,6 @@ use Rattle.world_rounds.proofs.world.World.coordinator.Goals as goal
 
 pub returns-clause-is : goal.returns-clause-is
 returns-clause-is g c = λ situation (rows, is).
-    let learned = learned_in g.D.Disk.seen g.D.Disk.may_leave g.D.Disk.honest g.D.Disk.told c.args.table.now c.args.self.now rows situation is c.requires.run in
+    let learned = learned_in g.D.Disk.view c.args.table.now c.args.self.now rows situation is c.requires.run in
     c.furthest.ensures.is situation.standing.replicas (subst (λ items. HaveLearned situation.standing.replicas items) (sym c.deref.ensures.value) learned)
     ∙ ap (λ n. furthest situation.standing.replicas (n - 1)) (ap length c.deref.ensures.value ∙ is.ahead.count)

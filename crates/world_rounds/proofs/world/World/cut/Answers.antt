@@ -5,5 +5,5 @@ use Rattle.world_rounds.proofs.world.World.cut.Goals as goal
 
 pub returns-clause-sets : goal.returns-clause-sets
 returns-clause-sets g c =
-    cuts_set g.D.Disk.seen g.D.Disk.may_leave g.D.Disk.honest g.D.Disk.told c.args.self.now _ (λ pairs. (c.args.from, c.args.to) ∷ pairs) refl refl refl
+    cuts_set g.D.Disk.view c.args.self.now _ (λ pairs. (c.args.from, c.args.to) ∷ pairs) refl refl refl
     (λ pairs same from to. ap (is_cut from to) c.in_ok-push.ensures.items ∙ cut_pushed from to c.args.self.now.cuts.items pairs (c.args.from, c.args.to) (same from to))

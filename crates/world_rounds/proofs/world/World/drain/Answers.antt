@@ -7,15 +7,15 @@ use Rattle.replica_core.proofs.SteadyLemmas.{on_ok_so as on_ok}
 
 pub drain_until_level-requires-clause-member : goal.drain_until_level-requires-clause-member
 drain_until_level-requires-clause-member g c =
-    let was = given_world g.D.Disk.seen g.D.Disk.may_leave g.D.Disk.honest g.D.Disk.told c.args.table.now (λ n s. LeadsNow n c.args.table.now c.args.who s) c.args.self.now c.requires.given in
-    let now = given_world g.D.Disk.seen g.D.Disk.may_leave g.D.Disk.honest g.D.Disk.told c.args.table.now (λ n s. HasRestedFor 0 n c.args.table.now c.args.who c.args.at.0 s) c.drain_until_rest.new.self c.in_ok-drain_until_rest.ensures.given in
-    let same : length c.drain_until_rest.new.self.members.items ≡ length c.args.self.now.members.items = same_count g.D.Disk.seen g.D.Disk.may_leave g.D.Disk.honest g.D.Disk.told c.args.table.now c.args.self.now c.drain_until_rest.new.self was now c.in_ok-drain_until_rest.ensures.members in
+    let was = given_world g.D.Disk.view c.args.table.now (λ n s. LeadsNow n c.args.table.now c.args.who s) c.args.self.now c.requires.given in
+    let now = given_world g.D.Disk.view c.args.table.now (λ n s. HasRestedFor 0 n c.args.table.now c.args.who c.args.at.0 s) c.drain_until_rest.new.self c.in_ok-drain_until_rest.ensures.given in
+    let same : length c.drain_until_rest.new.self.members.items ≡ length c.args.self.now.members.items = same_count g.D.Disk.view c.args.table.now c.args.self.now c.drain_until_rest.new.self was now c.in_ok-drain_until_rest.ensures.members in
     omega (arith, same, c.requires.member)
 
 pub returns-clause-goes : goal.returns-clause-goes
 returns-clause-goes g c =
     on_ok c.drain_until_level.result _ _
-    (drains_then g.D.Disk.seen g.D.Disk.may_leave g.D.Disk.honest g.D.Disk.told c.args.table.now c.args.who c.args.at.0 c.args.self.now c.drain_until_rest.new.self c.drain_until_level.new.self c.in_ok-drain_until_rest.ensures.goes c.in_ok-drain_until_rest.ensures.members)
+    (drains_then g.D.Disk.view c.args.table.now c.args.who c.args.at.0 c.args.self.now c.drain_until_rest.new.self c.drain_until_level.new.self c.in_ok-drain_until_rest.ensures.goes c.in_ok-drain_until_rest.ensures.members)
     c.drain_until_level.ensures.goes
 
 pub returns-clause-members : goal.returns-clause-members

@@ -10,7 +10,7 @@ use Rattle.replica_draft.proofs.DraftLemmas.{on_ok as on_both}
 pub check_bounds-requires : goal.check_bounds-requires
 check_bounds-requires g c =
     subst (λ n. n ≤ length c.lead_round.new.self.book.letters) (sym (ap length c.letters-first.ensures))
-    (letters_grow g.D.Disk.seen g.D.Disk.may_leave g.D.Disk.honest g.D.Disk.told c.args.table.now c.args.who c.args.at.0 c.args.self.now c.lead_round.new.self c.requires.world c.in_ok-lead_round.ensures.goes)
+    (letters_grow g.D.Disk.view c.args.table.now c.args.who c.args.at.0 c.args.self.now c.lead_round.new.self c.requires.world c.in_ok-lead_round.ensures.goes)
 
 pub returns-clause-goes : goal.returns-clause-goes
 returns-clause-goes g c = on_any c.check_bounds.result _ c.in_ok-lead_round.ensures.goes
@@ -19,14 +19,14 @@ pub returns-clause-bounded : goal.returns-clause-bounded
 returns-clause-bounded g c =
     on_both c.check_bounds.result _ _ _
     (λ turns short.
-    round_bounded g.D.Disk.seen g.D.Disk.may_leave g.D.Disk.honest g.D.Disk.told c.args.table.now c.args.who c.args.at.0 c.args.self.now c.lead_round.new.self c.requires.world c.in_ok-lead_round.ensures.goes c.requires.bounded turns
+    round_bounded g.D.Disk.view c.args.table.now c.args.who c.args.at.0 c.args.self.now c.lead_round.new.self c.requires.world c.in_ok-lead_round.ensures.goes c.requires.bounded turns
     (subst (λ n. AreShort (drop n c.lead_round.new.self.book.letters)) (ap length c.letters-first.ensures) short))
     c.check_bounds.ensures.turns c.check_bounds.ensures.letters
 
 pub returns-clause-run : goal.returns-clause-run
 returns-clause-run g c =
     on_any c.check_bounds.result _
-    (run_on g.D.Disk.seen g.D.Disk.may_leave g.D.Disk.honest g.D.Disk.told c.args.table.now (IsDrainRound c.args.self.now.book.members c.args.table.now c.args.who c.args.at.0) c.args.self.now c.lead_round.new.self
+    (run_on g.D.Disk.view c.args.table.now (IsDrainRound c.args.self.now.book.members c.args.table.now c.args.who c.args.at.0) c.args.self.now c.lead_round.new.self
     (λ situation rows after part. drained_calm c.args.self.now.book.members c.args.table.now c.args.who c.args.at.0 situation after rows part) c.requires.world c.requires.run
     c.in_ok-lead_round.ensures.members c.in_ok-lead_round.ensures.goes)
 
@@ -36,5 +36,5 @@ returns-clause-members g c = on_any c.check_bounds.result _ c.in_ok-lead_round.e
 pub returns-clause-legal : goal.returns-clause-legal
 returns-clause-legal g c =
     on_err c.check_bounds.result _
-    (legal_world g.D.Disk.seen g.D.Disk.may_leave g.D.Disk.honest g.D.Disk.told c.args.table.now c.lead_round.new.self
-    (world_gone g.D.Disk.seen g.D.Disk.may_leave g.D.Disk.honest g.D.Disk.told c.args.table.now (IsDrainRound c.args.self.now.book.members c.args.table.now c.args.who c.args.at.0) c.args.self.now c.lead_round.new.self c.requires.world c.in_ok-lead_round.ensures.goes))
+    (legal_world g.D.Disk.view c.args.table.now c.lead_round.new.self
+    (world_gone g.D.Disk.view c.args.table.now (IsDrainRound c.args.self.now.book.members c.args.table.now c.args.who c.args.at.0) c.args.self.now c.lead_round.new.self c.requires.world c.in_ok-lead_round.ensures.goes))

@@ -6,5 +6,5 @@ use Rattle.world_rounds.proofs.world.World.drain_until_led.Given as goal
 
 abbrev pub invariant-rounds : goal.invariant-rounds
 invariant-rounds g l =
-    HasDrained g.D.Disk.seen g.D.Disk.may_leave g.D.Disk.honest g.D.Disk.told l.table l.who l.at.0 l.fn.self l.self
-    × IsFaultlessIn g.D.Disk.seen g.D.Disk.may_leave g.D.Disk.honest g.D.Disk.told l.table (λ n s. LeadsSoon (4 - l._round) n l.table l.who s) l.self
+    HasDrained g.D.Disk.view l.table l.who l.at.0 l.fn.self l.self
+    × IsFaultlessIn g.D.Disk.view l.table (λ n s. LeadsSoon (4 - l._round) n l.table l.who s) l.self

@@ -7,7 +7,7 @@ use Rattle.world_rounds.proofs.LoopLemmas.{below_in, given_world, leads_next, le
 use Rattle.world_rounds.proofs.world.World.drain_until_rest.Goals as goal
 
 pub rounds-init : goal.rounds-init
-rounds-init g c = (drained_none g.D.Disk.seen g.D.Disk.may_leave g.D.Disk.honest g.D.Disk.told c.args.table.now c.args.who c.args.at.0 c.args.self.now (given_world g.D.Disk.seen g.D.Disk.may_leave g.D.Disk.honest g.D.Disk.told c.args.table.now (λ n s. LeadsNow n c.args.table.now c.args.who s) c.args.self.now c.requires.given) c.requires.run, c.requires.given)
+rounds-init g c = (drained_none g.D.Disk.view c.args.table.now c.args.who c.args.at.0 c.args.self.now (given_world g.D.Disk.view c.args.table.now (λ n s. LeadsNow n c.args.table.now c.args.who s) c.args.self.now c.requires.given) c.requires.run, c.requires.given)
 
 pub rests-requires-clause-world : goal.rests-requires-clause-world
 rests-requires-clause-world g c = c.rounds.invariant.0.world
@@ -16,7 +16,7 @@ pub rests-requires-clause-run : goal.rests-requires-clause-run
 rests-requires-clause-run g c = c.rounds.invariant.0.run
 
 pub rests-requires-clause-member : goal.rests-requires-clause-member
-rests-requires-clause-member g c = below_in g.D.Disk.seen g.D.Disk.may_leave g.D.Disk.honest g.D.Disk.told c.args.table.now c.args.who c.args.at.0 c.args.self.now c.rounds.self (given_world g.D.Disk.seen g.D.Disk.may_leave g.D.Disk.honest g.D.Disk.told c.args.table.now (λ n s. LeadsNow n c.args.table.now c.args.who s) c.args.self.now c.requires.given) c.rounds.invariant.0 c.requires.member
+rests-requires-clause-member g c = below_in g.D.Disk.view c.args.table.now c.args.who c.args.at.0 c.args.self.now c.rounds.self (given_world g.D.Disk.view c.args.table.now (λ n s. LeadsNow n c.args.table.now c.args.who s) c.args.self.now c.requires.given) c.rounds.invariant.0 c.requires.member
 
 pub drain_round-requires-clause-world : goal.drain_round-requires-clause-world
 drain_round-requires-clause-world g c = c.rounds.invariant.0.world
@@ -25,27 +25,27 @@ pub drain_round-requires-clause-run : goal.drain_round-requires-clause-run
 drain_round-requires-clause-run g c = c.rounds.invariant.0.run
 
 pub drain_round-requires-clause-member : goal.drain_round-requires-clause-member
-drain_round-requires-clause-member g c = below_in g.D.Disk.seen g.D.Disk.may_leave g.D.Disk.honest g.D.Disk.told c.args.table.now c.args.who c.args.at.0 c.args.self.now c.rounds.self (given_world g.D.Disk.seen g.D.Disk.may_leave g.D.Disk.honest g.D.Disk.told c.args.table.now (λ n s. LeadsNow n c.args.table.now c.args.who s) c.args.self.now c.requires.given) c.rounds.invariant.0 c.requires.member
+drain_round-requires-clause-member g c = below_in g.D.Disk.view c.args.table.now c.args.who c.args.at.0 c.args.self.now c.rounds.self (given_world g.D.Disk.view c.args.table.now (λ n s. LeadsNow n c.args.table.now c.args.who s) c.args.self.now c.requires.given) c.rounds.invariant.0 c.requires.member
 
 pub drain_round-requires-clause-bounded : goal.drain_round-requires-clause-bounded
 drain_round-requires-clause-bounded g c = c.rounds.invariant.1.bounded
 
 pub rounds-smaller : goal.rounds-smaller
 rounds-smaller g c =
-    let drained = drained_next g.D.Disk.seen g.D.Disk.may_leave g.D.Disk.honest g.D.Disk.told c.args.table.now c.args.who c.args.at.0 c.args.self.now c.rounds.self c.drain_round.new.self c.rounds.invariant.0 (not_quiet g.D.Disk.seen g.D.Disk.may_leave g.D.Disk.honest g.D.Disk.told c.args.table.now c.args.who c.args.at.0 c.rounds.self (subst (λ answer. AnswersFor g.D.Disk.seen g.D.Disk.may_leave g.D.Disk.honest g.D.Disk.told c.args.table.now (IsAtRest c.args.table.now c.args.who c.args.at.0) c.rounds.self answer) c.rounds-test.true c.rests.ensures)) c.in_ok-drain_round.ensures.goes c.in_ok-drain_round.ensures.members in
-    left_falls g.D.Disk.seen g.D.Disk.may_leave g.D.Disk.honest g.D.Disk.told c.args.table.now c.args.who c.args.at.0 c.rounds.self c.drain_round.new.self c.requires.inside c.rounds.invariant.1 (subst (λ answer. AnswersFor g.D.Disk.seen g.D.Disk.may_leave g.D.Disk.honest g.D.Disk.told c.args.table.now (IsAtRest c.args.table.now c.args.who c.args.at.0) c.rounds.self answer) c.rounds-test.true c.rests.ensures) c.rounds.invariant.0.run c.in_ok-drain_round.ensures.run
-    (below_in g.D.Disk.seen g.D.Disk.may_leave g.D.Disk.honest g.D.Disk.told c.args.table.now c.args.who c.args.at.0 c.args.self.now c.rounds.self (given_world g.D.Disk.seen g.D.Disk.may_leave g.D.Disk.honest g.D.Disk.told c.args.table.now (λ n s. LeadsNow n c.args.table.now c.args.who s) c.args.self.now c.requires.given) c.rounds.invariant.0 c.requires.member)
-    (below_in g.D.Disk.seen g.D.Disk.may_leave g.D.Disk.honest g.D.Disk.told c.args.table.now c.args.who c.args.at.0 c.args.self.now c.drain_round.new.self (given_world g.D.Disk.seen g.D.Disk.may_leave g.D.Disk.honest g.D.Disk.told c.args.table.now (λ n s. LeadsNow n c.args.table.now c.args.who s) c.args.self.now c.requires.given) drained c.requires.member)
+    let drained = drained_next g.D.Disk.view c.args.table.now c.args.who c.args.at.0 c.args.self.now c.rounds.self c.drain_round.new.self c.rounds.invariant.0 (not_quiet g.D.Disk.view c.args.table.now c.args.who c.args.at.0 c.rounds.self (subst (λ answer. AnswersFor g.D.Disk.view c.args.table.now (IsAtRest c.args.table.now c.args.who c.args.at.0) c.rounds.self answer) c.rounds-test.true c.rests.ensures)) c.in_ok-drain_round.ensures.goes c.in_ok-drain_round.ensures.members in
+    left_falls g.D.Disk.view c.args.table.now c.args.who c.args.at.0 c.rounds.self c.drain_round.new.self c.requires.inside c.rounds.invariant.1 (subst (λ answer. AnswersFor g.D.Disk.view c.args.table.now (IsAtRest c.args.table.now c.args.who c.args.at.0) c.rounds.self answer) c.rounds-test.true c.rests.ensures) c.rounds.invariant.0.run c.in_ok-drain_round.ensures.run
+    (below_in g.D.Disk.view c.args.table.now c.args.who c.args.at.0 c.args.self.now c.rounds.self (given_world g.D.Disk.view c.args.table.now (λ n s. LeadsNow n c.args.table.now c.args.who s) c.args.self.now c.requires.given) c.rounds.invariant.0 c.requires.member)
+    (below_in g.D.Disk.view c.args.table.now c.args.who c.args.at.0 c.args.self.now c.drain_round.new.self (given_world g.D.Disk.view c.args.table.now (λ n s. LeadsNow n c.args.table.now c.args.who s) c.args.self.now c.requires.given) drained c.requires.member)
     c.in_ok-drain_round.ensures.goes c.in_ok-drain_round.ensures.members c.in_ok-drain_round.ensures.bounded
 
 pub rounds-preserved : goal.rounds-preserved
 rounds-preserved g c = (
-  drained_next g.D.Disk.seen g.D.Disk.may_leave g.D.Disk.honest g.D.Disk.told c.args.table.now c.args.who c.args.at.0 c.args.self.now c.rounds.self c.drain_round.new.self c.rounds.invariant.0 (not_quiet g.D.Disk.seen g.D.Disk.may_leave g.D.Disk.honest g.D.Disk.told c.args.table.now c.args.who c.args.at.0 c.rounds.self (subst (λ answer. AnswersFor g.D.Disk.seen g.D.Disk.may_leave g.D.Disk.honest g.D.Disk.told c.args.table.now (IsAtRest c.args.table.now c.args.who c.args.at.0) c.rounds.self answer) c.rounds-test.true c.rests.ensures)) c.in_ok-drain_round.ensures.goes c.in_ok-drain_round.ensures.members,
-  leads_next g.D.Disk.seen g.D.Disk.may_leave g.D.Disk.honest g.D.Disk.told c.args.table.now c.args.who c.args.at.0 c.rounds.self c.drain_round.new.self c.requires.inside c.rounds.invariant.1 c.in_ok-drain_round.ensures.goes c.in_ok-drain_round.ensures.members c.in_ok-drain_round.ensures.bounded,
+  drained_next g.D.Disk.view c.args.table.now c.args.who c.args.at.0 c.args.self.now c.rounds.self c.drain_round.new.self c.rounds.invariant.0 (not_quiet g.D.Disk.view c.args.table.now c.args.who c.args.at.0 c.rounds.self (subst (λ answer. AnswersFor g.D.Disk.view c.args.table.now (IsAtRest c.args.table.now c.args.who c.args.at.0) c.rounds.self answer) c.rounds-test.true c.rests.ensures)) c.in_ok-drain_round.ensures.goes c.in_ok-drain_round.ensures.members,
+  leads_next g.D.Disk.view c.args.table.now c.args.who c.args.at.0 c.rounds.self c.drain_round.new.self c.requires.inside c.rounds.invariant.1 c.in_ok-drain_round.ensures.goes c.in_ok-drain_round.ensures.members c.in_ok-drain_round.ensures.bounded,
 )
 
 pub returns-clause-goes : goal.returns-clause-goes
 returns-clause-goes g c = c.rounds.invariant.0.goes
 
 pub returns-clause-given : goal.returns-clause-given
-returns-clause-given g c = rests_now g.D.Disk.seen g.D.Disk.may_leave g.D.Disk.honest g.D.Disk.told c.args.table.now c.args.who c.args.at.0 c.rounds.self c.rounds.invariant.1 (subst (λ answer. AnswersFor g.D.Disk.seen g.D.Disk.may_leave g.D.Disk.honest g.D.Disk.told c.args.table.now (IsAtRest c.args.table.now c.args.who c.args.at.0) c.rounds.self answer) c.rounds-test.false c.rests.ensures)
+returns-clause-given g c = rests_now g.D.Disk.view c.args.table.now c.args.who c.args.at.0 c.rounds.self c.rounds.invariant.1 (subst (λ answer. AnswersFor g.D.Disk.view c.args.table.now (IsAtRest c.args.table.now c.args.who c.args.at.0) c.rounds.self answer) c.rounds-test.false c.rests.ensures)

@@ -11,5 +11,5 @@ pub returns-clause-sets : goal.returns-clause-sets
 returns-clause-sets g c =
     let there : slice_get c.args.self.now.members.items c.args.to ≡ Some c.index_mut.result.now =
     slice_get_read c.args.self.now.members.items (length c.args.self.now.members.items) c.args.to c.index_mut.result.now refl c.requires.member c.index_mut.ensures.value in
-    mail_put g.D.Disk.seen g.D.Disk.may_leave g.D.Disk.honest g.D.Disk.told c.args.self.now _ c.args.to (λ posted mail. from_others posted c.args.from mail) c.index_mut.result.now _ refl refl refl there refl refl refl refl refl refl refl refl c.drop_from.ensures
+    mail_put g.D.Disk.view c.args.self.now _ c.args.to (λ posted mail. from_others posted c.args.from mail) c.index_mut.result.now _ refl refl refl there refl refl refl refl refl refl refl refl c.drop_from.ensures
     (λ sent number has. sent number (no_more (map posted_as c.args.self.now.book.letters) c.args.from c.index_mut.result.now.mail.letters.items number (subst (λ items. Contains items number) c.drop_from.ensures has)))

@@ -10,7 +10,7 @@ pub returns : goal.returns
 returns g c =
     let there : slice_get c.args.self.now.members.items c.args.who ≡ Some c.index.result.now =
     slice_get_read c.args.self.now.members.items (length c.args.self.now.members.items) c.args.who c.index.result.now refl c.requires.member c.index.ensures in
-    tells_state g.D.Disk.seen g.D.Disk.may_leave g.D.Disk.honest g.D.Disk.told c.args.table.now c.args.self.now c.args.who c.index.result.now (λ state. IsFollower state.term)
+    tells_state g.D.Disk.view c.args.table.now c.args.self.now c.args.who c.index.result.now (λ state. IsFollower state.term)
     c.is_follower.result c.requires.run there
     (subst (λ (r : ReplicaState). IsTrue c.is_follower.result ↔ IsFollower r.state.term) c.replica.ensures
     (subst (λ term. IsTrue c.is_follower.result ↔ IsFollower term) c.term.ensures c.is_follower.ensures))

@@ -4,4 +4,4 @@ use Rattle.world_rounds.proofs.Setting.{cuts_set}
 use Rattle.world_rounds.proofs.world.World.heal.Goals as goal
 
 pub returns-clause-sets : goal.returns-clause-sets
-returns-clause-sets g c = cuts_set g.D.Disk.seen g.D.Disk.may_leave g.D.Disk.honest g.D.Disk.told c.args.self.now _ (λ pairs. []) refl refl refl (λ pairs same from to. ap (is_cut from to) c.clear.ensures.items)
+returns-clause-sets g c = cuts_set g.D.Disk.view c.args.self.now _ (λ pairs. []) refl refl refl (λ pairs same from to. ap (is_cut from to) c.clear.ensures.items)

@@ -3,5 +3,5 @@ use Rattle.world_rounds.proofs.world.World.into_book.Goals as goal
 
 pub returns-clause-nodes : goal.returns-clause-nodes
 returns-clause-nodes g c table rows situation is =
-    nodes_left g.D.Disk.seen g.D.Disk.may_leave g.D.Disk.honest g.D.Disk.told table rows c.args.self situation c.take-nodes.result.0.items is
-    ((c.take-nodes.ensures.parts (few_members g.D.Disk.seen g.D.Disk.may_leave g.D.Disk.honest g.D.Disk.told table rows c.args.self situation is)).nodes_are)
+    nodes_left g.D.Disk.view table rows c.args.self situation c.take-nodes.result.0.items is
+    ((c.take-nodes.ensures.parts (few_members g.D.Disk.view table rows c.args.self situation is)).nodes_are)

@@ -8,13 +8,13 @@ use Rattle.replica_core.proofs.SteadyLemmas.{on_ok_so as on_ok}
 use Rattle.replica_draft.proofs.DraftLemmas.{on_ok as on_both}
 
 pub returns-clause-goes : goal.returns-clause-goes
-returns-clause-goes g c = on_ok c.stand.result _ _ (lead_goes g.D.Disk.seen g.D.Disk.may_leave g.D.Disk.honest g.D.Disk.told c.args.table.now c.args.who c.args.self.now c.stand.new.self c.requires.run c.requires.member) c.stand.ensures.goes
+returns-clause-goes g c = on_ok c.stand.result _ _ (lead_goes g.D.Disk.view c.args.table.now c.args.who c.args.self.now c.stand.new.self c.requires.run c.requires.member) c.stand.ensures.goes
 
 pub returns-clause-run : goal.returns-clause-run
 returns-clause-run g c =
     on_both c.stand.result _ _ _
     (λ goes members.
-    run_on g.D.Disk.seen g.D.Disk.may_leave g.D.Disk.honest g.D.Disk.told c.args.table.now (Plays c.args.self.now.book.members (λ here. Do c.args.who Campaign ∷ [])) c.args.self.now c.stand.new.self
+    run_on g.D.Disk.view c.args.table.now (Plays c.args.self.now.book.members (λ here. Do c.args.who Campaign ∷ [])) c.args.self.now c.stand.new.self
     (λ situation rows after plays. campaigned_calm c.args.self.now.book.members c.args.who situation after rows plays) c.requires.world c.requires.run members
-    (lead_goes g.D.Disk.seen g.D.Disk.may_leave g.D.Disk.honest g.D.Disk.told c.args.table.now c.args.who c.args.self.now c.stand.new.self c.requires.run c.requires.member goes))
+    (lead_goes g.D.Disk.view c.args.table.now c.args.who c.args.self.now c.stand.new.self c.requires.run c.requires.member goes))
     c.stand.ensures.goes c.stand.ensures.members

@@ -18,17 +18,17 @@ start_member-requires-clause-fresh g c =
 pub disks-preserved : goal.disks-preserved
 disks-preserved g c =
     let me : c.len-me.result ≡ length c.disks.yielded = c.len-me.ensures ∙ c.disks.started.ok.0 ∙ c.disks.invariant.length_is in
-    subst (λ n. HaveStarted g.D.Disk.seen g.D.Disk.may_leave g.D.Disk.honest g.D.Disk.told c.args.table.now c.args.members n c.push.new.self.items) (sym (length_push c.disks.yielded c.in-Some.disk))
-    (started_next g.D.Disk.seen g.D.Disk.may_leave g.D.Disk.honest g.D.Disk.told c.args.table.now c.args.members (length c.disks.yielded) c.disks.started.items c.push.new.self.items c.in_ok-member.member
+    subst (λ n. HaveStarted g.D.Disk.view c.args.table.now c.args.members n c.push.new.self.items) (sym (length_push c.disks.yielded c.in-Some.disk))
+    (started_next g.D.Disk.view c.args.table.now c.args.members (length c.disks.yielded) c.disks.started.items c.push.new.self.items c.in_ok-member.member
     c.disks.invariant
-    (subst (λ who. IsFreshMember g.D.Disk.seen g.D.Disk.may_leave g.D.Disk.honest g.D.Disk.told c.args.table.now c.args.members who c.in_ok-member.member) me c.in_ok-member.ensures) c.in_ok-push.ensures.items)
+    (subst (λ who. IsFreshMember g.D.Disk.view c.args.table.now c.args.members who c.in_ok-member.member) me c.in_ok-member.ensures) c.in_ok-push.ensures.items)
 
 pub returns-clause-starts : goal.returns-clause-starts
 returns-clause-starts g c =
     let gives = c.into_iter-disk-iterator.ensures.into_iter_gives in
     let road = YieldsList-from_vec {s = c.into_iter-disk-iterator.result} c.args.disks.items gives.0 (gives.1 ∙ c.args.disks.ok.0) in
     let t = YieldsList-end road c.disks.yielded c.disks.disk-iterator c.disks.yielded_by c.next.result c.next.new.self c.in-None.is c.next.ensures.steps in
-    world_starts g.D.Disk.seen g.D.Disk.may_leave g.D.Disk.honest g.D.Disk.told c.args.table.now c.args.members _ c.window-window.ensures.sound c.requires.few (c.new-book.ensures.stands c.args.table.now)
+    world_starts g.D.Disk.view c.args.table.now c.args.members _ c.window-window.ensures.sound c.requires.few (c.new-book.ensures.stands c.args.table.now)
     c.new-book.ensures.pending c.new-book.ensures.members (c.disks.invariant.length_is ∙ t.1 ∙ c.requires.count) c.disks.invariant.each c.new-cuts.ensures.items
     (ap (λ window. window.from) c.window-window.ensures.window)
 

@@ -3,4 +3,4 @@ use Rattle.world_rounds.proofs.Starting.{HaveStarted}
 use Rattle.world_rounds.proofs.world.World.new.Given as goal
 
 abbrev pub invariant-disks : goal.invariant-disks
-invariant-disks g l = HaveStarted g.D.Disk.seen g.D.Disk.may_leave g.D.Disk.honest g.D.Disk.told l.table l.members (length l.yielded) l.started.items
+invariant-disks g l = HaveStarted g.D.Disk.view l.table l.members (length l.yielded) l.started.items

@@ -14,13 +14,13 @@ returns-then-not-asks_nothing-clause-found g c =
     let within : pos c.minutes.minute ≤ℤ c.args.to.0 = omega (arith, ints, end, below) in
     let fits : FitsSigned w64 c.from.result = omega (arith, ints, c.from.ensures, within, c.requires.within.before, limits.until) in
     let value : to_z w64 (of_z w64 c.from.result) ≡ pos c.minutes.minute = to_z-of_z w64 c.from.result fits ∙ c.from.ensures in
-    let tells : AnswersFor g.D.Disk.seen g.D.Disk.may_leave g.D.Disk.honest g.D.Disk.told c.args.table.now (λ situation. AsksNothing c.args.table.now (pos c.minutes.minute) (situation.standing.replicas c.args.who)) c.args.self.now false =
-    subst (λ answer. AnswersFor g.D.Disk.seen g.D.Disk.may_leave g.D.Disk.honest g.D.Disk.told c.args.table.now (λ situation. AsksNothing c.args.table.now (pos c.minutes.minute) (situation.standing.replicas c.args.who)) c.args.self.now answer) c.if-not-asks_nothing.true
-    (subst (λ at. AnswersFor g.D.Disk.seen g.D.Disk.may_leave g.D.Disk.honest g.D.Disk.told c.args.table.now (λ situation. AsksNothing c.args.table.now at (situation.standing.replicas c.args.who)) c.args.self.now c.asks_nothing.result) value c.asks_nothing.ensures) in
+    let tells : AnswersFor g.D.Disk.view c.args.table.now (λ situation. AsksNothing c.args.table.now (pos c.minutes.minute) (situation.standing.replicas c.args.who)) c.args.self.now false =
+    subst (λ answer. AnswersFor g.D.Disk.view c.args.table.now (λ situation. AsksNothing c.args.table.now (pos c.minutes.minute) (situation.standing.replicas c.args.who)) c.args.self.now answer) c.if-not-asks_nothing.true
+    (subst (λ at. AnswersFor g.D.Disk.view c.args.table.now (λ situation. AsksNothing c.args.table.now at (situation.standing.replicas c.args.who)) c.args.self.now c.asks_nothing.result) value c.asks_nothing.ensures) in
     let low : pos 0 ≤ℤ c.args.above.0 = omega (arith, ints, limits.since, c.requires.inside.since) in
     λ situation here.
     subst (λ minute. IsNextMinute c.args.table.now (situation.standing.replicas c.args.who) c.args.above.0 c.args.to.0 minute) (sym value)
-    (minute_found g.D.Disk.seen g.D.Disk.may_leave g.D.Disk.honest g.D.Disk.told c.args.table.now c.args.self.now c.args.who c.args.above.0 c.args.to.0 c.number_behind-first.result c.minutes.minute c.number_behind-first.ensures low c.minutes.invariant c.minutes.auto.minute within
+    (minute_found g.D.Disk.view c.args.table.now c.args.self.now c.args.who c.args.above.0 c.args.to.0 c.number_behind-first.result c.minutes.minute c.number_behind-first.ensures low c.minutes.invariant c.minutes.auto.minute within
     tells situation here)
 
 pub minutes-preserved : goal.minutes-preserved
@@ -31,7 +31,7 @@ minutes-preserved g c =
     let within : pos c.minutes.minute ≤ℤ c.args.to.0 = omega (arith, ints, end, below) in
     let fits : FitsSigned w64 c.from.result = omega (arith, ints, c.from.ensures, within, c.requires.within.before, limits.until) in
     let value : to_z w64 (of_z w64 c.from.result) ≡ pos c.minutes.minute = to_z-of_z w64 c.from.result fits ∙ c.from.ensures in
-    let tells : AnswersFor g.D.Disk.seen g.D.Disk.may_leave g.D.Disk.honest g.D.Disk.told c.args.table.now (λ situation. AsksNothing c.args.table.now (pos c.minutes.minute) (situation.standing.replicas c.args.who)) c.args.self.now true =
-    subst (λ answer. AnswersFor g.D.Disk.seen g.D.Disk.may_leave g.D.Disk.honest g.D.Disk.told c.args.table.now (λ situation. AsksNothing c.args.table.now (pos c.minutes.minute) (situation.standing.replicas c.args.who)) c.args.self.now answer) c.if-not-asks_nothing.false
-    (subst (λ at. AnswersFor g.D.Disk.seen g.D.Disk.may_leave g.D.Disk.honest g.D.Disk.told c.args.table.now (λ situation. AsksNothing c.args.table.now at (situation.standing.replicas c.args.who)) c.args.self.now c.asks_nothing.result) value c.asks_nothing.ensures) in
-    rests_next g.D.Disk.seen g.D.Disk.may_leave g.D.Disk.honest g.D.Disk.told c.args.table.now c.args.self.now c.args.who c.number_behind-first.result c.minutes.minute c.minutes.invariant tells
+    let tells : AnswersFor g.D.Disk.view c.args.table.now (λ situation. AsksNothing c.args.table.now (pos c.minutes.minute) (situation.standing.replicas c.args.who)) c.args.self.now true =
+    subst (λ answer. AnswersFor g.D.Disk.view c.args.table.now (λ situation. AsksNothing c.args.table.now (pos c.minutes.minute) (situation.standing.replicas c.args.who)) c.args.self.now answer) c.if-not-asks_nothing.false
+    (subst (λ at. AnswersFor g.D.Disk.view c.args.table.now (λ situation. AsksNothing c.args.table.now at (situation.standing.replicas c.args.who)) c.args.self.now c.asks_nothing.result) value c.asks_nothing.ensures) in
+    rests_next g.D.Disk.view c.args.table.now c.args.self.now c.args.who c.number_behind-first.result c.minutes.minute c.minutes.invariant tells

@@ -2,4 +2,4 @@ use Rattle.world_rounds.proofs.WalkLemmas.{RestsIn}
 use Rattle.world_rounds.proofs.world.World.next_minute.Given as goal
 
 abbrev pub invariant-minutes : goal.invariant-minutes
-invariant-minutes g l = RestsIn g.D.Disk.seen g.D.Disk.may_leave g.D.Disk.honest g.D.Disk.told l.table l.self l.who l.first l.minute
+invariant-minutes g l = RestsIn g.D.Disk.view l.table l.self l.who l.first l.minute

@@ -16,5 +16,5 @@ returns-clause-sets g c =
     let once = c.deref-2.ensures.value ∙ c.in_ok-once.ensures ∙ ap (λ mail. each_once (from_one posted c.args.from mail)) c.deref.ensures.value in
     let letters : c.extend_from_slice.new.self.items ≡ twice =
     c.in_ok-extend_from_slice.ensures.items ∙ ap (λ more. c.index_mut.result.now.mail.letters.items ++ more) once in
-    mail_put g.D.Disk.seen g.D.Disk.may_leave g.D.Disk.honest g.D.Disk.told c.args.self.now _ c.args.to (λ posted mail. mail ++ each_once (from_one posted c.args.from mail)) c.index_mut.result.now _ refl refl refl there refl refl refl refl refl refl refl refl letters
+    mail_put g.D.Disk.view c.args.self.now _ c.args.to (λ posted mail. mail ++ each_once (from_one posted c.args.from mail)) c.index_mut.result.now _ refl refl refl there refl refl refl refl refl refl refl refl letters
     (λ sent number has. sent number (repeated_from posted c.args.from c.index_mut.result.now.mail.letters.items number (subst (λ items. Contains items number) letters has)))

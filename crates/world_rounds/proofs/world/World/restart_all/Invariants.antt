@@ -2,4 +2,4 @@ use Rattle.world_rounds.proofs.CalmLemmas.{HasRestartedTo}
 use Rattle.world_rounds.proofs.world.World.restart_all.Given as goal
 
 abbrev pub invariant-whos : goal.invariant-whos
-invariant-whos g l = HasRestartedTo g.D.Disk.seen g.D.Disk.may_leave g.D.Disk.honest g.D.Disk.told l.table l.who l.fn.self l.self
+invariant-whos g l = HasRestartedTo g.D.Disk.view l.table l.who l.fn.self l.self

@@ -8,5 +8,5 @@ pub returns-clause-sets : goal.returns-clause-sets
 returns-clause-sets g c =
     let there : slice_get c.args.self.now.members.items c.args.who ≡ Some c.index_mut.result.now =
     slice_get_read c.args.self.now.members.items (length c.args.self.now.members.items) c.args.who c.index_mut.result.now refl c.requires.member c.index_mut.ensures.value in
-    mail_put g.D.Disk.seen g.D.Disk.may_leave g.D.Disk.honest g.D.Disk.told c.args.self.now _ c.args.who (λ posted mail. reverse mail) c.index_mut.result.now _ refl refl refl there refl refl refl refl refl refl refl refl c.reverse.ensures.items
+    mail_put g.D.Disk.view c.args.self.now _ c.args.who (λ posted mail. reverse mail) c.index_mut.result.now _ refl refl refl there refl refl refl refl refl refl refl refl c.reverse.ensures.items
     (λ sent number has. sent number (in_reverse c.index_mut.result.now.mail.letters.items number (subst (λ items. Contains items number) c.reverse.ensures.items has)))

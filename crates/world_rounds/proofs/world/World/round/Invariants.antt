@@ -2,4 +2,4 @@ use Rattle.world_rounds.proofs.RoundsOfAll.{HasGone}
 use Rattle.world_rounds.proofs.world.World.round.Given as goal
 
 abbrev pub invariant-rounds : goal.invariant-rounds
-invariant-rounds g l = HasGone g.D.Disk.seen g.D.Disk.may_leave g.D.Disk.honest g.D.Disk.told l.table l.at.0 l._round l.fn.self l.self
+invariant-rounds g l = HasGone g.D.Disk.view l.table l.at.0 l._round l.fn.self l.self

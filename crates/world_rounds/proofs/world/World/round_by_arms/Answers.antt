@@ -4,5 +4,5 @@ use Rattle.replica_core.proofs.SteadyLemmas.{on_ok_so as on_ok}
 
 pub returns-else-is_armed-clause-goes : goal.returns-else-is_armed-clause-goes
 returns-else-is_armed-clause-goes g c =
-    on_ok c.round_in_lanes.result _ _ (unarmed_goes g.D.Disk.seen g.D.Disk.may_leave g.D.Disk.honest g.D.Disk.told c.args.table.now c.args.self.now c.round_in_lanes.new.self c.args.at.0 (c.is_armed.ensures c.if-is_armed.false))
+    on_ok c.round_in_lanes.result _ _ (unarmed_goes g.D.Disk.view c.args.table.now c.args.self.now c.round_in_lanes.new.self c.args.at.0 (c.is_armed.ensures c.if-is_armed.false))
     c.round_in_lanes.ensures.goes

@@ -11,7 +11,7 @@ returns-then-not-index-clause-passes g c =
     let there : slice_get c.args.self.now.members.items c.args.who ≡ Some c.index.result.now =
     slice_get_read c.args.self.now.members.items (length c.args.self.now.members.items) c.args.who c.index.result.now refl c.requires.member c.index.ensures in
     λ rows situation is.
-    passed_stopped g.D.Disk.seen g.D.Disk.may_leave g.D.Disk.honest g.D.Disk.told c.args.table.now c.args.self.now.book.members rows c.args.self.now situation c.args.who c.args.at.0 is (sym (is.ahead.each c.args.who c.index.result.now there).mail.runs ∙ c.if-not-index.true)
+    passed_stopped g.D.Disk.view c.args.table.now c.args.self.now.book.members rows c.args.self.now situation c.args.who c.args.at.0 is (sym (is.ahead.each c.args.who c.index.result.now there).mail.runs ∙ c.if-not-index.true)
 
 pub answer_next-requires-clause-runs : goal.answer_next-requires-clause-runs
 answer_next-requires-clause-runs g c =
@@ -23,57 +23,57 @@ pub returns-then-not-branch-clause-passes : goal.returns-then-not-branch-clause-
 returns-then-not-branch-clause-passes g c =
     let there : slice_get c.args.self.now.members.items c.args.who ≡ Some c.index.result.now =
     slice_get_read c.args.self.now.members.items (length c.args.self.now.members.items) c.args.who c.index.result.now refl c.requires.member c.index.ensures in
-    answer_stopped g.D.Disk.seen g.D.Disk.may_leave g.D.Disk.honest g.D.Disk.told c.args.table.now c.args.who c.args.at.0 c.args.self.now c.answer_next.new.self c.index.result.now there c.if-not-index.false c.requires.world c.in_ok-answer_next.field-0 c.in_ok-answer_next.ensures.led c.if-not-branch.true
+    answer_stopped g.D.Disk.view c.args.table.now c.args.who c.args.at.0 c.args.self.now c.answer_next.new.self c.index.result.now there c.if-not-index.false c.requires.world c.in_ok-answer_next.field-0 c.in_ok-answer_next.ensures.led c.if-not-branch.true
 
 pub hear_next-requires-clause-world : goal.hear_next-requires-clause-world
 hear_next-requires-clause-world g c =
     let there : slice_get c.args.self.now.members.items c.args.who ≡ Some c.index.result.now =
     slice_get_read c.args.self.now.members.items (length c.args.self.now.members.items) c.args.who c.index.result.now refl c.requires.member c.index.ensures in
-    answer_world g.D.Disk.seen g.D.Disk.may_leave g.D.Disk.honest g.D.Disk.told c.args.table.now c.args.who c.args.at.0 c.args.self.now c.answer_next.new.self c.index.result.now there c.if-not-index.false c.requires.world c.in_ok-answer_next.field-0 c.in_ok-answer_next.ensures.led
+    answer_world g.D.Disk.view c.args.table.now c.args.who c.args.at.0 c.args.self.now c.answer_next.new.self c.index.result.now there c.if-not-index.false c.requires.world c.in_ok-answer_next.field-0 c.in_ok-answer_next.ensures.led
 
 pub hear_next-requires-clause-member : goal.hear_next-requires-clause-member
 hear_next-requires-clause-member g c =
     let there : slice_get c.args.self.now.members.items c.args.who ≡ Some c.index.result.now =
     slice_get_read c.args.self.now.members.items (length c.args.self.now.members.items) c.args.who c.index.result.now refl c.requires.member c.index.ensures in
-    let world = answer_world g.D.Disk.seen g.D.Disk.may_leave g.D.Disk.honest g.D.Disk.told c.args.table.now c.args.who c.args.at.0 c.args.self.now c.answer_next.new.self c.index.result.now there c.if-not-index.false c.requires.world c.in_ok-answer_next.field-0 c.in_ok-answer_next.ensures.led in
-    let same = same_lengths g.D.Disk.seen g.D.Disk.may_leave g.D.Disk.honest g.D.Disk.told c.args.table.now c.args.self.now c.answer_next.new.self c.requires.world world c.in_ok-answer_next.ensures.members in
+    let world = answer_world g.D.Disk.view c.args.table.now c.args.who c.args.at.0 c.args.self.now c.answer_next.new.self c.index.result.now there c.if-not-index.false c.requires.world c.in_ok-answer_next.field-0 c.in_ok-answer_next.ensures.led in
+    let same = same_lengths g.D.Disk.view c.args.table.now c.args.self.now c.answer_next.new.self c.requires.world world c.in_ok-answer_next.ensures.members in
     omega (arith, same, c.requires.member)
 
 pub hear_next-requires-clause-runs : goal.hear_next-requires-clause-runs
 hear_next-requires-clause-runs g c =
     let there : slice_get c.args.self.now.members.items c.args.who ≡ Some c.index.result.now =
     slice_get_read c.args.self.now.members.items (length c.args.self.now.members.items) c.args.who c.index.result.now refl c.requires.member c.index.ensures in
-    answer_runs g.D.Disk.seen g.D.Disk.may_leave g.D.Disk.honest g.D.Disk.told c.args.table.now c.args.who c.args.at.0 c.args.self.now c.answer_next.new.self c.index.result.now there c.if-not-index.false c.requires.world c.in_ok-answer_next.field-0 c.in_ok-answer_next.ensures.led c.if-not-branch.false
+    answer_runs g.D.Disk.view c.args.table.now c.args.who c.args.at.0 c.args.self.now c.answer_next.new.self c.index.result.now there c.if-not-index.false c.requires.world c.in_ok-answer_next.field-0 c.in_ok-answer_next.ensures.led c.if-not-branch.false
 
 pub returns-then-not-branch-2-clause-passes : goal.returns-then-not-branch-2-clause-passes
 returns-then-not-branch-2-clause-passes g c =
     let there : slice_get c.args.self.now.members.items c.args.who ≡ Some c.index.result.now =
     slice_get_read c.args.self.now.members.items (length c.args.self.now.members.items) c.args.who c.index.result.now refl c.requires.member c.index.ensures in
     λ rows situation is.
-    hear_stopped g.D.Disk.seen g.D.Disk.may_leave g.D.Disk.honest g.D.Disk.told c.args.table.now c.args.who c.args.at.0 c.args.self.now c.answer_next.new.self c.index.result.now there c.if-not-index.false c.requires.world c.in_ok-answer_next.field-0 c.in_ok-answer_next.ensures.led c.if-not-branch.false
+    hear_stopped g.D.Disk.view c.args.table.now c.args.who c.args.at.0 c.args.self.now c.answer_next.new.self c.index.result.now there c.if-not-index.false c.requires.world c.in_ok-answer_next.field-0 c.in_ok-answer_next.ensures.led c.if-not-branch.false
     c.in_ok-answer_next.ensures.members c.hear_next.new.self c.in_ok-hear_next.field-0 c.in_ok-hear_next.ensures.led rows situation is c.if-not-branch-2.true
 
 pub tick_next-requires-clause-world : goal.tick_next-requires-clause-world
 tick_next-requires-clause-world g c =
     let there : slice_get c.args.self.now.members.items c.args.who ≡ Some c.index.result.now =
     slice_get_read c.args.self.now.members.items (length c.args.self.now.members.items) c.args.who c.index.result.now refl c.requires.member c.index.ensures in
-    hear_world g.D.Disk.seen g.D.Disk.may_leave g.D.Disk.honest g.D.Disk.told c.args.table.now c.args.who c.args.at.0 c.args.self.now c.answer_next.new.self c.index.result.now there c.if-not-index.false c.requires.world c.in_ok-answer_next.field-0 c.in_ok-answer_next.ensures.led c.if-not-branch.false
+    hear_world g.D.Disk.view c.args.table.now c.args.who c.args.at.0 c.args.self.now c.answer_next.new.self c.index.result.now there c.if-not-index.false c.requires.world c.in_ok-answer_next.field-0 c.in_ok-answer_next.ensures.led c.if-not-branch.false
     c.in_ok-answer_next.ensures.members c.hear_next.new.self c.in_ok-hear_next.field-0 c.in_ok-hear_next.ensures.led
 
 pub tick_next-requires-clause-member : goal.tick_next-requires-clause-member
 tick_next-requires-clause-member g c =
     let there : slice_get c.args.self.now.members.items c.args.who ≡ Some c.index.result.now =
     slice_get_read c.args.self.now.members.items (length c.args.self.now.members.items) c.args.who c.index.result.now refl c.requires.member c.index.ensures in
-    let world = hear_world g.D.Disk.seen g.D.Disk.may_leave g.D.Disk.honest g.D.Disk.told c.args.table.now c.args.who c.args.at.0 c.args.self.now c.answer_next.new.self c.index.result.now there c.if-not-index.false c.requires.world c.in_ok-answer_next.field-0 c.in_ok-answer_next.ensures.led c.if-not-branch.false
+    let world = hear_world g.D.Disk.view c.args.table.now c.args.who c.args.at.0 c.args.self.now c.answer_next.new.self c.index.result.now there c.if-not-index.false c.requires.world c.in_ok-answer_next.field-0 c.in_ok-answer_next.ensures.led c.if-not-branch.false
     c.in_ok-answer_next.ensures.members c.hear_next.new.self c.in_ok-hear_next.field-0 c.in_ok-hear_next.ensures.led in
-    let same = same_lengths g.D.Disk.seen g.D.Disk.may_leave g.D.Disk.honest g.D.Disk.told c.args.table.now c.args.self.now c.hear_next.new.self c.requires.world world (c.in_ok-hear_next.ensures.members ∙ c.in_ok-answer_next.ensures.members) in
+    let same = same_lengths g.D.Disk.view c.args.table.now c.args.self.now c.hear_next.new.self c.requires.world world (c.in_ok-hear_next.ensures.members ∙ c.in_ok-answer_next.ensures.members) in
     omega (arith, same, c.requires.member)
 
 pub tick_next-requires-clause-runs : goal.tick_next-requires-clause-runs
 tick_next-requires-clause-runs g c =
     let there : slice_get c.args.self.now.members.items c.args.who ≡ Some c.index.result.now =
     slice_get_read c.args.self.now.members.items (length c.args.self.now.members.items) c.args.who c.index.result.now refl c.requires.member c.index.ensures in
-    hear_runs g.D.Disk.seen g.D.Disk.may_leave g.D.Disk.honest g.D.Disk.told c.args.table.now c.args.who c.args.at.0 c.args.self.now c.answer_next.new.self c.index.result.now there c.if-not-index.false c.requires.world c.in_ok-answer_next.field-0 c.in_ok-answer_next.ensures.led c.if-not-branch.false
+    hear_runs g.D.Disk.view c.args.table.now c.args.who c.args.at.0 c.args.self.now c.answer_next.new.self c.index.result.now there c.if-not-index.false c.requires.world c.in_ok-answer_next.field-0 c.in_ok-answer_next.ensures.led c.if-not-branch.false
     c.in_ok-answer_next.ensures.members c.hear_next.new.self c.in_ok-hear_next.field-0 c.in_ok-hear_next.ensures.led c.if-not-branch-2.false
 
 pub returns-clause-passes : goal.returns-clause-passes
@@ -81,6 +81,6 @@ returns-clause-passes g c =
     let there : slice_get c.args.self.now.members.items c.args.who ≡ Some c.index.result.now =
     slice_get_read c.args.self.now.members.items (length c.args.self.now.members.items) c.args.who c.index.result.now refl c.requires.member c.index.ensures in
     λ rows situation is.
-    ticked g.D.Disk.seen g.D.Disk.may_leave g.D.Disk.honest g.D.Disk.told c.args.table.now c.args.who c.args.at.0 c.args.self.now c.answer_next.new.self c.index.result.now there c.if-not-index.false c.requires.world c.in_ok-answer_next.field-0 c.in_ok-answer_next.ensures.led c.if-not-branch.false
+    ticked g.D.Disk.view c.args.table.now c.args.who c.args.at.0 c.args.self.now c.answer_next.new.self c.index.result.now there c.if-not-index.false c.requires.world c.in_ok-answer_next.field-0 c.in_ok-answer_next.ensures.led c.if-not-branch.false
     c.in_ok-answer_next.ensures.members c.hear_next.new.self c.in_ok-hear_next.field-0 c.in_ok-hear_next.ensures.led rows situation is c.if-not-branch-2.false c.in_ok-hear_next.ensures.members c.in_ok-tick_next.field-0 c.tick_next.new.self
     c.in_ok-tick_next.ensures.led

@@ -9,5 +9,5 @@ pub returns-clause-sets : goal.returns-clause-sets
 returns-clause-sets g c =
     let there : slice_get c.args.self.now.members.items c.args.who ≡ Some c.index_mut.result.now =
     slice_get_read c.args.self.now.members.items (length c.args.self.now.members.items) c.args.who c.index_mut.result.now refl c.requires.member c.index_mut.ensures.value in
-    fate_set g.D.Disk.seen g.D.Disk.may_leave g.D.Disk.honest g.D.Disk.told c.args.self.now _ c.args.who (fate_of c.args.word) c.index_mut.result.now _ refl refl refl there refl refl refl
+    fate_set g.D.Disk.view c.args.self.now _ c.args.who (fate_of c.args.word) c.index_mut.result.now _ refl refl refl there refl refl refl
     (ap (λ becomes. record c.index_mut.result.now.mail { fate = becomes }) c.fate_of.ensures)

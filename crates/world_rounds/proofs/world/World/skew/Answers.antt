@@ -10,5 +10,5 @@ pub returns-clause-sets : goal.returns-clause-sets
 returns-clause-sets g c =
     let there : slice_get c.args.self.now.members.items c.args.who ≡ Some c.index_mut.result.now =
     slice_get_read c.args.self.now.members.items (length c.args.self.now.members.items) c.args.who c.index_mut.result.now refl c.requires.member c.index_mut.ensures.value in
-    skew_set g.D.Disk.seen g.D.Disk.may_leave g.D.Disk.honest g.D.Disk.told c.args.self.now _ c.args.who c.args.minutes c.index_mut.result.now _ refl refl refl there refl refl refl
+    skew_set g.D.Disk.view c.args.self.now _ c.args.who c.args.minutes c.index_mut.result.now _ refl refl refl there refl refl refl
     (ap (λ minutes. record c.index_mut.result.now.mail { skew = minutes }) (to_z-of_z w64 c.args.minutes c.ranges.minutes)) c.requires.small

@@ -16,7 +16,7 @@ pub returns-then-not-index-clause-goes : goal.returns-then-not-index-clause-goes
 returns-then-not-index-clause-goes g c =
     let one : slice_get c.args.self.now.members.items c.args.who ≡ Some c.index.result.now =
     slice_get_read c.args.self.now.members.items (length c.args.self.now.members.items) c.args.who c.index.result.now refl c.requires.member c.index.ensures in
-    sets_go g.D.Disk.seen g.D.Disk.may_leave g.D.Disk.honest g.D.Disk.told c.args.table.now c.args.self.now.book.members c.args.self.now c.args.self.now (tasks_for (command.Campaign c.args.who)) (set_by (command.Campaign c.args.who))
+    sets_go g.D.Disk.view c.args.table.now c.args.self.now.book.members c.args.self.now c.args.self.now (tasks_for (command.Campaign c.args.who)) (set_by (command.Campaign c.args.who))
     (λ rows situation is.
     let stands : situation.standing.runs c.args.who ≡ false = sym (is.ahead.each c.args.who c.index.result.now one).mail.runs ∙ c.if-not-index.true in rw stands refl)
     (λ table rows situation is. is)
@@ -25,13 +25,13 @@ pub take_campaign-requires-clause-may : goal.take_campaign-requires-clause-may
 take_campaign-requires-clause-may g c =
     let there : slice_get c.args.self.now.members.items c.args.who ≡ Some c.index_mut.result.now =
     slice_get_read c.args.self.now.members.items (length c.args.self.now.members.items) c.args.who c.index_mut.result.now refl c.requires.member c.index_mut.ensures.value in
-    may_take_round g.D.Disk.seen g.D.Disk.may_leave g.D.Disk.honest g.D.Disk.told c.args.table.now c.args.self.now c.args.who c.index_mut.result.now c.requires.world there
+    may_take_round g.D.Disk.view c.args.table.now c.args.self.now c.args.who c.index_mut.result.now c.requires.world there
 
 pub commit_steps-requires-clause-may : goal.commit_steps-requires-clause-may
 commit_steps-requires-clause-may g c =
     let there : slice_get c.args.self.now.members.items c.args.who ≡ Some c.index_mut.result.now =
     slice_get_read c.args.self.now.members.items (length c.args.self.now.members.items) c.args.who c.index_mut.result.now refl c.requires.member c.index_mut.ensures.value in
-    may_commit_campaign g.D.Disk.seen g.D.Disk.may_leave g.D.Disk.honest g.D.Disk.told c.args.table.now c.args.self.now _ c.args.who c.index_mut.result.now c.take_campaign.new.self c.requires.world there c.requires.member refl
+    may_commit_campaign g.D.Disk.view c.args.table.now c.args.self.now _ c.args.who c.index_mut.result.now c.take_campaign.new.self c.requires.world there c.requires.member refl
     c.in_ok-take_campaign.ensures.takes refl refl refl
 
 pub deliver-requires : goal.deliver-requires
@@ -41,7 +41,7 @@ deliver-requires g c =
     record {
       world = (
         c.args.table.now,
-        world_stood g.D.Disk.seen g.D.Disk.may_leave g.D.Disk.honest g.D.Disk.told c.args.table.now c.args.self.now _ c.commit_steps.new.self c.args.who c.index_mut.result.now c.take_campaign.new.self c.requires.world there c.requires.member refl
+        world_stood g.D.Disk.view c.args.table.now c.args.self.now _ c.commit_steps.new.self c.args.who c.index_mut.result.now c.take_campaign.new.self c.requires.world there c.requires.member refl
             c.in_ok-take_campaign.ensures.takes refl refl refl c.in_ok-commit_steps.ensures.did c.in_ok-commit_steps.ensures.puts,
       );
     }
@@ -52,8 +52,8 @@ returns-in_err-deliver-clause-legal g c =
     slice_get_read c.args.self.now.members.items (length c.args.self.now.members.items) c.args.who c.index_mut.result.now refl c.requires.member c.index_mut.ensures.value in
     on_err _ (IsLegalBook c.args.table.now c.deliver.new.self.book)
     (subst (λ book. IsLegalBook c.args.table.now book) (sym c.deliver.ensures.book)
-    (legal_world g.D.Disk.seen g.D.Disk.may_leave g.D.Disk.honest g.D.Disk.told c.args.table.now c.commit_steps.new.self
-    (world_stood g.D.Disk.seen g.D.Disk.may_leave g.D.Disk.honest g.D.Disk.told c.args.table.now c.args.self.now _ c.commit_steps.new.self c.args.who c.index_mut.result.now c.take_campaign.new.self c.requires.world there c.requires.member refl
+    (legal_world g.D.Disk.view c.args.table.now c.commit_steps.new.self
+    (world_stood g.D.Disk.view c.args.table.now c.args.self.now _ c.commit_steps.new.self c.args.who c.index_mut.result.now c.take_campaign.new.self c.requires.world there c.requires.member refl
     c.in_ok-take_campaign.ensures.takes refl refl refl c.in_ok-commit_steps.ensures.did c.in_ok-commit_steps.ensures.puts)))
 
 pub returns-clause-goes : goal.returns-clause-goes
@@ -63,16 +63,16 @@ returns-clause-goes g c =
     let there : slice_get c.args.self.now.members.items c.args.who ≡ Some c.index_mut.result.now =
     slice_get_read c.args.self.now.members.items (length c.args.self.now.members.items) c.args.who c.index_mut.result.now refl c.requires.member c.index_mut.ensures.value in
     let same : c.index.result.now ≡ c.index_mut.result.now = some_same (slice_get c.args.self.now.members.items c.args.who) c.index.result.now c.index_mut.result.now one there in
-    campaign_goes g.D.Disk.seen g.D.Disk.may_leave g.D.Disk.honest g.D.Disk.told c.args.table.now c.args.self.now _ c.commit_steps.new.self c.deliver.new.self c.args.who c.index_mut.result.now c.take_campaign.new.self there c.requires.member refl
+    campaign_goes g.D.Disk.view c.args.table.now c.args.self.now _ c.commit_steps.new.self c.deliver.new.self c.args.who c.index_mut.result.now c.take_campaign.new.self there c.requires.member refl
     c.in_ok-take_campaign.ensures.takes (ap (λ member. member.mail.runs) (sym same) ∙ c.if-not-index.false) refl refl refl c.in_ok-commit_steps.ensures.did
     c.in_ok-commit_steps.ensures.puts
-    (subst (λ n. Changes g.D.Disk.seen g.D.Disk.may_leave g.D.Disk.honest g.D.Disk.told (delivered n) c.commit_steps.new.self c.deliver.new.self) (ap length c.letters.ensures) c.in_ok-deliver.ensures.delivers)
+    (subst (λ n. Changes g.D.Disk.view (delivered n) c.commit_steps.new.self c.deliver.new.self) (ap length c.letters.ensures) c.in_ok-deliver.ensures.delivers)
 
 pub returns-clause-members : goal.returns-clause-members
 returns-clause-members g c =
     let there : slice_get c.args.self.now.members.items c.args.who ≡ Some c.index_mut.result.now =
     slice_get_read c.args.self.now.members.items (length c.args.self.now.members.items) c.args.who c.index_mut.result.now refl c.requires.member c.index_mut.ensures.value in
     ap (λ (book : BookState). book.members) c.deliver.ensures.book
-    ∙ committed_members g.D.Disk.seen g.D.Disk.may_leave g.D.Disk.honest g.D.Disk.told c.args.table.now _ c.commit_steps.new.self c.args.who c.in_ok-commit_steps.ensures.did
-    (may_commit_campaign g.D.Disk.seen g.D.Disk.may_leave g.D.Disk.honest g.D.Disk.told c.args.table.now c.args.self.now _ c.args.who c.index_mut.result.now c.take_campaign.new.self c.requires.world there c.requires.member refl
+    ∙ committed_members g.D.Disk.view c.args.table.now _ c.commit_steps.new.self c.args.who c.in_ok-commit_steps.ensures.did
+    (may_commit_campaign g.D.Disk.view c.args.table.now c.args.self.now _ c.args.who c.index_mut.result.now c.take_campaign.new.self c.requires.world there c.requires.member refl
     c.in_ok-take_campaign.ensures.takes refl refl refl)

@@ -25,7 +25,7 @@ step_next-requires-clause-may g c =
     let there : slice_get c.args.self.now.members.items c.args.who ≡ Some c.index.result.now =
     slice_get_read c.args.self.now.members.items (length c.args.self.now.members.items) c.args.who c.index.result.now refl c.requires.member c.index.ensures in
     let world = c.requires.world in
-    let runs = runs_here g.D.Disk.seen g.D.Disk.may_leave g.D.Disk.honest g.D.Disk.told c.args.table.now world.rows c.args.self.now world.situation c.args.who c.index.result.now world.is there (c.requires.runs c.index.result.now there) in (
+    let runs = runs_here g.D.Disk.view c.args.table.now world.rows c.args.self.now world.situation c.args.who c.index.result.now world.is there (c.requires.runs c.index.result.now there) in (
       world.rows,
       world.situation,
       world.is,
@@ -41,11 +41,11 @@ returns-clause-led g c =
     let there : slice_get c.args.self.now.members.items c.args.who ≡ Some c.index.result.now =
     slice_get_read c.args.self.now.members.items (length c.args.self.now.members.items) c.args.who c.index.result.now refl c.requires.member c.index.ensures in
     if_ok_to c.step_next.result _ _ (λ goes steps rows situation is.
-    let runs = runs_here g.D.Disk.seen g.D.Disk.may_leave g.D.Disk.honest g.D.Disk.told c.args.table.now rows c.args.self.now situation c.args.who c.index.result.now is there (c.requires.runs c.index.result.now there) in
+    let runs = runs_here g.D.Disk.view c.args.table.now rows c.args.self.now situation c.args.who c.index.result.now is there (c.requires.runs c.index.result.now there) in
     let now_is = c.reading_of-now.ensures.reading ∙ ap (λ window. clock_reading window c.args.at.0 c.index.result.now.mail.skew) c.window.ensures.window
     ∙ ap (λ skew. clock_reading c.args.table.now.window c.args.at.0 skew) (is.ahead.each c.args.who c.index.result.now there).mail.skew in
-    subst (λ (now : Minute). IsLed g.D.Disk.seen g.D.Disk.may_leave g.D.Disk.honest g.D.Disk.told c.args.table.now c.args.self.now.book.members rows situation c.args.who (Do c.args.who (Tick now) ∷ []) goes c.step_next.new.self) now_is
-    (led_step g.D.Disk.seen g.D.Disk.may_leave g.D.Disk.honest g.D.Disk.told c.args.table.now c.args.self.now.book.members rows situation c.args.who (Tick c.reading_of-now.result) goes c.step_next.new.self runs (steps rows situation is (record {
+    subst (λ (now : Minute). IsLed g.D.Disk.view c.args.table.now c.args.self.now.book.members rows situation c.args.who (Do c.args.who (Tick now) ∷ []) goes c.step_next.new.self) now_is
+    (led_step g.D.Disk.view c.args.table.now c.args.self.now.book.members rows situation c.args.who (Tick c.reading_of-now.result) goes c.step_next.new.self runs (steps rows situation is (record {
       runs = runs;
       next = subst (λ (now : Minute). IsInWindow c.args.table.now.window now.0) (sym (c.reading_of-now.ensures.reading ∙ ap (λ window. clock_reading window c.args.at.0 c.index.result.now.mail.skew) c.window.ensures.window))
           (clock_inside c.args.table.now.window c.args.at.0 c.index.result.now.mail.skew (subst (λ (window : Window). window.from.0 <ℤ window.until.0) c.window.ensures.window c.window.ensures.limits.ordered));
