@@ -2,6 +2,8 @@ pub mod Courses
 pub mod ToldLemmas
 pub mod PartLemmas
 pub mod SummaryLemmas
+pub mod WordLemmas
+pub mod TurnLemmas
 pub mod Twins
 pub mod Determined
 pub mod StartLemmas

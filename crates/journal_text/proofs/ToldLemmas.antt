@@ -38,7 +38,7 @@ calendar window at limits inside =
     (omega (arith, ints), omega (arith, ints))
 
 -- what a replica has its turn for has a stamp, where it is a tick
-stamped : (members : ℕ) (table : Table) (standing : Standing) (who : ℕ) (cause : Cause) (event : Event) → IsWithinLimits table.window
+pub stamped : (members : ℕ) (table : Table) (standing : Standing) (who : ℕ) (cause : Cause) (event : Event) → IsWithinLimits table.window
     → IsEventOfCause members table standing who cause event → HasStamp cause
 stamped members table standing who Campaign event limits is = tt
 stamped members table standing who (Tick now) event limits is = calendar table.window now.0 limits is.0

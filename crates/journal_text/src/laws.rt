@@ -1,19 +1,22 @@
 //! Laws of journals and summaries. Each is the contract of a function that does nothing.
-ghost use Rattle.std.specs.Prelude.{◌≡◌, ◌+◌, ℕ, List, None, Some, get_or, length, map, pos, slice_get, ◌-ℤ◌};
+ghost use Rattle.std.specs.Prelude.{◌≡◌, ◌≤◌, ◌+◌, ℕ, All, List, None, Some, get_or, length, map, pos, slice_get, ◌-ℤ◌};
 ghost use Rattle.std.specs.List.{enumerate_from, flat_map, range_with_len};
 ghost use Rattle.due_set.specs.Table.{Table};
+ghost use Rattle.zone_minutes.specs.Window.{IsWithinLimits};
 ghost use Rattle.cluster_sched.specs.declared.row.SchedRow.{SchedRow};
 ghost use Rattle.paxos_base.specs.declared.entry.Kind.TheVariants.{Launch, Void};
 ghost use Rattle.script_text.specs.declared.command.Command.{Command};
-ghost use Rattle.history.specs.Book.{Row};
+ghost use Rattle.history.specs.Book.{Row, Standing};
 ghost use Rattle.history.specs.declared.turn.Turn.{Turn};
 ghost use Rattle.script_semantics.specs.Script.{IsPartOf, Obeys};
 ghost use Rattle.script_semantics.specs.Settling.{Walks};
 ghost use Rattle.world_law.specs.Book.{BookState, StandsBehind};
-ghost use Rattle.journal_text.specs.Journal.{journal_text, part_turns};
+ghost use Rattle.journal_text.specs.Journal.{journal_text, part_turns, turn_line, turn_words};
 ghost use Rattle.journal_text.specs.Starts.{HasPart, IsBookJournal, part_rows};
 ghost use Rattle.script_semantics.specs.Starts.{AreStarts, BeginAt};
+ghost use Rattle.history.specs.Legal.{IsLegal, MayFollow};
 ghost use Rattle.journal_text.specs.Summary.{IsBookSummary, summary_text, total_of};
+ghost use Rattle.journal_text.specs.Told.{HasNumbers};
 
 /// The turns of a journal's parts, one after another, are all turns, each once, in order and by its number.
 pub fn a_journal_has_each_turn_once()
@@ -44,6 +47,20 @@ pub fn a_part_has_its_commands_turns()
     ensures told { (table : Table) (book : BookState) (rows : List Row) (starts : List ℕ) (place : ℕ)
         → StandsBehind table rows book → part_turns book.turns starts place
         ≡ enumerate_from (get_or starts place 0) (map (λ (row : Row). row.turn) (part_rows rows starts place)) }
+{}
+
+/// Two turns have two lines: where each of two may come next, they are one turn if a line tells the same of both. So two legal books
+/// with the same lines have the same turns, also in what no line tells of a call: the clock of its row, and who made it.
+pub fn two_turns_have_two_lines()
+    ensures next { (members : ℕ) (table : Table) (standing : Standing) (a b : Row) → members ≤ 7 → IsWithinLimits table.window
+        → MayFollow members table standing a.turn a → MayFollow members table standing b.turn b → HasNumbers a.turn → HasNumbers b.turn
+        → turn_words table a.turn ≡ turn_words table b.turn → a.turn ≡ b.turn }
+    ensures books { (members : ℕ) (table : Table) (a b : List Row) → members ≤ 7 → IsWithinLimits table.window
+        → IsLegal members table a → IsLegal members table b
+        → All (λ (row : Row). HasNumbers row.turn) a → All (λ (row : Row). HasNumbers row.turn) b
+        → map (turn_line table) (enumerate_from 0 (map (λ (row : Row). row.turn) a))
+        ≡ map (turn_line table) (enumerate_from 0 (map (λ (row : Row). row.turn) b))
+        → map (λ (row : Row). row.turn) a ≡ map (λ (row : Row). row.turn) b }
 {}
 
 /// A book whose turns obey a script has one journal, whichever rows stand behind it: the text of its turns, with the parts

@@ -19,6 +19,6 @@ mod words;
 pub use journal::write_journal;
 pub use laws::{
     a_book_has_one_journal, a_journal_has_each_turn_once, a_part_has_its_commands_turns,
-    a_script_begins_its_parts_once, a_summary_counts_all_that_is_held,
+    a_script_begins_its_parts_once, a_summary_counts_all_that_is_held, two_turns_have_two_lines,
 };
 pub use summary::write_summary;
