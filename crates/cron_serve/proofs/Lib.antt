@@ -4,6 +4,7 @@ pub mod MadeLemmas
 pub mod OneTextLemmas
 pub mod OptionLemmas
 pub mod PlayLemmas
+pub mod PromiseLemmas
 pub mod ServeLemmas
 pub mod TextLemmas
 pub mod VariantLemmas

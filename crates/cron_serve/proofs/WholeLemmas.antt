@@ -38,7 +38,7 @@ module _ (bytes : List ℕ) (table : Table) (book : BookState) (nodes : List (No
   same =
       subst (λ members. book.ledger.held ≡ held_in members table run.rows) run.members (held_at_rest table run.rows book run.rest run.behind)
 
-  fitting : Fits table run.whole.log book.ledger.held
+  pub fitting : Fits table run.whole.log book.ledger.held
   fitting =
       let at_end : take (length run.rows) run.rows ≡ run.rows = take-length run.rows in
       let fits : FitsItsLog run.run.members table run.rows = subst (FitsItsLog run.run.members table) at_end (run.whole.fits (length run.rows)) in

@@ -1,6 +1,7 @@
 pub mod Words
 pub mod Text
 pub mod Input
+pub mod Promise
 pub mod Serve
 pub mod Played
 pub mod Stop

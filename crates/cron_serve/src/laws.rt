@@ -31,12 +31,22 @@ ghost use Rattle.generated_run.specs.Made.{made_run, made_text};
 ghost use Rattle.cron_serve.specs.Complete.{Completes, EndsUndisturbed};
 ghost use Rattle.cron_serve.specs.Ends.{Ends};
 ghost use Rattle.cron_serve.specs.Input.{IsRunWithTable, IsTakenFrame, IsRefusedInput, Suits};
+ghost use Rattle.cron_serve.specs.Program.{EndsProgram};
+ghost use Rattle.cron_serve.specs.Promise.{ReportsInput};
 ghost use Rattle.cron_serve.specs.Serve.{IsNoted, IsRefused, IsRunOf, IsTextOf, IsTextOfInput, LeavesNoRun, WritesSome};
 ghost use Rattle.cron_serve.specs.Words.{Asks, HasNoOptions, IsNameWithValue, IsSpelledBy, MayStandTogether};
 ghost use Rattle.cron_serve.specs.declared.words.Asked.{Asked};
 ghost use Rattle.cron_serve.specs.declared.words.Choice.{Choice};
 ghost use Rattle.cron_serve.specs.declared.words.Output.{Output};
 ghost use Rattle.cron_serve.specs.declared.run_end.RunEnd.{RunEnd};
+
+/// **The report is promised.** Where the program was asked for the report and ended with status 0, the input was read, it is a run that is
+/// taken, and the sink gained the report of its launches: each stands there once, each due instant was launched or given up, none other
+/// is there, and where grace lasts as long as the window, or the script has no command, each was launched.
+pub fn a_report_tells_of_each_launch()
+    ensures { (source source' : SourceView) (sink sink' notes notes' : SinkView) (status : ℕ)
+        → EndsProgram Output.Report source source' sink sink' notes notes' status → status ≡ 0 → ReportsInput source source' sink sink' }
+{}
 
 /// Words ask for one thing at most: without a word for the report, by `--journal` for the journal behind it, by
 /// `--list` for the due instants, by `--check` for the check of the tables, by `--make` for the summary of the run that

@@ -4,9 +4,11 @@ ghost use Rattle.cron_io.specs.Views.{SourceView, SinkView};
 ghost use Rattle.std.specs.IoError.{error_kind};
 ghost use Rattle.std.specs.Vec.Iter.{into_iter_items};
 ghost use Rattle.cron_serve.specs.Program.{EndsProgram, StopsProgram};
+ghost use Rattle.cron_serve.specs.Promise.{ReportsInput};
 ghost use Rattle.cron_serve.specs.Stop.{StopsAtOnce, status_of};
 ghost use Rattle.cron_serve.specs.Words.{Asks, HasNoOptions, behind_name, texts_of};
 ghost use Rattle.cron_serve.specs.declared.words.Asked.{Asked};
+ghost use Rattle.cron_serve.specs.declared.words.Output.{Output};
 
 use crate::note::write_note;
 use crate::run_end::RunEnd;
@@ -32,6 +34,11 @@ pub fn run<S: Source, K: Sink, E: Sink, R: Threads + Wait + Sync, G: TurnGate + 
     notes: &mut E,
     gate: &G,
 ) -> u8
+    // **Where the words ask for the report, status 0 says**: the input was read, it is a run, and the text gained is the report of its launches.
+    ensures report { IfOk args (λ args. (asked : Asked) → Asks (behind_name (texts_of (into_iter_items args))) asked
+        → asked.output ≡ Output.Report → result ≡ 0
+        → ReportsInput (S.seen source.old) (S.seen source.new) (K.seen sink.old) (K.seen sink.new)) }
+
     // The status, the text that the words behind the name ask for, and the note are those of one end.
     ensures ends { IfOk args (λ args. (asked : Asked) → Asks (behind_name (texts_of (into_iter_items args))) asked
         → EndsProgram asked.output (S.seen source.old) (S.seen source.new) (K.seen sink.old) (K.seen sink.new)
@@ -64,6 +71,8 @@ fn run_behind_name<S: Source, K: Sink, E: Sink, R: Threads + Wait + Sync, G: Tur
     notes: &mut E,
     gate: &G,
 ) -> u8
+    ensures report { (asked : Asked) → Asks (behind_name (texts_of (into_iter_items args))) asked → asked.output ≡ Output.Report → result ≡ 0
+        → ReportsInput (S.seen source.old) (S.seen source.new) (K.seen sink.old) (K.seen sink.new) }
     ensures ends { (asked : Asked) → Asks (behind_name (texts_of (into_iter_items args))) asked
         → EndsProgram asked.output (S.seen source.old) (S.seen source.new) (K.seen sink.old) (K.seen sink.new)
         (E.seen notes.old) (E.seen notes.new) result }

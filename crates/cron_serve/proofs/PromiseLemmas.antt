@@ -1,0 +1,79 @@
+-- What the report of a run tells of its launches.
+use Rattle.std.proofs.Common.{◌≡◌, ◌⊎◌, inl, inr, ℕ, List, refl, sym, ◌∙◌, subst, ℤ}
+use Rattle.cron_io.specs.Views.{SourceView, SinkView}
+use Rattle.disk_model.specs.declared.mem_disk.MemDisk.{MemDisk}
+use Rattle.due_set.specs.Table.{Table, IsJobDue, IsRunByPeriod}
+use Rattle.paxos_base.specs.declared.rows.JobRow.{JobRow}
+use Rattle.launch_machine.specs.Clerk.{TakesStart}
+use Rattle.launch_machine.proofs.MachineLemmas.{opens_by_period}
+use Rattle.replica_node.specs.declared.node.Node.{Node}
+use Rattle.world_law.specs.Book.{BookState}
+use Rattle.report_text.specs.Report.{IsReport}
+use Rattle.report_text.proofs.BookLemmas.{of_ledger}
+use Rattle.cron_serve.specs.Ends.{Ends}
+use Rattle.cron_serve.specs.Program.{EndsProgram}
+use Rattle.cron_serve.specs.Promise.{HasEachDue, HasOnlyDue, ReportsInput, ReportsLaunches}
+use Rattle.cron_serve.specs.Serve.{IsReportOf, IsRunOf, WritesText}
+use Rattle.cron_serve.specs.declared.run_end.RunEnd.{RunEnd}
+use Rattle.cron_serve.specs.declared.words.Output.{Output}
+use Rattle.cron_serve.specs.declared.words.Output.TheVariants.{Report}
+use Rattle.cron_serve.proofs.WholeLemmas.{all_launched, backed, each_ended, each_within_grace, fitting}
+
+-- a start is of a due instant, or of a job that runs by its period
+of_start : (table : Table) (rows : List JobRow) (job : ℕ) (at now : ℤ) → TakesStart table rows job at now → IsJobDue table job at ⊎ IsRunByPeriod table job
+of_start table rows job at now takes = elim takes.may [
+  | inl next ↦ inl next.0.due
+  | inr opens ↦ inr (opens_by_period table job takes.row.last takes.row.cursor now at opens)
+]
+
+module _ (bytes : List ℕ) (table : Table) (book : BookState) (nodes : List (Node MemDisk)) (run : IsRunOf bytes table book nodes) where
+  each_due_ended : HasEachDue table book.ledger.held
+  each_due_ended job at due = let (start, kind, ended, held) = each_ended bytes table book nodes run job at due in (kind, held)
+
+  pub all_due : HasOnlyDue table book.ledger.held
+  all_due row among =
+      let (now, start) = (backed bytes table book nodes run row among).start in
+      of_start table start.takes.0 row.name.job row.name.at now start.takes.2
+
+  pub reports_launches : (text : List ℕ) → IsReport table book.members book.ledger.held text
+      → ReportsLaunches table run.run.members run.run.commands text
+  reports_launches text report = record {
+    rows = book.ledger.held;
+    report = subst (λ (members : ℕ). IsReport table members book.ledger.held text) run.members report;
+    once = (fitting bytes table book nodes run).once;
+    ended = each_due_ended;
+    due = all_due;
+    apart = (fitting bytes table book nodes run).apart;
+    in_grace = λ long job at due. each_within_grace bytes table book nodes run job at long due;
+    undisturbed = λ none. all_launched bytes table book nodes run none;
+  }
+
+of_report : (bytes : List ℕ) (book : BookState) (nodes : List (Node MemDisk)) (text : List ℕ) (is : IsReportOf bytes book nodes text)
+    → ReportsLaunches is.table is.run.run.members is.run.run.commands text
+of_report bytes book nodes text is =
+    reports_launches bytes is.table book nodes is.run text (of_ledger is.table book text is.run.rest is.report)
+
+of_text : (source source' : SourceView) (sink sink' : SinkView) (book : BookState) (nodes : List (Node MemDisk))
+    → WritesText Report source source' sink sink' book nodes → ReportsInput source source' sink sink'
+of_text source source' sink sink' book nodes (text, is, gained) = record {
+  bytes = is.bytes;
+  read = is.given;
+  run = is.is.run.run;
+  table = is.is.table;
+  taken = is.is.run.taken;
+  text = text;
+  gained = gained;
+  reports = of_report is.bytes book nodes text is.is;
+}
+
+pub reports_end : (source source' : SourceView) (sink sink' : SinkView) (end : RunEnd) (output : Output) → output ≡ Report
+    → Ends output source source' sink sink' end → end.status ≡ 0 → ReportsInput source source' sink sink'
+reports_end source source' sink sink' end output report ends zero =
+    let written : WritesText Report source source' sink sink' end.book end.nodes.items =
+    subst (λ (o : Output). WritesText o source source' sink sink' end.book end.nodes.items) report (ends.text zero) in
+    of_text source source' sink sink' end.book end.nodes.items written
+
+pub reports_input : (source source' : SourceView) (sink sink' notes notes' : SinkView) (status : ℕ)
+    → EndsProgram Report source source' sink sink' notes notes' status → status ≡ 0 → ReportsInput source source' sink sink'
+reports_input source source' sink sink' notes notes' status ends zero =
+    reports_end source source' sink sink' ends.end Report refl ends.ends (sym ends.status_is ∙ zero)

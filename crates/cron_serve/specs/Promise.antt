@@ -1,0 +1,54 @@
+-- What is promised of a report, in bytes and text alone: which launches it tells of.
+use Rattle.std.specs.Prelude.{◌≡◌, ◌⊎◌, ℕ, List, [], ℤ, Contains}
+use Rattle.cron_io.specs.Reading.{IsReadToEnd}
+use Rattle.cron_io.specs.Views.{SourceView, SinkView}
+use Rattle.cron_io.specs.Writing.{HasGained}
+use Rattle.paxos_base.specs.declared.entry.Kind.{Kind}
+use Rattle.due_set.specs.Table.{Table, IsJobDue, IsRunByPeriod}
+use Rattle.cluster_sched.specs.Held.{AreNamedOnce}
+use Rattle.cluster_sched.specs.declared.row.SchedRow.{SchedRow}
+use Rattle.launch_safety.specs.Fits.{ArePeriodsApart, IsHeld}
+use Rattle.launch_safety.specs.Launched.{LaunchesEachDue}
+use Rattle.report_text.specs.Report.{IsReport}
+use Rattle.run_outcome.specs.Readings.{IsGraceLong}
+use Rattle.run_outcome.specs.Whole.{HoldsEachDue}
+use Rattle.script_text.specs.declared.command.Command.{Command}
+use Rattle.run_text.specs.Run.{Run}
+use Rattle.cron_serve.specs.Input.{IsRunWithTable}
+
+-- a row is held of each due instant of each crontab's job: it was launched, or given up
+abbrev pub HasEachDue : Table → List SchedRow → Type 0
+HasEachDue table rows = (job : ℕ) (at : ℤ) → IsJobDue table job at → (kind : Kind) × IsHeld rows job at kind
+
+-- each row that is held is of a due instant of its job, unless that runs by its period
+abbrev pub HasOnlyDue : Table → List SchedRow → Type 0
+HasOnlyDue table rows =
+    (row : SchedRow) → Contains rows row → IsJobDue table row.name.job row.name.at ⊎ IsRunByPeriod table row.name.job
+
+-- **The text is the report of these launches**: each stands there once, and each due instant has ended.
+pub record ReportsLaunches (table : Table) (members : ℕ) (script : List Command) (text : List ℕ) : Type 0 where
+  -- the text lists these rows: what was launched, and what was given up
+  pub rows : List SchedRow
+  pub report : IsReport table members rows text
+  -- no two are of one launch
+  pub once : AreNamedOnce rows
+  -- each due instant of each crontab's job is among them, and no other instant of such a job
+  pub ended : HasEachDue table rows
+  pub due : HasOnlyDue table rows
+  -- of two launches of a job of an anacrontab the later is a period after the earlier
+  pub apart : ArePeriodsApart table rows
+  -- where grace lasts as long as the window, each due instant is launched
+  pub in_grace : IsGraceLong table → HoldsEachDue table rows
+  -- and where the script has no command, so it is, each date on which a job of an anacrontab may open too, and nothing is given up
+  pub undisturbed : script ≡ [] → LaunchesEachDue table rows
+
+-- the input was read to its end, it is a run that is taken, and the sink gained the report of its launches
+pub record ReportsInput (source source' : SourceView) (sink sink' : SinkView) : Type 0 where
+  pub bytes : List ℕ
+  pub read : IsReadToEnd source source' bytes
+  pub run : Run
+  pub table : Table
+  pub taken : IsRunWithTable bytes run table
+  pub text : List ℕ
+  pub gained : HasGained sink sink' text
+  pub reports : ReportsLaunches table run.members run.commands text
