@@ -6,6 +6,7 @@ pub mod OptionLemmas
 pub mod PlayLemmas
 pub mod PromiseLemmas
 pub mod ServeLemmas
+pub mod StatusLemmas
 pub mod TextLemmas
 pub mod VariantLemmas
 pub mod VerdictLemmas

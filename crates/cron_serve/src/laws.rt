@@ -33,7 +33,7 @@ ghost use Rattle.cron_serve.specs.Ends.{Ends};
 ghost use Rattle.cron_serve.specs.Input.{IsRunWithTable, IsTakenFrame, IsRefusedInput, Suits};
 ghost use Rattle.cron_serve.specs.Program.{EndsProgram};
 ghost use Rattle.cron_serve.specs.Promise.{ReportsInput};
-ghost use Rattle.cron_serve.specs.Serve.{IsNoted, IsRefused, IsRunOf, IsTextOf, IsTextOfInput, LeavesNoRun, WritesSome};
+ghost use Rattle.cron_serve.specs.Serve.{IsNoted, IsRefused, IsRunOf, IsTextOf, IsTextOfInput, LeavesNoRun, WritesSome, WritesText, refusal_note, status_note};
 ghost use Rattle.cron_serve.specs.Words.{Asks, HasNoOptions, IsNameWithValue, IsSpelledBy, MayStandTogether};
 ghost use Rattle.cron_serve.specs.declared.words.Asked.{Asked};
 ghost use Rattle.cron_serve.specs.declared.words.Choice.{Choice};
@@ -46,6 +46,46 @@ ghost use Rattle.cron_serve.specs.declared.run_end.RunEnd.{RunEnd};
 pub fn a_report_tells_of_each_launch()
     ensures { (source source' : SourceView) (sink sink' notes notes' : SinkView) (status : ℕ)
         → EndsProgram Output.Report source source' sink sink' notes notes' status → status ≡ 0 → ReportsInput source source' sink sink' }
+{}
+
+/// What the exit status of a program says that was asked for something. 0: the text was written, whole. 2: the input is refused, for
+/// what the note tells, and nothing was written. 3: a read failed, and nothing was written. 4: a write failed, behind a front of the text.
+/// 5: memory ran out, before the text or behind a front of it. There is no higher one.
+pub fn a_status_tells_the_end()
+    ensures whole { (output : Output) (source source' : SourceView) (sink sink' notes notes' : SinkView) (status : ℕ)
+        → EndsProgram output source source' sink sink' notes notes' status → status ≡ 0
+        → (book : BookState) × (nodes : List (Node MemDisk)) × WritesText output source source' sink sink' book nodes }
+    ensures refused { (output : Output) (source source' : SourceView) (sink sink' notes notes' : SinkView) (status : ℕ)
+        → EndsProgram output source source' sink sink' notes notes' status → status ≡ 2
+        → (sink' ≡ sink) × (refusal : Refusal) × IsRefused output source source' refusal × IsNoted notes notes' (refusal_note refusal) }
+    ensures read_fault { (output : Output) (source source' : SourceView) (sink sink' notes notes' : SinkView) (status : ℕ)
+        → EndsProgram output source source' sink sink' notes notes' status → status ≡ 3
+        → (sink' ≡ sink) × Rose source.faults source'.faults }
+    ensures write_fault { (output : Output) (source source' : SourceView) (sink sink' notes notes' : SinkView) (status : ℕ)
+        → EndsProgram output source source' sink sink' notes notes' status → status ≡ 4
+        → (book : BookState) × (nodes : List (Node MemDisk)) × WritesSome output source source' sink sink' book nodes
+        × Rose sink.faults sink'.faults }
+    ensures memory { (output : Output) (source source' : SourceView) (sink sink' notes notes' : SinkView) (status : ℕ)
+        → EndsProgram output source source' sink sink' notes notes' status → status ≡ 5
+        → (sink' ≡ sink) ⊎ ((book : BookState) × (nodes : List (Node MemDisk)) × WritesSome output source source' sink sink' book nodes) }
+    ensures no_other { (output : Output) (source source' : SourceView) (sink sink' notes notes' : SinkView) (status : ℕ)
+        → EndsProgram output source source' sink sink' notes notes' status → status ≤ 5 }
+    ensures note { (output : Output) (source source' : SourceView) (sink sink' notes notes' : SinkView) (status : ℕ)
+        → EndsProgram output source source' sink sink' notes notes' status → status ≢ 2 → IsNoted notes notes' (status_note status) }
+{}
+
+/// Where the source told its bytes and no read failed, they decide the exit status, unless memory ran out: it is 0 of an input that suits
+/// what is asked for, where no write failed either, and 2 of any other.
+pub fn the_bytes_decide_the_status()
+    ensures text { (output : Output) (source source' : SourceView) (sink sink' notes notes' : SinkView) (status : ℕ) (bytes : List ℕ)
+        → EndsProgram output source source' sink sink' notes notes' status → source.left ≡ Some bytes → Suits output bytes
+        → ¬ Rose source.faults source'.faults → ¬ Rose sink.faults sink'.faults → (status ≡ 0) ⊎ (status ≡ 5) }
+    ensures refused { (output : Output) (source source' : SourceView) (sink sink' notes notes' : SinkView) (status : ℕ) (bytes : List ℕ)
+        → EndsProgram output source source' sink sink' notes notes' status → source.left ≡ Some bytes → (Suits output bytes → ⊥)
+        → ¬ Rose source.faults source'.faults → (status ≡ 2) ⊎ (status ≡ 5) }
+    ensures made { (seed : ℕ) (source source' : SourceView) (sink sink' notes notes' : SinkView) (status : ℕ)
+        → EndsProgram (Output.Summary seed) source source' sink sink' notes notes' status → ¬ Rose sink.faults sink'.faults
+        → (status ≡ 0) ⊎ (status ≡ 5) }
 {}
 
 /// Words ask for one thing at most: without a word for the report, by `--journal` for the journal behind it, by

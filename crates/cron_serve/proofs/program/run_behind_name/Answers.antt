@@ -17,6 +17,7 @@ returns-clause-ends g c = λ asked asks.
     record {
       end = c.cron_cluster.result;
       ends = c.cron_cluster.ensures.ends asked asks_there;
+      complete = c.cron_cluster.ensures.complete asked asks_there;
       note = c.cron_cluster.ensures.note;
       status_is = refl;
     }
