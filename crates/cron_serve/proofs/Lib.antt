@@ -1,6 +1,7 @@
 pub mod CompleteLemmas
 pub mod MadeEndLemmas
 pub mod MadeLemmas
+pub mod NodeLemmas
 pub mod OneTextLemmas
 pub mod OptionLemmas
 pub mod PlayLemmas

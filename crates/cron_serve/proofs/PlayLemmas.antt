@@ -45,6 +45,7 @@ module _ (bytes : List ℕ) (run : Run) (table : Table) (taken : IsRunWithTable 
       record {
         run = run;
         taken = taken;
+        sound = at.sound;
         members = has.count;
         rest = at.rest;
         rows = has.rows;

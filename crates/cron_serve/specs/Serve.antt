@@ -4,7 +4,7 @@ use Rattle.cron_io.specs.Faults.{Rose}
 use Rattle.cron_io.specs.Reading.{IsReadToEnd, HasTakenCount}
 use Rattle.cron_io.specs.Views.{SourceView, SinkView}
 use Rattle.cron_io.specs.Writing.{HasGained, HasGainedPrefix}
-use Rattle.due_set.specs.Table.{Table}
+use Rattle.due_set.specs.Table.{IsSound, Table}
 use Rattle.due_list.specs.CheckText.{IsCheckText}
 use Rattle.due_list.specs.DueText.{IsDueText}
 use Rattle.disk_model.specs.declared.mem_disk.MemDisk.{MemDisk}
@@ -46,6 +46,7 @@ IsRefused output old new refusal = IsOfInput output × (IsTooLarge old new refus
 pub record IsRunOf (bytes : List ℕ) (table : Table) (book : BookState) (nodes : List (Node MemDisk)) : Type 0 where
   pub run : Run
   pub taken : IsRunWithTable bytes run table
+  pub sound : IsSound table
   pub members : book.members ≡ run.members
   pub rest : book.pending ≡ None
   pub rows : List Row

@@ -1,14 +1,17 @@
 //! Laws of the program's ends. Each is the contract of a function that does nothing.
-ghost use Rattle.std.specs.Prelude.{◌≡◌, ◌≢◌, ◌⊎◌, ◌≤◌, [], ◌∷◌, ◌++◌, ℕ, ℤ, ◌<ℤ◌, List, Some, IsSomeAnd, Contains, codes, decimal, slice_get};
+ghost use Rattle.std.specs.Prelude.{◌≡◌, ◌≢◌, ◌⊎◌, ◌≤◌, [], ◌∷◌, ◌++◌, ℕ, ℤ, ◌<ℤ◌, List, Some, true, length, IsSomeAnd, Contains, codes, decimal, slice_get};
 ghost use Rattle.cron_io.specs.Faults.{Rose};
 ghost use Rattle.cron_io.specs.Reading.{HasTakenBytes};
 ghost use Rattle.cron_io.specs.Views.{SourceView, SinkView};
 ghost use Rattle.cron_io.specs.Writing.{HasGained, HasGainedPrefix};
+ghost use Rattle.disk_model.specs.Images.{Image};
+ghost use Rattle.disk_model.specs.MemDisk.{left_by, seen_of};
 ghost use Rattle.disk_model.specs.declared.mem_disk.MemDisk.{MemDisk};
 ghost use Rattle.paxos_base.specs.declared.entry.Entry.{Entry};
 ghost use Rattle.paxos_base.specs.declared.entry.Entry.TheVariants.{Noop};
 ghost use Rattle.paxos_base.specs.declared.entry.Kind.{Kind};
 ghost use Rattle.paxos_base.specs.declared.entry.Kind.TheVariants.{Launch};
+ghost use Rattle.paxos_base.specs.declared.rows.JobRow.{JobRow};
 ghost use Rattle.due_set.specs.Anacron.{IsPeriodOver};
 ghost use Rattle.due_set.specs.Due.{IsRising};
 ghost use Rattle.due_set.specs.Table.{Job, Table, IsJobDue};
@@ -17,12 +20,16 @@ ghost use Rattle.due_set.specs.declared.job.Period.{Period};
 ghost use Rattle.cluster_sched.specs.declared.row.SchedRow.{SchedRow};
 ghost use Rattle.launch_safety.specs.Fits.{HasStart, HasEnd, IsBacked, IsEffective, IsHeld};
 ghost use Rattle.launch_safety.specs.Launched.{IsCalledAt, IsWanted, LaunchesEachDue, OpensBy};
+ghost use Rattle.launch_machine.specs.Clerk.{IsClerkOf};
 ghost use Rattle.launch_machine.specs.Starts.{StartsOf};
+ghost use Rattle.step_spec.specs.Step.{IsLaunchTable};
+ghost use Rattle.replica_node.specs.Node.{disk_of, replica_of};
 ghost use Rattle.replica_node.specs.declared.node.Node.{Node};
 ghost use Rattle.run_outcome.specs.Readings.{IsGraceLong, script_turns};
 ghost use Rattle.launch_safety.specs.Readings.{AreTurnsBy};
 ghost use Rattle.run_outcome.specs.Barred.{IsBarred};
-ghost use Rattle.world_law.specs.Book.{BookState};
+ghost use Rattle.world_law.specs.Book.{BookState, standing_behind};
+ghost use Rattle.replica_store.specs.Files.{FilesStand};
 ghost use Rattle.run_text.specs.Run.{Run};
 ghost use Rattle.run_text.specs.declared.refusal.Refusal.{Refusal};
 ghost use Rattle.job_table.specs.Table.{IsTableOf};
@@ -181,6 +188,25 @@ pub fn a_run_without_commands_launches_each_due_instant()
         → run.run.commands ≡ [] → Contains book.ledger.held row → IsWanted table book.ledger.held row × (row.kind ≡ Launch) }
     ensures all { (bytes : List ℕ) (table : Table) (book : BookState) (nodes : List (Node MemDisk)) (run : IsRunOf bytes table book nodes)
         → run.run.commands ≡ [] → LaunchesEachDue table book.ledger.held }
+{}
+
+/// What a run leaves of its replicas: a node of each, which keeps what its replica keeps. What the files of its disk have stands for that,
+/// and so does whatever a stop would leave of the disk. Each that runs at the end has a launch table, which is the clerk's of the whole log.
+pub fn a_run_leaves_its_nodes()
+    ensures count { (bytes : List ℕ) (table : Table) (book : BookState) (nodes : List (Node MemDisk)) (run : IsRunOf bytes table book nodes)
+        → length nodes ≡ run.run.members }
+    ensures kept { (bytes : List ℕ) (table : Table) (book : BookState) (nodes : List (Node MemDisk)) (run : IsRunOf bytes table book nodes) (who : ℕ)
+        (node : Node MemDisk) → slice_get nodes who ≡ Some node
+        → (replica_of node).state.kept ≡ ((standing_behind table run.rows book).replicas who).kept }
+    ensures files { (bytes : List ℕ) (table : Table) (book : BookState) (nodes : List (Node MemDisk)) (run : IsRunOf bytes table book nodes) (who : ℕ)
+        (node : Node MemDisk) → slice_get nodes who ≡ Some node
+        → FilesStand (length table.jobs) (replica_of node).state.kept (seen_of (disk_of node)) }
+    ensures stops { (bytes : List ℕ) (table : Table) (book : BookState) (nodes : List (Node MemDisk)) (run : IsRunOf bytes table book nodes) (who : ℕ)
+        (node : Node MemDisk) (image : Image) → slice_get nodes who ≡ Some node → left_by (disk_of node) image
+        → FilesStand (length table.jobs) (replica_of node).state.kept image }
+    ensures follows { (bytes : List ℕ) (table : Table) (book : BookState) (nodes : List (Node MemDisk)) (run : IsRunOf bytes table book nodes) (who : ℕ)
+        (node : Node MemDisk) → slice_get nodes who ≡ Some node → (standing_behind table run.rows book).runs who ≡ true
+        → (launch : List JobRow) × IsLaunchTable table (replica_of node).state launch × IsClerkOf table run.whole.log launch }
 {}
 
 /// Of a run each job's starts are of rising instants, or dates; and of two launches of a job of an anacrontab the later is a period
