@@ -1,5 +1,6 @@
 -- What the summary of a made run tells of its book.
-use Rattle.std.proofs.Common.{◌≡◌, ◌⊎◌, inl, inr, ℕ, List, subst}
+use Rattle.std.proofs.Common.{◌≡◌, ◌⊎◌, inl, inr, ℕ, List, sym, subst, arith, ℤ, pos, ◌+ℤ◌, ◌≤ℤ◌}
+use Rattle.std.proofs.lemmas.Int.{ints}
 use Rattle.cron_io.specs.Views.{SourceView, SinkView}
 use Rattle.cron_io.specs.Writing.{HasGained}
 use Rattle.due_set.specs.Table.{Table}
@@ -9,17 +10,28 @@ use Rattle.world_law.specs.Book.{BookState}
 use Rattle.job_table.specs.Table.{IsTableOf}
 use Rattle.journal_text.specs.Summary.{IsBookSummary}
 use Rattle.run_text.specs.Run.{Run}
-use Rattle.generated_run.specs.Made.{made_run, made_text}
+use Rattle.run_outcome.specs.Readings.{IsGraceLong}
+use Rattle.run_outcome.specs.Whole.{HoldsEachDue}
+use Rattle.generated_run.specs.Made.{made_run, made_text, made_window}
 use Rattle.generated_run.proofs.TextLemmas.{text_says}
 use Rattle.cron_serve.specs.Ends.{Ends}
+use Rattle.cron_serve.specs.Promise.{HasOnlyDue}
 use Rattle.cron_serve.specs.Serve.{IsRunOf, IsTextOfInput, WritesText}
 use Rattle.cron_serve.specs.declared.run_end.RunEnd.{RunEnd}
 use Rattle.cron_serve.specs.declared.words.Output.TheVariants.{Summary}
+use Rattle.cron_serve.proofs.PromiseLemmas.{all_due}
 use Rattle.cron_serve.proofs.VerdictLemmas.{same_run}
+use Rattle.cron_serve.proofs.WholeLemmas.{each_within_grace}
 
 -- a run of the text that a seed makes is the run that it makes
 made_is : (seed : ℕ) (table : Table) (book : BookState) (nodes : List (Node MemDisk)) (run : IsRunOf (made_text seed) table book nodes) → run.run ≡ made_run seed
 made_is seed table book nodes run = same_run (made_text seed) run.run (made_run seed) run.taken.says (text_says seed)
+
+-- grace lasts as long as the window
+made_grace : (seed : ℕ) (table : Table) → IsTableOf (made_run seed) table → IsGraceLong table
+made_grace seed table is =
+    let long : made_window.until.0 ≤ℤ (made_window.from.0 +ℤ pos 14_400) = omega (arith, ints) in
+    subst IsGraceLong (sym is.is) long
 
 module _ (seed : ℕ) (source source' : SourceView) (book : BookState) (nodes : List (Node MemDisk)) where
   run_of_text : (text : List ℕ) (is : IsTextOfInput (Summary seed) source source' book nodes text) → IsRunOf (made_text seed) is.is.table book nodes
@@ -49,3 +61,16 @@ module _ (seed : ℕ) (source source' : SourceView) (sink sink' : SinkView) (end
 
   pub unread_at : (end.status ≡ 0) ⊎ (end.status ≡ 4) → source' ≡ source
   unread_at status = let (text, is) = text_at status in is.given.1
+
+  -- so each due instant is launched
+  pub launched_at : (end.status ≡ 0) ⊎ (end.status ≡ 4)
+      → (table : Table) × IsTableOf (made_run seed) table × HoldsEachDue table end.book.ledger.held × HasOnlyDue table end.book.ledger.held
+  launched_at status =
+      let (table, run, same) = played_at status in
+      let table_is : IsTableOf (made_run seed) table = subst (λ (r : Run). IsTableOf r table) same run.taken.table_is in
+      let long = made_grace seed table table_is in (
+        table,
+        table_is,
+        (λ job at due. each_within_grace (made_text seed) table end.book end.nodes.items run job at long due),
+        all_due (made_text seed) table end.book end.nodes.items run,
+      )

@@ -25,6 +25,7 @@ ghost use Rattle.launch_machine.specs.Starts.{StartsOf};
 ghost use Rattle.step_spec.specs.Step.{IsLaunchTable};
 ghost use Rattle.replica_node.specs.Node.{disk_of, replica_of};
 ghost use Rattle.replica_node.specs.declared.node.Node.{Node};
+ghost use Rattle.run_outcome.specs.Whole.{HoldsEachDue};
 ghost use Rattle.run_outcome.specs.Readings.{IsGraceLong, script_turns};
 ghost use Rattle.launch_safety.specs.Readings.{AreTurnsBy};
 ghost use Rattle.run_outcome.specs.Barred.{IsBarred};
@@ -39,7 +40,7 @@ ghost use Rattle.cron_serve.specs.Complete.{Completes, EndsUndisturbed};
 ghost use Rattle.cron_serve.specs.Ends.{Ends};
 ghost use Rattle.cron_serve.specs.Input.{IsRunWithTable, IsTakenFrame, IsRefusedInput, Suits};
 ghost use Rattle.cron_serve.specs.Program.{EndsProgram};
-ghost use Rattle.cron_serve.specs.Promise.{ReportsInput};
+ghost use Rattle.cron_serve.specs.Promise.{HasOnlyDue, ReportsInput};
 ghost use Rattle.cron_serve.specs.Serve.{IsNoted, IsRefused, IsRunOf, IsTextOf, IsTextOfInput, LeavesNoRun, WritesSome, WritesText, refusal_note, status_note};
 ghost use Rattle.cron_serve.specs.Words.{Asks, HasNoOptions, IsNameWithValue, IsSpelledBy, MayStandTogether};
 ghost use Rattle.cron_serve.specs.declared.words.Asked.{Asked};
@@ -235,12 +236,15 @@ pub fn a_book_has_one_text()
 {}
 
 /// Where the summary of a made run was written, or a front of it until a write failed, the book and the nodes are what the
-/// run of its seed leaves, and nothing was read. At status 0 the sink gained the summary of this book. And unless a write
-/// fails, the end is at status 0, or memory ran out.
+/// run of its seed leaves; each due instant was launched, and of crontabs nothing else was; and nothing was read. At status 0
+/// the sink gained the summary of this book. And unless a write fails, the end is at status 0, or memory ran out.
 pub fn a_made_run_is_played()
     ensures played { (seed : ℕ) (source source' : SourceView) (sink sink' : SinkView) (end : RunEnd)
         → Ends (Output.Summary seed) source source' sink sink' end → (end.status ≡ 0) ⊎ (end.status ≡ 4)
         → (table : Table) × (run : IsRunOf (made_text seed) table end.book end.nodes.items) × (run.run ≡ made_run seed) }
+    ensures launched { (seed : ℕ) (source source' : SourceView) (sink sink' : SinkView) (end : RunEnd)
+        → Ends (Output.Summary seed) source source' sink sink' end → (end.status ≡ 0) ⊎ (end.status ≡ 4)
+        → (table : Table) × IsTableOf (made_run seed) table × HoldsEachDue table end.book.ledger.held × HasOnlyDue table end.book.ledger.held }
     ensures unread { (seed : ℕ) (source source' : SourceView) (sink sink' : SinkView) (end : RunEnd)
         → Ends (Output.Summary seed) source source' sink sink' end → (end.status ≡ 0) ⊎ (end.status ≡ 4) → source' ≡ source }
     ensures summary { (seed : ℕ) (source source' : SourceView) (sink sink' : SinkView) (end : RunEnd)

@@ -54,17 +54,22 @@ fn name_of(table: &JobTable, job: u32) -> Result<&str, Fail> {
     }
 }
 
-// 40 jobs are due in each of 240 hours, and 160 on each of ten days.
+// From the least to the greatest.
+const SEEDS: &[u32] = &[0, 1, 7, 2_147_483_648, 4_294_967_295];
+
+// 40 jobs are due in each of 240 hours, and 160 on each of ten days, whatever the seed.
 #[test]
-fn a_made_run_has_a_table(rt: HostRuntime) -> Result<(), Fail> {
-    let text = make_run(rt.alloc(), 7)?;
-    a_made_text_is_a_run();
-    let run = read_run(rt.alloc(), short(&text)?)?;
-    each_made_run_has_a_table();
-    let table = build_table(rt.alloc(), &run)?;
-    assert_eq!(rt; table.jobs(), 200);
-    assert_eq!(rt; name_of(&table, 0)?, "make:1");
-    assert_eq!(rt; name_of(&table, 199)?, "make:200");
-    assert_eq!(rt; total_due(&table), 11_200);
+fn each_made_run_has_as_many_due_instants(rt: HostRuntime) -> Result<(), Fail> {
+    for seed in SEEDS {
+        let text = make_run(rt.alloc(), *seed)?;
+        a_made_text_is_a_run();
+        let run = read_run(rt.alloc(), short(&text)?)?;
+        each_made_run_has_a_table();
+        let table = build_table(rt.alloc(), &run)?;
+        assert_eq!(rt; table.jobs(), 200);
+        assert_eq!(rt; name_of(&table, 0)?, "make:1");
+        assert_eq!(rt; name_of(&table, 199)?, "make:200");
+        assert_eq!(rt; total_due(&table), 11_200);
+    }
     Ok(())
 }

@@ -1,8 +1,11 @@
-use Rattle.cron_serve.proofs.MadeEndLemmas.{played_at, summary_of, unread_at}
+use Rattle.cron_serve.proofs.MadeEndLemmas.{launched_at, played_at, summary_of, unread_at}
 use Rattle.cron_serve.proofs.laws.a_made_run_is_played.Goals as goal
 
 pub returns-clause-played : goal.returns-clause-played
 returns-clause-played c = played_at
+
+pub returns-clause-launched : goal.returns-clause-launched
+returns-clause-launched c = launched_at
 
 pub returns-clause-unread : goal.returns-clause-unread
 returns-clause-unread c = unread_at
