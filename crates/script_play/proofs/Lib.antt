@@ -1,5 +1,6 @@
 pub mod Commands
 pub mod Fresh
 pub mod Runs
+pub mod SettledLemmas
 pub mod Starts
 pub mod Taken

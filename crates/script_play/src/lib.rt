@@ -16,7 +16,7 @@ mod start;
 
 pub use laws::{
     a_played_run_leaves_its_nodes, a_played_run_obeys_its_script,
-    a_world_takes_each_command_that_is_read,
+    a_world_takes_each_command_that_is_read, a_world_that_settles_ends_quietly,
 };
 pub use script::{play, play_run, play_script};
 pub use start::empty_world;
