@@ -37,12 +37,12 @@ pub record ReportsLaunches (table : Table) (members : ℕ) (script : List Comman
   pub due : HasOnlyDue table rows
   -- of two launches of a job of an anacrontab the later is a period after the earlier
   pub apart : ArePeriodsApart table rows
-  -- where grace lasts as long as the window, each due instant is launched
+  -- if grace lasts as long as the window, each due instant is launched
   pub in_grace : IsGraceLong table → HoldsEachDue table rows
-  -- and where the script has no command, so it is, each date on which a job of an anacrontab may open too, and nothing is given up
+  -- and if the script has no command, so it is, each date on which a job of an anacrontab may open too, and nothing is given up
   pub undisturbed : script ≡ [] → LaunchesEachDue table rows
 
--- the input was read to its end, it is a run that is taken, and the sink gained the report of its launches
+-- the input was read to its end, it is a run with this table, and the sink gained the report of its launches
 pub record ReportsInput (source source' : SourceView) (sink sink' : SinkView) : Type 0 where
   pub bytes : List ℕ
   pub read : IsReadToEnd source source' bytes

@@ -48,17 +48,17 @@ ghost use Rattle.cron_serve.specs.declared.words.Choice.{Choice};
 ghost use Rattle.cron_serve.specs.declared.words.Output.{Output};
 ghost use Rattle.cron_serve.specs.declared.run_end.RunEnd.{RunEnd};
 
-/// **The report is promised.** Where the program was asked for the report and ended with status 0, the input was read, it is a run that is
-/// taken, and the sink gained the report of its launches: each stands there once, each due instant was launched or given up, none other
-/// is there, and where grace lasts as long as the window, or the script has no command, each was launched.
+/// **The report is promised.** If the program was asked for the report and ended with status 0, the input was read, it is a run with a
+/// table, and the sink gained the report of its launches: each stands there once, each due instant was launched or given up, no other
+/// instant of a crontab's job is there, and if grace lasts as long as the window, or the script has no command, each was launched.
 pub fn a_report_tells_of_each_launch()
     ensures { (source source' : SourceView) (sink sink' notes notes' : SinkView) (status : ℕ)
         → EndsProgram Output.Report source source' sink sink' notes notes' status → status ≡ 0 → ReportsInput source source' sink sink' }
 {}
 
 /// What the exit status of a program says that was asked for something. 0: the text was written, whole. 2: the input is refused, for
-/// what the note tells, and nothing was written. 3: a read failed, and nothing was written. 4: a write failed, behind a front of the text.
-/// 5: memory ran out, before the text or behind a front of it. There is no higher one.
+/// what the note says, and nothing was written. 3: a read failed, and nothing was written. 4: a write failed, after a prefix of the text.
+/// 5: memory ran out, before the text or after a prefix of it. There is no higher one.
 pub fn a_status_tells_the_end()
     ensures whole { (output : Output) (source source' : SourceView) (sink sink' notes notes' : SinkView) (status : ℕ)
         → EndsProgram output source source' sink sink' notes notes' status → status ≡ 0
@@ -82,8 +82,8 @@ pub fn a_status_tells_the_end()
         → EndsProgram output source source' sink sink' notes notes' status → status ≢ 2 → IsNoted notes notes' (status_note status) }
 {}
 
-/// Where the source told its bytes and no read failed, they decide the exit status, unless memory ran out: it is 0 of an input that suits
-/// what is asked for, where no write failed either, and 2 of any other.
+/// If the source showed its bytes and no read failed, they decide the exit status, unless memory ran out: it is 0 of an input that suits
+/// what is asked for, if no write failed either, and 2 of any other.
 pub fn the_bytes_decide_the_status()
     ensures text { (output : Output) (source source' : SourceView) (sink sink' notes notes' : SinkView) (status : ℕ) (bytes : List ℕ)
         → EndsProgram output source source' sink sink' notes notes' status → source.left ≡ Some bytes → Suits output bytes

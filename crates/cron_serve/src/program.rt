@@ -34,7 +34,7 @@ pub fn run<S: Source, K: Sink, E: Sink, R: Threads + Wait + Sync, G: TurnGate + 
     notes: &mut E,
     gate: &G,
 ) -> u8
-    // **Where the words ask for the report, status 0 says**: the input was read, it is a run, and the text gained is the report of its launches.
+    // **If the words ask for the report, status 0 says**: the input was read, it is a run, and the text gained is the report of its launches.
     ensures report { IfOk args (λ args. (asked : Asked) → Asks (behind_name (texts_of (into_iter_items args))) asked
         → asked.output ≡ Output.Report → result ≡ 0
         → ReportsInput (S.seen source.old) (S.seen source.new) (K.seen sink.old) (K.seen sink.new)) }

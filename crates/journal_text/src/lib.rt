@@ -4,8 +4,8 @@
 //! turns of a book obey a script, there is one list of numbers at which the script's parts begin (`BeginAt`,
 //! `a_script_begins_its_parts_once`), and the book has one journal, whichever rows stand for it (`IsBookJournal`,
 //! `a_book_has_one_journal`). The turns below a command's line are the part of that command; those below the last
-//! line are the walk to the window's last minute (`a_part_has_its_commands_turns`). `write_summary` writes the
-//! summary of a legal book in which no call is pending; its counts are over all that the scheduler holds after the
+//! line are the walk to the window's last minute (`a_part_has_its_commands_turns`). Two turns have two lines: legal
+//! books with the same lines have the same turns (`two_turns_have_two_lines`). `write_summary` writes the summary of a legal book in which no call is pending; its counts are over all that the scheduler holds after the
 //! turns (`IsBookSummary`, `a_summary_counts_all_that_is_held`). What the sink gained is said of both as of a report
 //! (`report_text::Writes`); in how many writes, no clause says. `journal` has the parts and their lines, `words` the
 //! words of a turn, `summary` the summary.

@@ -7,7 +7,8 @@
 //! book obey the script, within the limits in which each letter is heard whole. Its book is legal and at rest
 //! (`a_played_run_obeys_its_script`); what each disk has, and whatever a stop would leave of it, stands for what its
 //! replica keeps (`a_played_run_leaves_its_nodes`); and each command of a run that run_text reads is one that is
-//! played (`a_world_takes_each_command_that_is_read`).
+//! played (`a_world_takes_each_command_that_is_read`). A world that has settled or walked leaves a log with nothing
+//! left to do (`a_world_that_settles_ends_quietly`).
 #![tactic(auto)]
 
 mod laws;
