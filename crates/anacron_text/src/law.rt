@@ -53,7 +53,8 @@ pub fn a_span_is_that_of_its_line()
         → BeginsWithLogicalLine (anacron_rest_of old) (slice_range old.text line.span.from line.span.until) (anacron_rest_of new) }
 {}
 
-/// A law: the hours of a job within the limits are those of one day, and at most 19,998 minutes are counted from the first of them.
+/// A law: the hours of a job within the limits are those of one day, and at most 19,998 minutes are counted from the first of them. If
+/// its period is a number of days, that is from 1 to 9,999.
 pub fn a_jobs_hours_are_of_one_day()
     ensures rise { (period : PeriodWord) (delay added first last : ℕ) → IsJobWithin period delay added first last
         → 60 * first < 60 * last }
@@ -61,4 +62,6 @@ pub fn a_jobs_hours_are_of_one_day()
         → 60 * last ≤ 24 * 60 }
     ensures delay { (period : PeriodWord) (delay added first last : ℕ) → IsJobWithin period delay added first last
         → delay + added ≤ 19_998 }
+    ensures days { (days delay added first last : ℕ) → IsJobWithin (PeriodWord.Days days) delay added first last
+        → (0 < days) × (days ≤ 9_999) }
 {}

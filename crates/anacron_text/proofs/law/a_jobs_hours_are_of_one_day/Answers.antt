@@ -6,4 +6,5 @@ returns c = record {
   rise = λ period delay added first last is. omega (arith, is.hours_rise);
   day = λ period delay added first last is. omega (arith, is.hours_within);
   delay = λ period delay added first last is. omega (arith, is.delay_within, is.added_within);
+  days = λ days delay added first last is. is.period_within;
 }
