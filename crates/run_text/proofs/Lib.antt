@@ -16,3 +16,4 @@ pub mod FrameLemmas
 pub mod SoundLemmas
 pub mod UniqueLemmas
 pub mod VariantLemmas
+pub mod ZoneNames

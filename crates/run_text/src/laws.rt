@@ -1,11 +1,13 @@
-ghost use Rattle.std.specs.Prelude.{◌≡◌, ◌+◌, ◌<◌, ◌^◌, List, ℕ, length};
+ghost use Rattle.std.specs.Prelude.{◌≡◌, ◌≢◌, ◌+◌, ◌<◌, ◌^◌, List, ℕ, codes, length};
 ghost use Rattle.std.specs.List.{AllByRecursion};
 ghost use Rattle.crontab_text.specs.Lines.{lines_of};
 ghost use Rattle.run_text.specs.Follow.{style_of};
 ghost use Rattle.run_text.specs.Reading.{IsRunText, IsRefusedText, HasReading, IsFrameText, IsRefusedFrame, HasFrame};
-ghost use Rattle.run_text.specs.Run.{Run};
-ghost use Rattle.run_text.specs.Sound.{IsSoundRun};
+ghost use Rattle.run_text.specs.Grammar.{IsZoneName};
+ghost use Rattle.run_text.specs.Run.{NamedZone, Run};
+ghost use Rattle.run_text.specs.Sound.{AreDistinct, IsSoundRun};
 ghost use Rattle.run_text.specs.Table.{AreSaid};
+ghost use Rattle.run_text.specs.Zones.{zone_names_of};
 ghost use Rattle.run_text.specs.declared.refusal.Refusal.{Refusal};
 
 use crate::read::pass_file;
@@ -30,6 +32,13 @@ pub fn a_text_has_a_reading(text: &str)
 /// something, and the lines stand where the text has them; each command names what the run has, and the script is within its limits.
 pub fn each_run_is_sound()
     ensures { (text : List ℕ) (run : Run) → IsRunText text run → IsSoundRun (1 + length (lines_of text)) run }
+{}
+
+/// A law: each zone of a run has a name of its own, which isn't `UTC`. So a table's line names one zone at most.
+pub fn each_zone_has_a_name_of_its_own()
+    ensures distinct { (text : List ℕ) (run : Run) → IsRunText text run → AreDistinct (zone_names_of run.zones) }
+    ensures named { (text : List ℕ) (run : Run) → IsRunText text run
+        → AllByRecursion (λ (zone : NamedZone). IsZoneName zone.name × (zone.name ≢ codes "UTC")) run.zones }
 {}
 
 /// A law: a text has one frame at most, or is refused in one way at most, and never both.

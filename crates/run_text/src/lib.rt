@@ -28,7 +28,7 @@ mod zone;
 pub use laws::{
     a_frame_without_faults_is_a_run, a_text_has_a_frame, a_text_has_a_reading,
     a_text_has_one_frame, a_text_has_one_reading, each_frame_has_its_lines, each_run_is_its_frame,
-    each_run_is_sound,
+    each_run_is_sound, each_zone_has_a_name_of_its_own,
 };
 pub use read::{read_frame, read_run};
 pub use refusal::{Refusal, RunFault};
