@@ -4,7 +4,7 @@ use Rattle.std.specs.Prelude.{⊤, slice_get}
 use Rattle.std.proofs.Math.Seq.{take-length}
 use Rattle.std.proofs.lemmas.Option.{slice_get_within}
 use Rattle.disk_model.specs.Images.{Image}
-use Rattle.disk_model.specs.MemDisk.{left_by, seen_of}
+use Rattle.disk_model.specs.MemDisk.{left_by, seen_of, view_of}
 use Rattle.disk_model.specs.declared.mem_disk.MemDisk.{MemDisk}
 use Rattle.paxos_base.specs.declared.durable.Durable.{Durable}
 use Rattle.paxos_base.specs.declared.entry.Entry.{Entry}
@@ -36,7 +36,7 @@ module _ (bytes : List ℕ) (table : Table) (book : BookState) (nodes : List (No
   pub stops_stand : (who : ℕ) (node : Node MemDisk) (image : Image) → slice_get nodes who ≡ Some node → left_by (disk_of node) image
       → FilesStand (length table.jobs) (replica_of node).state.kept image
   stops_stand who node image found left =
-      stands_at_rest seen_of left_by (λ disk. ⊤) table node (run.kept.each who node found).at_rest tt image left
+      stands_at_rest view_of table node (run.kept.each who node found).at_rest tt image left
 
   pub keeps : (who : ℕ) (node : Node MemDisk) → slice_get nodes who ≡ Some node
       → (replica_of node).state.kept ≡ ((standing_behind table run.rows book).replicas who).kept

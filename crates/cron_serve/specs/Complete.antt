@@ -34,14 +34,16 @@ pub record EndsUndisturbed (output : Output) (source source' : SourceView) (sink
   pub written : ¬ Rose sink.faults sink'.faults
 
 -- the text that was asked for was written, and found room in the sink
-pub record HasRoomForText (output : Output) (source source' : SourceView) (sink sink' : SinkView) (book : BookState) (nodes : List (Node MemDisk)) (room : ℕ) : Type 0 where
+pub record HasRoomForText (output : Output) (source source' : SourceView) (sink sink' : SinkView) (book : BookState) (nodes : List (Node MemDisk))
+    (room : ℕ) : Type 0 where
   pub text : List ℕ
   pub of_input : IsTextOfInput output source source' book nodes text
   pub gained : HasGained sink sink' text
   pub taken : HasTakenAll room sink sink' text
 
 -- the text that was asked for is longer than the sink's room, and a front of it was written
-pub record LacksRoomForText (output : Output) (source source' : SourceView) (sink sink' : SinkView) (book : BookState) (nodes : List (Node MemDisk)) (room : ℕ) : Type 0 where
+pub record LacksRoomForText (output : Output) (source source' : SourceView) (sink sink' : SinkView) (book : BookState) (nodes : List (Node MemDisk))
+    (room : ℕ) : Type 0 where
   pub text : List ℕ
   pub of_input : IsTextOfInput output source source' book nodes text
   pub front : HasGainedPrefix sink sink' text

@@ -110,7 +110,8 @@ AfterLooks result old new = AfterLook result old new
 abbrev pub AfterWriteSynced : FileNo → ℕ → List ℕ → Result Unit DiskFault → Told → Told → Type 0
 AfterWriteSynced file at piece result old new =
     (IsErr result × AfterCall (after_write file at piece) (after_write file at piece) result old new)
-    ⊎ ((mid : Told) × AfterCall {T = Unit} (after_write file at piece) (after_write file at piece) (Ok tt) old mid × AfterCall (after_sync file) no_change result mid new)
+    ⊎ ((mid : Told) × AfterCall {T = Unit} (after_write file at piece) (after_write file at piece) (Ok tt) old mid
+    × AfterCall (after_sync file) no_change result mid new)
 
 -- ---- arming, and what a stop leaves
 

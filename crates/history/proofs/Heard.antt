@@ -27,7 +27,7 @@ use Rattle.agreement.proofs.Transitions.{IsFollowed}
 use Rattle.history.specs.Book.{PostedLetter, Row, standing_after}
 use Rattle.history.specs.Legal.{IsLegal}
 use Rattle.history.specs.Numbers.{AreRowsBelow, IsMessageWithin, IsVoteWithin}
-use Rattle.history.proofs.Books.{stands}
+use Rattle.history.proofs.BookLemmas.{stands}
 use Rattle.history.proofs.Launched.{few_launched}
 use Rattle.history.proofs.Within.{message_within}
 use Rattle.due_set.proofs.Rising.{Contains-head as in_first, Contains-tail as in_rest}

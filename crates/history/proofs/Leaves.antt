@@ -20,7 +20,7 @@ use Rattle.history.specs.Legal.{IsLegal, TakesTurn}
 use Rattle.history.specs.declared.turn.Cause.{Cause}
 use Rattle.history.proofs.Reached.{may_take}
 use Rattle.history.specs.Launches.{LeavesTable}
-use Rattle.history.proofs.Books.{stands}
+use Rattle.history.proofs.BookLemmas.{stands}
 use Rattle.history.proofs.TurnBounds.{step_all}
 
 -- rows in the place of all entries are the launch table

@@ -7,13 +7,12 @@
 --   is promised, voted for or learned (`Bounded`: `bounded_after`).
 -- - What is learned was chosen, so that for each slot below a prefix a vote was cast (`Bounded`: `prefix_low`).
 -- - So a step takes the bound one higher, and a start doesn't, and a turn has one step at most (`TurnBounds`:
---   `bounded_transition`; `Books`: `stands`).
+--   `bounded_transition`; `BookLemmas`: `stands`).
 -- - An entry raises the counts of a launch table by one at most (`Counts`: `applied_within`).
-
 pub mod Acts
 pub mod Agreement
 pub mod Asks
-pub mod Books
+pub mod BookLemmas
 pub mod Bounded
 pub mod Counts
 pub mod FrontLemmas

@@ -29,7 +29,7 @@ use Rattle.history.proofs.Reached.{may_take, reaches}
 use Rattle.history.proofs.Turns.{legal_push}
 use Rattle.history.specs.Steps.{step_row}
 use Rattle.history.proofs.Keeping.{votes_changed}
-use Rattle.history.proofs.Books.{stands}
+use Rattle.history.proofs.BookLemmas.{stands}
 use Rattle.history.proofs.Bounded.{Bounded}
 use Rattle.history.proofs.Spelled.{IsMessageOf, messages_of_members, spells_of}
 use Rattle.history.proofs.TurnBounds.{bounded_transition}

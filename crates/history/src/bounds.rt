@@ -155,7 +155,8 @@ pub fn a_step_goes_on_a_legal_book()
         (letters : List OutLetter) → members ≤ 7
         → IsLegal members table book → TakesTurn members table (standing_after members (first_rows table) book) who cause event
         → AllZip (IsSpelled 7 who) (letters_of (identity_of members who) (acts_at members (standing_after members (first_rows table) book) who event)) letters
-        → IsMade (standing_after members (first_rows table) book).held (calls_of (acts_at members (standing_after members (first_rows table) book) who event)) made
+        → IsMade (standing_after members (first_rows table) book).held
+        (calls_of (acts_at members (standing_after members (first_rows table) book) who event)) made
         → IsLegal members table (book
         ++ step_row who cause made event (deltas_of (acts_at members (standing_after members (first_rows table) book) who event)) letters
         (learnt_of (acts_at members (standing_after members (first_rows table) book) who event)) ∷ []) }

@@ -38,7 +38,7 @@ use Rattle.history.specs.declared.turn.Turn.TheVariants.{Did, Stopped, Restarted
 use Rattle.history.proofs.Acts.{cast_rows}
 use Rattle.history.proofs.Reached.{heard_event}
 use Rattle.history.proofs.Standings.{call_asked}
-use Rattle.launch_safety.proofs.Logs.{Stands}
+use Rattle.launch_safety.proofs.LogLemmas.{Stands}
 use Rattle.history.proofs.PlainLemmas.{AsksFor, step_calls, votes_of_deltas}
 use Rattle.launch_safety.proofs.CallLemmas.{call_read}
 use Rattle.launch_safety.specs.Asked.{ReadsAt, TicksAt, state_before}

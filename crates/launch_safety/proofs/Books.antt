@@ -35,7 +35,7 @@ use Rattle.history.proofs.Agreement.{book_log, cut_is_legal}
 use Rattle.history.proofs.Standings.{call_asked, names_once}
 use Rattle.launch_safety.specs.Fitting.{TakesEffectAt}
 use Rattle.launch_safety.proofs.Invariant.{SaysHeld, Fitting, first_fitting, says_more, works_more}
-use Rattle.launch_safety.proofs.Logs.{log_goes_on}
+use Rattle.launch_safety.proofs.LogLemmas.{log_goes_on}
 use Rattle.history.proofs.PlainLemmas.{votes_of_deltas}
 use Rattle.launch_safety.proofs.Turns.{turn_calls, turn_votes}
 use Rattle.due_set.proofs.Rising.{Contains-head as in_first, Contains-tail as in_rest, Contains-cases as cons_cases}

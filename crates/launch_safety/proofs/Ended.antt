@@ -12,7 +12,7 @@ use Rattle.history.specs.Legal.{IsLegal}
 use Rattle.history.proofs.Turns.{Book}
 use Rattle.launch_safety.specs.Parts.{EndsAs}
 use Rattle.launch_safety.proofs.Alone.{Stands, leading}
-use Rattle.launch_safety.proofs.Logs.{learned_stands}
+use Rattle.launch_safety.proofs.LogLemmas.{learned_stands}
 use Rattle.launch_safety.proofs.Whole.{log_takes}
 
 pub ends_where_learned : (n : ℕ) (table : Table) (book : List Row) (who : ℕ) (front back : List Entry) (job : ℕ) (at : ℤ) (kind : Kind) → n ≤ 7 → IsLegal n table book

@@ -3,7 +3,7 @@
 -- What the scheduler holds fits the log of each legal book, turn by turn:
 -- - A step calls and proposes by its first act alone, as the replica stands; its other votes were asked for in a
 --   letter (`history::PlainLemmas`: `step_plain`, `step_calls`, `step_origin`).
--- - More votes leave what is chosen, so the log of later turns goes on after the log of earlier ones (`Logs`:
+-- - More votes leave what is chosen, so the log of later turns goes on after the log of earlier ones (`LogLemmas`:
 --   `log_goes_on`).
 -- - A replica's launch table is that of a prefix of the log, so what it calls was started there: the row is backed
 --   (`Turns`: `turn_calls`).
@@ -31,7 +31,6 @@
 --   (`Asking`: `row_votes`, `row_call`).
 -- - This holds turn by turn (`WholeReadings`: `next_asked`, `book_asked`).
 -- - A replica that doesn't stop forgets nothing that it has learned (`Rises`: `rises`).
-
 pub mod Alone
 pub mod Asking
 pub mod Books
@@ -43,7 +42,7 @@ pub mod Ended
 pub mod FitLemmas
 pub mod InTime
 pub mod Invariant
-pub mod Logs
+pub mod LogLemmas
 pub mod Offers
 pub mod OnceLemmas
 pub mod OrderLemmas

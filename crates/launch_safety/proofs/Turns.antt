@@ -40,7 +40,7 @@ use Rattle.history.proofs.Agreement.{agrees, stands}
 use Rattle.history.proofs.Reached.{Matches}
 use Rattle.launch_safety.specs.Fitting.{TakesEffectAt}
 use Rattle.launch_safety.proofs.Invariant.{SaysHeld, Fitting}
-use Rattle.launch_safety.proofs.Logs.{Stands}
+use Rattle.launch_safety.proofs.LogLemmas.{Stands}
 use Rattle.history.proofs.PlainLemmas.{step_calls, step_origin}
 use Rattle.due_set.proofs.Rising.{Contains-head as in_first, Contains-cases as cons_cases}
 

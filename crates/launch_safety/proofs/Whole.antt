@@ -26,7 +26,7 @@ use Rattle.history.proofs.Agreement.{book_log, cut_is_legal}
 use Rattle.launch_safety.specs.Fitting.{FitsItsLog, TakesEffectAt, held_in}
 use Rattle.launch_safety.proofs.Books.{book_fitted}
 use Rattle.launch_safety.proofs.Invariant.{SaysHeld, Fitting}
-use Rattle.launch_safety.proofs.Logs.{chosen_there, log_goes_on}
+use Rattle.launch_safety.proofs.LogLemmas.{chosen_there, log_goes_on}
 
 module _ (n : ℕ) (table : Table) (book : List Row) (few : n ≤ 7) (legal : IsLegal n table book) (log : List Entry) (is_log : IsLog n (votes_in book) log) where
   pub fits : Fitting table log (votes_in book) (standing_after n (first_rows table) book)

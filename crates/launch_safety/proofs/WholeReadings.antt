@@ -31,7 +31,7 @@ use Rattle.history.specs.declared.turn.Turn.{Turn}
 use Rattle.history.specs.declared.turn.Turn.TheVariants.{Did, Stopped, Restarted, Arrived}
 use Rattle.history.proofs.Acts.{cast_rows}
 use Rattle.history.proofs.Agreement.{cut_is_legal}
-use Rattle.launch_safety.proofs.Logs.{chosen_there}
+use Rattle.launch_safety.proofs.LogLemmas.{chosen_there}
 use Rattle.launch_safety.specs.Readings.{AreTurnsBy, IsTurnBy, ReadsBy}
 use Rattle.launch_safety.specs.Asked.{IsAskedAt, ReadsAt, TicksAt}
 use Rattle.launch_safety.proofs.Asking.{AsksEntry, AsksIn, row_call, row_votes}

@@ -85,7 +85,8 @@ impl Core {
         requires of_table { IsOfTable table.now (replica_of_core self.old) }
         requires inside { IsInputInside table.now input }
         ensures alike { IsAlikeCore self.new self.old }
-        ensures planned { IfOk result (λ effects. PlansStep table.now input.entry (replica_of_core self.old) (record { draft = draft.new; effects = effects })) }
+        ensures planned { IfOk result (λ effects. PlansStep table.now input.entry (replica_of_core self.old)
+            (record { draft = draft.new; effects = effects })) }
         ensures can { IfOk result (λ effects. CanTake table.now (replica_of_core self.new) (record { draft = draft.new; effects = effects })) }
         ensures fault { fault_told result ≡ fault_in self.old.members input.entry }
     {

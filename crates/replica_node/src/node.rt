@@ -189,7 +189,8 @@ impl<D: Disk> Node<D> {
             → IsRecoverableAround table.now input.entry (replica_of self.old) (D.view.may_leave (disk_of self.new)) }
         // At Ok each call of the disk was made that saves the step's change, and at a fault of the disk they broke off there.
         ensures told { (own : Option ℕ) (change : Option Delta) → RecordsStand self.old own → IsChangeOf table.now input.entry (replica_of self.old) change
-            → TellsThen (MadeCalls of_disk_answer (disk_calls_for self.old own change) result) (D.view.told (disk_of self.old)) (D.view.told (disk_of self.new)) }
+            → TellsThen (MadeCalls of_disk_answer (disk_calls_for self.old own change) result) (D.view.told (disk_of self.old))
+            (D.view.told (disk_of self.new)) }
         ensures answer { HasNodeAnswer D.view (disk_of self.old) (disk_of self.new) result }
     {
         let planned = self.replica.plan(table, input)?;

@@ -37,7 +37,8 @@ abbrev pub save_calls : FileNo → ℕ → Durable → Option ℕ → Delta → 
 save_calls area count kept own (Tried ballot) = record_calls area count (delta_record (Tried ballot))
 save_calls area count kept own (Promised ballot) = record_calls area count (delta_record (Promised ballot))
 save_calls area count kept own (Voted vote) = record_calls area count (delta_record (Voted vote))
-save_calls area count kept own (Base slot rows) = rewrite_calls (other_area area) (map record_bytes (base_records kept own slot rows)) ++ choose_calls (other_area area)
+save_calls area count kept own (Base slot rows) =
+    rewrite_calls (other_area area) (map record_bytes (base_records kept own slot rows)) ++ choose_calls (other_area area)
 
 -- the area that has the records after a change
 abbrev pub area_after : Delta → FileNo → FileNo

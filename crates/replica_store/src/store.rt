@@ -133,7 +133,8 @@ impl Store {
             (D.view.told disk.old) (D.view.told disk.new) }
         // What is said of a stop within it asks that its records are spelled.
         ensures spelled { (item : Record) → delta_record delta.now ≡ Some item → IsRecord (record_bytes item) item }
-        ensures base_spelled { (kept : Durable) (own : Option ℕ) (slot : ℕ) (rows : List JobRow) → StandFor (jobs_of_store self.old) (records_of self.old) kept own
+        ensures base_spelled { (kept : Durable) (own : Option ℕ) (slot : ℕ) (rows : List JobRow)
+            → StandFor (jobs_of_store self.old) (records_of self.old) kept own
             → delta.now ≡ Base slot rows → IsErrOf result Stopped
             → AreRecords (map record_bytes (base_records kept own slot rows)) (base_records kept own slot rows) }
         ensures answer { HasStoreAnswer D.view disk.old disk.new result }

@@ -18,7 +18,7 @@ use Rattle.history.specs.Book.{Row, Standing, after_row, first_standing, standin
 use Rattle.history.specs.Legal.{IsLegal}
 use Rattle.history.proofs.Agreement.{book_log, stands}
 use Rattle.launch_safety.specs.Fitting.{held_in}
-use Rattle.launch_safety.proofs.Logs.{log_goes_on}
+use Rattle.launch_safety.proofs.LogLemmas.{log_goes_on}
 use Rattle.launch_safety.specs.Readings.{AreTurnsBy, IsTurnBy}
 use Rattle.launch_safety.proofs.ReadLemmas.{stays_held}
 

@@ -12,7 +12,7 @@
 -- - If a replica's launch table asks for nothing at an instant, each due instant up to it has ended in the log
 --   (`SettledLemmas`: `table_of`, `over`).
 -- - A walk past an instant comes to such a table at it before a clock reads a later one: it is drained there, or
---   asks for nothing there (`Whole`: `walks_past`, `passes`).
+--   asks for nothing there (`WalkWhole`: `walks_past`, `passes`).
 -- - So the row that is held for it was called no later and no sooner than at it, and its kind is a launch; with long
 --   grace that holds of each row (`SettledLemmas`: `called`, `launched`).
 -- - Three rounds drain a minute of a job that is due at each: its start, its call, its end (`SomeRounds`:
@@ -54,18 +54,17 @@
 --   made still (`Unscripted`: `up`, `not_last`, `below`).
 -- - So it isn't open any more, since it could be called then; and what ended it was called no later and no sooner
 --   than at its reading (`Unscripted`: `not_open`, `no_later`, `no_sooner`, `called_then`).
--- - So nothing is barred (`Dates`: `not_started`, `not_voided`).
+-- - So nothing is barred (`OpenedDates`: `not_started`, `not_voided`).
 -- - Starts stand in the log in the order of their readings, so what a launch table remembers as a job's last launch
---   is the last that was called before (`Unscripted`: `in_order`; `Dates`: `launched_before`, `last_called`,
+--   is the last that was called before (`Unscripted`: `in_order`; `OpenedDates`: `launched_before`, `last_called`,
 --   `opened_by`).
 -- - Three rounds drain the minute of a job that may open: its start, its call, its end (`SomeDaily`: `opens`;
 --   `SomeTurns`: `starts`, `calls`, `ends`; `SomeDate`: `launches`, `some_date`).
-
 pub mod DateLemmas
-pub mod Dates
 pub mod DrainLemmas
 pub mod FrontLemmas
 pub mod Minutes
+pub mod OpenedDates
 pub mod PartLemmas
 pub mod Passed
 pub mod QuietDrainLemmas
@@ -85,6 +84,6 @@ pub mod SomeWhole
 pub mod SpanLemmas
 pub mod Unscripted
 pub mod WalkLemmas
-pub mod Whole
+pub mod WalkWhole
 pub mod WholeDates
 pub mod WholeLemmas

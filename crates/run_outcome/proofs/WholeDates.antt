@@ -23,10 +23,10 @@ use Rattle.script_semantics.specs.Script.{Obeys}
 use Rattle.run_outcome.specs.Readings.{script_turns}
 use Rattle.launch_safety.specs.Readings.{AreTurnsBy, IsTurnBy}
 use Rattle.run_outcome.proofs.SettledLemmas.{called_held}
-use Rattle.run_outcome.proofs.Whole.{each_called, passes}
+use Rattle.run_outcome.proofs.WalkWhole.{each_called, passes}
 use Rattle.run_outcome.specs.Barred.{IsBarred}
 use Rattle.run_outcome.proofs.DateLemmas.{on_date}
-use Rattle.run_outcome.proofs.Dates.{none_barred, opened_by, started_row}
+use Rattle.run_outcome.proofs.OpenedDates.{none_barred, opened_by, started_row}
 use Rattle.run_outcome.proofs.Minutes.{all_drained}
 
 pub each_date : (n : ℕ) (table : Table) (script : List Command) (rows : List Row) (obeyed : Obeys n table script rows) (job : ℕ) (now date : ℤ) → n ≤ 7 → IsLegal n table rows

@@ -12,7 +12,7 @@ use Rattle.history.proofs.Agreement.{agrees, book_log, cut_is_legal}
 use Rattle.launch_safety.proofs.Whole.{cut_fits, log_takes, table_left}
 use Rattle.script_semantics.specs.Script.{Obeys}
 use Rattle.settling.specs.Rounds.{IsWithinBounds}
-use Rattle.run_outcome.proofs.Whole.{each_called, each_ended, each_launched}
+use Rattle.run_outcome.proofs.WalkWhole.{each_called, each_ended, each_launched}
 use Rattle.run_outcome.proofs.ScriptLemmas.{script_calls, script_ends, script_learned, script_starts}
 use Rattle.run_outcome.specs.Whole.{HaveLearnedAll, IsWholeRun}
 

@@ -1,8 +1,7 @@
 -- A world that has settled, or walked, within its limits.
-use Rattle.std.specs.Prelude.{⊤}
 use Rattle.std.proofs.Common.{◌≡◌, ℕ, ◌<◌, List, ◌++◌, ℤ, subst, arith}
 use Rattle.zone_minutes.specs.Window.{IsInWindow}
-use Rattle.disk_model.specs.MemDisk.{left_by, seen_of, told_of}
+use Rattle.disk_model.specs.MemDisk.{view_of}
 use Rattle.disk_model.specs.declared.mem_disk.MemDisk.{MemDisk}
 use Rattle.due_set.specs.Table.{Table}
 use Rattle.paxos_base.specs.declared.entry.Entry.{Entry}
@@ -24,7 +23,7 @@ use Rattle.script_play.specs.Play.{IsMemWorldAt}
 -- the limits of a world are those of legal books
 pub within : (table : Table) (rows : List Row) (world : World MemDisk) (situation : Situation) → IsMemWorldAt table rows world situation
     → IsBookBounded (book_of world) → IsWithinBounds rows situation.standing.posted
-within table rows world situation is bounded = within_bounds seen_of left_by (λ disk. ⊤) told_of table rows world situation is bounded
+within table rows world situation is bounded = within_bounds view_of table rows world situation is bounded
 
 module _ (table : Table) (rows more : List Row) (situation after : Situation) (old new : World MemDisk) (was : IsMemWorldAt table rows old situation)
     (is : IsMemWorldAt table (rows ++ more) new after) (some : 0 < (book_of old).members) (same : (book_of new).members ≡ (book_of old).members)

@@ -40,7 +40,8 @@ IsPlayable window members command = IsTaken window members command
 
 -- The part of the command of a place begins at this number of turns, where so many were taken before the script: the
 -- rows in front of it are the parts of the commands before it.
-pub record PartBegins (members : ℕ) (table : Table) (script : List Command) (first : ℕ) (situation : Situation) (rows : List Row) (place start : ℕ) : Type 0 where
+pub record PartBegins (members : ℕ) (table : Table) (script : List Command) (first : ℕ) (situation : Situation) (rows : List Row)
+    (place start : ℕ) : Type 0 where
   pub front : List Row
   pub back : List Row
   pub middle : Situation
@@ -50,7 +51,8 @@ pub record PartBegins (members : ℕ) (table : Table) (script : List Command) (f
 
 -- The rows are the parts of commands, one after another, which begin at these numbers of turns, where so many were
 -- taken before them.
-pub record ArePartsFrom (members : ℕ) (table : Table) (script : List Command) (first : ℕ) (starts : List ℕ) (situation : Situation) (rows : List Row) (after : Situation) : Type 0 where
+pub record ArePartsFrom (members : ℕ) (table : Table) (script : List Command) (first : ℕ) (starts : List ℕ) (situation : Situation) (rows : List Row)
+    (after : Situation) : Type 0 where
   pub parts : ArePartsOf members table script situation rows after
   pub count : length starts ≡ length script
   pub each : (place : ℕ) → place < length starts → PartBegins members table script first situation rows place (get_or starts place 0)

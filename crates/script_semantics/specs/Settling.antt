@@ -120,7 +120,7 @@ abbrev pub AsksNothingUntil : Table → (above to : ℤ) → State → Type 0
 AsksNothingUntil table above to state = (minute : ℤ) → above <ℤ minute → minute ≤ℤ to → AsksNothing table minute state
 
 -- so many minutes at which there is something to do, each drained, and none after them
-abbrev pub WalksIn : ℕ → ℕ → Table → (who : ℕ) → (above to : ℤ) → Situation → List Row → Situation → Type 0
+abbrev pub WalksIn : ℕ → ℕ → Table → (who : ℕ) → (above to : ℤ) → (Situation → List Row → Situation → Type 0)
 WalksIn zero members table who above to situation rows after =
     EndsAt (λ here. AsksNothingUntil table above to (here.standing.replicas who)) situation rows after
 WalksIn (suc more) members table who above to situation rows after =

@@ -13,7 +13,7 @@ use Rattle.history.specs.Book.{Row, Standing, after_row, first_standing, standin
 use Rattle.history.specs.Legal.{IsLegal, MayFollow}
 use Rattle.history.proofs.Agreement.{cut_is_legal}
 use Rattle.history.proofs.Turns.{AllFollow, after_rows}
-use Rattle.history.proofs.Books.{stands}
+use Rattle.history.proofs.BookLemmas.{stands}
 use Rattle.history.proofs.Heard.{letters_small}
 use Rattle.script_semantics.specs.Situation.{Situation, after_turn, after_turns}
 use Rattle.settling.specs.Rounds.{IsWithinBounds}

@@ -39,17 +39,20 @@ free_next members leader best at now advice answers calm free advised =
 
 -- ---- an answer waits
 
-pub answer_next : (members leader : ℕ) (best : List Vote) (at : Progress) (row : SchedRow) (now : ℤ) (advice : ℕ → Advice) (answers : ℕ → Option SchedRow) (calm : Calm) → IsAnswerable members leader best at row calm → IsAdvised members at.table now advice calm → HasAnswered members leader best at (End row.name.job row.name.at row.kind) now advice calm (calm_round members now advice answers calm)
+pub answer_next : (members leader : ℕ) (best : List Vote) (at : Progress) (row : SchedRow) (now : ℤ) (advice : ℕ → Advice) (answers : ℕ → Option SchedRow) (calm : Calm) → IsAnswerable members leader best at row calm → IsAdvised members at.table now advice calm → (answered : HasAnswered members leader best at now advice calm (calm_round members now advice answers calm))
+    × (answered.proposed.entry ≡ End row.name.job row.name.at row.kind)
 unfolding step answer
-answer_next members leader best at row now advice answers calm able advised = record {
-  proposed = next_entry at able.free.sound entry;
-  is = refl;
-  needed = inr (takes_end at.rows row.name.job row.name.at able.open_there);
-  asked = λ who below apart. occurs_next members now advice answers calm leader who (Accept (asked_vote made)) member
-      (subst (λ waits. Occurs (letters_to self who (answer_events waits rows ++ rest) old) leader (Accept (asked_vote made))) (sym able.waits)
-      (occurs_left (letter_from leader (sent_to leader who acts)) (letters_to self who rest first) leader (Accept (asked_vote made)) (asks_in self at entry acts who is apart)));
-  came = came (comes_to made (λ q. (q ≡ leader) ⊎ Occurs mail q (Accepted at.ballot at.prefix)) now advice answers calm (omega arith) able.free.ruled able.free.sound advised goes);
-}
+answer_next members leader best at row now advice answers calm able advised = (
+  record {
+    proposed = next_entry at able.free.sound entry;
+    needed = inr (takes_end at.rows row.name.job row.name.at able.open_there);
+    asked = λ who below apart. occurs_next members now advice answers calm leader who (Accept (asked_vote made)) member
+        (subst (λ waits. Occurs (letters_to self who (answer_events waits rows ++ rest) old) leader (Accept (asked_vote made))) (sym able.waits)
+        (occurs_left (letter_from leader (sent_to leader who acts)) (letters_to self who rest first) leader (Accept (asked_vote made)) (asks_in self at entry acts who is apart)));
+    came = came (comes_to made (λ q. (q ≡ leader) ⊎ Occurs mail q (Accepted at.ballot at.prefix)) now advice answers calm (omega arith) able.free.ruled able.free.sound advised goes);
+  },
+  refl,
+)
   where
     self : Identity
     self = identity_of members leader

@@ -1,7 +1,6 @@
 -- What a round makes of a leader that leads alone.
 use Rattle.std.specs.Prelude.{◌≡◌, ◌⊎◌, ℕ, ◌+◌, ◌≤◌, true, List, [], ◌∷◌, Option, None, Some, ℤ}
 use Rattle.paxos_base.specs.Vote.{votes_from}
-use Rattle.paxos_base.specs.declared.entry.Entry.{Entry}
 use Rattle.paxos_base.specs.declared.entry.Vote.{Vote}
 use Rattle.paxos_base.specs.declared.rows.JobRow.{JobRow}
 use Rattle.cluster_sched.specs.declared.row.SchedRow.{SchedRow}
@@ -58,10 +57,9 @@ pub record IsAnswerable (members leader : ℕ) (best : List Vote) (at : Progress
   pub unbound : votes_from at.prefix best ≡ []
   pub open_there : is_open row.name.job row.name.at at.rows ≡ true
 
--- It has proposed the entry, which is needed, and all others are asked for their votes; it is under way, or learned already.
-pub record HasAnswered (members leader : ℕ) (best : List Vote) (at : Progress) (entry : Entry) (now : ℤ) (advice : ℕ → Advice) (calm next : Calm) : Type 0 where
+-- It has proposed an entry, which is needed, and all others are asked for their votes; it is under way, or learned already.
+pub record HasAnswered (members leader : ℕ) (best : List Vote) (at : Progress) (now : ℤ) (advice : ℕ → Advice) (calm next : Calm) : Type 0 where
   pub proposed : NextEntry at
-  pub is : proposed.entry ≡ entry
   pub needed : IsNeeded (proposal_of (identity_of members leader) best at proposed 0)
   pub asked : IsAsked members leader (asked_vote (proposal_of (identity_of members leader) best at proposed 0)) next
   pub came : WaitsOn (proposal_of (identity_of members leader) best at proposed 0) now advice calm next

@@ -64,7 +64,8 @@ pub fn an_answer_is_proposed()
     ensures { (members leader : ℕ) (best : List Vote) (at : Progress) (row : SchedRow) (now : ℤ) (advice : ℕ → Advice) (answers : ℕ → Option SchedRow)
         (calm : Calm)
         → IsAnswerable members leader best at row calm → IsAdvised members at.table now advice calm
-        → HasAnswered members leader best at (End row.name.job row.name.at row.kind) now advice calm (calm_round members now advice answers calm) }
+        → (answered : HasAnswered members leader best at now advice calm (calm_round members now advice answers calm))
+        × (answered.proposed.entry ≡ End row.name.job row.name.at row.kind) }
 {}
 
 /// One that leads once it has heard its mail, and leads alone after the round, is at a stage then: it has begun something at its tick.

@@ -1,7 +1,8 @@
 //! What each line of an anacrontab says.
 use crate::anacrontab_rows::{JOBS, JOINED, VARIABLES};
 use crate::rows::{short, sides};
-use anacron_text::{AnaBody, AnaLine, AnaLines, PeriodWord, read_number};
+use anacron_text::{AnaBody, AnaLine, AnaLines, PeriodWord};
+use cron_io::read_number;
 use crontab_text::LineFault;
 use std::alloc::{AllocError, Global};
 use std::test::Fail;

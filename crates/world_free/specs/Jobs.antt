@@ -115,7 +115,8 @@ pub record IsStepper {D : Type 0} (view : DiskView D) (plan : FreePlan) (book : 
 
 -- **The disk of the replica has stopped within the step for the cause that was next**, and the node was attached again; the stop is no turn
 -- yet.
-pub record IsStopper {D : Type 0} (view : DiskView D) (plan : FreePlan) (book : SharedBook) (who taken : ℕ) (cause : Cause) (change : Option Delta) (job : FreeJob D) : Type 0 where
+pub record IsStopper {D : Type 0} (view : DiskView D) (plan : FreePlan) (book : SharedBook) (who taken : ℕ) (cause : Cause) (change : Option Delta)
+    (job : FreeJob D) : Type 0 where
   pub of_plan : IsOfPlan plan book
   pub after : List BookRow
   pub seat : IsSeatAt book who after job.seat

@@ -50,7 +50,8 @@ pub record KeepsSet (old new : FreeMail) : Type 0 where
 pub record HasLooked (cuts : List (ℕ × ℕ)) (letters : List LetterRow) (who : ℕ) (taken : Taken) (old new : FreeMail) : Type 0 where
   pub set : KeepsSet old new
   pub letters_are : new.mail.letters.items
-      ≡ mail_behind taken.cause old.mail.letters.items ++ coming cuts who (posted_with letters who taken) old.looked (length (posted_with letters who taken) - old.looked)
+      ≡ mail_behind taken.cause old.mail.letters.items
+      ++ coming cuts who (posted_with letters who taken) old.looked (length (posted_with letters who taken) - old.looked)
   pub looked : new.looked ≡ length (posted_with letters who taken)
   pub bytes : HasFirstBytes (posted_with letters who taken) new
 

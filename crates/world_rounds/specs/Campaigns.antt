@@ -12,7 +12,8 @@ use Rattle.world_rounds.specs.World.{IsMemberAhead}
 use Rattle.world_rounds.specs.declared.member.Member.{Member}
 
 -- the replica is ahead of the book by its campaign
-pub record HasStood {D : Type 0} (view : DiskView D) (table : Table) (rows : List Row) (book : BookState) (situation : Situation) (who : ℕ) (member : Member D) : Type 0 where
+pub record HasStood {D : Type 0} (view : DiskView D) (table : Table) (rows : List Row) (book : BookState) (situation : Situation) (who : ℕ)
+    (member : Member D) : Type 0 where
   pub ahead : IsMemberAhead view table rows book situation who member.steps.items member
   pub causes : causes_of member.steps.items ≡ Campaign ∷ []
 

@@ -13,12 +13,14 @@ use Rattle.world_steps.specs.Steps.{IsBeside, waits_in}
 use Rattle.world_steps.specs.declared.steps.Taken.{Taken}
 
 -- a node takes the answer that waits for it, where one does
-pub record MayTakeAnswer {D : Type 0} (view : DiskView D) (table : Table) (rows : List Row) (book : BookState) (who : ℕ) (waits : Option SchedRow) (node : Node D) : Type 0 where
+pub record MayTakeAnswer {D : Type 0} (view : DiskView D) (table : Table) (rows : List Row) (book : BookState) (who : ℕ) (waits : Option SchedRow)
+    (node : Node D) : Type 0 where
   pub beside : IsBeside view table rows book who [] node
   pub waiting : waits ≡ waits_in table rows book who
 
 -- it hears letters that go to it
-pub record MayHear {D : Type 0} (view : DiskView D) (table : Table) (rows : List Row) (book : BookState) (who : ℕ) (steps : List Taken) (node : Node D) (letters : List ℕ) : Type 0 where
+pub record MayHear {D : Type 0} (view : DiskView D) (table : Table) (rows : List Row) (book : BookState) (who : ℕ) (steps : List Taken)
+    (node : Node D) (letters : List ℕ) : Type 0 where
   pub beside : IsBeside view table rows book who steps node
   pub sent : (number : ℕ) → Contains letters number → IsSentTo book.letters who number
 

@@ -60,7 +60,8 @@ letters_behind (Hear number) letters = drop 1 letters
 letters_behind cause letters = letters
 
 -- the disk has stopped within the step, and no step waits to become a turn
-pub record HasBroken {D : Type 0} (view : DiskView D) (table : Table) (rows : List Row) (book : BookState) (situation : Situation) (who : ℕ) (cause : Cause) (answer : Option Delta) (new : Member D) : Type 0 where
+pub record HasBroken {D : Type 0} (view : DiskView D) (table : Table) (rows : List Row) (book : BookState) (situation : Situation) (who : ℕ)
+    (cause : Cause) (answer : Option Delta) (new : Member D) : Type 0 where
   pub arm : Arm
   pub armed : armed_in (Some arm) ≡ situation.arms who
   pub stopped : HasStopped view table rows book who cause arm answer new.node
@@ -79,7 +80,8 @@ KeepsRest (outcome.Taken taken) old new = new.steps ≡ old.steps
 KeepsRest (outcome.Stopped answer) old new = new.mail ≡ old.mail
 
 -- the disk of a replica of the world has stopped within a step: all else is as before the step
-pub record MayCommitStopped {D : Type 0} (view : DiskView D) (table : Table) (rows : List Row) (world : World D) (situation : Situation) (who : ℕ) (cause : Cause) (arm : Arm) (answer : Option Delta) : Type 0 where
+pub record MayCommitStopped {D : Type 0} (view : DiskView D) (table : Table) (rows : List Row) (world : World D) (situation : Situation) (who : ℕ)
+    (cause : Cause) (arm : Arm) (answer : Option Delta) : Type 0 where
   pub before : World D
   pub is : IsWorldAt view table rows before situation
   pub may : MayStepFor table.window situation who cause
@@ -103,7 +105,8 @@ goes_on (Stopped who cause kept) = false
 goes_on turn = true
 
 -- The world has taken the turn of a replica's step, and no letter of it has joined a mail yet.
-pub record HasStepped {D : Type 0} (view : DiskView D) (table : Table) (members : ℕ) (rows : List Row) (situation : Situation) (who : ℕ) (cause : Cause) (goes : Bool) (new : World D) : Type 0 where
+pub record HasStepped {D : Type 0} (view : DiskView D) (table : Table) (members : ℕ) (rows : List Row) (situation : Situation) (who : ℕ)
+    (cause : Cause) (goes : Bool) (new : World D) : Type 0 where
   pub row : Row
   pub turn : IsTurnByArm members situation (Do who cause) row
   pub goes_is : goes_on row.turn ≡ goes
@@ -124,21 +127,24 @@ LeadsOn members who situation tasks rows goes =
     → AreTurnsByArms members situation (tasks ++ more) (rows ++ rest)
 
 -- The world has taken such turns. Where the replica goes on it runs.
-pub record IsLed {D : Type 0} (view : DiskView D) (table : Table) (members : ℕ) (rows : List Row) (situation : Situation) (who : ℕ) (tasks : List Task) (goes : Bool) (new : World D) : Type 0 where
+pub record IsLed {D : Type 0} (view : DiskView D) (table : Table) (members : ℕ) (rows : List Row) (situation : Situation) (who : ℕ)
+    (tasks : List Task) (goes : Bool) (new : World D) : Type 0 where
   pub more : List Row
   pub leads : LeadsOn members who situation tasks more goes
   pub at : IsWorldAt view table (rows ++ more) new (after_turns members situation more)
   pub runs : goes ≡ true → (after_turns members situation more).standing.runs who ≡ true
 
 -- so it has, and where the replica goes on its mail is as it was
-pub record IsLedOn {D : Type 0} (view : DiskView D) (table : Table) (members : ℕ) (rows : List Row) (situation : Situation) (who : ℕ) (tasks : List Task) (goes : Bool) (new : World D) : Type 0 where
+pub record IsLedOn {D : Type 0} (view : DiskView D) (table : Table) (members : ℕ) (rows : List Row) (situation : Situation) (who : ℕ)
+    (tasks : List Task) (goes : Bool) (new : World D) : Type 0 where
   pub led : IsLed view table members rows situation who tasks goes new
   pub mail : goes ≡ true → (after_turns members situation led.more).mails who ≡ situation.mails who
 
 -- ---- the turns of all
 
 -- the world has taken the turns of these tasks, and no letter of them has joined a mail yet
-pub record HasPassed {D : Type 0} (view : DiskView D) (table : Table) (members : ℕ) (rows : List Row) (situation : Situation) (tasks : List Task) (new : World D) : Type 0 where
+pub record HasPassed {D : Type 0} (view : DiskView D) (table : Table) (members : ℕ) (rows : List Row) (situation : Situation) (tasks : List Task)
+    (new : World D) : Type 0 where
   pub more : List Row
   pub turns : AreTurnsByArms members situation tasks more
   pub at : IsWorldAt view table (rows ++ more) new (after_turns members situation more)

@@ -15,7 +15,8 @@ use Rattle.world_rounds.specs.declared.member.Member.{Member}
 use Rattle.world_rounds.specs.declared.world.World.{World}
 
 -- a replica beside a book at rest that has taken no step since
-pub record IsMemberIdle {D : Type 0} (view : DiskView D) (table : Table) (rows : List Row) (book : BookState) (situation : Situation) (who : ℕ) (member : Member D) : Type 0 where
+pub record IsMemberIdle {D : Type 0} (view : DiskView D) (table : Table) (rows : List Row) (book : BookState) (situation : Situation) (who : ℕ)
+    (member : Member D) : Type 0 where
   pub at : IsBookAt table rows book situation
   pub ahead : IsMemberAhead view table rows book situation who [] member
   pub none : member.steps.items ≡ []
@@ -28,7 +29,8 @@ pub record MayTakeRound {D : Type 0} (view : DiskView D) (table : Table) (book :
   pub idle : IsMemberIdle view table rows book situation who member
 
 -- the replica has taken the steps of a round, and is ahead of the book by them
-pub record HasTakenRound {D : Type 0} (view : DiskView D) (table : Table) (rows : List Row) (book : BookState) (situation : Situation) (at : ℤ) (who : ℕ) (member : Member D) : Type 0 where
+pub record HasTakenRound {D : Type 0} (view : DiskView D) (table : Table) (rows : List Row) (book : BookState) (situation : Situation) (at : ℤ)
+    (who : ℕ) (member : Member D) : Type 0 where
   pub ahead : IsMemberAhead view table rows book situation who member.steps.items member
   pub tasks : tasks_by who (causes_of member.steps.items) ≡ tasks_of table.window at situation who
 

@@ -16,7 +16,8 @@ abbrev pub tasks_by : ℕ → List Cause → List Task
 tasks_by who causes = map (Do who) causes
 
 -- the turns of these tasks have been taken, and these steps are left
-pub record HasTakenTurns {D : Type 0} (view : DiskView D) (table : Table) (members : ℕ) (rows : List Row) (situation : Situation) (tasks : List Task) (left : ℕ → List Taken) (world : World D) : Type 0 where
+pub record HasTakenTurns {D : Type 0} (view : DiskView D) (table : Table) (members : ℕ) (rows : List Row) (situation : Situation) (tasks : List Task)
+    (left : ℕ → List Taken) (world : World D) : Type 0 where
   pub members_are : (book_of world).members ≡ members
   pub more : List Row
   pub turns : AreTurnsFor members situation tasks more

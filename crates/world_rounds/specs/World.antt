@@ -14,13 +14,16 @@ use Rattle.world_rounds.specs.declared.world.World.{World}
 use Rattle.zone_minutes.specs.declared.minute.Minute.{Minute}
 
 -- a replica of the world, which may be some steps ahead of the book
-pub record IsMemberAhead {D : Type 0} (view : DiskView D) (table : Table) (rows : List Row) (book : BookState) (situation : Situation) (who : ℕ) (steps : List Taken) (member : Member D) : Type 0 where
+pub record IsMemberAhead {D : Type 0} (view : DiskView D) (table : Table) (rows : List Row) (book : BookState) (situation : Situation) (who : ℕ)
+    (steps : List Taken) (member : Member D) : Type 0 where
   pub mail : IsMailOf book.letters situation who (letters_heard_in (causes_of steps)) member.mail
   pub running : (standing_behind table rows book).runs who ≡ true → IsNodeAhead view table rows book who steps member.node
-  pub stopped : (standing_behind table rows book).runs who ≡ false → IsNodeStopped view table book.members (standing_behind table rows book) (bases_behind table rows book who) who steps member.node
+  pub stopped : (standing_behind table rows book).runs who ≡ false
+      → IsNodeStopped view table book.members (standing_behind table rows book) (bases_behind table rows book who) who steps member.node
 
 -- The world is in this situation, and behind its book stand these rows; of each replica there may be steps that aren't turns yet.
-pub record IsWorldAhead {D : Type 0} (view : DiskView D) (table : Table) (rows : List Row) (world : World D) (situation : Situation) (steps : ℕ → List Taken) : Type 0 where
+pub record IsWorldAhead {D : Type 0} (view : DiskView D) (table : Table) (rows : List Row) (world : World D) (situation : Situation)
+    (steps : ℕ → List Taken) : Type 0 where
   pub at : IsBookAt table rows world.book situation
   pub count : length world.members.items ≡ world.book.members
   pub each : (who : ℕ) (member : Member D) → slice_get world.members.items who ≡ Some member

@@ -10,7 +10,7 @@ use Rattle.paxos_base.specs.declared.durable.Delta.{Delta}
 use Rattle.step_spec.specs.Step.{IsLaunchTable}
 use Rattle.history.specs.Book.{Row}
 use Rattle.history.specs.declared.turn.Cause.{Cause}
-use Rattle.history.proofs.Books.{replicas_small}
+use Rattle.history.proofs.BookLemmas.{replicas_small}
 use Rattle.history.specs.Numbers.{IsSmallReplica}
 use Rattle.replica_core.specs.Replica.{IsSmall, ReplicaState}
 use Rattle.replica_core.specs.Step.{Steps}

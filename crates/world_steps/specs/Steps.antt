@@ -71,7 +71,8 @@ changes_of steps = flat_map (λ taken. option_to_list taken.out.delta) steps
 
 -- A node that runs, and is as many steps ahead of the book behind which these rows stand: its replica stood where the book has it, and
 -- has taken the steps since.
-pub record IsNodeAhead {D : Type 0} (view : DiskView D) (table : Table) (rows : List Row) (book : BookState) (who : ℕ) (steps : List Taken) (node : Node D) : Type 0 where
+pub record IsNodeAhead {D : Type 0} (view : DiskView D) (table : Table) (rows : List Row) (book : BookState) (who : ℕ) (steps : List Taken)
+    (node : Node D) : Type 0 where
   pub at_rest : IsNodeAtRest view table node
   pub trusted : view.honest (disk_of node)
   pub disk : IsDiskAt view (bases_with (changes_of steps) (bases_behind table rows book who)) node
@@ -81,7 +82,8 @@ pub record IsNodeAhead {D : Type 0} (view : DiskView D) (table : Table) (rows : 
   pub took : TookSteps table book.letters (waits_in table rows book who) who steps first (replica_of node)
 
 -- the node of a replica that is stopped and has kept so many bases: it keeps what the replica does, and has taken no step
-pub record IsNodeStopped {D : Type 0} (view : DiskView D) (table : Table) (members : ℕ) (standing : Standing) (bases : ℕ) (who : ℕ) (steps : List Taken) (node : Node D) : Type 0 where
+pub record IsNodeStopped {D : Type 0} (view : DiskView D) (table : Table) (members : ℕ) (standing : Standing) (bases : ℕ) (who : ℕ)
+    (steps : List Taken) (node : Node D) : Type 0 where
   pub at_rest : IsNodeAtRest view table node
   pub trusted : view.honest (disk_of node)
   pub disk : IsDiskAt view bases node
@@ -90,7 +92,8 @@ pub record IsNodeStopped {D : Type 0} (view : DiskView D) (table : Table) (membe
   pub kept : standing.replicas who ≡ started who (replica_of node).state.kept
 
 -- the node is so many steps ahead of a book at rest, behind which these rows stand
-pub record IsBeside {D : Type 0} (view : DiskView D) (table : Table) (rows : List Row) (book : BookState) (who : ℕ) (steps : List Taken) (node : Node D) : Type 0 where
+pub record IsBeside {D : Type 0} (view : DiskView D) (table : Table) (rows : List Row) (book : BookState) (who : ℕ) (steps : List Taken)
+    (node : Node D) : Type 0 where
   pub sound : IsSound table
   pub behind : StandsBehind table rows book
   pub rest : book.pending ≡ None
@@ -98,7 +101,8 @@ pub record IsBeside {D : Type 0} (view : DiskView D) (table : Table) (rows : Lis
   pub ahead : IsNodeAhead view table rows book who steps node
 
 -- and is told of a cause
-pub record WasToldOf {D : Type 0} (view : DiskView D) (table : Table) (rows : List Row) (book : BookState) (who : ℕ) (steps : List Taken) (node : Node D) (cause : Cause) (input : Input) : Type 0 where
+pub record WasToldOf {D : Type 0} (view : DiskView D) (table : Table) (rows : List Row) (book : BookState) (who : ℕ) (steps : List Taken)
+    (node : Node D) (cause : Cause) (input : Input) : Type 0 where
   pub beside : IsBeside view table rows book who steps node
   pub is_told : IsToldOf book.letters (waits_behind steps (waits_in table rows book who)) who cause input
   pub inside : IsInputInside table input

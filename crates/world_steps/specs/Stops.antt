@@ -36,7 +36,8 @@ change_kept true change = Some change
 change_kept false change = None
 
 -- a replica was told of a cause, and its step changes what it keeps
-pub record BeganStep (table : Table) (letters : List LetterRow) (waits : Option SchedRow) (who : ℕ) (cause : Cause) (old : ReplicaState) (change : Delta) : Type 0 where
+pub record BeganStep (table : Table) (letters : List LetterRow) (waits : Option SchedRow) (who : ℕ) (cause : Cause) (old : ReplicaState)
+    (change : Delta) : Type 0 where
   pub input : Input
   pub is_told : IsToldOf letters waits who cause input
   pub inside : IsInputInside table input
@@ -63,7 +64,8 @@ pub record IsAttached {D : Type 0} (view : DiskView D) (table : Table) (members 
 
 -- **The disk has stopped within the save of the step's change**: there were too few calls left, and the numbers of the arm say whether the
 -- change is kept. The node is attached again, and keeps what it kept before the step, with the change or without.
-pub record HasStopped {D : Type 0} (view : DiskView D) (table : Table) (rows : List Row) (book : BookState) (who : ℕ) (cause : Cause) (arm : Arm) (answer : Option Delta) (node : Node D) : Type 0 where
+pub record HasStopped {D : Type 0} (view : DiskView D) (table : Table) (rows : List Row) (book : BookState) (who : ℕ) (cause : Cause) (arm : Arm)
+    (answer : Option Delta) (node : Node D) : Type 0 where
   pub old : ReplicaState
   pub change : Delta
   pub next : IsNextStop table rows book who cause old change

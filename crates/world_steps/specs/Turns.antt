@@ -36,7 +36,8 @@ pub record MayJoin (table : Table) (book : BookState) (who : ℕ) (taken : Taken
   pub next : IsNextStep table rows book who taken old new
 
 -- The step's turn has joined the book, with the call that was made for it, of which this was to become.
-pub record HasJoined (table : Table) (rows : List Row) (old new : BookState) (who : ℕ) (taken : Taken) (fate : Fate) (made : Option CallRow) (row : Row) : Type 0 where
+pub record HasJoined (table : Table) (rows : List Row) (old new : BookState) (who : ℕ) (taken : Taken) (fate : Fate) (made : Option CallRow)
+    (row : Row) : Type 0 where
   pub turn : row.turn ≡ Did who taken.cause made
   pub letters : row.letters ≡ taken.out.letters
   pub fated : IfSome made (λ call. call.fate ≡ fate)
@@ -46,7 +47,8 @@ pub record HasJoined (table : Table) (rows : List Row) (old new : BookState) (wh
   pub has : HasLetters old.letters new
 
 -- and the replica stands where that leaves it
-pub record HasJoinedAt (table : Table) (rows : List Row) (old new : BookState) (who : ℕ) (taken : Taken) (fate : Fate) (made : Option CallRow) (replica : ReplicaState) : Type 0 where
+pub record HasJoinedAt (table : Table) (rows : List Row) (old new : BookState) (who : ℕ) (taken : Taken) (fate : Fate) (made : Option CallRow)
+    (replica : ReplicaState) : Type 0 where
   pub row : Row
   pub joined : HasJoined table rows old new who taken fate made row
   pub stands : StandsAt table (rows ++ row ∷ []) new replica

@@ -1,4 +1,4 @@
-use Rattle.history.proofs.Books.{letters_within, replicas_within, tables_within, votes_within}
+use Rattle.history.proofs.BookLemmas.{letters_within, replicas_within, tables_within, votes_within}
 use Rattle.history.proofs.bounds.a_legal_book_counts_its_turns.Goals as goal
 
 pub returns-clause-replicas : goal.returns-clause-replicas

@@ -1,4 +1,4 @@
-use Rattle.history.proofs.Books.{launched_below, replicas_small}
+use Rattle.history.proofs.BookLemmas.{launched_below, replicas_small}
 use Rattle.history.proofs.bounds.replicas_of_a_legal_book_are_small.Goals as goal
 
 pub returns-clause-small : goal.returns-clause-small

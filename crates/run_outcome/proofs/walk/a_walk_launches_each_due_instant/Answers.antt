@@ -1,4 +1,4 @@
-use Rattle.run_outcome.proofs.Whole.{each_called, each_ended, each_later, each_launched}
+use Rattle.run_outcome.proofs.WalkWhole.{each_called, each_ended, each_later, each_launched}
 use Rattle.run_outcome.proofs.walk.a_walk_launches_each_due_instant.Goals as goal
 
 pub returns-clause-ended : goal.returns-clause-ended

@@ -1,5 +1,5 @@
 use Rattle.run_outcome.proofs.PartLemmas.{turns_latest}
-use Rattle.run_outcome.proofs.Whole.{latest_each, latest_least}
+use Rattle.run_outcome.proofs.WalkWhole.{latest_each, latest_least}
 use Rattle.run_outcome.proofs.walk.the_latest_reading_bounds_the_script.Goals as goal
 
 pub returns-clause-turns : goal.returns-clause-turns
