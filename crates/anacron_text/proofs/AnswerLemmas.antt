@@ -20,7 +20,7 @@ use Rattle.anacron_text.proofs.JobLemmas.{same_job, job_or_fault, same_job_fault
 use Rattle.anacron_text.proofs.SettingLemmas.{same_setting, setting_or_not, setting_within}
 use Rattle.anacron_text.proofs.SettingsLemmas.{same_hours}
 use Rattle.anacron_text.proofs.SpacedLemmas.{shown, shown_or_space, same_read_behind}
-use Rattle.crontab_text.proofs.AnswerLemmas.{some_byte, setting_some, same_shape}
+use Rattle.crontab_text.proofs.AnswerLemmas.{some_byte}
 
 -- what a text may be by its first byte and its name
 pub data Shape : Type 0 where
@@ -64,6 +64,28 @@ no_setting text is begins =
   where
     no_hash : (c : ℕ) → c ≡ 35 → IsNameStart c → ⊥
     no_hash c is start = grind arith
+
+setting_some : (text : List ℕ) → HasShape Setting text → text ≢ []
+setting_some text is e = let (c, cs, parts, start) = setting_begins text is in cc
+
+-- a text has one shape
+same_shape : (a b : Shape) (text : List ℕ) → HasShape a text → HasShape b text → a ≡ b
+same_shape Empty Empty text p q = refl
+same_shape Note Note text p q = refl
+same_shape Setting Setting text p q = refl
+same_shape Other Other text p q = refl
+same_shape Empty Note text p q = absurd (some_byte 35 text q p)
+same_shape Empty Setting text p q = absurd (setting_some text q p)
+same_shape Empty Other text p q = absurd (q.some p)
+same_shape Note Empty text p q = absurd (some_byte 35 text p q)
+same_shape Note Setting text p q = absurd (no_setting text q p)
+same_shape Note Other text p q = absurd (q.no_comment p)
+same_shape Setting Empty text p q = absurd (setting_some text p q)
+same_shape Setting Note text p q = absurd (no_setting text p q)
+same_shape Setting Other text (name, value, left, is) q = absurd (q.no_assignment name is.read is.is)
+same_shape Other Empty text p q = absurd (p.some q)
+same_shape Other Note text p q = absurd (p.no_comment q)
+same_shape Other Setting text p (name, value, left, is) = absurd (p.no_assignment name is.read is.is)
 
 abbrev shape_of : AnacronLineBody → Shape
 shape_of BlankBody = Empty

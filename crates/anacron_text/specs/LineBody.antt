@@ -1,7 +1,7 @@
 -- What a line of an anacrontab says. Source: anacrontab(5) of cronie.
 use Rattle.std.specs.Prelude.{ℕ, List}
 use Rattle.anacron_text.specs.declared.answer.AnaBody.{AnaBody}
-use Rattle.anacron_text.specs.declared.answer.AnaBody.TheVariants.{Blank, Comment, Assign, AnacronJob as JobOfProgram}
+use Rattle.anacron_text.specs.declared.answer.AnaBody.TheVariants.{Blank, Comment, Assign, Job as JobOfProgram}
 use Rattle.anacron_text.specs.declared.answer.PeriodWord.{PeriodWord}
 
 -- a job: how often it starts, by how many minutes it's delayed, what is added to them, from which hour to which it may

@@ -41,7 +41,7 @@ record Stands (n : ℕ) (table : Table) (book : List Row) : Type 0 where
   followed : IsFollowed n table (first_rows table) w
   matches : Matches n (length table.jobs) (standing_after n (first_rows table) book) (votes_in book) (learned_in book) w
 
-pub stands : (n : ℕ) (table : Table) (book : List Row) → n ≤ 7 → IsLegal n table book → Stands n table book
+stands : (n : ℕ) (table : Table) (book : List Row) → n ≤ 7 → IsLegal n table book → Stands n table book
 stands n table book few legal =
     let to = reaches n table book legal in
     record {

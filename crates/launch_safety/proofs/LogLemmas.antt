@@ -19,13 +19,21 @@ use Rattle.history.specs.Legal.{IsLegal}
 use Rattle.history.proofs.Reached.{Matches, reaches}
 use Rattle.agreement.proofs.Tables.{known_chosen, chosen_append}
 use Rattle.due_set.proofs.Rising.{Contains-head as in_first, Contains-tail as in_rest}
-use Rattle.history.proofs.Agreement.{stands}
 
 -- a world that comes to what a legal book comes to
 pub record Stands (n : ℕ) (table : Table) (book : List Row) : Type 0 where
   pub w : World
   pub followed : IsFollowed n table (first_rows table) w
   pub matches : Matches n (length table.jobs) (standing_after n (first_rows table) book) (votes_in book) (learned_in book) w
+
+pub stands : (n : ℕ) (table : Table) (book : List Row) → n ≤ 7 → IsLegal n table book → Stands n table book
+stands n table book few legal =
+    let to = reaches n table book legal in
+    record {
+      w = after_transitions n to.turns (first_world (first_rows table));
+      followed = transitions_followed n table (first_rows table) (first_world (first_rows table)) to.turns few (first_followed n table (first_rows table)) to.are;
+      matches = to.matches;
+    }
 
 -- votes are among others
 abbrev pub AreAmong : List CastVote → List CastVote → Type 0

@@ -36,11 +36,11 @@ use Rattle.history.specs.Book.{Row, Standing, acts_at, learned_in, standing_afte
 use Rattle.history.specs.Legal.{IsEventOfCause, IsLegal, TakesTurn}
 use Rattle.history.specs.declared.turn.Cause.{Cause}
 use Rattle.history.specs.declared.turn.Cause.TheVariants as causes
-use Rattle.history.proofs.Agreement.{agrees, stands}
+use Rattle.history.proofs.Agreement.{agrees}
 use Rattle.history.proofs.Reached.{Matches}
 use Rattle.launch_safety.specs.Fitting.{TakesEffectAt}
 use Rattle.launch_safety.proofs.Invariant.{SaysHeld, Fitting}
-use Rattle.launch_safety.proofs.LogLemmas.{Stands}
+use Rattle.launch_safety.proofs.LogLemmas.{Stands, stands}
 use Rattle.history.proofs.PlainLemmas.{step_calls, step_origin}
 use Rattle.due_set.proofs.Rising.{Contains-head as in_first, Contains-cases as cons_cases}
 

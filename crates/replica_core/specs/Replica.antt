@@ -14,7 +14,7 @@ use Rattle.term_core.specs.Term.{best_votes}
 use Rattle.term_core.specs.declared.term.Term.{Term}
 use Rattle.term_core.specs.declared.term.Term.TheVariants.{Leader}
 use Rattle.due_set.specs.Table.{Table}
-use Rattle.launch_machine.specs.Machine.{Launches, StandsFor}
+use Rattle.launch_machine.specs.Machine.{CountsBelow, Launches, StandsFor}
 use Rattle.step_spec.specs.State.{State, Identity, prefix_of}
 use Rattle.step_spec.specs.Act.{Act}
 use Rattle.replica_draft.specs.Draft.{Desk, FixedParts, delta_of, done, drafted, with_best}

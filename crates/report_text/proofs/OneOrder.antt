@@ -20,7 +20,6 @@ use Rattle.cluster_sched.specs.declared.row.SchedRow.{SchedRow}
 use Rattle.cron_io.specs.Lines.{text_of_lines}
 use Rattle.report_text.specs.Report.{IsInOrder, IsNotAfter, IsReport, report_lines}
 use Rattle.report_text.proofs.OrderLemmas.{AreInOrder, first_of_order, rest_of_order}
-use Rattle.cluster_sched.proofs.LedgerLemmas.{Decides-name_eq as name_eq-decides}
 use Rattle.launch_safety.proofs.FitLemmas.{name_is as same_name}
 
 -- two names of which neither is after the other are one
@@ -32,6 +31,12 @@ IsNotAfter-both a b (inr x) (inr y) = let f = x.1 in let g = y.1 in same_name a 
 
 name_eq : Name → Name → Bool
 name_eq a b = (a.job == b.job) && int_eq a.at b.at
+
+name_eq-decides : (a b : Name) → Decides (name_eq a b) (a ≡ b)
+unfolding name_eq
+name_eq-decides a b =
+    Decides-like ((a.job == b.job) && int_eq a.at b.at) (λ both. same_name a b both.0 both.1) (λ e. (ap (λ (n : Name). n.job) e, ap (λ (n : Name). n.at) e))
+    (Decides-and (a.job == b.job) (int_eq a.at b.at) (Decides-eqb a.job b.job) (Decides-int_eq a.at b.at))
 
 name_eq-flips : (a b : Name) → name_eq a b ≡ name_eq b a
 name_eq-flips a b = same_from_decides (name_eq a b) (name_eq b a) (name_eq-decides a b) (Decides-like (name_eq b a) (λ e. sym e) (λ e. sym e) (name_eq-decides b a))

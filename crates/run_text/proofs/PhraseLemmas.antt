@@ -20,6 +20,11 @@ pub record IsCutAtSpace (text front back : List ℕ) : Type 0 where
   pub parts : text ≡ front ++ 32 ∷ back
   pub lacks : Lacks 32 front
 
+pub cut_at_space : (text : List ℕ) (parts : Bor (List ℕ) × Bor (List ℕ)) → IsSplitOnceResult 32 text (Some parts) → IsCutAtSpace text parts.0.now parts.1.now
+cut_at_space text parts split =
+    let (is, lacks) = split_parts 32 text (Some parts) split (omega arith) in
+    record { parts = is; lacks = lacks_space parts.0.now lacks }
+
 pub same_space : (text a b x y : List ℕ) → IsCutAtSpace text a x → text ≡ b ++ 32 ∷ y → Lacks 32 b → (a ≡ b) × (x ≡ y)
 same_space text a b x y cut is lacks =
     let same = same_cut (λ c. c ≡ 32) a b (32 ∷ x) (32 ∷ y) cut.lacks lacks refl refl (sym cut.parts ∙ is) in

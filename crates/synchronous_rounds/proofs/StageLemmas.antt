@@ -114,7 +114,7 @@ stage_next members leader best at now advice answers calm stage advised answered
           })
         ]
     go (answer row it) =
-        let did = answer_next members leader best at row now advice answers calm it advised in
+        let did = (answer_next members leader best at row now advice answers calm it advised).0 in
         elim did.came [
           | inl waits ↦ inl (record {
             later = with_base waits.base at;
