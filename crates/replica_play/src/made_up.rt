@@ -78,7 +78,7 @@ fn count_of(word: &str) -> Result<u32, PlayFault> {
 }
 
 // The parts of a row that were given.
-#[derive(Default)]
+#[derive(Default, Drop)]
 struct RowParts {
     cursor: Option<i64>,
     open: Option<i64>,
@@ -88,7 +88,7 @@ struct RowParts {
 }
 
 // Sets a part that isn't set yet.
-fn set_once<T>(part: &mut Option<T>, value: T) -> Result<(), PlayFault> {
+fn set_once<T: Drop>(part: &mut Option<T>, value: T) -> Result<(), PlayFault> {
     if part.is_some() {
         return Err(PlayFault::BadRow);
     }
