@@ -105,6 +105,7 @@ impl Core {
     }
 
     /// Takes a step that was planned and has room.
+    #[inline(always)]
     pub fn commit(&mut self, table: &JobTable, draft: Draft, effects: Effects) -> StepOut
         requires room { HasRoomFor self.old draft }
         requires delta { effects.delta ≡ option_map delta_of draft.change }
