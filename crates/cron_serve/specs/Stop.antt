@@ -14,11 +14,13 @@ use Rattle.cron_serve.specs.declared.stop.Stop.{Stop}
 use Rattle.cron_serve.specs.declared.stop.Stop.TheVariants.{Usage, Refused, ReadFault, OutOfMemory}
 use Rattle.cron_fields.specs.declared.cause.Cause.TheVariants.{TooLarge}
 
+-- the stop that follows where the input wasn't read; an input that is too long is refused as a whole
 abbrev pub stop_of_read : ReadAllFault → Stop
 stop_of_read reading.ReadFault = ReadFault
 stop_of_read reading.TooLong = Refused (whole_run TooLarge)
 stop_of_read reading.OutOfMemory = OutOfMemory
 
+-- the stop that follows where no run was read: it was refused, or memory ran out
 abbrev pub stop_of_run : RunFault → Stop
 stop_of_run (run.Refused refusal) = Refused refusal
 stop_of_run run.OutOfMemory = OutOfMemory

@@ -9,6 +9,7 @@ use Rattle.disk_model.specs.Faults.{Counts}
 use Rattle.disk_model.specs.Files.{seen_in, synced_in, touched_in}
 use Rattle.disk_model.specs.Told.{Told, is_due, one_less}
 
+-- how often its calls were stopped, and how often they failed
 abbrev pub call_counts : Calls → Counts
 call_counts calls = record { stops = calls.stops; faults = calls.faults }
 
@@ -16,6 +17,7 @@ call_counts calls = record { stops = calls.stops; faults = calls.faults }
 abbrev pub no_counts : Counts
 no_counts = record { stops = 0; faults = 0 }
 
+-- a list has an element
 abbrev pub is_listing : List ℕ → Bool
 is_listing [] = false
 is_listing (_ ∷ _) = true
@@ -36,6 +38,7 @@ told_by calls files =
       touched = touched_in files;
     }
 
+-- the number of the image that a stop leaves: the one that it was armed with, and 1 (the stopped call done) where it wasn't
 abbrev pub number_by : Option Arm → ℕ
 number_by None = 1
 number_by (Some arm) = arm.image

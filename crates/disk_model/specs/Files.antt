@@ -8,6 +8,7 @@ use Rattle.disk_model.specs.Images.{Image}
 use Rattle.disk_model.specs.Memory.{file_bytes, synced_of, spans_of, IsImageOf, IsSameFile, Restores}
 use Rattle.disk_model.specs.Touched.{is_touched}
 
+-- one of the three files
 abbrev pub mem_file : FileNo → MemFiles → MemFile
 mem_file Chooser files = files.chooser
 mem_file AreaA files = files.area_a
@@ -38,6 +39,7 @@ pub record InMemFile (file : FileNo) (Step : MemFile → MemFile → Type 0) (ol
   pub step : Step (mem_file file old) (mem_file file new)
   pub others : (other : FileNo) → other ≢ file → mem_file other new ≡ mem_file other old
 
+-- no file has a byte, a synced byte or a touched place
 pub record AreEmpty (files : MemFiles) : Type 0 where
   pub seen : (file : FileNo) → file_bytes (mem_file file files) ≡ []
   pub synced : (file : FileNo) → synced_of (mem_file file files) ≡ []

@@ -11,12 +11,13 @@ pub data DiskCall : Type 0 where
   CutTo : FileNo → ℕ → DiskCall
   SyncOf : FileNo → DiskCall
 
--- what a call does, and what it does where it stops within
+-- what a call does that is done
 abbrev pub after_done_call : DiskCall → Told → Told
 after_done_call (WriteAt file at piece) = after_write file at piece
 after_done_call (CutTo file size) = after_cut file size
 after_done_call (SyncOf file) = after_sync file
 
+-- what a call does where it stops within: a write and a cut are done, and a sync does nothing
 abbrev pub after_stopped_call : DiskCall → Told → Told
 after_stopped_call (WriteAt file at piece) = after_write file at piece
 after_stopped_call (CutTo file size) = after_cut file size

@@ -8,21 +8,27 @@ use Rattle.disk_model.specs.Images.{Image}
 use Rattle.disk_model.specs.Told.{Told}
 use Rattle.disk_model.specs.View.{DiskView}
 
+-- what is in its files
 abbrev pub seen_of : MemDisk → Image
 seen_of disk = seen_in disk.files
 
+-- the images that a stop may leave now
 abbrev pub left_by : MemDisk → Image → Type 0
 left_by disk image = IsImageIn disk.files image
 
+-- its moment: how many changes its files have had
 abbrev pub moment_of : MemDisk → ℕ
 moment_of disk = length disk.history.items
 
+-- the images that a stop might have left at one of the moments from a number on, or may leave now
 abbrev pub left_since_by : MemDisk → ℕ → Image → Type 0
 left_since_by disk start image = LeftSince disk.history.items disk.files start image
 
+-- how often it has stopped a call, and how often it has failed
 abbrev pub counts_by : MemDisk → Counts
 counts_by disk = call_counts disk.calls
 
+-- it tells all of its calls and files
 abbrev pub told_of : MemDisk → Option Told
 told_of disk = Some (told_by disk.calls disk.files)
 
@@ -44,6 +50,7 @@ abbrev pub done_in : Option Told → Image → Image
 done_in None other = other
 done_in (Some told) other = told.done
 
+-- three empty files
 abbrev pub no_files : Image
 no_files = record { chooser = []; area_a = []; area_b = [] }
 

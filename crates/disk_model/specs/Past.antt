@@ -5,6 +5,7 @@ use Rattle.disk_model.specs.declared.mem_files.MemFiles.{MemFiles}
 use Rattle.disk_model.specs.Images.{Image}
 use Rattle.disk_model.specs.Files.{IsImageIn, History, HadImage, LeftSince}
 
+-- from the number of the present moment on there is no earlier one at which a stop might have left an image
 none_left : (history : History) (image : Image) → HadImage (drop (length history) history) image → ⊥
 none_left [] image had = had
 none_left (_ ∷ history) image had = none_left history image had

@@ -8,6 +8,7 @@ use Rattle.disk_model.specs.declared.fault.DiskFault.TheVariants.{Stopped, Faile
 use Rattle.disk_model.specs.Images.{Image, file_of, with_file, written_over}
 use Rattle.disk_model.specs.Touched.{IsLeft}
 
+-- what a disk tells: of its faults and stops, of its bytes, and of what its syncs have left
 pub record Told : Type 0 where
   -- it can fail
   pub fails : Bool
@@ -33,15 +34,17 @@ abbrev pub MayBeLeft : Told → Image → Type 0
 MayBeLeft told image =
     (file : FileNo) → IsLeft (file_of file told.synced) (length (file_of file told.done)) (told.touched file) (file_of file image)
 
--- it tells that it has stopped, or that it has not
+-- it tells that it has stopped
 abbrev pub TellsStop : Option Told → Type 0
 TellsStop told = IsSomeAnd told (λ now. now.stopped ≡ true)
 
+-- it tells that it has not stopped
 abbrev pub IsRunning : Option Told → Type 0
 IsRunning told = IsSomeAnd told (λ now. now.stopped ≡ false)
 
 -- ---- what a call does
 
+-- the two are the same file
 abbrev pub is_file : FileNo → FileNo → Bool
 is_file Chooser Chooser = true
 is_file AreaA AreaA = true
@@ -52,6 +55,7 @@ is_file _ _ = false
 abbrev pub is_within : ℕ → ℕ → ℕ → Bool
 is_within at count place = nat_le at place && nat_lt place (at + count)
 
+-- a write of a piece at an offset: the file has its bytes, and their places are touched
 abbrev pub after_write : FileNo → ℕ → List ℕ → Told → Told
 after_write file at piece told =
     record told {
@@ -59,9 +63,11 @@ after_write file at piece told =
       touched = λ other place. told.touched other place || (is_file file other && is_within at (length piece) place);
     }
 
+-- a cut of a file to a size
 abbrev pub after_cut : FileNo → ℕ → Told → Told
 after_cut file size told = record told { done = with_file file (take size (file_of file told.done)) told.done }
 
+-- a sync of a file: its bytes are synced, and none of its places is touched
 abbrev pub after_sync : FileNo → Told → Told
 after_sync file told =
     record told {
@@ -119,6 +125,7 @@ AfterWriteSynced file at piece result old new =
 abbrev pub after_arm : ℕ → ℕ → Told → Told
 after_arm pass image told = if told.stopped then told else record told { arm = Some (record { left = pass; image = image }) }
 
+-- a disk that has stopped keeps that image, and another is armed no more
 abbrev pub after_disarm : Told → Told
 after_disarm told = if told.stopped then told else record told { arm = None }
 
@@ -137,6 +144,7 @@ bytes_in_image number synced done touched =
     else if number % 3 == 1 then done
     else overwritten touched (number / 3 % 256) 0 done
 
+-- the files in the image of a number
 abbrev pub image_of : ℕ → Told → Image
 image_of number told =
     record {
@@ -145,6 +153,7 @@ image_of number told =
       area_b = bytes_in_image number told.synced.area_b told.done.area_b (told.touched AreaB);
     }
 
+-- the files that a stop leaves where the disk is armed so; where it isn't, they are as the calls have made them
 abbrev pub image_by : Option Arm → Told → Image
 image_by None told = told.done
 image_by (Some arm) told = image_of arm.image told

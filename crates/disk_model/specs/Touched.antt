@@ -2,6 +2,7 @@
 use Rattle.std.specs.Prelude.{◌≡◌, ◌⊎◌, ℕ, ◌<◌, ◌≤◌, nat_le, nat_lt, Bool, false, ◌&&◌, ◌||◌, List, [], ◌∷◌, length, get_or}
 use Rattle.disk_model.specs.declared.span.Span.{Span}
 
+-- a place lies in a span: at its start or after it, and before its end
 abbrev pub is_in : Span → ℕ → Bool
 is_in span place = nat_le span.from place && nat_lt place span.until
 

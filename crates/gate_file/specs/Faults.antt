@@ -8,11 +8,13 @@ use Rattle.disk_model.specs.View.{DiskView}
 use Rattle.gate_file.specs.declared.fault.GateFault.{GateFault}
 use Rattle.gate_file.specs.declared.fault.GateFault.TheVariants as Gate
 
+-- the answer of a gated file to a fault of its disk
 abbrev pub gate_fault_of : DiskFault → GateFault
 gate_fault_of Disk.Stopped = Gate.Stopped
 gate_fault_of Disk.Failed = Gate.DiskFault
 gate_fault_of Disk.OutOfMemory = Gate.OutOfMemory
 
+-- what an answer of a gated file says of the counts of its disk's stops and faults
 abbrev pub CountsGateAnswer : {T : Type 0} → Counts → Counts → Result T GateFault → Type 0
 CountsGateAnswer old new result = CountsAnswer Gate.Stopped Gate.DiskFault Gate.OutOfMemory old new result
 

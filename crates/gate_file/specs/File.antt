@@ -6,9 +6,11 @@ use Rattle.disk_model.specs.View.{DiskView}
 use Rattle.gate_file.specs.declared.gate_file.GateFile.{GateFile}
 use Rattle.gate_file.specs.Gates.{HasRestingGate}
 
+-- which file of the disk it is
 abbrev pub file_no : GateFile → FileNo
 file_no gates = gates.file
 
+-- the bodies that it has, in order
 abbrev pub bodies_of : GateFile → List (List ℕ)
 bodies_of gates = gates.bodies.items
 

@@ -17,11 +17,12 @@ abbrev pub AreOpen : List ℕ → List (List ℕ) → Type 0
 AreOpen file bodies =
     (number : ℕ) → number < length bodies → IsOpen file number × (body_in file number ≡ get_or bodies number [])
 
--- a byte 0 stands at a place, or not
+-- a byte 0 stands at a place
 pub record IsClosedAt (file : List ℕ) (place : ℕ) : Type 0 where
   pub within : place < length file
   pub byte : get_or file place 0 ≡ 0
 
+-- another byte stands at a place, or the file ends before it
 abbrev pub IsNotClosedAt : List ℕ → ℕ → Type 0
 IsNotClosedAt file place = (get_or file place 0 ≢ 0) ⊎ (length file ≤ place)
 

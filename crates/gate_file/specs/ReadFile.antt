@@ -6,9 +6,11 @@ use Rattle.disk_model.specs.View.{DiskView}
 use Rattle.gate_file.specs.declared.read_gates.ReadGates.{ReadGates}
 use Rattle.gate_file.specs.Gates.{HasBodies, IsClosedAt, IsNotClosedAt}
 
+-- which file of the disk was read
 abbrev pub file_read : ReadGates → FileNo
 file_read gates = gates.file
 
+-- the bodies that were read, in order
 abbrev pub bodies_read : ReadGates → List (List ℕ)
 bodies_read gates = gates.bodies.items
 

@@ -12,15 +12,18 @@ use Rattle.replica_store.specs.declared.fault.StoreFault.TheVariants as Store
 use Rattle.replica_node.specs.declared.fault.NodeFault.{NodeFault}
 use Rattle.replica_node.specs.declared.fault.NodeFault.TheVariants.{Stopped, DiskFault, OutOfMemory, Damaged, Letter}
 
+-- the answer of a node to a fault of its store
 abbrev pub of_store : StoreFault → NodeFault
 of_store Store.Stopped = Stopped
 of_store Store.DiskFault = DiskFault
 of_store Store.OutOfMemory = OutOfMemory
 of_store (Store.Damaged gate) = Damaged gate
 
+-- the answer of a node to a fault of its disk
 abbrev pub of_disk_answer : DiskAnswer → NodeFault
 of_disk_answer fault = of_store (stored.of_disk fault)
 
+-- the answer of a node to a fault of its replica's step: the bytes are no letter, or memory ran out
 abbrev pub of_step : StepFault → NodeFault
 of_step (Step.Letter letter) = Letter letter
 of_step Step.OutOfMemory = OutOfMemory

@@ -21,13 +21,15 @@ use Rattle.replica_store.specs.declared.store.Store.{Store}
 use Rattle.replica_node.specs.declared.fault.NodeFault.{NodeFault}
 use Rattle.replica_node.specs.declared.node.Node.{Node}
 
--- the replica, its store and its disk
+-- the replica of a node
 abbrev pub replica_of : {D : Type 0} → Node D → ReplicaState
 replica_of node = node.replica
 
+-- the store of a node
 abbrev pub store_of : {D : Type 0} → Node D → Store
 store_of node = node.store
 
+-- the disk of a node
 abbrev pub disk_of : {D : Type 0} → Node D → D
 disk_of node = node.disk
 

@@ -11,11 +11,13 @@ use Rattle.store_format.specs.declared.fault.ReadFault.TheVariants as Read
 use Rattle.replica_store.specs.declared.fault.StoreFault.{StoreFault}
 use Rattle.replica_store.specs.declared.fault.StoreFault.TheVariants as Store
 
+-- the answer of a store to a fault of its disk
 abbrev pub of_disk : DiskFault → StoreFault
 of_disk Disk.Stopped = Store.Stopped
 of_disk Disk.Failed = Store.DiskFault
 of_disk Disk.OutOfMemory = Store.OutOfMemory
 
+-- the answer of a store to a fault of a gated file
 abbrev pub of_gates : GateFault → StoreFault
 of_gates Gate.Stopped = Store.Stopped
 of_gates Gate.DiskFault = Store.DiskFault
@@ -26,6 +28,7 @@ abbrev pub of_records : ReadFault → StoreFault
 of_records (Read.Damaged number) = Store.Damaged number
 of_records Read.OutOfMemory = Store.OutOfMemory
 
+-- what an answer of a store says of the counts of its disk's stops and faults
 abbrev pub CountsStoreAnswer : {T : Type 0} → Counts → Counts → Result T StoreFault → Type 0
 CountsStoreAnswer old new result = CountsAnswer Store.Stopped Store.DiskFault Store.OutOfMemory old new result
 

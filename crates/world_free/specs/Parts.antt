@@ -9,15 +9,19 @@ use Rattle.world_free.specs.Plan.{Seat}
 use Rattle.world_free.specs.declared.job.FreeJob.{FreeJob}
 use Rattle.world_free.specs.declared.job.FreeMail.{FreeMail}
 
+-- the mail of a replica, without how far its thread has looked
 abbrev pub mail_of : FreeMail → MemberMail
 mail_of kept = kept.mail
 
+-- the node of a thread's job
 abbrev pub node_in : {D : Type 0} → FreeJob D → Node D
 node_in job = job.node
 
+-- the mail of a thread's job
 abbrev pub mail_in : {D : Type 0} → FreeJob D → FreeMail
 mail_in job = job.mail
 
+-- the seat of a thread's job at the shared book
 abbrev pub seat_in : {D : Type 0} → FreeJob D → Seat
 seat_in job = job.seat
 

@@ -15,10 +15,11 @@ use Rattle.world_law.specs.Rows.{HasTurnOf}
 use Rattle.world_law.specs.declared.row.BookRow.{BookRow}
 use Rattle.world_free.specs.declared.job.Setting.{Setting}
 
--- a book that threads share, and a seat at it
+-- a book that threads share
 abbrev pub SharedBook : Type 0
 SharedBook = TurnBook BookState Table BookRow StepOut
 
+-- a seat at such a book
 abbrev pub Seat : Type 0
 Seat = TurnSeat BookState Table BookRow StepOut
 

@@ -37,5 +37,6 @@ left_to table None = 0
 left_to table (Some member) =
     left_of table.window.until.0 (replica_of member.node).machine.rows member.mail.waits (replica_of member.node).state
 
+-- the rounds that are left to a replica of the world, by its number, until it is at rest, at most
 abbrev pub left_in : {D : Type 0} → Table → ℕ → World D → ℕ
 left_in table who world = left_to table (slice_get world.members.items who)

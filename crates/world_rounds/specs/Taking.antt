@@ -46,6 +46,7 @@ abbrev pub steps_left_to : {D : Type 0} → Option (Member D) → List Taken
 steps_left_to None = []
 steps_left_to (Some member) = member.steps.items
 
+-- the steps at hand of a replica by its number: those that aren't turns yet
 abbrev pub steps_at : {D : Type 0} → World D → ℕ → List Taken
 steps_at world who = steps_left_to (slice_get world.members.items who)
 

@@ -35,13 +35,15 @@ pub record IsWorldAhead {D : Type 0} (view : DiskView D) (table : Table) (rows :
 abbrev pub book_of : {D : Type 0} → World D → BookState
 book_of world = world.book
 
--- the replicas of a world, whose letters are lost on the way to whom, and the latest clock reading
+-- the replicas of a world
 abbrev pub members_of : {D : Type 0} → World D → List (Member D)
 members_of world = world.members.items
 
+-- from whom to whom letters of a world are lost on the way
 abbrev pub cuts_of : {D : Type 0} → World D → List (ℕ × ℕ)
 cuts_of world = world.cuts.items
 
+-- the latest clock reading of a world
 abbrev pub latest_of : {D : Type 0} → World D → Minute
 latest_of world = world.latest
 
