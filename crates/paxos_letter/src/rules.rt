@@ -117,6 +117,7 @@ impl<'a> FieldsAt<'a> {
     }
 
     // Each field is 0 that a packet of its kind, with its tag, has no use for.
+    #[inline(always)]
     pub(crate) fn keeps_zeros(&self) -> bool
         ensures { result ≡ keeps_zeros self.now }
     {

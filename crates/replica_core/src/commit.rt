@@ -156,6 +156,7 @@ impl Core {
 
     // Learns what a step has learned, and applies it to the launch table. Where that brings a new base, its launch table is taken
     // first.
+    #[inline(always)]
     fn learn(&mut self, table: &JobTable, change: Option<Change>, rows: &[LearntRow])
         requires room { length rows.now ≤ self.old.learner.spare }
         requires few { length rows.now < 2 ^ 31 }

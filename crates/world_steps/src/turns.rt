@@ -26,6 +26,7 @@ use zone_minutes::Minute;
 /// # Errors
 ///
 /// Want of memory. The book stays as it is then.
+#[inline(always)]
 pub fn call_for(
     book: &mut Book,
     table: &JobTable,
