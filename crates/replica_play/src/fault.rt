@@ -53,7 +53,8 @@ impl PlayFault {
             PlayFault::BadPacket => "there is no such packet",
             PlayFault::BadSlots => "slots are expected, as 0 to 63, and at most 1,000",
             PlayFault::BadRows => "there are at most 1,000 rows",
-            PlayFault::BadRow => "a row has cursor, open, last, launched and voided, each once",
+            PlayFault::BadRow =>
+                "a row has cursor, open, last, launched and voided, each at most once",
             PlayFault::NoLetter => "there is no such letter",
             PlayFault::NotALetter => "these packets are no letter",
             PlayFault::Stopped => "the replica is stopped",
